@@ -1,2 +1,5 @@
 pub mod Marks
 pub mod Plain
+pub mod Invariant
+pub mod Shape
+pub mod Journal
