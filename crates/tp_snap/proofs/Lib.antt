@@ -3,3 +3,5 @@ pub mod Plain
 pub mod Invariant
 pub mod Shape
 pub mod Journal
+pub mod Sending
+pub mod Record
