@@ -5,3 +5,5 @@ pub mod Shape
 pub mod Journal
 pub mod Sending
 pub mod Record
+pub mod Begin
+pub mod Close
