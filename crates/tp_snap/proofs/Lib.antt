@@ -7,3 +7,4 @@ pub mod Sending
 pub mod Record
 pub mod Begin
 pub mod Close
+pub mod Whole
