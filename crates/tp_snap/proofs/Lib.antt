@@ -8,3 +8,5 @@ pub mod Record
 pub mod Begin
 pub mod Close
 pub mod Whole
+pub mod Kept
+pub mod Happens

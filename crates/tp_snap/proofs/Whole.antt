@@ -192,12 +192,6 @@ module _ {Node : Type 0} (M : Machine Node) (w : MarkedNetwork Node) (H : Holds 
   pub running : (snap : Snapshot) → w.snapshot ≡ Some snap → Marking M w.start w.entries w.live w.frozen snap
   running snap runs = subst (λ given. Inside M w given) runs H.inside
 
-  -- A whole cut is the network after the entries in it, and those may come first.
-  pub whole_holds : HasFourLinks M → (cut : WholeCut) → whole w ≡ Some cut → CutHolds M w cut
-  whole_holds four cut e =
-      let P = whole_parts w cut e in
-      subst (λ c. CutHolds M w c) P.is (cut_is M four w H.base P.snap (running P.snap P.runs) P.counts P.recorded P.shut)
-
   -- There is one exactly where a snapshot runs, all have recorded and each Marker was taken.
   pub whole_only : (cut : WholeCut) → whole w ≡ Some cut → IsWhole w
   whole_only cut e =
@@ -216,3 +210,9 @@ module _ {Node : Type 0} (M : Machine Node) (w : MarkedNetwork Node) (H : Holds 
         record { counts = C.0; ports = I.snap.ports; lines = I.snap.lines; size = I.snap.size },
         whole_from w I.snap C.0 I.runs C.1 (all_closed_from (has_wire w.live.wires) (is_closed I.snap) (length w.live.lines) (λ l h y. I.closed_all l y)),
       )
+
+-- A whole cut is the network after the entries in it, and those may come first.
+pub whole_holds : {Node : Type 0} (M : Machine Node) → HasFourLinks M → (w : MarkedNetwork Node) → Holds M w → (cut : WholeCut) → whole w ≡ Some cut → CutHolds M w cut
+whole_holds M four w H cut e =
+    let P = whole_parts w cut e in
+    subst (λ c. CutHolds M w c) P.is (cut_is M four w H.base P.snap (running M w H P.snap P.runs) P.counts P.recorded P.shut)
