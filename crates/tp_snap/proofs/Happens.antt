@@ -1,93 +1,69 @@
 -- Each act keeps what holds, and so a whole cut is always what it should be.
-use Rattle.std.proofs.Common.{◌≡◌, ℕ, Bool, true, false, cond, not, List, [], ◌∷◌, refl, sym, subst, ◌∙◌, ap, Option, Some, None}
-use Rattle.std.specs.Prelude.{nat_lt, ◌&&◌, length}
+use Rattle.std.proofs.Common.{◌≡◌, ℕ, ◌<◌, true, false, List, [], ◌∷◌, length, sym, subst, ◌∙◌, Option, Some, None}
 use Rattle.std.specs.Option.{option_map}
-use Rattle.std.proofs.lemmas.Bool.{and_parts, not-true, ltb-true}
 use Rattle.tp_model.specs.declared.link.Token.TheVariants.{Marker}
 use Rattle.tp_model.specs.declared.entry.Entry.{Entry}
-use Rattle.tp_model.specs.Network.{◌>>=◌, Machine, Network, on_line, is_first}
-use Rattle.tp_model.specs.Entries.{next, process, takes, HasFourLinks}
-use Rattle.tp_model.specs.Markers.{NeverMarks, markers}
+use Rattle.tp_model.specs.Network.{Machine, Network, on_line, is_first}
+use Rattle.tp_model.specs.Entries.{process, takes, HasFourLinks}
+use Rattle.tp_model.specs.Markers.{NeverMarks}
 use Rattle.tp_model.specs.Snapshot.{Snapshot, MarkedNetwork, has_recorded, taker, collected, begun, recorded, journalled, line_closed, host_markers, node_markers}
-use Rattle.tp_model.specs.WholeCut.{WholeCut, all_some, whole, trimmed, IsWhole}
-use Rattle.tp_model.specs.Acts.{Act, Begin, Record, Journal, Close, Trim, begin, record_node, close_line, trim, happens, acted, IsOpened, CutHolds}
-use Rattle.tp_order.proofs.Partial.{bind_some, cond_some}
+use Rattle.tp_model.specs.WholeCut.{WholeCut, all_some, whole, IsWhole}
+use Rattle.tp_model.specs.Acts.{Act, Begin, Record, Journal, Close, Trim, happens, acted, IsOpened, CutHolds}
+use Rattle.tp_order.proofs.Partial.{bind_some}
 use Rattle.tp_order.proofs.Local.{Step, step_of}
-use Rattle.tp_snap.proofs.Invariant.{Base, Marking, Inside, Holds}
+use Rattle.tp_snap.proofs.Invariant.{Inside, Holds}
 use Rattle.tp_snap.proofs.Shape.{base_journalled, markers_kept}
 use Rattle.tp_snap.proofs.Journal.{entry_journalled}
 use Rattle.tp_snap.proofs.Sending.{host_markers_all, node_markers_all, base_marked}
 use Rattle.tp_snap.proofs.Record.{node_recorded}
 use Rattle.tp_snap.proofs.Begin.{begins}
 use Rattle.tp_snap.proofs.Close.{base_closed, marker_taken}
-use Rattle.tp_snap.proofs.Whole.{whole_holds, whole_only, whole_there}
+use Rattle.tp_snap.proofs.Whole.{running, whole_holds, whole_only, whole_there}
 use Rattle.tp_snap.proofs.Kept.{trim_holds}
+use Rattle.tp_snap.proofs.Acts.{begin_parts, record_parts, close_parts, journal_parts, trim_parts}
 
--- a trim, taken apart
-pub trim_parts : {Node : Type 0} (w v : MarkedNetwork Node) (given : Option WholeCut) (images : Option (List Node)) → trim w given images ≡ Some v
-    → (cut : WholeCut) × (nodes : List Node) × (given ≡ Some cut) × (images ≡ Some nodes) × (trimmed w cut nodes ≡ v)
-trim_parts w v None images e = cc
-trim_parts w v (Some cut) None e = cc
-trim_parts w v (Some cut) (Some nodes) e = (cut, nodes, refl, refl, cc)
+module _ {Node : Type 0} (M : Machine Node) (four : HasFourLinks M) (never : NeverMarks M) (w : MarkedNetwork Node) (H : Holds M w) where
+  begin_holds : w.snapshot ≡ None → Holds M (begun w)
+  begin_holds idle = record {
+    base = base_marked M w H.base (host_markers (length w.live.nodes) (length w.live.ports)) (host_markers_all (length w.live.nodes) (length w.live.ports)) (begun w).snapshot (begun w).frozen;
+    inside = begins M four w H.base (subst (λ given. Inside M w given) idle H.inside);
+  }
 
-module _ {Node : Type 0} (M : Machine Node) (four : HasFourLinks M) (never : NeverMarks M) (w v : MarkedNetwork Node) (B : Base M w) where
-  begin_holds : (given : Option Snapshot) → Inside M w given → begin w given ≡ Some v → Holds M v
-  begin_holds None I e =
-      let is : begun w ≡ v = cc in
-      subst (Holds M) is (record {
-        base = base_marked M w B (host_markers (length w.live.nodes) (length w.live.ports)) (host_markers_all (length w.live.nodes) (length w.live.ports)) (begun w).snapshot (begun w).frozen;
-        inside = begins M four w B I;
-      })
-  begin_holds (Some snap) I e = cc
+  record_holds : (snap : Snapshot) (i : ℕ) → w.snapshot ≡ Some snap → i < length w.live.nodes → has_recorded snap i ≡ false → Holds M (recorded w snap i)
+  record_holds snap i runs below new = record {
+    base = base_marked M w H.base (node_markers i) (node_markers_all i) (recorded w snap i).snapshot (recorded w snap i).frozen;
+    inside = node_recorded M w H.base snap (running M w H snap runs) i below new;
+  }
 
-  record_holds : (given : Option Snapshot) (i : ℕ) → Inside M w given → record_node w given i ≡ Some v → Holds M v
-  record_holds None i I e = cc
-  record_holds (Some snap) i K e =
-      let C = cond_some (nat_lt i (length w.live.nodes) && not (has_recorded snap i)) (Some (recorded w snap i)) v e in
-      let A = and_parts (nat_lt i (length w.live.nodes)) (not (has_recorded snap i)) C.0 in
-      let is : recorded w snap i ≡ v = let given = C.1 in cc in
-      subst (Holds M) is (record {
-        base = base_marked M w B (node_markers i) (node_markers_all i) (recorded w snap i).snapshot (recorded w snap i).frozen;
-        inside = node_recorded M w B snap K i (ltb-true i (length w.live.nodes) A.0) (not-true (has_recorded snap i) A.1);
-      })
-
-  close_holds : (given : Option Snapshot) (line : ℕ) → Inside M w given → close_line w given line ≡ Some v → Holds M v
-  close_holds None line I e = cc
-  close_holds (Some snap) line K e =
-      let C = cond_some (is_first (on_line w.live.lines line) Marker && has_recorded snap (taker w.live line)) (Some (line_closed w snap line)) v e in
-      let A = and_parts (is_first (on_line w.live.lines line) Marker) (has_recorded snap (taker w.live line)) C.0 in
-      let is : line_closed w snap line ≡ v = let given = C.1 in cc in
-      subst (Holds M) is (record {
-        base = base_closed M w B line A.0 (line_closed w snap line).snapshot w.frozen;
-        inside = marker_taken M w B line A.0 snap K A.1;
-      })
+  close_holds : (snap : Snapshot) (line : ℕ) → w.snapshot ≡ Some snap → is_first (on_line w.live.lines line) Marker ≡ true → has_recorded snap (taker w.live line) ≡ true
+      → Holds M (line_closed w snap line)
+  close_holds snap line runs front has = record {
+    base = base_closed M w H.base line front (line_closed w snap line).snapshot w.frozen;
+    inside = marker_taken M w H.base line front snap (running M w H snap runs) has;
+  }
 
   -- an entry, whether a snapshot runs or not
   entry_inside : (e : Entry) (live : Network Node) → Step M w.live e live → (given : Option Snapshot) → Inside M w given
-      → Inside M (record (journalled w e live) { snapshot = option_map (collected (process w.start e) (takes w.live e)) given }) (option_map (collected (process w.start e) (takes w.live e)) given)
-  entry_inside e live S None I = λ l. markers_kept M four w B e live S never l ∙ I l
-  entry_inside e live S (Some snap) K = entry_journalled M four never w B snap K e live S
+      → Inside M (journalled w e live) (option_map (collected (process w.start e) (takes w.live e)) given)
+  entry_inside e live S None I = λ l. markers_kept M four w H.base e live S never l ∙ I l
+  entry_inside e live S (Some snap) K = entry_journalled M four never w H.base snap K e live S
 
-  journal_holds : (e : Entry) → Inside M w w.snapshot → (next M w.live e >>= λ live. Some (journalled w e live)) ≡ Some v → Holds M v
-  journal_holds e I h =
-      let L = bind_some (next M w.live e) (λ live. Some (journalled w e live)) v h in
-      let S = step_of M w.live e L.0 L.1 in
-      let is : journalled w e L.0 ≡ v = let given = L.2 in cc in
-      subst (Holds M) is (record {
-        base = base_journalled M four w B e L.0 S never;
-        inside = entry_inside e L.0 S w.snapshot I;
-      })
+  journal_holds : (e : Entry) (live : Network Node) → Step M w.live e live → Holds M (journalled w e live)
+  journal_holds e live S = record {
+    base = base_journalled M four w H.base e live S never;
+    inside = entry_inside e live S w.snapshot H.inside;
+  }
 
 -- Each act keeps what holds.
 pub happens_holds : {Node : Type 0} (M : Machine Node) → HasFourLinks M → NeverMarks M → (w v : MarkedNetwork Node) (act : Act) → Holds M w → happens M w act ≡ Some v → Holds M v
 unfolding happens
-happens_holds M four never w v Begin H e = begin_holds M four never w v H.base w.snapshot H.inside e
-happens_holds M four never w v (Record i) H e = record_holds M four never w v H.base w.snapshot i H.inside e
-happens_holds M four never w v (Journal entry) H e = journal_holds M four never w v H.base entry H.inside e
-happens_holds M four never w v (Close line) H e = close_holds M four never w v H.base w.snapshot line H.inside e
-happens_holds M four never w v Trim H e =
-    let T = trim_parts w v (whole w) (all_some w.frozen) e in
-    subst (Holds M) T.4 (trim_holds M four w H T.0 T.1 T.2 T.3)
+happens_holds M four never w v Begin H e = let P = begin_parts w v w.snapshot e in subst (Holds M) P.1 (begin_holds M four never w H P.0)
+happens_holds M four never w v (Record i) H e = let P = record_parts w v w.snapshot i e in subst (Holds M) P.4 (record_holds M four never w H P.0 i P.1 P.2 P.3)
+happens_holds M four never w v (Journal entry) H e =
+    let P = journal_parts w v M entry e in
+    subst (Holds M) P.2 (journal_holds M four never w H entry P.0 (step_of M w.live entry P.0 P.1))
+happens_holds M four never w v (Close line) H e = let P = close_parts w v w.snapshot line e in subst (Holds M) P.4 (close_holds M four never w H P.0 line P.1 P.2 P.3)
+happens_holds M four never w v Trim H e = let P = trim_parts w v (whole w) (all_some w.frozen) e in subst (Holds M) P.4 (trim_holds M four w H P.0 P.1 P.2 P.3)
 
 pub acted_holds : {Node : Type 0} (M : Machine Node) → HasFourLinks M → NeverMarks M → (w v : MarkedNetwork Node) (acts : List Act) → Holds M w → acted M w acts ≡ Some v → Holds M v
 unfolding acted

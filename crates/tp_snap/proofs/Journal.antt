@@ -1,13 +1,12 @@
 -- An entry is journalled while a snapshot runs.
-use Rattle.std.proofs.Common.{◌≡◌, ◌≢◌, ℕ, ◌+◌, ◌*◌, ◌<◌, ◌≤◌, Bool, true, false, cond, not, ◌⊎◌, inl, inr, List, [], ◌∷◌, ◌++◌, length, get_or, set, drop, refl, sym, ap, subst, ◌∙◌, arith, Option, Some, None, append-nil, append_assoc}
-use Rattle.std.specs.Prelude.{◌==◌, nat_lt, ◌&&◌, is_some}
-use Rattle.std.specs.Option.{option_map}
+use Rattle.std.proofs.Common.{◌≡◌, ◌≢◌, ℕ, ◌+◌, ◌<◌, ◌≤◌, Bool, true, false, cond, not, ◌⊎◌, inl, inr, List, [], ◌∷◌, ◌++◌, length, refl, sym, ap, subst, ◌∙◌, arith, Option, Some, None, append-nil, append_assoc}
+use Rattle.std.specs.Prelude.{◌&&◌, is_some}
 use Rattle.std.specs.List.{AllByRecursion}
 use Rattle.std.proofs.lemmas.Bool.{cases_Bool, cases_eq, cases_lt, true≢false, false≢true, le-ltb, not-true, cond_both}
 use Rattle.std.proofs.lemmas.List.{append_cancel_left, get_or_past, length_push}
 use Rattle.tp_model.specs.declared.link.Token.{Token}
 use Rattle.tp_model.specs.declared.entry.Entry.{Entry}
-use Rattle.tp_model.specs.Network.{Machine, Network, Own, own, put, has_wire, on_line, taken, sent, for_line, process_at, receiver}
+use Rattle.tp_model.specs.Network.{Machine, Network, own, put, has_wire, on_line, taken, sent, for_line, process_at, receiver}
 use Rattle.tp_model.specs.Entries.{process, takes, does, next, HasFourLinks}
 use Rattle.tp_model.specs.Order.{after, Reorder, made}
 use Rattle.tp_model.specs.Sound.{owner}
@@ -17,9 +16,9 @@ use Rattle.tp_order.proofs.Lines.{for_line-elsewhere, on_taken, taken_from, leng
 use Rattle.tp_order.proofs.Local.{Step, SameShape, next_from, takes_same, takes_own, step_sends, step_lines, step_shape, step_own_same, step_own_other}
 use Rattle.tp_order.proofs.Choice.{made-append, chosen_last_in, chosen_last_out, chosen_passed}
 use Rattle.tp_order.proofs.Reorder.{after_front, after_last, reorder_trans, reorder_front, reorder_back, reorder_end, move_left}
-use Rattle.tp_snap.proofs.Marks.{markers-append, before_unmarked, before-append, before-append_marked, for_line_unmarked}
+use Rattle.tp_snap.proofs.Marks.{before_unmarked, before-append, before-append_marked}
 use Rattle.tp_snap.proofs.Invariant.{in_count, in_cut, early, late, as_recorded, Base, Marking}
-use Rattle.tp_snap.proofs.Shape.{live_nodes, live_process, mid_wires, mid_nodes, mid_lines, mid_process, was_line, now_line, takes_unmarked, sends_unmarked, markers_kept, markers_left}
+use Rattle.tp_snap.proofs.Shape.{live_process, mid_wires, mid_nodes, mid_lines, mid_process, was_line, now_line, takes_unmarked, sends_unmarked, markers_kept, markers_left}
 
 -- ## One line
 

@@ -1,9 +1,8 @@
 -- The book goes on from a whole cut.
-use Rattle.std.proofs.Common.{◌≡◌, ℕ, Bool, true, false, cond, not, inl, inr, List, [], ◌∷◌, ◌++◌, length, map, refl, sym, ap, subst, ◌∙◌, Option, Some, None}
+use Rattle.std.proofs.Common.{◌≡◌, ℕ, Bool, true, false, cond, not, inl, inr, List, length, refl, sym, ap, ◌∙◌, Some}
 use Rattle.std.specs.Prelude.{◌&&◌}
 use Rattle.std.proofs.lemmas.Bool.{cases_Bool}
-use Rattle.tp_model.specs.declared.entry.Entry.{Entry}
-use Rattle.tp_model.specs.Network.{Machine, Network, has_wire, on_line}
+use Rattle.tp_model.specs.Network.{Machine, has_wire, on_line}
 use Rattle.tp_model.specs.Entries.{process, HasFourLinks}
 use Rattle.tp_model.specs.Order.{after, pre, post}
 use Rattle.tp_model.specs.Sound.{owner}
@@ -12,8 +11,8 @@ use Rattle.tp_model.specs.Snapshot.{MarkedNetwork, has_recorded, is_closed}
 use Rattle.tp_model.specs.WholeCut.{WholeCut, count_in, all_some, whole, network_in, trimmed}
 use Rattle.tp_model.specs.Acts.{CutHolds}
 use Rattle.tp_order.proofs.Reorder.{after_front, after_shape}
-use Rattle.tp_snap.proofs.Invariant.{Base, Marking, Holds}
-use Rattle.tp_snap.proofs.Whole.{all_nodes, all_some-map, all_closed_at, whole_parts, running, whole_holds}
+use Rattle.tp_snap.proofs.Invariant.{Holds}
+use Rattle.tp_snap.proofs.Whole.{all_some-map, all_closed_at, whole_parts, running, whole_holds}
 
 -- the frozen nodes and the cut are the network that the entries in the cut lead to
 pub cut_network : {Node : Type 0} (M : Machine Node) → HasFourLinks M → (w : MarkedNetwork Node) (cut : WholeCut) (nodes : List Node) → (C : CutHolds M w cut) → all_some w.frozen ≡ Some nodes

@@ -9,4 +9,7 @@ pub mod Begin
 pub mod Close
 pub mod Whole
 pub mod Kept
+pub mod Acts
 pub mod Happens
+pub mod Stays
+pub mod Halves
