@@ -1,1 +1,4 @@
+pub mod Codes
+pub mod Exact
+pub mod Reading
 pub mod Whole
