@@ -1,6 +1,7 @@
 //! Instructions: how bytes spell them, and what those do that work on the registers alone.
 #![tactic(auto)]
 
+mod arithmetic;
 mod decoding;
 mod encoding;
 mod laws;
