@@ -1,8 +1,8 @@
 //! Writes into a list of bytes.
 
-ghost use Rattle.std.specs.Prelude.{◌≡◌, ◌+◌, ◌%◌, ◌≤◌, length, slice_range, IsTrue};
+ghost use Rattle.std.specs.Prelude.{◌≡◌, ◌+◌, ◌%◌, ◌<◌, ◌≤◌, Some, length, slice_range, IsTrue};
 ghost use Rattle.std.specs.Int.{from_le_bytes, w32};
-ghost use Rattle.tp_model.specs.Memory.{offset, set_word, stored, is_inside, copied};
+ghost use Rattle.tp_model.specs.Memory.{set_byte, set_word, stored, is_inside, copied};
 ghost use Rattle.tp_mem.specs.Stored.{are_inside};
 
 use crate::address::{offset, word_offset};
@@ -13,6 +13,15 @@ pub(crate) fn read_word(live: &[u8], at: usize) -> u32
     ensures { result ≡ from_le_bytes w32 (slice_range live.now at (at + 4)) }
 {
     u32::from_le_bytes([live[at], live[at + 1], live[at + 2], live[at + 3]])
+}
+
+/// Writes a byte at a place.
+#[inline(always)]
+pub(crate) fn put_byte(live: &mut [u8], at: usize, byte: u8)
+    requires { at < length live.old }
+    ensures { live.new ≡ set_byte live.old at byte }
+{
+    live[at] = byte;
 }
 
 /// Writes a word at a place.
