@@ -4,7 +4,8 @@ use Rattle.std.specs.Prelude.{option_and_then}
 use Rattle.std.proofs.lemmas.Bool.{cond_both, ltb-true, leb-true, lt-ltb, and_parts, or_cases, cases_Bool}
 use Rattle.std.proofs.lemmas.Grind.{common_steps}
 use Rattle.tp_model.specs.Memory.{offset, word_offset, set_byte, set_word, stored, is_inside, moved, copied, changed}
-use Rattle.tp_mem.specs.Stored.{byte_stored, byte_changed, are_inside}
+use Rattle.tp_mem.specs.Bytes.{byte_stored}
+use Rattle.tp_mem.specs.Ranges.{are_inside}
 
 -- a word that begins inside memory of whole words lies inside
 pub word_within : (address n : ℕ) → n % 4 ≡ 0 → word_offset address < n → word_offset address + 4 ≤ n

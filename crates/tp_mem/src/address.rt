@@ -2,7 +2,7 @@
 
 ghost use Rattle.std.specs.Prelude.{◌≡◌, ℕ, ◌^◌, ◌<◌, List, length};
 ghost use Rattle.tp_model.specs.Memory.{offset, word_offset, is_inside};
-ghost use Rattle.tp_mem.specs.Stored.{are_inside};
+ghost use Rattle.tp_mem.specs.Ranges.{are_inside};
 
 const FIRST: u32 = 0x8000_0000;
 

@@ -3,7 +3,7 @@
 ghost use Rattle.std.specs.Prelude.{◌≡◌, ◌+◌, ◌%◌, ◌<◌, ◌≤◌, Some, length, slice_range, IsTrue};
 ghost use Rattle.std.specs.Int.{from_le_bytes, w32};
 ghost use Rattle.tp_model.specs.Memory.{set_byte, set_word, stored, is_inside, copied};
-ghost use Rattle.tp_mem.specs.Stored.{are_inside};
+ghost use Rattle.tp_mem.specs.Ranges.{are_inside};
 
 use crate::address::{offset, word_offset};
 
