@@ -7,6 +7,7 @@ ghost use Rattle.tp_mem.specs.Ranges.{are_inside};
 
 use crate::address::{offset, word_offset};
 
+/// Reads the word at a place.
 #[inline(always)]
 pub(crate) fn read_word(live: &[u8], at: usize) -> u32
     requires { at + 4 ≤ length live.now }
