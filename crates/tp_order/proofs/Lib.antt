@@ -1,1 +1,2 @@
+pub mod Flight
 pub mod Lines

@@ -1,0 +1,134 @@
+-- What the ends of links and ports do in one entry, counted in Data and Acks.
+use Rattle.std.proofs.Common.{◌≡◌, ◌≢◌, ℕ, zero, suc, ◌+◌, ◌-◌, ◌*◌, ◌/◌, ◌%◌, ◌<◌, ◌≤◌, Bool, true, false, cond, inl, inr, List, [], ◌∷◌, ◌++◌, map, length, get_or, set, refl, sym, ap, subst, ◌∙◌, arith, Option, Some, None, eqb}
+use Rattle.std.proofs.lemmas.Bool.{eq-eqb, ne_eqb, cases_Bool, cases_eq, ltb-true, ltb-false, lt-ltb, le-ltb}
+use Rattle.std.specs.Prelude.{◌==◌, nat_lt, nat_le, ◌&&◌, slice_get}
+use Rattle.std.specs.Option.{option_map}
+use Rattle.std.specs.List.{AllByRecursion}
+use Rattle.tp_model.specs.declared.link.Token.{Token}
+use Rattle.tp_model.specs.declared.link.Token.TheVariants.{Data, Ack, Marker}
+use Rattle.tp_model.specs.Word.{bit}
+use Rattle.tp_model.specs.Network.{◌>>=◌, Machine, steps, Own, OfNode, OfHost, for_line}
+use Rattle.tp_model.specs.Entries.{HasFourLinks, of_node}
+use Rattle.tp_model.specs.Sound.{Ends, datas, acks, owner, own_waits, own_holds, KeepsFlight}
+use Rattle.tp_order.proofs.Lines.{for_line-append, for_line-elsewhere}
+
+-- a partial function after another gave something: so did the first
+pub bound : {A B : Type 0} (o : Option A) (f : A → Option B) (b : B) → (o >>= f) ≡ Some b → (a : A) × (o ≡ Some a) × (f a ≡ Some b)
+bound None f b e = cc
+bound (Some a) f b e = (a, refl, e)
+
+-- ## Counts
+
+pub datas-append : (ts us : List Token) → datas (ts ++ us) ≡ datas ts + datas us
+datas-append [] us = omega arith
+datas-append (t ∷ ts) us = omega (arith, datas-append ts us)
+
+pub acks-append : (ts us : List Token) → acks (ts ++ us) ≡ acks ts + acks us
+acks-append [] us = omega arith
+acks-append (t ∷ ts) us = omega (arith, acks-append ts us)
+
+pub all_append : {A : Type 0} (P : A → Type 0) (xs ys : List A) → AllByRecursion P xs → AllByRecursion P ys → AllByRecursion P (xs ++ ys)
+all_append P [] ys h k = k
+all_append P (x ∷ xs) ys h k = (h.0, all_append P xs ys h.1 k)
+
+-- ## A node
+
+-- What a node's links do where it goes from one state to another: `ms` are the tokens that it takes, each with its
+-- link.
+pub record NodeMoves {Node : Type 0} (E : Ends Node) (node : Node) (ms : List (ℕ × Token)) (after : Node × List (ℕ × Token)) : Type 0 where
+  pub out : (k : ℕ) → k < 4 → bit (E.waits after.0 k) + acks (for_line k ms) ≡ bit (E.waits node k) + datas (for_line k after.1)
+  pub inn : (k : ℕ) → k < 4 → bit (E.holds after.0 k) + acks (for_line k after.1) ≡ bit (E.holds node k) + datas (for_line k ms)
+  pub four : AllByRecursion {X = ℕ × Token} (λ m. m.0 < 4) after.1
+
+-- one after another
+pub joined_moves : {Node : Type 0} {E : Ends Node} {node : Node} (ms ns : List (ℕ × Token)) (mid last : Node × List (ℕ × Token))
+    → NodeMoves E node ms mid → NodeMoves E mid.0 ns last → NodeMoves E node (ms ++ ns) (last.0, mid.1 ++ last.1)
+joined_moves {E = E} {node = node} ms ns mid last a b = record {
+    out = λ k h. rw (for_line-append k ms ns, for_line-append k mid.1 last.1, acks-append (for_line k ms) (for_line k ns), datas-append (for_line k mid.1) (for_line k last.1)) (omega (arith, a.out k h, b.out k h));
+    inn = λ k h. rw (for_line-append k ms ns, for_line-append k mid.1 last.1, acks-append (for_line k mid.1) (for_line k last.1), datas-append (for_line k ms) (for_line k ns)) (omega (arith, a.inn k h, b.inn k h));
+    four = all_append (λ m. m.0 < 4) mid.1 last.1 a.four b.four }
+
+-- as it stays
+pub no_moves : {Node : Type 0} (E : Ends Node) (node : Node) → NodeMoves E node [] (node, [])
+no_moves E node = record { out = λ k h. refl; inn = λ k h. refl; four = tt }
+
+module _ {Node : Type 0} {M : Machine Node} {E : Ends Node} (four : HasFourLinks M) (keeps : KeepsFlight M E) where
+
+  pub took_moves : (node : Node) (j : ℕ) (token : Token) (after : Node × List (ℕ × Token)) → M.took node j token ≡ Some after → NodeMoves E node ((j, token) ∷ []) after
+  took_moves node j token after e = record {
+    out = λ k h. keeps.took_out node j token after k h e;
+    inn = λ k h. keeps.took_in node j token after k h e;
+    four = four.took node j token after e }
+
+  pub step_moves : (node : Node) (after : Node × List (ℕ × Token)) → M.step node ≡ Some after → NodeMoves E node [] after
+  step_moves node after e = record {
+    out = λ k h. omega (arith, keeps.step_out node after k h e);
+    inn = λ k h. omega (arith, keeps.step_in node after k h e);
+    four = four.step node after e }
+
+  pub steps_moves : (count : ℕ) (node : Node) (after : Node × List (ℕ × Token)) → steps M count node ≡ Some after → NodeMoves E node [] after
+  unfolding steps
+  steps_moves zero node after e = let same : (node, []) ≡ after = cc in subst (λ r. NodeMoves E node [] r) same (no_moves E node)
+  steps_moves (suc count) node after e =
+      let a = bound (M.step node) (λ first. steps M count first.0 >>= λ rest. Some (rest.0, first.1 ++ rest.1)) after e in
+      let b = bound (steps M count a.0.0) (λ rest. Some (rest.0, a.0.1 ++ rest.1)) after a.2 in
+      let same : (b.0.0, a.0.1 ++ b.0.1) ≡ after = cc in
+      subst (λ r. NodeMoves E node [] r) same (joined_moves [] [] a.0 b.0 (step_moves node a.0 a.1) (steps_moves count a.0.0 b.0 b.1))
+
+-- ## Whose line it is
+
+pub owner_node : (N i z : ℕ) → i < N → owner N z ≡ i → z ≡ 4 * i + z % 4
+owner_node N i z h e = elim (cases_Bool (nat_lt z (4 * N))) [
+    inl y ↦ let q : z / 4 ≡ i = rw y at e in omega arith
+  | inr n ↦ let q : N ≡ i = rw n at e in omega arith ]
+
+pub owner-link : (N i k : ℕ) → i < N → k < 4 → owner N (4 * i + k) ≡ i
+owner-link N i k h l = rw (lt-ltb (4 * i + k) (4 * N) (omega arith)) (omega arith)
+
+pub owner_host : (N z : ℕ) → owner N z ≡ N → 4 * N ≤ z
+owner_host N z e = elim (cases_Bool (nat_lt z (4 * N))) [
+    inl y ↦ let q : z / 4 ≡ N = rw y at e in let h : z < 4 * N = ltb-true z (4 * N) y in omega arith
+  | inr n ↦ ltb-false z (4 * N) n ]
+
+pub owner-port : (N p : ℕ) → owner N (4 * N + p) ≡ N
+owner-port N p = rw (le-ltb (4 * N + p) (4 * N) (omega arith)) refl
+
+-- the tokens of one link, by link and by line
+pub for_line-shift : (a k : ℕ) (ms : List (ℕ × Token)) → for_line (a + k) (map (λ m. (a + m.0, m.1)) ms) ≡ for_line k ms
+for_line-shift a k [] = refl
+for_line-shift a k (m ∷ ms) = elim (cases_eq m.0 k) [
+    inl y ↦ rw (eq-eqb (a + m.0) (a + k) (omega arith), eq-eqb m.0 k y) (ap (λ ts. m.1 ∷ ts) (for_line-shift a k ms))
+  | inr n ↦ rw (ne_eqb (a + m.0) (a + k) (λ e. n (omega arith)), ne_eqb m.0 k n) (for_line-shift a k ms) ]
+
+-- ## A process
+
+-- a node stays a node, and the host stays the host
+abbrev pub SameKind : {Node : Type 0} → Own Node → Own Node → Type 0
+SameKind (OfNode a) (OfNode b) = Unit {0}
+SameKind (OfHost a) (OfHost b) = Unit {0}
+SameKind _ _ = ⊥
+
+-- What the ends of process p do where its state changes, and tokens are sent: `ms` are those that come in, each with
+-- the line that the end sends at which it comes in.
+pub record Moves {Node : Type 0} (E : Ends Node) (N p : ℕ) (state : Own Node) (ms : List (ℕ × Token)) (change : Own Node × List (ℕ × Token)) : Type 0 where
+  pub kind : SameKind state change.0
+  pub out : (z : ℕ) → owner N z ≡ p → bit (own_waits E N change.0 z) + acks (for_line z ms) ≡ bit (own_waits E N state z) + datas (for_line z change.1)
+  pub inn : (z : ℕ) → owner N z ≡ p → bit (own_holds E change.0 z) + acks (for_line z change.1) ≡ bit (own_holds E state z) + datas (for_line z ms)
+  pub away : (z : ℕ) → owner N z ≢ p → (for_line z change.1 ≡ []) × (for_line z ms ≡ [])
+
+-- the lines of a node's links are its own
+pub shifted_own : (N i : ℕ) (ms : List (ℕ × Token)) → i < N → AllByRecursion {X = ℕ × Token} (λ m. m.0 < 4) ms → AllByRecursion {X = ℕ × Token} (λ m. owner N m.0 ≡ i) (map (λ m. (4 * i + m.0, m.1)) ms)
+shifted_own N i [] h all = tt
+shifted_own N i (m ∷ ms) h all = (owner-link N i m.0 h all.0, shifted_own N i ms h all.1)
+
+pub node_moves : {Node : Type 0} {E : Ends Node} (N i : ℕ) (node : Node) (ms : List (ℕ × Token)) (after : Node × List (ℕ × Token))
+    → i < N → AllByRecursion {X = ℕ × Token} (λ m. m.0 < 4) ms → NodeMoves E node ms after
+    → Moves E N i (OfNode node) (map (λ m. (4 * i + m.0, m.1)) ms) (of_node i after)
+node_moves {E = E} N i node ms after h links moves = record {
+    kind = tt;
+    out = λ z e. rw (by_link z e ms, by_link z e after.1) (moves.out (z % 4) (omega arith));
+    inn = λ z e. rw (by_link z e ms, by_link z e after.1) (moves.inn (z % 4) (omega arith));
+    away = λ z n. (for_line-elsewhere (owner N) i z _ (shifted_own N i after.1 h moves.four) n, for_line-elsewhere (owner N) i z _ (shifted_own N i ms h links) n) }
+  where
+    by_link : (z : ℕ) → owner N z ≡ i → (ns : List (ℕ × Token)) → for_line z (map (λ m. (4 * i + m.0, m.1)) ns) ≡ for_line (z % 4) ns
+    by_link z e ns = subst (λ l. for_line l (map (λ m. (4 * i + m.0, m.1)) ns) ≡ for_line (z % 4) ns) (sym (owner_node N i z h e)) (for_line-shift (4 * i) (z % 4) ns)
