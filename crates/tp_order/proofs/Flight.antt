@@ -1,15 +1,17 @@
 -- What the ends of links and ports do in one entry, counted in Data and Acks.
 use Rattle.std.proofs.Common.{◌≡◌, ◌≢◌, ℕ, zero, suc, ◌+◌, ◌-◌, ◌*◌, ◌/◌, ◌%◌, ◌<◌, ◌≤◌, Bool, true, false, cond, inl, inr, List, [], ◌∷◌, ◌++◌, map, length, get_or, set, refl, sym, ap, subst, ◌∙◌, arith, Option, Some, None, eqb}
 use Rattle.std.proofs.lemmas.Bool.{eq-eqb, ne_eqb, cases_Bool, cases_eq, ltb-true, ltb-false, lt-ltb, le-ltb}
+use Rattle.std.proofs.lemmas.Option.{cond_some, slice_get_within}
 use Rattle.std.specs.Prelude.{◌==◌, nat_lt, nat_le, ◌&&◌, slice_get}
 use Rattle.std.specs.Option.{option_map}
 use Rattle.std.specs.List.{AllByRecursion}
 use Rattle.tp_model.specs.declared.link.Token.{Token}
 use Rattle.tp_model.specs.declared.link.Token.TheVariants.{Data, Ack, Marker}
 use Rattle.tp_model.specs.Word.{bit}
-use Rattle.tp_model.specs.Network.{◌>>=◌, Machine, steps, Own, OfNode, OfHost, for_line}
-use Rattle.tp_model.specs.Entries.{HasFourLinks, of_node}
-use Rattle.tp_model.specs.Sound.{Ends, datas, acks, owner, own_waits, own_holds, KeepsFlight}
+use Rattle.tp_model.specs.declared.limits.TheConstants.{MAX_HELD}
+use Rattle.tp_model.specs.Network.{◌>>=◌, Machine, steps, Port, Own, OfNode, OfHost, for_line}
+use Rattle.tp_model.specs.Entries.{HasFourLinks, of_node, of_port, in_flight, acked, port_took, first_only, handed_in, confirmed}
+use Rattle.tp_model.specs.Sound.{Ends, datas, acks, owner, is_some_byte, is_pending, own_waits, own_holds, KeepsFlight}
 use Rattle.tp_order.proofs.Lines.{for_line-append, for_line-elsewhere}
 
 -- a partial function after another gave something: so did the first
@@ -132,3 +134,85 @@ node_moves {E = E} N i node ms after h links moves = record {
   where
     by_link : (z : ℕ) → owner N z ≡ i → (ns : List (ℕ × Token)) → for_line z (map (λ m. (4 * i + m.0, m.1)) ns) ≡ for_line (z % 4) ns
     by_link z e ns = subst (λ l. for_line l (map (λ m. (4 * i + m.0, m.1)) ns) ≡ for_line (z % 4) ns) (sym (owner_node N i z h e)) (for_line-shift (4 * i) (z % 4) ns)
+
+-- ## A port
+
+-- What a port does where it goes from one state to another: `ms` are the tokens that it takes.
+pub record PortMoves (port : Port) (ms : List Token) (after : Port × List Token) : Type 0 where
+  pub out : bit (is_some_byte after.0.pending) + acks ms ≡ bit (is_some_byte port.pending) + datas after.1
+  pub inn : acks after.1 ≡ datas ms
+
+pub port_took_moves : (token : Token) (port : Port) (after : Port × List Token) → port_took token port ≡ Some after → PortMoves port (token ∷ []) after
+port_took_moves (Data b) port after e =
+    subst (λ r. PortMoves port (Data b ∷ []) r) (cond_some _ _ after e).1 (record { out = refl; inn = refl })
+port_took_moves Ack port after e = go port.pending refl e
+  where
+    go : (xs : List ℕ) → port.pending ≡ xs → acked xs port ≡ Some after → PortMoves port (Ack ∷ []) after
+    go [] p e = cc
+    go (x ∷ []) p e = let same : (record port { pending = []; in_base = port.in_base + 1 }, []) ≡ after = cc in
+        subst (λ r. PortMoves port (Ack ∷ []) r) same (record { out = rw p refl; inn = refl })
+    go (x ∷ y ∷ ys) p e = let same : (record port { pending = y ∷ ys; in_base = port.in_base + 1 }, Data y ∷ []) ≡ after = cc in
+        subst (λ r. PortMoves port (Ack ∷ []) r) same (record { out = rw p refl; inn = refl })
+port_took_moves Marker port after e = cc
+
+pub handed_in_moves : (x : ℕ) (port : Port) (after : Port × List Token) → handed_in x port ≡ Some after → PortMoves port [] after
+handed_in_moves x port after e =
+    subst (λ r. PortMoves port [] r) (cond_some _ _ after e).1 (record { out = out port.pending; inn = inn port.pending })
+  where
+    out : (xs : List ℕ) → bit (is_some_byte (xs ++ x ∷ [])) + 0 ≡ bit (is_some_byte xs) + datas (first_only xs x)
+    out [] = refl
+    out (y ∷ ys) = refl
+
+    inn : (xs : List ℕ) → acks (first_only xs x) ≡ 0
+    inn [] = refl
+    inn (y ∷ ys) = refl
+
+pub confirmed_moves : (upto : ℕ) (port : Port) (after : Port × List Token) → confirmed upto port ≡ Some after → PortMoves port [] after
+confirmed_moves upto port after e = subst (λ r. PortMoves port [] r) (cond_some _ _ after e).1 (record { out = refl; inn = refl })
+
+-- ## The host
+
+pub for_line-all : (l : ℕ) (ts : List Token) → for_line l (map (λ t. (l, t)) ts) ≡ ts
+for_line-all l [] = refl
+for_line-all l (t ∷ ts) = rw (eq-eqb l l refl) (ap (λ us. t ∷ us) (for_line-all l ts))
+
+pub for_line-none : (k l : ℕ) (ts : List Token) → k ≢ l → for_line l (map (λ t. (k, t)) ts) ≡ []
+for_line-none k l [] n = refl
+for_line-none k l (t ∷ ts) n = rw (ne_eqb k l n) (for_line-none k l ts n)
+
+pub slice_get-set_same : {A : Type 0} (xs : List A) (i : ℕ) (x : A) → i < length xs → slice_get (set xs i x) i ≡ Some x
+slice_get-set_same [] i x h = absurd (omega arith)
+slice_get-set_same (y ∷ ys) zero x h = refl
+slice_get-set_same (y ∷ ys) (suc i) x h = slice_get-set_same ys i x (omega arith)
+
+pub slice_get-set_other : {A : Type 0} (xs : List A) (i j : ℕ) (x : A) → j ≢ i → slice_get (set xs i x) j ≡ slice_get xs j
+slice_get-set_other [] i j x n = refl
+slice_get-set_other (y ∷ ys) zero zero x n = absurd (n refl)
+slice_get-set_other (y ∷ ys) zero (suc j) x n = refl
+slice_get-set_other (y ∷ ys) (suc i) zero x n = refl
+slice_get-set_other (y ∷ ys) (suc i) (suc j) x n = slice_get-set_other ys i j x (λ e. n (ap suc e))
+
+pub port_moves : {Node : Type 0} {E : Ends Node} (N p : ℕ) (ports : List Port) (port : Port) (ms : List Token) (after : Port × List Token)
+    → slice_get ports p ≡ Some port → PortMoves port ms after
+    → Moves E N N (OfHost ports) (map (λ t. (4 * N + p, t)) ms) (OfHost (set ports p after.0), map (λ t. (4 * N + p, t)) after.1)
+port_moves {E = E} N p ports port ms after is moves = record {
+    kind = tt;
+    out = λ z e. elim (cases_eq (4 * N + p) z) [
+        inl same ↦ subst (λ l. bit (is_pending (slice_get (set ports p after.0) (l - 4 * N))) + acks (for_line l (map (λ t. (4 * N + p, t)) ms)) ≡ bit (is_pending (slice_get ports (l - 4 * N))) + datas (for_line l (map (λ t. (4 * N + p, t)) after.1))) same here
+      | inr n ↦ other z (owner_host N z e) n ];
+    inn = λ z e. elim (cases_eq (4 * N + p) z) [
+        inl same ↦ ap (λ n. 0 + n) (subst (λ l. acks (for_line l (map (λ t. (4 * N + p, t)) after.1)) ≡ datas (for_line l (map (λ t. (4 * N + p, t)) ms))) same (rw (for_line-all (4 * N + p) ms, for_line-all (4 * N + p) after.1) moves.inn))
+      | inr n ↦ rw (for_line-none (4 * N + p) z ms n, for_line-none (4 * N + p) z after.1 n) refl ];
+    away = λ z n. (for_line-none (4 * N + p) z after.1 (λ e. n (sym (ap (owner N) e) ∙ owner-port N p)), for_line-none (4 * N + p) z ms (λ e. n (sym (ap (owner N) e) ∙ owner-port N p))) }
+  where
+    at_port : 4 * N + p - 4 * N ≡ p
+    at_port = omega arith
+
+    here : bit (is_pending (slice_get (set ports p after.0) (4 * N + p - 4 * N))) + acks (for_line (4 * N + p) (map (λ t. (4 * N + p, t)) ms))
+        ≡ bit (is_pending (slice_get ports (4 * N + p - 4 * N))) + datas (for_line (4 * N + p) (map (λ t. (4 * N + p, t)) after.1))
+    here = rw (for_line-all (4 * N + p) ms, for_line-all (4 * N + p) after.1, at_port, slice_get-set_same ports p after.0 (slice_get_within ports p port is), is) moves.out
+
+    other : (z : ℕ) → 4 * N ≤ z → 4 * N + p ≢ z
+        → bit (is_pending (slice_get (set ports p after.0) (z - 4 * N))) + acks (for_line z (map (λ t. (4 * N + p, t)) ms))
+        ≡ bit (is_pending (slice_get ports (z - 4 * N))) + datas (for_line z (map (λ t. (4 * N + p, t)) after.1))
+    other z h n = rw (for_line-none (4 * N + p) z ms n, for_line-none (4 * N + p) z after.1 n, slice_get-set_other ports p (z - 4 * N) after.0 (λ e. n (omega arith))) refl
