@@ -1,6 +1,6 @@
 -- What the ends of links and ports do in one entry, counted in Data and Acks.
 use Rattle.std.proofs.Common.{◌≡◌, ◌≢◌, ℕ, zero, suc, ◌+◌, ◌-◌, ◌*◌, ◌/◌, ◌%◌, ◌<◌, ◌≤◌, Bool, true, false, cond, inl, inr, List, [], ◌∷◌, ◌++◌, map, length, get_or, set, refl, sym, ap, subst, ◌∙◌, arith, Option, Some, None, eqb}
-use Rattle.std.proofs.lemmas.Bool.{eq-eqb, ne_eqb, cases_Bool, cases_eq, ltb-true, ltb-false, lt-ltb, le-ltb}
+use Rattle.std.proofs.lemmas.Bool.{eq-eqb, ne_eqb, cases_Bool, cases_eq, eqb-true, ltb-true, ltb-false, lt-ltb, le-ltb}
 use Rattle.std.proofs.lemmas.Option.{cond_some, slice_get_within}
 use Rattle.std.specs.Prelude.{◌==◌, nat_lt, nat_le, ◌&&◌, slice_get}
 use Rattle.std.specs.Option.{option_map}
@@ -8,10 +8,13 @@ use Rattle.std.specs.List.{AllByRecursion}
 use Rattle.tp_model.specs.declared.link.Token.{Token}
 use Rattle.tp_model.specs.declared.link.Token.TheVariants.{Data, Ack, Marker}
 use Rattle.tp_model.specs.Word.{bit}
-use Rattle.tp_model.specs.declared.limits.TheConstants.{MAX_HELD}
-use Rattle.tp_model.specs.Network.{◌>>=◌, Machine, steps, Port, Own, OfNode, OfHost, for_line}
-use Rattle.tp_model.specs.Entries.{HasFourLinks, of_node, of_port, in_flight, acked, port_took, first_only, handed_in, confirmed}
-use Rattle.tp_model.specs.Sound.{Ends, datas, acks, owner, is_some_byte, is_pending, own_waits, own_holds, KeepsFlight}
+use Rattle.tp_model.specs.declared.wire.WireEnd.{WireEnd}
+use Rattle.tp_model.specs.declared.wire.WireEnd.TheVariants.{Link, Port as AtPort}
+use Rattle.tp_model.specs.declared.entry.Entry.{Entry}
+use Rattle.tp_model.specs.declared.entry.Entry.TheVariants.{Run, Take, HostIn, Confirm}
+use Rattle.tp_model.specs.Network.{◌>>=◌, Machine, steps, Network, Port, Own, OfNode, OfHost, own, receiver, process_at, line_of, back, for_line}
+use Rattle.tp_model.specs.Entries.{HasFourLinks, process, of_node, of_port, acked, port_took, first_only, handed_in, confirmed, receives, does}
+use Rattle.tp_model.specs.Sound.{Ends, datas, acks, owner, is_some_byte, is_pending, own_waits, own_holds, Wired, KeepsFlight}
 use Rattle.tp_order.proofs.Lines.{for_line-append, for_line-elsewhere}
 
 -- a partial function after another gave something: so did the first
@@ -216,3 +219,93 @@ port_moves {E = E} N p ports port ms after is moves = record {
         → bit (is_pending (slice_get (set ports p after.0) (z - 4 * N))) + acks (for_line z (map (λ t. (4 * N + p, t)) ms))
         ≡ bit (is_pending (slice_get ports (z - 4 * N))) + datas (for_line z (map (λ t. (4 * N + p, t)) after.1))
     other z h n = rw (for_line-none (4 * N + p) z ms n, for_line-none (4 * N + p) z after.1 n, slice_get-set_other ports p (z - 4 * N) after.0 (λ e. n (omega arith))) refl
+
+-- ## An entry
+
+-- where the first is tested, or a function follows it, and something is given
+pub tested : {A : Type 0} (b : Bool) (o : Option A) (x : A) → cond b o None ≡ Some x → o ≡ Some x
+tested true o x e = e
+tested false o x e = cc
+
+pub mapped : {A B : Type 0} (f : A → B) (o : Option A) (y : B) → option_map f o ≡ Some y → (x : A) × (o ≡ Some x) × (f x ≡ y)
+mapped f None y e = cc
+mapped f (Some x) y e = (x, refl, cc)
+
+-- whose state it is
+pub own_node : {Node : Type 0} (s : Network Node) (p : ℕ) (node : Node) → own s p ≡ Some (OfNode node) → (p < length s.nodes) × (slice_get s.nodes p ≡ Some node)
+unfolding own
+own_node s p node e = go (p == length s.nodes) e
+  where
+    go : (b : Bool) → cond b (Some (OfHost s.ports)) (option_map OfNode (slice_get s.nodes p)) ≡ Some (OfNode node) → (p < length s.nodes) × (slice_get s.nodes p ≡ Some node)
+    go true e = cc
+    go false e = let found = mapped OfNode (slice_get s.nodes p) (OfNode node) e in
+        let same : found.0 ≡ node = cc in let is : slice_get s.nodes p ≡ Some node = cc in
+        (slice_get_within s.nodes p node is, is)
+
+pub own_host : {Node : Type 0} (s : Network Node) (p : ℕ) (ports : List Port) → own s p ≡ Some (OfHost ports) → (p ≡ length s.nodes) × (s.ports ≡ ports)
+unfolding own
+own_host s p ports e = go (p == length s.nodes) refl e
+  where
+    go : (b : Bool) → (p == length s.nodes) ≡ b → cond b (Some (OfHost s.ports)) (option_map OfNode (slice_get s.nodes p)) ≡ Some (OfHost ports) → (p ≡ length s.nodes) × (s.ports ≡ ports)
+    go true y e = (eqb-true p (length s.nodes) y, cc)
+    go false n e = let found = mapped OfNode (slice_get s.nodes p) (OfHost ports) e in cc
+
+-- The token that an entry takes, with the line that the end sends at which it comes in.
+abbrev pub arrival : Option ℕ → Token → List (ℕ × Token)
+arrival None token = []
+arrival (Some line) token = (line, token) ∷ []
+
+abbrev pub arrivals : {Node : Type 0} → Network Node → Entry → List (ℕ × Token)
+arrivals s (Run i k) = []
+arrivals s (Take line token) = arrival (back s line) token
+arrivals s (HostIn p x) = []
+arrivals s (Confirm p upto) = []
+
+-- port p takes these tokens
+pub of_port_moves : {Node : Type 0} {E : Ends Node} (N p : ℕ) (ports : List Port) (ms : List Token) (f : Port → Option (Port × List Token)) (change : Own Node × List (ℕ × Token))
+    → ((port : Port) (after : Port × List Token) → f port ≡ Some after → PortMoves port ms after)
+    → of_port N p ports f ≡ Some change → Moves E N N (OfHost ports) (map (λ t. (4 * N + p, t)) ms) change
+unfolding of_port
+of_port_moves {Node = Node} {E = E} N p ports ms f change moves e =
+    let last : Port × List Token → Option (Own Node × List (ℕ × Token)) = λ r. Some (OfHost (set ports p r.0), map (λ t. (4 * N + p, t)) r.1) in
+    let a = bound (slice_get ports p) (λ port. f port >>= last) change e in
+    let b = bound (f a.0) last change a.2 in
+    let same : (OfHost (set ports p b.0.0), map (λ t. (4 * N + p, t)) b.0.1) ≡ change = cc in
+    subst (λ c. Moves E N N (OfHost ports) (map (λ t. (4 * N + p, t)) ms) c) same (port_moves N p ports a.0 ms b.0 a.1 (moves a.0 b.0 b.1))
+
+module _ {Node : Type 0} {M : Machine Node} {E : Ends Node} (four : HasFourLinks M) (keeps : KeepsFlight M E) where
+
+  -- an end receives a token
+  pub receives_moves : (N : ℕ) (end : Option WireEnd) (token : Token) (state : Own Node) (change : Own Node × List (ℕ × Token))
+      → ((i k : ℕ) → end ≡ Some (Link i k) → (i < N) × (k < 4))
+      → receives M N end token state ≡ Some change → Moves E N (process_at N end) state (arrival (option_map (line_of N) end) token) change
+  unfolding receives
+  receives_moves N None token (OfNode node) change links e = cc
+  receives_moves N None token (OfHost ports) change links e = cc
+  receives_moves N (Some (Link i k)) token (OfHost ports) change links e = cc
+  receives_moves N (Some (AtPort p)) token (OfNode node) change links e = cc
+  receives_moves N (Some (Link i k)) token (OfNode node) change links e =
+      let found = mapped (of_node i) (M.took node k token) change e in
+      subst (λ c. Moves E N i (OfNode node) ((4 * i + k, token) ∷ []) c) found.2
+        (node_moves N i node ((k, token) ∷ []) found.0 (links i k refl).0 ((links i k refl).1, tt) (took_moves four keeps node k token found.0 found.1))
+  receives_moves N (Some (AtPort p)) token (OfHost ports) change links e =
+      of_port_moves N p ports (token ∷ []) (port_took token) change (port_took_moves token) e
+
+  -- what an entry does
+  pub does_moves : (s : Network Node) (e : Entry) (state : Own Node) (change : Own Node × List (ℕ × Token)) → Wired s
+      → own s (process s e) ≡ Some state → does M s.wires (length s.nodes) e state ≡ Some change
+      → Moves E (length s.nodes) (process s e) state (arrivals s e) change
+  unfolding process does
+  does_moves s (Run i k) (OfHost ports) change wired o d = cc
+  does_moves s (HostIn p x) (OfNode node) change wired o d = cc
+  does_moves s (Confirm p upto) (OfNode node) change wired o d = cc
+  does_moves s (Run i k) (OfNode node) change wired o d =
+      let found = mapped (of_node i) (steps M k node) change (tested _ _ change d) in
+      subst (λ c. Moves E (length s.nodes) i (OfNode node) [] c) found.2
+        (node_moves (length s.nodes) i node [] found.0 (own_node s i node o).0 tt (steps_moves four keeps k node found.0 found.1))
+  does_moves s (Take line token) state change wired o d =
+      receives_moves (length s.nodes) (receiver s.wires line) token state change (wired.links line) d
+  does_moves s (HostIn p x) (OfHost ports) change wired o d =
+      of_port_moves (length s.nodes) p ports [] (handed_in x) change (handed_in_moves x) d
+  does_moves s (Confirm p upto) (OfHost ports) change wired o d =
+      of_port_moves (length s.nodes) p ports [] (confirmed upto) change (confirmed_moves upto) d
