@@ -1,2 +1,3 @@
 pub mod Flight
 pub mod Lines
+pub mod Sound
