@@ -71,3 +71,82 @@ module _ {Node : Type 0} (s : Network Node) (p : ℕ) where
   own-put_other (OfHost old) (OfHost ports) q o k n = rw (ne_eqb q (length s.nodes) (λ e. n (e ∙ sym (own_host s p old o).0))) refl
   own-put_other (OfNode old) (OfHost ports) q o k n = absurd k
   own-put_other (OfHost old) (OfNode node) q o k n = absurd k
+
+-- ## The ends and the lines, before and after
+
+-- an end, where the state of its process is known
+pub end_waits_is : {Node : Type 0} (E : Ends Node) (s : Network Node) (N z : ℕ) (x : Own Node) → length s.nodes ≡ N → own s (owner N z) ≡ Some x → end_waits E s z ≡ own_waits E N x z
+end_waits_is E s N z x n o = rw (n, o) refl
+
+pub end_holds_is : {Node : Type 0} (E : Ends Node) (s : Network Node) (N z : ℕ) (x : Own Node) → length s.nodes ≡ N → own s (owner N z) ≡ Some x → end_holds E s z ≡ own_holds E x z
+end_holds_is E s N z x n o = rw (n, o) refl
+
+-- an end, where the state of its process is as in another network
+pub end_waits_as : {Node : Type 0} (E : Ends Node) (s t : Network Node) (z : ℕ) → length t.nodes ≡ length s.nodes → own t (owner (length s.nodes) z) ≡ own s (owner (length s.nodes) z) → end_waits E t z ≡ end_waits E s z
+end_waits_as E s t z n o = rw (n, o) refl
+
+pub end_holds_as : {Node : Type 0} (E : Ends Node) (s t : Network Node) (z : ℕ) → length t.nodes ≡ length s.nodes → own t (owner (length s.nodes) z) ≡ own s (owner (length s.nodes) z) → end_holds E t z ≡ end_holds E s z
+end_holds_as E s t z n o = rw (n, o) refl
+
+pub own-lines : {Node : Type 0} (s : Network Node) (ls : List (List Token)) (q : ℕ) → own (record s { lines = ls }) q ≡ own s q
+unfolding own
+own-lines s ls q = refl
+
+-- What an entry changes: each line loses a front and gains a back, and what each end does agrees with that.
+pub record Across {Node : Type 0} (E : Ends Node) (s : Network Node) (e : Entry) (t : Network Node) : Type 0 where
+  pub wires : t.wires ≡ s.wires
+  pub nodes : length t.nodes ≡ length s.nodes
+  pub long : length t.lines ≡ length s.lines
+  pub sends : List (ℕ × Token)
+  pub rest : List (List Token)
+  pub front : (x : ℕ) → on_line s.lines x ≡ for_line x (takes s e) ++ on_line rest x
+  pub behind : (x : ℕ) → (has_wire s.wires x ≡ true → x < length s.lines) → on_line t.lines x ≡ on_line rest x ++ cond (has_wire s.wires x) (for_line x sends) []
+  pub out : (z : ℕ) → bit (end_waits E t z) + acks (for_line z (arrivals s e)) ≡ bit (end_waits E s z) + datas (for_line z sends)
+  pub inn : (z : ℕ) → bit (end_holds E t z) + acks (for_line z sends) ≡ bit (end_holds E s z) + datas (for_line z (arrivals s e))
+
+module _ {Node : Type 0} {M : Machine Node} {E : Ends Node} (four : HasFourLinks M) (keeps : KeepsFlight M E) where
+
+  pub across_put : (s : Network Node) (e : Entry) (rest : List (List Token)) (state : Own Node) (change : Own Node × List (ℕ × Token))
+      → taken s.lines (takes s e) ≡ Some rest → own s (process s e) ≡ Some state → Moves E (length s.nodes) (process s e) state (arrivals s e) change
+      → Across E s e (put (record s { lines = sent (has_wire s.wires) rest change.1 }) (process s e) change.0)
+  across_put s e rest state change is_taken is_own moves = record {
+      wires = wires-put u p change.0;
+      nodes = size;
+      long = ap length (lines-put u p change.0) ∙ length_sent (has_wire s.wires) rest change.1 ∙ length_taken s.lines (takes s e) rest is_taken;
+      sends = change.1;
+      rest = rest;
+      front = on_taken s.lines (takes s e) rest is_taken;
+      behind = λ x there. ap (λ ls. on_line ls x) (lines-put u p change.0) ∙ on_sent (has_wire s.wires) rest change.1 x (λ y. subst (λ n. x < n) (sym (length_taken s.lines (takes s e) rest is_taken)) (there y));
+      out = out;
+      inn = inn }
+    where
+      p : ℕ
+      p = process s e
+
+      u : Network Node
+      u = record s { lines = sent (has_wire s.wires) rest change.1 }
+
+      size : length (put u p change.0).nodes ≡ length s.nodes
+      size = length-put u p change.0
+
+      of_p : own u p ≡ Some state
+      of_p = own-lines s (sent (has_wire s.wires) rest change.1) p ∙ is_own
+
+      of_other : (q : ℕ) → q ≢ p → own (put u p change.0) q ≡ own s q
+      of_other q n = own-put_other u p state change.0 q of_p moves.kind n ∙ own-lines s (sent (has_wire s.wires) rest change.1) q
+
+      out : (z : ℕ) → bit (end_waits E (put u p change.0) z) + acks (for_line z (arrivals s e)) ≡ bit (end_waits E s z) + datas (for_line z change.1)
+      out z = elim (cases_eq (owner (length s.nodes) z) p) [
+          inl y ↦ rw (end_waits_is E (put u p change.0) (length s.nodes) z change.0 size (rw y (own-put_same u p state change.0 of_p moves.kind)), end_waits_is E s (length s.nodes) z state refl (rw y is_own)) (moves.out z y)
+        | inr n ↦ rw (end_waits_as E s (put u p change.0) z size (of_other (owner (length s.nodes) z) n), (moves.away z n).0, (moves.away z n).1) refl ]
+
+      inn : (z : ℕ) → bit (end_holds E (put u p change.0) z) + acks (for_line z change.1) ≡ bit (end_holds E s z) + datas (for_line z (arrivals s e))
+      inn z = elim (cases_eq (owner (length s.nodes) z) p) [
+          inl y ↦ rw (end_holds_is E (put u p change.0) (length s.nodes) z change.0 size (rw y (own-put_same u p state change.0 of_p moves.kind)), end_holds_is E s (length s.nodes) z state refl (rw y is_own)) (moves.inn z y)
+        | inr n ↦ rw (end_holds_as E s (put u p change.0) z size (of_other (owner (length s.nodes) z) n), (moves.away z n).0, (moves.away z n).1) refl ]
+
+  pub across : (s t : Network Node) (e : Entry) → Wired s → next M s e ≡ Some t → Across E s e t
+  across s t e wired h = go (next_parts s e t h)
+    where
+      go : Parts M s e t → Across E s e t
+      go P = subst (λ u. Across E s e u) P.is (across_put s e P.rest P.state P.change P.is_taken P.is_own (does_moves four keeps s e P.state P.change wired P.is_own P.is_done))
