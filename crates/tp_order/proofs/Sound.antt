@@ -150,3 +150,34 @@ module _ {Node : Type 0} {M : Machine Node} {E : Ends Node} (four : HasFourLinks
     where
       go : Parts M s e t → Across E s e t
       go P = subst (λ u. Across E s e u) P.is (across_put s e P.rest P.state P.change P.is_taken P.is_own (does_moves four keeps s e P.state P.change wired P.is_own P.is_done))
+
+-- ## What comes in, by the line that it is taken from and by the end at which it comes in
+
+pub wire_one : {Node : Type 0} (s : Network Node) → Wired s → (x l y : ℕ) → back s x ≡ Some y → back s l ≡ Some y → l ≡ x
+wire_one s wired x l y a b = let c : back s y ≡ Some x = wired.both_ways x y a in let d : back s y ≡ Some l = wired.both_ways l y b in cc
+
+pub arrivals_taken : {Node : Type 0} (s : Network Node) → Wired s → (e : Entry) (x y : ℕ) → back s x ≡ Some y → for_line y (arrivals s e) ≡ for_line x (takes s e)
+unfolding takes
+arrivals_taken s wired (Run i k) x y b = refl
+arrivals_taken s wired (HostIn p v) x y b = refl
+arrivals_taken s wired (Confirm p upto) x y b = refl
+arrivals_taken s wired (Take line token) x y b = elim (cases_eq line x) [
+    inl same ↦ rw (same, b, eq-eqb x x refl, eq-eqb y y refl) refl
+  | inr other ↦ go (back s line) refl other ]
+  where
+    go : (o : Option ℕ) → back s line ≡ o → line ≢ x → for_line y (arrival o token) ≡ for_line x ((line, token) ∷ [])
+    go None e n = rw (ne_eqb line x n) refl
+    go (Some z) e n = rw (ne_eqb line x n, ne_eqb z y (λ same. n (wire_one s wired x line y b (rw same at e)))) refl
+
+pub arrivals_none : {Node : Type 0} (s : Network Node) → Wired s → (e : Entry) (x : ℕ) → back s x ≡ None → for_line x (arrivals s e) ≡ []
+arrivals_none s wired (Run i k) x b = refl
+arrivals_none s wired (HostIn p v) x b = refl
+arrivals_none s wired (Confirm p upto) x b = refl
+arrivals_none s wired (Take line token) x b = go (back s line) refl
+  where
+    go : (o : Option ℕ) → back s line ≡ o → for_line x (arrival o token) ≡ []
+    go None e = refl
+    go (Some z) e = rw (ne_eqb z x (λ same. no_wire same)) refl
+      where
+        no_wire : z ≡ x → ⊥
+        no_wire same = let c : back s z ≡ Some line = wired.both_ways line z e in let d : back s z ≡ None = rw same b in cc
