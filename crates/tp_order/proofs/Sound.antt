@@ -181,3 +181,73 @@ arrivals_none s wired (Take line token) x b = go (back s line) refl
       where
         no_wire : z ≡ x → ⊥
         no_wire same = let c : back s z ≡ Some line = wired.both_ways line z e in let d : back s z ≡ None = rw same b in cc
+
+-- ## Kept
+
+pub wired-back : {Node : Type 0} (s : Network Node) (x y : ℕ) → back s x ≡ Some y → has_wire s.wires x ≡ true
+wired-back s x y b = go (receiver s.wires x) b
+  where
+    go : (o : Option WireEnd) → option_map (line_of (length s.nodes)) o ≡ Some y → is_wired o ≡ true
+    go None e = cc
+    go (Some end) e = refl
+
+pub unwired-back : {Node : Type 0} (s : Network Node) (x : ℕ) → back s x ≡ None → has_wire s.wires x ≡ false
+unwired-back s x b = go (receiver s.wires x) b
+  where
+    go : (o : Option WireEnd) → option_map (line_of (length s.nodes)) o ≡ None → is_wired o ≡ false
+    go None e = refl
+    go (Some end) e = cc
+
+nothing_left : (ts us : List Token) → ts ++ us ≡ [] → us ≡ []
+nothing_left [] us e = e
+nothing_left (t ∷ ts) us e = cc
+
+no_bit : (b : Bool) (n : ℕ) → bit b + n ≡ 0 → b ≡ false
+no_bit true n e = absurd (omega arith)
+no_bit false n e = refl
+
+module _ {Node : Type 0} {E : Ends Node} {s t : Network Node} {e : Entry} (sound : Sound E s) (a : Across E s e t) where
+
+  back-across : (x : ℕ) → back t x ≡ back s x
+  back-across x = rw (a.wires, a.nodes) refl
+
+  -- what stands on a line with a wire
+  datas_across : (x y : ℕ) → back s x ≡ Some y → datas (on_line t.lines x) + datas (for_line x (takes s e)) ≡ datas (on_line s.lines x) + datas (for_line x a.sends)
+  datas_across x y b =
+      rw (a.behind x (sound.there x), wired-back s x y b, a.front x, datas-append (for_line x (takes s e)) (on_line a.rest x), datas-append (on_line a.rest x) (for_line x a.sends)) (omega arith)
+
+  acks_across : (x y : ℕ) → back s x ≡ Some y → acks (on_line t.lines x) + acks (for_line x (takes s e)) ≡ acks (on_line s.lines x) + acks (for_line x a.sends)
+  acks_across x y b =
+      rw (a.behind x (sound.there x), wired-back s x y b, a.front x, acks-append (for_line x (takes s e)) (on_line a.rest x), acks-append (on_line a.rest x) (for_line x a.sends)) (omega arith)
+
+  flight_across : (x y : ℕ) → back s x ≡ Some y → bit (end_waits E t x) ≡ datas (on_line t.lines x) + acks (on_line t.lines y) + bit (end_holds E t y)
+  flight_across x y b =
+      let c : back s y ≡ Some x = sound.wires.both_ways x y b in
+      let in_x : for_line y (arrivals s e) ≡ for_line x (takes s e) = arrivals_taken s sound.wires e x y b in
+      let in_y : for_line x (arrivals s e) ≡ for_line y (takes s e) = arrivals_taken s sound.wires e y x c in
+      sum_up (bit (end_waits E s x)) (bit (end_waits E t x)) (bit (end_holds E s y)) (bit (end_holds E t y))
+        (datas (on_line s.lines x)) (datas (on_line t.lines x)) (acks (on_line s.lines y)) (acks (on_line t.lines y))
+        (datas (for_line x (takes s e))) (datas (for_line x a.sends)) (acks (for_line y (takes s e))) (acks (for_line y a.sends))
+        (sound.flight x y b) (datas_across x y b) (acks_across y x c) (rw in_y at (a.out x)) (rw in_x at (a.inn y))
+    where
+      sum_up : (w w' h h' d d' k k' dt ds kt ks : ℕ) → w ≡ d + k + h → d' + dt ≡ d + ds → k' + kt ≡ k + ks → w' + kt ≡ w + ds → h' + ks ≡ h + dt → w' ≡ d' + k' + h'
+      sum_up w w' h h' d d' k k' dt ds kt ks a1 a2 a3 a4 a5 = omega arith
+
+  none_across : (x : ℕ) → back s x ≡ None → (on_line t.lines x ≡ []) × (end_holds E t x ≡ false)
+  none_across x b =
+      let rest : on_line a.rest x ≡ [] = nothing_left (for_line x (takes s e)) (on_line a.rest x) (sym (a.front x) ∙ (sound.none x b).0) in
+      let held : bit (end_holds E t x) + acks (for_line x a.sends) ≡ 0 = rw ((sound.none x b).1, arrivals_none s sound.wires e x b) at (a.inn x) in
+      (a.behind x (sound.there x) ∙ rw (rest, unwired-back s x b) refl, no_bit (end_holds E t x) (acks (for_line x a.sends)) held)
+
+  pub sound_across : Sound E t
+  sound_across = record {
+    wires = record {
+      both_ways = λ x y b. back-across y ∙ sound.wires.both_ways x y (sym (back-across x) ∙ b);
+      links = λ x i k r. rw a.nodes (sound.wires.links x i k (rw a.wires at r)) };
+    there = λ x y. rw a.long (sound.there x (rw a.wires at y));
+    flight = λ x y b. flight_across x y (sym (back-across x) ∙ b);
+    none = λ x b. none_across x (sym (back-across x) ∙ b) }
+
+-- Every entry keeps a sound network sound.
+pub sound_kept : {Node : Type 0} {M : Machine Node} {E : Ends Node} → HasFourLinks M → KeepsFlight M E → (s t : Network Node) (e : Entry) → Sound E s → next M s e ≡ Some t → Sound E t
+sound_kept four keeps s t e sound h = sound_across sound (across four keeps s t e sound.wires h)
