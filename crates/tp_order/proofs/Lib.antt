@@ -1,3 +1,4 @@
 pub mod Flight
 pub mod Lines
+pub mod Room
 pub mod Sound

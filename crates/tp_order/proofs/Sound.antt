@@ -12,6 +12,7 @@ use Rattle.tp_model.specs.declared.entry.Entry.TheVariants.{Run, Take, HostIn, C
 use Rattle.tp_model.specs.Word.{bit}
 use Rattle.tp_model.specs.Network.{◌>>=◌, Machine, Network, Port, Own, OfNode, OfHost, own, put, receiver, is_wired, has_wire, line_of, back, on_line, taken, sent, for_line}
 use Rattle.tp_model.specs.Entries.{HasFourLinks, process, takes, does, next}
+use Rattle.tp_model.specs.Order.{after}
 use Rattle.tp_model.specs.Sound.{Ends, datas, acks, owner, own_waits, own_holds, end_waits, end_holds, Wired, Sound, KeepsFlight}
 use Rattle.tp_order.proofs.Lines.{for_line-here, for_line-other, on_taken, length_taken, on_sent, length_sent}
 use Rattle.tp_order.proofs.Flight.{bound, datas-append, acks-append, SameKind, Moves, own_node, own_host, arrival, arrivals, slice_get-set_same, slice_get-set_other, does_moves}
@@ -251,3 +252,28 @@ module _ {Node : Type 0} {E : Ends Node} {s t : Network Node} {e : Entry} (sound
 -- Every entry keeps a sound network sound.
 pub sound_kept : {Node : Type 0} {M : Machine Node} {E : Ends Node} → HasFourLinks M → KeepsFlight M E → (s t : Network Node) (e : Entry) → Sound E s → next M s e ≡ Some t → Sound E t
 sound_kept four keeps s t e sound h = sound_across sound (across four keeps s t e sound.wires h)
+
+pub sound_after : {Node : Type 0} {M : Machine Node} {E : Ends Node} → HasFourLinks M → KeepsFlight M E → (s t : Network Node) (es : List Entry) → Sound E s → after M s es ≡ Some t → Sound E t
+unfolding after
+sound_after {E = E} four keeps s t [] sound h = let same : s ≡ t = cc in subst (λ u. Sound E u) same sound
+sound_after {M = M} four keeps s t (e ∷ es) sound h =
+    let a = bound (next M s e) (λ u. after M u es) t h in
+    sound_after four keeps a.0 t es (sound_kept four keeps s a.0 e sound a.1) a.2
+
+-- At most one Data and one Ack are on a line.
+pub sound_small : {Node : Type 0} {E : Ends Node} {s : Network Node} → Sound E s → (x : ℕ) → (datas (on_line s.lines x) ≤ 1) × (acks (on_line s.lines x) ≤ 1)
+sound_small {E = E} {s = s} sound x = go (back s x) refl
+  where
+    go : (o : Option ℕ) → back s x ≡ o → (datas (on_line s.lines x) ≤ 1) × (acks (on_line s.lines x) ≤ 1)
+    go None b = rw (sound.none x b).0 (omega arith, omega arith)
+    go (Some y) b =
+        let c : back s y ≡ Some x = sound.wires.both_ways x y b in
+        (most (end_waits E s x) _ _ _ (sound.flight x y b), least (end_waits E s y) _ _ _ (sound.flight y x c))
+      where
+        most : (b : Bool) (d k h : ℕ) → bit b ≡ d + k + h → d ≤ 1
+        most true d k h e = omega arith
+        most false d k h e = omega arith
+
+        least : (b : Bool) (d k h : ℕ) → bit b ≡ d + k + h → k ≤ 1
+        least true d k h e = omega arith
+        least false d k h e = omega arith
