@@ -1,19 +1,19 @@
 -- How much a run sends, and how much a line of a sound network holds.
 use Rattle.std.proofs.Common.{◌≡◌, ◌≢◌, ℕ, zero, suc, ◌+◌, ◌*◌, ◌<◌, ◌≤◌, Bool, true, false, cond, inl, inr, List, [], ◌∷◌, ◌++◌, map, length, refl, sym, ap, subst, ◌∙◌, arith, Option, Some, None, eqb}
 use Rattle.std.proofs.lemmas.Bool.{eq-eqb, ne_eqb, cases_Bool, cases_eq}
-use Rattle.std.proofs.lemmas.List.{append_assoc, length-append}
+use Rattle.std.proofs.lemmas.List.{length-append, length-map}
 use Rattle.std.specs.List.{AllByRecursion}
 use Rattle.tp_model.specs.declared.link.Token.{Token}
 use Rattle.tp_model.specs.declared.link.Token.TheVariants.{Data, Ack, Marker}
 use Rattle.tp_model.specs.declared.entry.Entry.{Entry}
 use Rattle.tp_model.specs.Word.{bit}
-use Rattle.tp_model.specs.Network.{◌>>=◌, Machine, steps, Network, own, put, has_wire, on_line, taken, sent, for_line}
+use Rattle.tp_model.specs.Network.{◌>>=◌, Machine, steps, Network, own, receiver, has_wire, back, on_line, taken, sent, for_line}
 use Rattle.tp_model.specs.Entries.{HasFourLinks, process, takes, does, next}
-use Rattle.tp_model.specs.Sound.{Ends, datas, acks, Sound, KeepsFlight}
-use Rattle.tp_model.specs.Markers.{is_marker, markers, NeverMarks}
+use Rattle.tp_model.specs.Sound.{Ends, datas, acks, end_waits, end_holds, Wired, Sound, KeepsFlight}
+use Rattle.tp_model.specs.Markers.{is_marker, plain, markers, plain_network, NeverMarks}
 use Rattle.tp_order.proofs.Flight.{bound, all_append, NodeMoves, steps_moves}
 use Rattle.tp_order.proofs.Lines.{for_line-here, for_line-append, on_sent_open, length_taken}
-use Rattle.tp_order.proofs.Sound.{Parts, next_parts, sound_kept, sound_small}
+use Rattle.tp_order.proofs.Sound.{Parts, parts_next, lines-put, unwired-back, sound_kept, sound_small}
 
 -- a line's tokens, by kind
 pub length-kinds : (ts : List Token) → length ts ≡ datas ts + acks ts + markers ts
@@ -74,3 +74,78 @@ module _ {Node : Type 0} {M : Machine Node} {E : Ends Node} (four : HasFourLinks
       each : (k : ℕ) → k < 4 → length (for_line k after.1) ≤ 2
       each k h = let small = run_small count node after e k h in
           omega (arith, length-kinds (for_line k after.1), markers-for_line k after.1 (steps_unmarked never count node after e), small.0, small.1)
+
+-- ## Room for a push
+
+-- A line holds at most a Data, an Ack and its Markers.
+pub line_room : {Node : Type 0} {E : Ends Node} {s : Network Node} → Sound E s → (x : ℕ) → length (on_line s.lines x) ≤ 2 + markers (on_line s.lines x)
+line_room {s = s} sound x = let small = sound_small sound x in omega (arith, length-kinds (on_line s.lines x), small.0, small.1)
+
+-- a line is longer after more was sent on it
+pub push_longer : (on : ℕ → Bool) (lines : List (List Token)) (front : List (ℕ × Token)) (m : ℕ × Token) (more : List (ℕ × Token)) → on m.0 ≡ true → m.0 < length lines
+    → length (on_line (sent on lines front) m.0) < length (on_line (sent on lines (front ++ m ∷ more)) m.0)
+push_longer on lines front m more y h =
+    rw (on_sent_open on lines front m.0 y h, on_sent_open on lines (front ++ m ∷ more) m.0 y h, for_line-append m.0 front (m ∷ more), for_line-here m.0 m.1 more) (omega (arith, length-append (on_line lines m.0) (for_line m.0 front), length-append (on_line lines m.0) (for_line m.0 front ++ m.1 ∷ for_line m.0 more), length-append (for_line m.0 front) (m.1 ∷ for_line m.0 more)))
+
+-- Where an entry pushes a token, fewer than two stand on the line beside its Markers.
+pub push_room : {Node : Type 0} {M : Machine Node} {E : Ends Node} → HasFourLinks M → KeepsFlight M E → (s t : Network Node) (e : Entry) → Sound E s → (P : Parts M s e t)
+    → (front : List (ℕ × Token)) (m : ℕ × Token) (more : List (ℕ × Token)) → P.change.1 ≡ front ++ m ∷ more → has_wire s.wires m.0 ≡ true
+    → length (on_line (sent (has_wire s.wires) P.rest front) m.0) < 2 + markers (on_line t.lines m.0)
+push_room four keeps s t e sound P front m more is y =
+    let last = line_room (sound_kept four keeps s t e sound (parts_next P)) m.0 in
+    let there : m.0 < length P.rest = rw (length_taken s.lines (takes s e) P.rest P.is_taken) (sound.there m.0 y) in
+    let longer = push_longer (has_wire s.wires) P.rest front m more y there in
+    let same : on_line t.lines m.0 ≡ on_line (sent (has_wire s.wires) P.rest (front ++ m ∷ more)) m.0 =
+        ap (λ u. on_line u.lines m.0) (sym P.is) ∙ ap (λ ls. on_line ls m.0) (lines-put (record s { lines = sent (has_wire s.wires) P.rest P.change.1 }) (process s e) P.change.0) ∙ ap (λ ms. on_line (sent (has_wire s.wires) P.rest ms) m.0) is in
+    let shorter : length (on_line (sent (has_wire s.wires) P.rest front) m.0) < length (on_line t.lines m.0) = rw same longer in
+    omega arith
+
+-- ## Lines with Markers
+
+pub datas-plain : (ts : List Token) → datas (plain ts) ≡ datas ts
+datas-plain [] = refl
+datas-plain (Data b ∷ ts) = omega (arith, datas-plain ts)
+datas-plain (Ack ∷ ts) = omega (arith, datas-plain ts)
+datas-plain (Marker ∷ ts) = omega (arith, datas-plain ts)
+
+pub acks-plain : (ts : List Token) → acks (plain ts) ≡ acks ts
+acks-plain [] = refl
+acks-plain (Data b ∷ ts) = omega (arith, acks-plain ts)
+acks-plain (Ack ∷ ts) = omega (arith, acks-plain ts)
+acks-plain (Marker ∷ ts) = omega (arith, acks-plain ts)
+
+pub on_line-plain : (lines : List (List Token)) (x : ℕ) → on_line (map plain lines) x ≡ plain (on_line lines x)
+on_line-plain [] x = refl
+on_line-plain (ts ∷ lines) zero = refl
+on_line-plain (ts ∷ lines) (suc x) = on_line-plain lines x
+
+-- the same ends and wires, with other lines
+pub own-plain : {Node : Type 0} (s : Network Node) (p : ℕ) → own (plain_network s) p ≡ own s p
+unfolding own
+own-plain s p = refl
+
+pub end_waits-plain : {Node : Type 0} (E : Ends Node) (s : Network Node) (x : ℕ) → end_waits E (plain_network s) x ≡ end_waits E s x
+unfolding own
+end_waits-plain E s x = refl
+
+pub end_holds-plain : {Node : Type 0} (E : Ends Node) (s : Network Node) (x : ℕ) → end_holds E (plain_network s) x ≡ end_holds E s x
+unfolding own
+end_holds-plain E s x = refl
+
+-- Markers leave a network sound,
+pub sound_marked : {Node : Type 0} {E : Ends Node} (s : Network Node) → Sound E (plain_network s) → ((x : ℕ) → has_wire s.wires x ≡ false → on_line s.lines x ≡ []) → Sound E s
+sound_marked {E = E} s sound unwired = record {
+    wires = record { both_ways = λ x y b. sound.wires.both_ways x y b; links = λ x i k r. sound.wires.links x i k r };
+    there = λ x y. subst (λ n. x < n) (length-map s.lines plain) (sound.there x y);
+    flight = λ x y b.
+        rw (← datas-plain (on_line s.lines x), ← acks-plain (on_line s.lines y), ← on_line-plain s.lines x, ← on_line-plain s.lines y, ← end_waits-plain E s x, ← end_holds-plain E s y) (sound.flight x y b);
+    none = λ x b. (unwired x (unwired-back s x b), sym (end_holds-plain E s x) ∙ (sound.none x b).1) }
+
+-- and so does leaving them out.
+pub sound_plain : {Node : Type 0} {E : Ends Node} (s : Network Node) → Sound E s → Sound E (plain_network s)
+sound_plain {E = E} s sound = record {
+    wires = record { both_ways = λ x y b. sound.wires.both_ways x y b; links = λ x i k r. sound.wires.links x i k r };
+    there = λ x y. subst (λ n. x < n) (sym (length-map s.lines plain)) (sound.there x y);
+    flight = λ x y b.
+        rw (on_line-plain s.lines x, on_line-plain s.lines y, datas-plain (on_line s.lines x), acks-plain (on_line s.lines y), end_waits-plain E s x, end_holds-plain E s y) (sound.flight x y b);
+    none = λ x b. (on_line-plain s.lines x ∙ ap plain (sound.none x b).0, end_holds-plain E s x ∙ (sound.none x b).1) }

@@ -38,6 +38,10 @@ next_parts {Node = Node} {M = M} s e t h =
     let c = bound (does M s.wires (length s.nodes) e b.0) (last a.0) t b.2 in
     record { rest = a.0; state = b.0; change = c.0; is_taken = a.1; is_own = b.1; is_done = c.1; is = cc }
 
+pub parts_next : {Node : Type 0} {M : Machine Node} {s t : Network Node} {e : Entry} → Parts M s e t → next M s e ≡ Some t
+unfolding next
+parts_next P = rw (P.is_taken, P.is_own, P.is_done) (ap Some P.is)
+
 -- ## The network with another state of a process
 
 module _ {Node : Type 0} (s : Network Node) (p : ℕ) where
