@@ -49,27 +49,29 @@ pub record NodeMoves {Node : Type 0} (E : Ends Node) (node : Node) (ms : List (�
 pub joined_moves : {Node : Type 0} {E : Ends Node} {node : Node} (ms ns : List (ℕ × Token)) (mid last : Node × List (ℕ × Token))
     → NodeMoves E node ms mid → NodeMoves E mid.0 ns last → NodeMoves E node (ms ++ ns) (last.0, mid.1 ++ last.1)
 joined_moves {E = E} {node = node} ms ns mid last a b = record {
-    out = λ k h. rw (for_line-append k ms ns, for_line-append k mid.1 last.1, acks-append (for_line k ms) (for_line k ns), datas-append (for_line k mid.1) (for_line k last.1)) (omega (arith, a.out k h, b.out k h));
-    inn = λ k h. rw (for_line-append k ms ns, for_line-append k mid.1 last.1, acks-append (for_line k mid.1) (for_line k last.1), datas-append (for_line k ms) (for_line k ns)) (omega (arith, a.inn k h, b.inn k h));
-    four = all_append (λ m. m.0 < 4) mid.1 last.1 a.four b.four }
+  out = λ k h. rw (for_line-append k ms ns, for_line-append k mid.1 last.1, acks-append (for_line k ms) (for_line k ns), datas-append (for_line k mid.1) (for_line k last.1)) (omega (arith, a.out k h, b.out k h));
+  inn = λ k h. rw (for_line-append k ms ns, for_line-append k mid.1 last.1, acks-append (for_line k mid.1) (for_line k last.1), datas-append (for_line k ms) (for_line k ns)) (omega (arith, a.inn k h, b.inn k h));
+  four = all_append (λ m. m.0 < 4) mid.1 last.1 a.four b.four;
+}
 
 -- as it stays
 pub no_moves : {Node : Type 0} (E : Ends Node) (node : Node) → NodeMoves E node [] (node, [])
 no_moves E node = record { out = λ k h. refl; inn = λ k h. refl; four = tt }
 
 module _ {Node : Type 0} {M : Machine Node} {E : Ends Node} (four : HasFourLinks M) (keeps : KeepsFlight M E) where
-
   pub took_moves : (node : Node) (j : ℕ) (token : Token) (after : Node × List (ℕ × Token)) → M.took node j token ≡ Some after → NodeMoves E node ((j, token) ∷ []) after
   took_moves node j token after e = record {
     out = λ k h. keeps.took_out node j token after k h e;
     inn = λ k h. keeps.took_in node j token after k h e;
-    four = four.took node j token after e }
+    four = four.took node j token after e;
+  }
 
   pub step_moves : (node : Node) (after : Node × List (ℕ × Token)) → M.step node ≡ Some after → NodeMoves E node [] after
   step_moves node after e = record {
     out = λ k h. omega (arith, keeps.step_out node after k h e);
     inn = λ k h. omega (arith, keeps.step_in node after k h e);
-    four = four.step node after e }
+    four = four.step node after e;
+  }
 
   pub steps_moves : (count : ℕ) (node : Node) (after : Node × List (ℕ × Token)) → steps M count node ≡ Some after → NodeMoves E node [] after
   unfolding steps
@@ -84,16 +86,18 @@ module _ {Node : Type 0} {M : Machine Node} {E : Ends Node} (four : HasFourLinks
 
 pub owner_node : (N i z : ℕ) → i < N → owner N z ≡ i → z ≡ 4 * i + z % 4
 owner_node N i z h e = elim (cases_Bool (nat_lt z (4 * N))) [
-    inl y ↦ let q : z / 4 ≡ i = rw y at e in omega arith
-  | inr n ↦ let q : N ≡ i = rw n at e in omega arith ]
+  | inl y ↦ let q : z / 4 ≡ i = rw y at e in omega arith
+  | inr n ↦ let q : N ≡ i = rw n at e in omega arith
+]
 
 pub owner-link : (N i k : ℕ) → i < N → k < 4 → owner N (4 * i + k) ≡ i
 owner-link N i k h l = rw (lt-ltb (4 * i + k) (4 * N) (omega arith)) (omega arith)
 
 pub owner_host : (N z : ℕ) → owner N z ≡ N → 4 * N ≤ z
 owner_host N z e = elim (cases_Bool (nat_lt z (4 * N))) [
-    inl y ↦ let q : z / 4 ≡ N = rw y at e in let h : z < 4 * N = ltb-true z (4 * N) y in omega arith
-  | inr n ↦ ltb-false z (4 * N) n ]
+  | inl y ↦ let q : z / 4 ≡ N = rw y at e in let h : z < 4 * N = ltb-true z (4 * N) y in omega arith
+  | inr n ↦ ltb-false z (4 * N) n
+]
 
 pub owner-port : (N p : ℕ) → owner N (4 * N + p) ≡ N
 owner-port N p = rw (le-ltb (4 * N + p) (4 * N) (omega arith)) refl
@@ -102,8 +106,9 @@ owner-port N p = rw (le-ltb (4 * N + p) (4 * N) (omega arith)) refl
 pub for_line-shift : (a k : ℕ) (ms : List (ℕ × Token)) → for_line (a + k) (map (λ m. (a + m.0, m.1)) ms) ≡ for_line k ms
 for_line-shift a k [] = refl
 for_line-shift a k (m ∷ ms) = elim (cases_eq m.0 k) [
-    inl y ↦ rw (eq-eqb (a + m.0) (a + k) (omega arith), eq-eqb m.0 k y) (ap (λ ts. m.1 ∷ ts) (for_line-shift a k ms))
-  | inr n ↦ rw (ne_eqb (a + m.0) (a + k) (λ e. n (omega arith)), ne_eqb m.0 k n) (for_line-shift a k ms) ]
+  | inl y ↦ rw (eq-eqb (a + m.0) (a + k) (omega arith), eq-eqb m.0 k y) (ap (λ ts. m.1 ∷ ts) (for_line-shift a k ms))
+  | inr n ↦ rw (ne_eqb (a + m.0) (a + k) (λ e. n (omega arith)), ne_eqb m.0 k n) (for_line-shift a k ms)
+]
 
 -- ## A process
 
@@ -130,10 +135,11 @@ pub node_moves : {Node : Type 0} {E : Ends Node} (N i : ℕ) (node : Node) (ms :
     → i < N → AllByRecursion {X = ℕ × Token} (λ m. m.0 < 4) ms → NodeMoves E node ms after
     → Moves E N i (OfNode node) (map (λ m. (4 * i + m.0, m.1)) ms) (of_node i after)
 node_moves {E = E} N i node ms after h links moves = record {
-    kind = tt;
-    out = λ z e. rw (by_link z e ms, by_link z e after.1) (moves.out (z % 4) (omega arith));
-    inn = λ z e. rw (by_link z e ms, by_link z e after.1) (moves.inn (z % 4) (omega arith));
-    away = λ z n. (for_line-elsewhere (owner N) i z _ (shifted_own N i after.1 h moves.four) n, for_line-elsewhere (owner N) i z _ (shifted_own N i ms h links) n) }
+  kind = tt;
+  out = λ z e. rw (by_link z e ms, by_link z e after.1) (moves.out (z % 4) (omega arith));
+  inn = λ z e. rw (by_link z e ms, by_link z e after.1) (moves.inn (z % 4) (omega arith));
+  away = λ z n. (for_line-elsewhere (owner N) i z _ (shifted_own N i after.1 h moves.four) n, for_line-elsewhere (owner N) i z _ (shifted_own N i ms h links) n);
+}
   where
     by_link : (z : ℕ) → owner N z ≡ i → (ns : List (ℕ × Token)) → for_line z (map (λ m. (4 * i + m.0, m.1)) ns) ≡ for_line (z % 4) ns
     by_link z e ns = subst (λ l. for_line l (map (λ m. (4 * i + m.0, m.1)) ns) ≡ for_line (z % 4) ns) (sym (owner_node N i z h e)) (for_line-shift (4 * i) (z % 4) ns)
@@ -199,14 +205,17 @@ pub port_moves : {Node : Type 0} {E : Ends Node} (N p : ℕ) (ports : List Port)
     → slice_get ports p ≡ Some port → PortMoves port ms after
     → Moves E N N (OfHost ports) (map (λ t. (4 * N + p, t)) ms) (OfHost (set ports p after.0), map (λ t. (4 * N + p, t)) after.1)
 port_moves {E = E} N p ports port ms after is moves = record {
-    kind = tt;
-    out = λ z e. elim (cases_eq (4 * N + p) z) [
-        inl same ↦ subst (λ l. bit (is_pending (slice_get (set ports p after.0) (l - 4 * N))) + acks (for_line l (map (λ t. (4 * N + p, t)) ms)) ≡ bit (is_pending (slice_get ports (l - 4 * N))) + datas (for_line l (map (λ t. (4 * N + p, t)) after.1))) same here
-      | inr n ↦ other z (owner_host N z e) n ];
-    inn = λ z e. elim (cases_eq (4 * N + p) z) [
-        inl same ↦ ap (λ n. 0 + n) (subst (λ l. acks (for_line l (map (λ t. (4 * N + p, t)) after.1)) ≡ datas (for_line l (map (λ t. (4 * N + p, t)) ms))) same (rw (for_line-all (4 * N + p) ms, for_line-all (4 * N + p) after.1) moves.inn))
-      | inr n ↦ rw (for_line-none (4 * N + p) z ms n, for_line-none (4 * N + p) z after.1 n) refl ];
-    away = λ z n. (for_line-none (4 * N + p) z after.1 (λ e. n (sym (ap (owner N) e) ∙ owner-port N p)), for_line-none (4 * N + p) z ms (λ e. n (sym (ap (owner N) e) ∙ owner-port N p))) }
+  kind = tt;
+  out = λ z e. elim (cases_eq (4 * N + p) z) [
+    | inl same ↦ subst (λ l. bit (is_pending (slice_get (set ports p after.0) (l - 4 * N))) + acks (for_line l (map (λ t. (4 * N + p, t)) ms)) ≡ bit (is_pending (slice_get ports (l - 4 * N))) + datas (for_line l (map (λ t. (4 * N + p, t)) after.1))) same here
+    | inr n ↦ other z (owner_host N z e) n
+  ];
+  inn = λ z e. elim (cases_eq (4 * N + p) z) [
+    | inl same ↦ ap (λ n. 0 + n) (subst (λ l. acks (for_line l (map (λ t. (4 * N + p, t)) after.1)) ≡ datas (for_line l (map (λ t. (4 * N + p, t)) ms))) same (rw (for_line-all (4 * N + p) ms, for_line-all (4 * N + p) after.1) moves.inn))
+    | inr n ↦ rw (for_line-none (4 * N + p) z ms n, for_line-none (4 * N + p) z after.1 n) refl
+  ];
+  away = λ z n. (for_line-none (4 * N + p) z after.1 (λ e. n (sym (ap (owner N) e) ∙ owner-port N p)), for_line-none (4 * N + p) z ms (λ e. n (sym (ap (owner N) e) ∙ owner-port N p)));
+}
   where
     at_port : 4 * N + p - 4 * N ≡ p
     at_port = omega arith
@@ -274,7 +283,6 @@ of_port_moves {Node = Node} {E = E} N p ports ms f change moves e =
     subst (λ c. Moves E N N (OfHost ports) (map (λ t. (4 * N + p, t)) ms) c) same (port_moves N p ports a.0 ms b.0 a.1 (moves a.0 b.0 b.1))
 
 module _ {Node : Type 0} {M : Machine Node} {E : Ends Node} (four : HasFourLinks M) (keeps : KeepsFlight M E) where
-
   -- an end receives a token
   pub receives_moves : (N : ℕ) (end : Option WireEnd) (token : Token) (state : Own Node) (change : Own Node × List (ℕ × Token))
       → ((i k : ℕ) → end ≡ Some (Link i k) → (i < N) × (k < 4))
@@ -287,7 +295,7 @@ module _ {Node : Type 0} {M : Machine Node} {E : Ends Node} (four : HasFourLinks
   receives_moves N (Some (Link i k)) token (OfNode node) change links e =
       let found = mapped (of_node i) (M.took node k token) change e in
       subst (λ c. Moves E N i (OfNode node) ((4 * i + k, token) ∷ []) c) found.2
-        (node_moves N i node ((k, token) ∷ []) found.0 (links i k refl).0 ((links i k refl).1, tt) (took_moves four keeps node k token found.0 found.1))
+      (node_moves N i node ((k, token) ∷ []) found.0 (links i k refl).0 ((links i k refl).1, tt) (took_moves four keeps node k token found.0 found.1))
   receives_moves N (Some (AtPort p)) token (OfHost ports) change links e =
       of_port_moves N p ports (token ∷ []) (port_took token) change (port_took_moves token) e
 
@@ -302,7 +310,7 @@ module _ {Node : Type 0} {M : Machine Node} {E : Ends Node} (four : HasFourLinks
   does_moves s (Run i k) (OfNode node) change wired o d =
       let found = mapped (of_node i) (steps M k node) change (tested _ _ change d) in
       subst (λ c. Moves E (length s.nodes) i (OfNode node) [] c) found.2
-        (node_moves (length s.nodes) i node [] found.0 (own_node s i node o).0 tt (steps_moves four keeps k node found.0 found.1))
+      (node_moves (length s.nodes) i node [] found.0 (own_node s i node o).0 tt (steps_moves four keeps k node found.0 found.1))
   does_moves s (Take line token) state change wired o d =
       receives_moves (length s.nodes) (receiver s.wires line) token state change (wired.links line) d
   does_moves s (HostIn p x) (OfHost ports) change wired o d =

@@ -1,3 +1,4 @@
+pub mod Choice
 pub mod Flight
 pub mod Lines
 pub mod Room

@@ -36,8 +36,9 @@ length-links ((suc (suc (suc (suc k))), t) ∷ ms) all = let h : suc (suc (suc (
 pub markers-for_line : (l : ℕ) (ms : List (ℕ × Token)) → AllByRecursion (λ m. is_marker m.1 ≡ false) ms → markers (for_line l ms) ≡ 0
 markers-for_line l [] all = refl
 markers-for_line l (m ∷ ms) all = elim (cases_Bool (eqb m.0 l)) [
-    inl y ↦ rw (y, all.0) (markers-for_line l ms all.1)
-  | inr n ↦ rw n (markers-for_line l ms all.1) ]
+  | inl y ↦ rw (y, all.0) (markers-for_line l ms all.1)
+  | inr n ↦ rw n (markers-for_line l ms all.1)
+]
 
 pub steps_unmarked : {Node : Type 0} {M : Machine Node} → NeverMarks M → (count : ℕ) (node : Node) (after : Node × List (ℕ × Token)) → steps M count node ≡ Some after → AllByRecursion (λ m. is_marker m.1 ≡ false) after.1
 unfolding steps
@@ -47,10 +48,9 @@ steps_unmarked {M = M} never (suc count) node after e =
     let b = bound (steps M count a.0.0) (λ rest. Some (rest.0, a.0.1 ++ rest.1)) after a.2 in
     let same : (b.0.0, a.0.1 ++ b.0.1) ≡ after = cc in
     subst (λ r. AllByRecursion (λ m. is_marker m.1 ≡ false) r.1) same
-        (all_append (λ m. is_marker m.1 ≡ false) a.0.1 b.0.1 (never.step node a.0 a.1) (steps_unmarked never count a.0.0 b.0 b.1))
+    (all_append (λ m. is_marker m.1 ≡ false) a.0.1 b.0.1 (never.step node a.0 a.1) (steps_unmarked never count a.0.0 b.0 b.1))
 
 module _ {Node : Type 0} {M : Machine Node} {E : Ends Node} (four : HasFourLinks M) (keeps : KeepsFlight M E) where
-
   -- Over a run of steps, each link sends at most one Data and one Ack.
   pub run_small : (count : ℕ) (node : Node) (after : Node × List (ℕ × Token)) → steps M count node ≡ Some after
       → (k : ℕ) → k < 4 → (datas (for_line k after.1) ≤ 1) × (acks (for_line k after.1) ≤ 1)
@@ -96,7 +96,7 @@ push_room four keeps s t e sound P front m more is y =
     let there : m.0 < length P.rest = rw (length_taken s.lines (takes s e) P.rest P.is_taken) (sound.there m.0 y) in
     let longer = push_longer (has_wire s.wires) P.rest front m more y there in
     let same : on_line t.lines m.0 ≡ on_line (sent (has_wire s.wires) P.rest (front ++ m ∷ more)) m.0 =
-        ap (λ u. on_line u.lines m.0) (sym P.is) ∙ ap (λ ls. on_line ls m.0) (lines-put (record s { lines = sent (has_wire s.wires) P.rest P.change.1 }) (process s e) P.change.0) ∙ ap (λ ms. on_line (sent (has_wire s.wires) P.rest ms) m.0) is in
+    ap (λ u. on_line u.lines m.0) (sym P.is) ∙ ap (λ ls. on_line ls m.0) (lines-put (record s { lines = sent (has_wire s.wires) P.rest P.change.1 }) (process s e) P.change.0) ∙ ap (λ ms. on_line (sent (has_wire s.wires) P.rest ms) m.0) is in
     let shorter : length (on_line (sent (has_wire s.wires) P.rest front) m.0) < length (on_line t.lines m.0) = rw same longer in
     omega arith
 
@@ -135,17 +135,19 @@ end_holds-plain E s x = refl
 -- Markers leave a network sound,
 pub sound_marked : {Node : Type 0} {E : Ends Node} (s : Network Node) → Sound E (plain_network s) → ((x : ℕ) → has_wire s.wires x ≡ false → on_line s.lines x ≡ []) → Sound E s
 sound_marked {E = E} s sound unwired = record {
-    wires = record { both_ways = λ x y b. sound.wires.both_ways x y b; links = λ x i k r. sound.wires.links x i k r };
-    there = λ x y. subst (λ n. x < n) (length-map s.lines plain) (sound.there x y);
-    flight = λ x y b.
-        rw (← datas-plain (on_line s.lines x), ← acks-plain (on_line s.lines y), ← on_line-plain s.lines x, ← on_line-plain s.lines y, ← end_waits-plain E s x, ← end_holds-plain E s y) (sound.flight x y b);
-    none = λ x b. (unwired x (unwired-back s x b), sym (end_holds-plain E s x) ∙ (sound.none x b).1) }
+  wires = record { both_ways = λ x y b. sound.wires.both_ways x y b; links = λ x i k r. sound.wires.links x i k r };
+  there = λ x y. subst (λ n. x < n) (length-map s.lines plain) (sound.there x y);
+  flight = λ x y b.
+      rw (← datas-plain (on_line s.lines x), ← acks-plain (on_line s.lines y), ← on_line-plain s.lines x, ← on_line-plain s.lines y, ← end_waits-plain E s x, ← end_holds-plain E s y) (sound.flight x y b);
+  none = λ x b. (unwired x (unwired-back s x b), sym (end_holds-plain E s x) ∙ (sound.none x b).1);
+}
 
 -- and so does leaving them out.
 pub sound_plain : {Node : Type 0} {E : Ends Node} (s : Network Node) → Sound E s → Sound E (plain_network s)
 sound_plain {E = E} s sound = record {
-    wires = record { both_ways = λ x y b. sound.wires.both_ways x y b; links = λ x i k r. sound.wires.links x i k r };
-    there = λ x y. subst (λ n. x < n) (sym (length-map s.lines plain)) (sound.there x y);
-    flight = λ x y b.
-        rw (on_line-plain s.lines x, on_line-plain s.lines y, datas-plain (on_line s.lines x), acks-plain (on_line s.lines y), end_waits-plain E s x, end_holds-plain E s y) (sound.flight x y b);
-    none = λ x b. (on_line-plain s.lines x ∙ ap plain (sound.none x b).0, end_holds-plain E s x ∙ (sound.none x b).1) }
+  wires = record { both_ways = λ x y b. sound.wires.both_ways x y b; links = λ x i k r. sound.wires.links x i k r };
+  there = λ x y. subst (λ n. x < n) (sym (length-map s.lines plain)) (sound.there x y);
+  flight = λ x y b.
+      rw (on_line-plain s.lines x, on_line-plain s.lines y, datas-plain (on_line s.lines x), acks-plain (on_line s.lines y), end_waits-plain E s x, end_holds-plain E s y) (sound.flight x y b);
+  none = λ x b. (on_line-plain s.lines x ∙ ap plain (sound.none x b).0, end_holds-plain E s x ∙ (sound.none x b).1);
+}

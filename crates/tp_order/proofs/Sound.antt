@@ -45,7 +45,6 @@ parts_next P = rw (P.is_taken, P.is_own, P.is_done) (ap Some P.is)
 -- ## The network with another state of a process
 
 module _ {Node : Type 0} (s : Network Node) (p : ℕ) where
-
   pub lines-put : (x : Own Node) → (put s p x).lines ≡ s.lines
   unfolding put
   lines-put (OfNode node) = refl
@@ -110,20 +109,20 @@ pub record Across {Node : Type 0} (E : Ends Node) (s : Network Node) (e : Entry)
   pub inn : (z : ℕ) → bit (end_holds E t z) + acks (for_line z sends) ≡ bit (end_holds E s z) + datas (for_line z (arrivals s e))
 
 module _ {Node : Type 0} {M : Machine Node} {E : Ends Node} (four : HasFourLinks M) (keeps : KeepsFlight M E) where
-
   pub across_put : (s : Network Node) (e : Entry) (rest : List (List Token)) (state : Own Node) (change : Own Node × List (ℕ × Token))
       → taken s.lines (takes s e) ≡ Some rest → own s (process s e) ≡ Some state → Moves E (length s.nodes) (process s e) state (arrivals s e) change
       → Across E s e (put (record s { lines = sent (has_wire s.wires) rest change.1 }) (process s e) change.0)
   across_put s e rest state change is_taken is_own moves = record {
-      wires = wires-put u p change.0;
-      nodes = size;
-      long = ap length (lines-put u p change.0) ∙ length_sent (has_wire s.wires) rest change.1 ∙ length_taken s.lines (takes s e) rest is_taken;
-      sends = change.1;
-      rest = rest;
-      front = on_taken s.lines (takes s e) rest is_taken;
-      behind = λ x there. ap (λ ls. on_line ls x) (lines-put u p change.0) ∙ on_sent (has_wire s.wires) rest change.1 x (λ y. subst (λ n. x < n) (sym (length_taken s.lines (takes s e) rest is_taken)) (there y));
-      out = out;
-      inn = inn }
+    wires = wires-put u p change.0;
+    nodes = size;
+    long = ap length (lines-put u p change.0) ∙ length_sent (has_wire s.wires) rest change.1 ∙ length_taken s.lines (takes s e) rest is_taken;
+    sends = change.1;
+    rest = rest;
+    front = on_taken s.lines (takes s e) rest is_taken;
+    behind = λ x there. ap (λ ls. on_line ls x) (lines-put u p change.0) ∙ on_sent (has_wire s.wires) rest change.1 x (λ y. subst (λ n. x < n) (sym (length_taken s.lines (takes s e) rest is_taken)) (there y));
+    out = out;
+    inn = inn;
+  }
     where
       p : ℕ
       p = process s e
@@ -142,13 +141,15 @@ module _ {Node : Type 0} {M : Machine Node} {E : Ends Node} (four : HasFourLinks
 
       out : (z : ℕ) → bit (end_waits E (put u p change.0) z) + acks (for_line z (arrivals s e)) ≡ bit (end_waits E s z) + datas (for_line z change.1)
       out z = elim (cases_eq (owner (length s.nodes) z) p) [
-          inl y ↦ rw (end_waits_is E (put u p change.0) (length s.nodes) z change.0 size (rw y (own-put_same u p state change.0 of_p moves.kind)), end_waits_is E s (length s.nodes) z state refl (rw y is_own)) (moves.out z y)
-        | inr n ↦ rw (end_waits_as E s (put u p change.0) z size (of_other (owner (length s.nodes) z) n), (moves.away z n).0, (moves.away z n).1) refl ]
+        | inl y ↦ rw (end_waits_is E (put u p change.0) (length s.nodes) z change.0 size (rw y (own-put_same u p state change.0 of_p moves.kind)), end_waits_is E s (length s.nodes) z state refl (rw y is_own)) (moves.out z y)
+        | inr n ↦ rw (end_waits_as E s (put u p change.0) z size (of_other (owner (length s.nodes) z) n), (moves.away z n).0, (moves.away z n).1) refl
+      ]
 
       inn : (z : ℕ) → bit (end_holds E (put u p change.0) z) + acks (for_line z change.1) ≡ bit (end_holds E s z) + datas (for_line z (arrivals s e))
       inn z = elim (cases_eq (owner (length s.nodes) z) p) [
-          inl y ↦ rw (end_holds_is E (put u p change.0) (length s.nodes) z change.0 size (rw y (own-put_same u p state change.0 of_p moves.kind)), end_holds_is E s (length s.nodes) z state refl (rw y is_own)) (moves.inn z y)
-        | inr n ↦ rw (end_holds_as E s (put u p change.0) z size (of_other (owner (length s.nodes) z) n), (moves.away z n).0, (moves.away z n).1) refl ]
+        | inl y ↦ rw (end_holds_is E (put u p change.0) (length s.nodes) z change.0 size (rw y (own-put_same u p state change.0 of_p moves.kind)), end_holds_is E s (length s.nodes) z state refl (rw y is_own)) (moves.inn z y)
+        | inr n ↦ rw (end_holds_as E s (put u p change.0) z size (of_other (owner (length s.nodes) z) n), (moves.away z n).0, (moves.away z n).1) refl
+      ]
 
   pub across : (s t : Network Node) (e : Entry) → Wired s → next M s e ≡ Some t → Across E s e t
   across s t e wired h = go (next_parts s e t h)
@@ -167,8 +168,9 @@ arrivals_taken s wired (Run i k) x y b = refl
 arrivals_taken s wired (HostIn p v) x y b = refl
 arrivals_taken s wired (Confirm p upto) x y b = refl
 arrivals_taken s wired (Take line token) x y b = elim (cases_eq line x) [
-    inl same ↦ rw (same, b, eq-eqb x x refl, eq-eqb y y refl) refl
-  | inr other ↦ go (back s line) refl other ]
+  | inl same ↦ rw (same, b, eq-eqb x x refl, eq-eqb y y refl) refl
+  | inr other ↦ go (back s line) refl other
+]
   where
     go : (o : Option ℕ) → back s line ≡ o → line ≢ x → for_line y (arrival o token) ≡ for_line x ((line, token) ∷ [])
     go None e n = rw (ne_eqb line x n) refl
@@ -212,7 +214,6 @@ no_bit true n e = absurd (omega arith)
 no_bit false n e = refl
 
 module _ {Node : Type 0} {E : Ends Node} {s t : Network Node} {e : Entry} (sound : Sound E s) (a : Across E s e t) where
-
   back-across : (x : ℕ) → back t x ≡ back s x
   back-across x = rw (a.wires, a.nodes) refl
 
@@ -231,9 +232,9 @@ module _ {Node : Type 0} {E : Ends Node} {s t : Network Node} {e : Entry} (sound
       let in_x : for_line y (arrivals s e) ≡ for_line x (takes s e) = arrivals_taken s sound.wires e x y b in
       let in_y : for_line x (arrivals s e) ≡ for_line y (takes s e) = arrivals_taken s sound.wires e y x c in
       sum_up (bit (end_waits E s x)) (bit (end_waits E t x)) (bit (end_holds E s y)) (bit (end_holds E t y))
-        (datas (on_line s.lines x)) (datas (on_line t.lines x)) (acks (on_line s.lines y)) (acks (on_line t.lines y))
-        (datas (for_line x (takes s e))) (datas (for_line x a.sends)) (acks (for_line y (takes s e))) (acks (for_line y a.sends))
-        (sound.flight x y b) (datas_across x y b) (acks_across y x c) (rw in_y at (a.out x)) (rw in_x at (a.inn y))
+      (datas (on_line s.lines x)) (datas (on_line t.lines x)) (acks (on_line s.lines y)) (acks (on_line t.lines y))
+      (datas (for_line x (takes s e))) (datas (for_line x a.sends)) (acks (for_line y (takes s e))) (acks (for_line y a.sends))
+      (sound.flight x y b) (datas_across x y b) (acks_across y x c) (rw in_y at (a.out x)) (rw in_x at (a.inn y))
     where
       sum_up : (w w' h h' d d' k k' dt ds kt ks : ℕ) → w ≡ d + k + h → d' + dt ≡ d + ds → k' + kt ≡ k + ks → w' + kt ≡ w + ds → h' + ks ≡ h + dt → w' ≡ d' + k' + h'
       sum_up w w' h h' d d' k k' dt ds kt ks a1 a2 a3 a4 a5 = omega arith
@@ -248,10 +249,12 @@ module _ {Node : Type 0} {E : Ends Node} {s t : Network Node} {e : Entry} (sound
   sound_across = record {
     wires = record {
       both_ways = λ x y b. back-across y ∙ sound.wires.both_ways x y (sym (back-across x) ∙ b);
-      links = λ x i k r. rw a.nodes (sound.wires.links x i k (rw a.wires at r)) };
+      links = λ x i k r. rw a.nodes (sound.wires.links x i k (rw a.wires at r));
+    };
     there = λ x y. rw a.long (sound.there x (rw a.wires at y));
     flight = λ x y b. flight_across x y (sym (back-across x) ∙ b);
-    none = λ x b. none_across x (sym (back-across x) ∙ b) }
+    none = λ x b. none_across x (sym (back-across x) ∙ b);
+  }
 
 -- Every entry keeps a sound network sound.
 pub sound_kept : {Node : Type 0} {M : Machine Node} {E : Ends Node} → HasFourLinks M → KeepsFlight M E → (s t : Network Node) (e : Entry) → Sound E s → next M s e ≡ Some t → Sound E t
