@@ -3,3 +3,7 @@ pub mod Flight
 pub mod Lines
 pub mod Room
 pub mod Sound
+pub mod Local
+pub mod Partial
+pub mod Reorder
+pub mod Swap
