@@ -1,1 +1,2 @@
+pub mod LinkEnds
 pub mod Requests
