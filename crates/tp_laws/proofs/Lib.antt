@@ -1,2 +1,3 @@
 pub mod LinkEnds
+pub mod Machine
 pub mod Requests
