@@ -1,3 +1,3 @@
 pub mod LinkEnds
-pub mod Machine
+pub mod LinkLaws
 pub mod Requests

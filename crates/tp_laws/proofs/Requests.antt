@@ -1,5 +1,5 @@
 -- The processor asks for links 0 to 3 and for no other.
-use Rattle.std.proofs.Common.{◌≡◌, ℕ, ◌+◌, ◌-◌, ◌*◌, ◌/◌, ◌%◌, ◌<◌, Bool, true, false, inl, inr, List, [], ◌∷◌, arith, Option, Some, None}
+use Rattle.std.proofs.Common.{ℕ, ◌-◌, ◌/◌, ◌<◌, Bool, true, false, inl, inr, List, [], ◌∷◌, arith, Option, Some, None}
 use Rattle.std.proofs.lemmas.Bool.{cases_Bool, ltb-true}
 use Rattle.std.specs.Prelude.{◌==◌, nat_lt, if◌then◌else◌, drop, is_some, Result, Ok, Err}
 use Rattle.tp_model.specs.declared.instruction.Fun.{Fun}
@@ -86,10 +86,12 @@ channel_at_inside address = go (word_offset address)
   where
     go : (at : ℕ) → LinkInside (if nat_lt at 16 then Output (at / 4) else if nat_lt at 32 then Input ((at - 16) / 4) else Internal)
     go at = elim (cases_Bool (nat_lt at 16)) [
-        inl y ↦ let h : at < 16 = ltb-true at 16 y in rw y (omega arith)
+      | inl y ↦ let h : at < 16 = ltb-true at 16 y in rw y (omega arith)
       | inr n ↦ elim (cases_Bool (nat_lt at 32)) [
-          inl y ↦ let h : at < 32 = ltb-true at 32 y in rw (n, y) (omega arith)
-        | inr m ↦ rw (n, m) tt ] ]
+        | inl y ↦ let h : at < 32 = ltb-true at 32 y in rw (n, y) (omega arith)
+        | inr m ↦ rw (n, m) tt
+      ]
+    ]
 
 input_at_inside : (channel : ChannelWord) (cpu : Cpu) (memory : List ℕ) → LinkInside channel → IsInside (input_at channel cpu memory)
 input_at_inside (Output link) cpu memory h = search inside

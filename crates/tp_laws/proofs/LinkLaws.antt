@@ -1,5 +1,5 @@
 -- What the machine's step, and a token that comes in, do at the four links.
-use Rattle.std.proofs.Common.{◌≡◌, ◌≢◌, ℕ, zero, suc, ◌+◌, ◌<◌, Bool, true, false, cond, inl, inr, List, [], ◌∷◌, length, set, refl, sym, ap, subst, ◌∙◌, arith, Option, Some, None, eqb}
+use Rattle.std.proofs.Common.{◌≡◌, ◌≢◌, ℕ, zero, suc, ◌+◌, ◌<◌, Bool, true, false, cond, inl, inr, List, [], ◌∷◌, length, set, refl, sym, ap, subst, ◌∙◌, arith, Option, Some, None}
 use Rattle.std.proofs.lemmas.Bool.{eq-eqb, ne_eqb, cases_Bool, cases_eq, ltb-true}
 use Rattle.std.proofs.lemmas.Option.{slice_get_within}
 use Rattle.std.specs.Prelude.{◌==◌, nat_lt, slice_get, is_some}
@@ -43,14 +43,16 @@ for_line-other j k (Some token) n = rw (ne_eqb k j (λ e. n (sym e))) refl
 datas_none : (j k : ℕ) (token : Option Token) → datas (tokens token) ≡ 0 → datas (for_line j (on_link k token)) ≡ 0
 datas_none j k None e = refl
 datas_none j k (Some token) e = elim (cases_Bool (k == j)) [
-    inl y ↦ rw y e
-  | inr n ↦ rw n refl ]
+  | inl y ↦ rw y e
+  | inr n ↦ rw n refl
+]
 
 acks_none : (j k : ℕ) (token : Option Token) → acks (tokens token) ≡ 0 → acks (for_line j (on_link k token)) ≡ 0
 acks_none j k None e = refl
 acks_none j k (Some token) e = elim (cases_Bool (k == j)) [
-    inl y ↦ rw y e
-  | inr n ↦ rw n refl ]
+  | inl y ↦ rw y e
+  | inr n ↦ rw n refl
+]
 
 unmarked_one : (k : ℕ) (token : Option Token) → markers (tokens token) ≡ 0 → AllByRecursion (λ m. is_marker m.1 ≡ false) (on_link k token)
 unmarked_one k None e = tt
@@ -99,14 +101,14 @@ output_keeps : (k : ℕ) (end : OutEnd) (outcome : LinkOutcome OutEnd) (node : N
     → StepKeeps node (after_output k outcome node)
 output_keeps k end (Fails fault) node h is kept = quiet node _ refl refl
 output_keeps k end (Did cpu memory now token) node h is kept = record {
-    out = λ j. elim (cases_eq j k) [
-      | inl same ↦ rw (same, slice_get-set_same node.outputs k now (slice_get_within node.outputs k end is), is, for_line-same k token) moves.sent
-      | inr other ↦ rw (slice_get-set_other node.outputs k j now other, for_line-other j k token other) (omega arith)
-    ];
-    inn = λ j. omega (arith, acks_none j k token moves.no_acks);
-    unmarked = unmarked_one k token moves.no_markers;
-    four = four_one k token h;
-  }
+  out = λ j. elim (cases_eq j k) [
+    | inl same ↦ rw (same, slice_get-set_same node.outputs k now (slice_get_within node.outputs k end is), is, for_line-same k token) moves.sent
+    | inr other ↦ rw (slice_get-set_other node.outputs k j now other, for_line-other j k token other) (omega arith)
+  ];
+  inn = λ j. omega (arith, acks_none j k token moves.no_acks);
+  unmarked = unmarked_one k token moves.no_markers;
+  four = four_one k token h;
+}
   where
     moves : OutMoves end now token
     moves = kept.is
@@ -115,14 +117,14 @@ input_keeps : (k : ℕ) (end : InEnd) (outcome : LinkOutcome InEnd) (node : Node
     → StepKeeps node (after_input k outcome node)
 input_keeps k end (Fails fault) node h is kept = quiet node _ refl refl
 input_keeps k end (Did cpu memory now token) node h is kept = record {
-    out = λ j. omega (arith, datas_none j k token moves.no_datas);
-    inn = λ j. elim (cases_eq j k) [
-      | inl same ↦ rw (same, slice_get-set_same node.inputs k now (slice_get_within node.inputs k end is), is, for_line-same k token) moves.sent
-      | inr other ↦ rw (slice_get-set_other node.inputs k j now other, for_line-other j k token other) (omega arith)
-    ];
-    unmarked = unmarked_one k token moves.no_markers;
-    four = four_one k token h;
-  }
+  out = λ j. omega (arith, datas_none j k token moves.no_datas);
+  inn = λ j. elim (cases_eq j k) [
+    | inl same ↦ rw (same, slice_get-set_same node.inputs k now (slice_get_within node.inputs k end is), is, for_line-same k token) moves.sent
+    | inr other ↦ rw (slice_get-set_other node.inputs k j now other, for_line-other j k token other) (omega arith)
+  ];
+  unmarked = unmarked_one k token moves.no_markers;
+  four = four_one k token h;
+}
   where
     moves : InMoves end now token
     moves = kept.is
@@ -226,24 +228,40 @@ ack_keeps node last k end now token h is moves i o = record {
   four = four_one k token h;
 }
 
+-- the end took it, and then the node hears of it
+abbrev after_data : NodeState → ℕ → InEnd × Arrival → List ℕ → NodeState × List (ℕ × Token)
+after_data node k arrived memory = (tell arrived.1.news (record node { memory = memory; inputs = set node.inputs k arrived.0 }), on_link k arrived.1.token)
+
+abbrev after_ack : NodeState → ℕ → OutEnd × Arrival → NodeState × List (ℕ × Token)
+after_ack node k arrived = (tell arrived.1.news (record node { outputs = set node.outputs k arrived.0 }), on_link k arrived.1.token)
+
+data_told : (node : NodeState) (k byte : ℕ) (end : InEnd) (arrived : InEnd × Arrival) (memory : List ℕ) → k < 4 → slice_get node.inputs k ≡ Some end → in_arrived byte end ≡ Some arrived
+    → TookKeeps node k (Data byte) (after_data node k arrived memory)
+data_told node k byte end arrived memory h is e =
+    let told = tell_ends arrived.1.news (record node { memory = memory; inputs = set node.inputs k arrived.0 }) in
+    data_keeps node _ k byte end arrived.0 arrived.1.token h is (in_arrived_kept byte end arrived e) told.outputs told.inputs
+
+ack_told : (node : NodeState) (k : ℕ) (next : Option ℕ) (end : OutEnd) (arrived : OutEnd × Arrival) → k < 4 → slice_get node.outputs k ≡ Some end → out_acked next end ≡ Some arrived
+    → TookKeeps node k Ack (after_ack node k arrived)
+ack_told node k next end arrived h is e =
+    let told = tell_ends arrived.1.news (record node { outputs = set node.outputs k arrived.0 }) in
+    ack_keeps node _ k end arrived.0 arrived.1.token h is (out_acked_kept next end arrived e) told.inputs told.outputs
+
+took_along : (node : NodeState) (k : ℕ) (token : Token) (r after : NodeState × List (ℕ × Token)) → Some r ≡ Some after → TookKeeps node k token r → TookKeeps node k token after
+took_along node k token r after e keeps = let same : r ≡ after = cc in subst (λ x. TookKeeps node k token x) same keeps
+
 took_token_keeps : (node : NodeState) (k : ℕ) (token : Token) (after : NodeState × List (ℕ × Token)) → k < 4 → took_token node k token ≡ Some after → TookKeeps node k token after
 took_token_keeps node k (Data byte) after h e =
-    let last : InEnd × Arrival → List ℕ → Option (NodeState × List (ℕ × Token)) = λ arrived memory. Some (tell arrived.1.news (record node { memory = memory; inputs = set node.inputs k arrived.0 }), on_link k arrived.1.token) in
+    let last : InEnd × Arrival → List ℕ → Option (NodeState × List (ℕ × Token)) = λ arrived memory. Some (after_data node k arrived memory) in
     let a = bound (slice_get node.inputs k) (λ end. in_arrived byte end >>= λ arrived. placed arrived.1.place byte node.memory >>= last arrived) after e in
     let b = bound (in_arrived byte a.0) (λ arrived. placed arrived.1.place byte node.memory >>= last arrived) after a.2 in
     let c = bound (placed b.0.1.place byte node.memory) (last b.0) after b.2 in
-    let reached : NodeState = record node { memory = c.0; inputs = set node.inputs k b.0.0 } in
-    let told = tell_ends b.0.1.news reached in
-    let same : (tell b.0.1.news reached, on_link k b.0.1.token) ≡ after = cc in
-    subst (λ r. TookKeeps node k (Data byte) r) same (data_keeps node (tell b.0.1.news reached) k byte a.0 b.0.0 b.0.1.token h a.1 (in_arrived_kept byte a.0 b.0 b.1) told.outputs told.inputs)
+    took_along node k (Data byte) (after_data node k b.0 c.0) after c.2 (data_told node k byte a.0 b.0 c.0 h a.1 b.1)
 took_token_keeps node k Ack after h e =
-    let last : OutEnd × Arrival → Option (NodeState × List (ℕ × Token)) = λ arrived. Some (tell arrived.1.news (record node { outputs = set node.outputs k arrived.0 }), on_link k arrived.1.token) in
+    let last : OutEnd × Arrival → Option (NodeState × List (ℕ × Token)) = λ arrived. Some (after_ack node k arrived) in
     let a = bound (slice_get node.outputs k) (λ end. out_acked (next_pointer end >>= byte_at node.memory) end >>= last) after e in
     let b = bound (out_acked (next_pointer a.0 >>= byte_at node.memory) a.0) last after a.2 in
-    let reached : NodeState = record node { outputs = set node.outputs k b.0.0 } in
-    let told = tell_ends b.0.1.news reached in
-    let same : (tell b.0.1.news reached, on_link k b.0.1.token) ≡ after = cc in
-    subst (λ r. TookKeeps node k Ack r) same (ack_keeps node (tell b.0.1.news reached) k a.0 b.0.0 b.0.1.token h a.1 (out_acked_kept (next_pointer a.0 >>= byte_at node.memory) a.0 b.0 b.1) told.inputs told.outputs)
+    took_along node k Ack (after_ack node k b.0) after b.2 (ack_told node k (next_pointer a.0 >>= byte_at node.memory) a.0 b.0 h a.1 b.1)
 took_token_keeps node k Marker after h e = cc
 
 pub took_keeps : (node : NodeState) (k : ℕ) (token : Token) (after : NodeState × List (ℕ × Token)) → took node k token ≡ Some after → TookKeeps node k token after
