@@ -1,26 +1,24 @@
 -- What the ends of links and ports do in one entry, counted in Data and Acks.
-use Rattle.std.proofs.Common.{◌≡◌, ◌≢◌, ℕ, zero, suc, ◌+◌, ◌-◌, ◌*◌, ◌/◌, ◌%◌, ◌<◌, ◌≤◌, Bool, true, false, cond, inl, inr, List, [], ◌∷◌, ◌++◌, map, length, get_or, set, refl, sym, ap, subst, ◌∙◌, arith, Option, Some, None, eqb}
-use Rattle.std.proofs.lemmas.Bool.{eq-eqb, ne_eqb, cases_Bool, cases_eq, eqb-true, ltb-true, ltb-false, lt-ltb, le-ltb}
-use Rattle.std.proofs.lemmas.Option.{cond_some, slice_get_within}
-use Rattle.std.specs.Prelude.{◌==◌, nat_lt, nat_le, ◌&&◌, slice_get}
+use Rattle.std.proofs.Common.{◌≡◌, ◌≢◌, ℕ, zero, suc, ◌+◌, ◌-◌, ◌*◌, ◌/◌, ◌%◌, ◌<◌, ◌≤◌, inl, inr, List, [], ◌∷◌, ◌++◌, map, length, set, refl, sym, ap, subst, arith, Option, Some, None}
+use Rattle.std.proofs.lemmas.Bool.{eq-eqb, ne_eqb, cases_Bool, cases_eq, ltb-true, ltb-false}
+use Rattle.std.proofs.lemmas.Option.{cond_some}
+use Rattle.std.specs.Prelude.{nat_lt, nat_le, ◌&&◌, slice_get}
 use Rattle.std.specs.Option.{option_map}
 use Rattle.std.specs.List.{AllByRecursion}
 use Rattle.tp_model.specs.declared.link.Token.{Token}
 use Rattle.tp_model.specs.declared.link.Token.TheVariants.{Data, Ack, Marker}
-use Rattle.tp_model.specs.Word.{bit}
 use Rattle.tp_model.specs.declared.wire.WireEnd.{WireEnd}
 use Rattle.tp_model.specs.declared.wire.WireEnd.TheVariants.{Link, Port as AtPort}
 use Rattle.tp_model.specs.declared.entry.Entry.{Entry}
 use Rattle.tp_model.specs.declared.entry.Entry.TheVariants.{Run, Take, HostIn, Confirm}
+use Rattle.tp_model.specs.declared.limits.TheConstants.{MAX_STEPS}
+use Rattle.tp_model.specs.Word.{bit}
 use Rattle.tp_model.specs.Network.{◌>>=◌, Machine, steps, Network, Port, Own, OfNode, OfHost, own, receiver, process_at, line_of, back, for_line}
-use Rattle.tp_model.specs.Entries.{HasFourLinks, process, of_node, of_port, acked, port_took, first_only, handed_in, confirmed, receives, does}
+use Rattle.tp_model.specs.Entries.{process, of_node, of_port, acked, port_took, first_only, handed_in, confirmed, receives, does}
 use Rattle.tp_model.specs.Sound.{Ends, datas, acks, owner, is_some_byte, is_pending, own_waits, own_holds, Wired, KeepsFlight}
-use Rattle.tp_order.proofs.Lines.{for_line-append, for_line-elsewhere}
-
--- a partial function after another gave something: so did the first
-pub bound : {A B : Type 0} (o : Option A) (f : A → Option B) (b : B) → (o >>= f) ≡ Some b → (a : A) × (o ≡ Some a) × (f a ≡ Some b)
-bound None f b e = cc
-bound (Some a) f b e = (a, refl, e)
+use Rattle.tp_order.proofs.Lines.{for_line-append}
+use Rattle.tp_order.proofs.Local.{own_node, owner_of_link, owner_of_port}
+use Rattle.tp_order.proofs.Partial.{bind_some, map_some, cond_some as tested, slice_get-set_same, slice_get-set_other}
 
 -- ## Counts
 
@@ -32,10 +30,6 @@ pub acks-append : (ts us : List Token) → acks (ts ++ us) ≡ acks ts + acks us
 acks-append [] us = omega arith
 acks-append (t ∷ ts) us = omega (arith, acks-append ts us)
 
-pub all_append : {A : Type 0} (P : A → Type 0) (xs ys : List A) → AllByRecursion P xs → AllByRecursion P ys → AllByRecursion P (xs ++ ys)
-all_append P [] ys h k = k
-all_append P (x ∷ xs) ys h k = (h.0, all_append P xs ys h.1 k)
-
 -- ## A node
 
 -- What a node's links do where it goes from one state to another: `ms` are the tokens that it takes, each with its
@@ -43,7 +37,6 @@ all_append P (x ∷ xs) ys h k = (h.0, all_append P xs ys h.1 k)
 pub record NodeMoves {Node : Type 0} (E : Ends Node) (node : Node) (ms : List (ℕ × Token)) (after : Node × List (ℕ × Token)) : Type 0 where
   pub out : (k : ℕ) → k < 4 → bit (E.waits after.0 k) + acks (for_line k ms) ≡ bit (E.waits node k) + datas (for_line k after.1)
   pub inn : (k : ℕ) → k < 4 → bit (E.holds after.0 k) + acks (for_line k after.1) ≡ bit (E.holds node k) + datas (for_line k ms)
-  pub four : AllByRecursion {X = ℕ × Token} (λ m. m.0 < 4) after.1
 
 -- one after another
 pub joined_moves : {Node : Type 0} {E : Ends Node} {node : Node} (ms ns : List (ℕ × Token)) (mid last : Node × List (ℕ × Token))
@@ -51,34 +44,31 @@ pub joined_moves : {Node : Type 0} {E : Ends Node} {node : Node} (ms ns : List (
 joined_moves {E = E} {node = node} ms ns mid last a b = record {
   out = λ k h. rw (for_line-append k ms ns, for_line-append k mid.1 last.1, acks-append (for_line k ms) (for_line k ns), datas-append (for_line k mid.1) (for_line k last.1)) (omega (arith, a.out k h, b.out k h));
   inn = λ k h. rw (for_line-append k ms ns, for_line-append k mid.1 last.1, acks-append (for_line k mid.1) (for_line k last.1), datas-append (for_line k ms) (for_line k ns)) (omega (arith, a.inn k h, b.inn k h));
-  four = all_append (λ m. m.0 < 4) mid.1 last.1 a.four b.four;
 }
 
 -- as it stays
 pub no_moves : {Node : Type 0} (E : Ends Node) (node : Node) → NodeMoves E node [] (node, [])
-no_moves E node = record { out = λ k h. refl; inn = λ k h. refl; four = tt }
+no_moves E node = record { out = λ k h. refl; inn = λ k h. refl }
 
-module _ {Node : Type 0} {M : Machine Node} {E : Ends Node} (four : HasFourLinks M) (keeps : KeepsFlight M E) where
+module _ {Node : Type 0} {M : Machine Node} {E : Ends Node} (keeps : KeepsFlight M E) where
   pub took_moves : (node : Node) (j : ℕ) (token : Token) (after : Node × List (ℕ × Token)) → M.took node j token ≡ Some after → NodeMoves E node ((j, token) ∷ []) after
   took_moves node j token after e = record {
     out = λ k h. keeps.took_out node j token after k h e;
     inn = λ k h. keeps.took_in node j token after k h e;
-    four = four.took node j token after e;
   }
 
   pub step_moves : (node : Node) (after : Node × List (ℕ × Token)) → M.step node ≡ Some after → NodeMoves E node [] after
   step_moves node after e = record {
     out = λ k h. omega (arith, keeps.step_out node after k h e);
     inn = λ k h. omega (arith, keeps.step_in node after k h e);
-    four = four.step node after e;
   }
 
   pub steps_moves : (count : ℕ) (node : Node) (after : Node × List (ℕ × Token)) → steps M count node ≡ Some after → NodeMoves E node [] after
   unfolding steps
   steps_moves zero node after e = let same : (node, []) ≡ after = cc in subst (λ r. NodeMoves E node [] r) same (no_moves E node)
   steps_moves (suc count) node after e =
-      let a = bound (M.step node) (λ first. steps M count first.0 >>= λ rest. Some (rest.0, first.1 ++ rest.1)) after e in
-      let b = bound (steps M count a.0.0) (λ rest. Some (rest.0, a.0.1 ++ rest.1)) after a.2 in
+      let a = bind_some (M.step node) (λ first. steps M count first.0 >>= λ rest. Some (rest.0, first.1 ++ rest.1)) after e in
+      let b = bind_some (steps M count a.0.0) (λ rest. Some (rest.0, a.0.1 ++ rest.1)) after a.2 in
       let same : (b.0.0, a.0.1 ++ b.0.1) ≡ after = cc in
       subst (λ r. NodeMoves E node [] r) same (joined_moves [] [] a.0 b.0 (step_moves node a.0 a.1) (steps_moves count a.0.0 b.0 b.1))
 
@@ -90,17 +80,11 @@ owner_node N i z h e = elim (cases_Bool (nat_lt z (4 * N))) [
   | inr n ↦ let q : N ≡ i = rw n at e in omega arith
 ]
 
-pub owner-link : (N i k : ℕ) → i < N → k < 4 → owner N (4 * i + k) ≡ i
-owner-link N i k h l = rw (lt-ltb (4 * i + k) (4 * N) (omega arith)) (omega arith)
-
 pub owner_host : (N z : ℕ) → owner N z ≡ N → 4 * N ≤ z
 owner_host N z e = elim (cases_Bool (nat_lt z (4 * N))) [
   | inl y ↦ let q : z / 4 ≡ N = rw y at e in let h : z < 4 * N = ltb-true z (4 * N) y in omega arith
   | inr n ↦ ltb-false z (4 * N) n
 ]
-
-pub owner-port : (N p : ℕ) → owner N (4 * N + p) ≡ N
-owner-port N p = rw (le-ltb (4 * N + p) (4 * N) (omega arith)) refl
 
 -- the tokens of one link, by link and by line
 pub for_line-shift : (a k : ℕ) (ms : List (ℕ × Token)) → for_line (a + k) (map (λ m. (a + m.0, m.1)) ms) ≡ for_line k ms
@@ -112,33 +96,18 @@ for_line-shift a k (m ∷ ms) = elim (cases_eq m.0 k) [
 
 -- ## A process
 
--- a node stays a node, and the host stays the host
-abbrev pub SameKind : {Node : Type 0} → Own Node → Own Node → Type 0
-SameKind (OfNode a) (OfNode b) = Unit {0}
-SameKind (OfHost a) (OfHost b) = Unit {0}
-SameKind _ _ = ⊥
-
 -- What the ends of process p do where its state changes, and tokens are sent: `ms` are those that come in, each with
 -- the line that the end sends at which it comes in.
 pub record Moves {Node : Type 0} (E : Ends Node) (N p : ℕ) (state : Own Node) (ms : List (ℕ × Token)) (change : Own Node × List (ℕ × Token)) : Type 0 where
-  pub kind : SameKind state change.0
   pub out : (z : ℕ) → owner N z ≡ p → bit (own_waits E N change.0 z) + acks (for_line z ms) ≡ bit (own_waits E N state z) + datas (for_line z change.1)
   pub inn : (z : ℕ) → owner N z ≡ p → bit (own_holds E change.0 z) + acks (for_line z change.1) ≡ bit (own_holds E state z) + datas (for_line z ms)
-  pub away : (z : ℕ) → owner N z ≢ p → (for_line z change.1 ≡ []) × (for_line z ms ≡ [])
-
--- the lines of a node's links are its own
-pub shifted_own : (N i : ℕ) (ms : List (ℕ × Token)) → i < N → AllByRecursion {X = ℕ × Token} (λ m. m.0 < 4) ms → AllByRecursion {X = ℕ × Token} (λ m. owner N m.0 ≡ i) (map (λ m. (4 * i + m.0, m.1)) ms)
-shifted_own N i [] h all = tt
-shifted_own N i (m ∷ ms) h all = (owner-link N i m.0 h all.0, shifted_own N i ms h all.1)
 
 pub node_moves : {Node : Type 0} {E : Ends Node} (N i : ℕ) (node : Node) (ms : List (ℕ × Token)) (after : Node × List (ℕ × Token))
-    → i < N → AllByRecursion {X = ℕ × Token} (λ m. m.0 < 4) ms → NodeMoves E node ms after
+    → i < N → NodeMoves E node ms after
     → Moves E N i (OfNode node) (map (λ m. (4 * i + m.0, m.1)) ms) (of_node i after)
-node_moves {E = E} N i node ms after h links moves = record {
-  kind = tt;
+node_moves {E = E} N i node ms after h moves = record {
   out = λ z e. rw (by_link z e ms, by_link z e after.1) (moves.out (z % 4) (omega arith));
   inn = λ z e. rw (by_link z e ms, by_link z e after.1) (moves.inn (z % 4) (omega arith));
-  away = λ z n. (for_line-elsewhere (owner N) i z _ (shifted_own N i after.1 h moves.four) n, for_line-elsewhere (owner N) i z _ (shifted_own N i ms h links) n);
 }
   where
     by_link : (z : ℕ) → owner N z ≡ i → (ns : List (ℕ × Token)) → for_line z (map (λ m. (4 * i + m.0, m.1)) ns) ≡ for_line (z % 4) ns
@@ -189,23 +158,10 @@ pub for_line-none : (k l : ℕ) (ts : List Token) → k ≢ l → for_line l (ma
 for_line-none k l [] n = refl
 for_line-none k l (t ∷ ts) n = rw (ne_eqb k l n) (for_line-none k l ts n)
 
-pub slice_get-set_same : {A : Type 0} (xs : List A) (i : ℕ) (x : A) → i < length xs → slice_get (set xs i x) i ≡ Some x
-slice_get-set_same [] i x h = absurd (omega arith)
-slice_get-set_same (y ∷ ys) zero x h = refl
-slice_get-set_same (y ∷ ys) (suc i) x h = slice_get-set_same ys i x (omega arith)
-
-pub slice_get-set_other : {A : Type 0} (xs : List A) (i j : ℕ) (x : A) → j ≢ i → slice_get (set xs i x) j ≡ slice_get xs j
-slice_get-set_other [] i j x n = refl
-slice_get-set_other (y ∷ ys) zero zero x n = absurd (n refl)
-slice_get-set_other (y ∷ ys) zero (suc j) x n = refl
-slice_get-set_other (y ∷ ys) (suc i) zero x n = refl
-slice_get-set_other (y ∷ ys) (suc i) (suc j) x n = slice_get-set_other ys i j x (λ e. n (ap suc e))
-
 pub port_moves : {Node : Type 0} {E : Ends Node} (N p : ℕ) (ports : List Port) (port : Port) (ms : List Token) (after : Port × List Token)
     → slice_get ports p ≡ Some port → PortMoves port ms after
     → Moves E N N (OfHost ports) (map (λ t. (4 * N + p, t)) ms) (OfHost (set ports p after.0), map (λ t. (4 * N + p, t)) after.1)
 port_moves {E = E} N p ports port ms after is moves = record {
-  kind = tt;
   out = λ z e. elim (cases_eq (4 * N + p) z) [
     | inl same ↦ subst (λ l. bit (is_pending (slice_get (set ports p after.0) (l - 4 * N))) + acks (for_line l (map (λ t. (4 * N + p, t)) ms)) ≡ bit (is_pending (slice_get ports (l - 4 * N))) + datas (for_line l (map (λ t. (4 * N + p, t)) after.1))) same here
     | inr n ↦ other z (owner_host N z e) n
@@ -214,7 +170,6 @@ port_moves {E = E} N p ports port ms after is moves = record {
     | inl same ↦ ap (λ n. 0 + n) (subst (λ l. acks (for_line l (map (λ t. (4 * N + p, t)) after.1)) ≡ datas (for_line l (map (λ t. (4 * N + p, t)) ms))) same (rw (for_line-all (4 * N + p) ms, for_line-all (4 * N + p) after.1) moves.inn))
     | inr n ↦ rw (for_line-none (4 * N + p) z ms n, for_line-none (4 * N + p) z after.1 n) refl
   ];
-  away = λ z n. (for_line-none (4 * N + p) z after.1 (λ e. n (sym (ap (owner N) e) ∙ owner-port N p)), for_line-none (4 * N + p) z ms (λ e. n (sym (ap (owner N) e) ∙ owner-port N p)));
 }
   where
     at_port : 4 * N + p - 4 * N ≡ p
@@ -222,7 +177,7 @@ port_moves {E = E} N p ports port ms after is moves = record {
 
     here : bit (is_pending (slice_get (set ports p after.0) (4 * N + p - 4 * N))) + acks (for_line (4 * N + p) (map (λ t. (4 * N + p, t)) ms))
         ≡ bit (is_pending (slice_get ports (4 * N + p - 4 * N))) + datas (for_line (4 * N + p) (map (λ t. (4 * N + p, t)) after.1))
-    here = rw (for_line-all (4 * N + p) ms, for_line-all (4 * N + p) after.1, at_port, slice_get-set_same ports p after.0 (slice_get_within ports p port is), is) moves.out
+    here = rw (for_line-all (4 * N + p) ms, for_line-all (4 * N + p) after.1, at_port, slice_get-set_same ports p after.0 port is, is) moves.out
 
     other : (z : ℕ) → 4 * N ≤ z → 4 * N + p ≢ z
         → bit (is_pending (slice_get (set ports p after.0) (z - 4 * N))) + acks (for_line z (map (λ t. (4 * N + p, t)) ms))
@@ -230,34 +185,6 @@ port_moves {E = E} N p ports port ms after is moves = record {
     other z h n = rw (for_line-none (4 * N + p) z ms n, for_line-none (4 * N + p) z after.1 n, slice_get-set_other ports p (z - 4 * N) after.0 (λ e. n (omega arith))) refl
 
 -- ## An entry
-
--- where the first is tested, or a function follows it, and something is given
-pub tested : {A : Type 0} (b : Bool) (o : Option A) (x : A) → cond b o None ≡ Some x → o ≡ Some x
-tested true o x e = e
-tested false o x e = cc
-
-pub mapped : {A B : Type 0} (f : A → B) (o : Option A) (y : B) → option_map f o ≡ Some y → (x : A) × (o ≡ Some x) × (f x ≡ y)
-mapped f None y e = cc
-mapped f (Some x) y e = (x, refl, cc)
-
--- whose state it is
-pub own_node : {Node : Type 0} (s : Network Node) (p : ℕ) (node : Node) → own s p ≡ Some (OfNode node) → (p < length s.nodes) × (slice_get s.nodes p ≡ Some node)
-unfolding own
-own_node s p node e = go (p == length s.nodes) e
-  where
-    go : (b : Bool) → cond b (Some (OfHost s.ports)) (option_map OfNode (slice_get s.nodes p)) ≡ Some (OfNode node) → (p < length s.nodes) × (slice_get s.nodes p ≡ Some node)
-    go true e = cc
-    go false e = let found = mapped OfNode (slice_get s.nodes p) (OfNode node) e in
-        let same : found.0 ≡ node = cc in let is : slice_get s.nodes p ≡ Some node = cc in
-        (slice_get_within s.nodes p node is, is)
-
-pub own_host : {Node : Type 0} (s : Network Node) (p : ℕ) (ports : List Port) → own s p ≡ Some (OfHost ports) → (p ≡ length s.nodes) × (s.ports ≡ ports)
-unfolding own
-own_host s p ports e = go (p == length s.nodes) refl e
-  where
-    go : (b : Bool) → (p == length s.nodes) ≡ b → cond b (Some (OfHost s.ports)) (option_map OfNode (slice_get s.nodes p)) ≡ Some (OfHost ports) → (p ≡ length s.nodes) × (s.ports ≡ ports)
-    go true y e = (eqb-true p (length s.nodes) y, cc)
-    go false n e = let found = mapped OfNode (slice_get s.nodes p) (OfHost ports) e in cc
 
 -- The token that an entry takes, with the line that the end sends at which it comes in.
 abbrev pub arrival : Option ℕ → Token → List (ℕ × Token)
@@ -270,6 +197,20 @@ arrivals s (Take line token) = arrival (back s line) token
 arrivals s (HostIn p x) = []
 arrivals s (Confirm p upto) = []
 
+-- what comes in comes in to its process
+pub arrivals_own : {Node : Type 0} (s : Network Node) (e : Entry) → Wired s → AllByRecursion (λ m. owner (length s.nodes) m.0 ≡ process s e) (arrivals s e)
+unfolding process
+arrivals_own s (Run i k) wired = tt
+arrivals_own s (HostIn p x) wired = tt
+arrivals_own s (Confirm p upto) wired = tt
+arrivals_own s (Take line token) wired = go (receiver s.wires line) (wired.links line)
+  where
+    go : (end : Option WireEnd) → ((i k : ℕ) → end ≡ Some (Link i k) → (i < length s.nodes) × (k < 4))
+        → AllByRecursion (λ m. owner (length s.nodes) m.0 ≡ process_at (length s.nodes) end) (arrival (option_map (line_of (length s.nodes)) end) token)
+    go None links = tt
+    go (Some (Link i k)) links = (owner_of_link (length s.nodes) i k (links i k refl).0 (links i k refl).1, tt)
+    go (Some (AtPort p)) links = (owner_of_port (length s.nodes) p, tt)
+
 -- port p takes these tokens
 pub of_port_moves : {Node : Type 0} {E : Ends Node} (N p : ℕ) (ports : List Port) (ms : List Token) (f : Port → Option (Port × List Token)) (change : Own Node × List (ℕ × Token))
     → ((port : Port) (after : Port × List Token) → f port ≡ Some after → PortMoves port ms after)
@@ -277,12 +218,12 @@ pub of_port_moves : {Node : Type 0} {E : Ends Node} (N p : ℕ) (ports : List Po
 unfolding of_port
 of_port_moves {Node = Node} {E = E} N p ports ms f change moves e =
     let last : Port × List Token → Option (Own Node × List (ℕ × Token)) = λ r. Some (OfHost (set ports p r.0), map (λ t. (4 * N + p, t)) r.1) in
-    let a = bound (slice_get ports p) (λ port. f port >>= last) change e in
-    let b = bound (f a.0) last change a.2 in
+    let a = bind_some (slice_get ports p) (λ port. f port >>= last) change e in
+    let b = bind_some (f a.0) last change a.2 in
     let same : (OfHost (set ports p b.0.0), map (λ t. (4 * N + p, t)) b.0.1) ≡ change = cc in
     subst (λ c. Moves E N N (OfHost ports) (map (λ t. (4 * N + p, t)) ms) c) same (port_moves N p ports a.0 ms b.0 a.1 (moves a.0 b.0 b.1))
 
-module _ {Node : Type 0} {M : Machine Node} {E : Ends Node} (four : HasFourLinks M) (keeps : KeepsFlight M E) where
+module _ {Node : Type 0} {M : Machine Node} {E : Ends Node} (keeps : KeepsFlight M E) where
   -- an end receives a token
   pub receives_moves : (N : ℕ) (end : Option WireEnd) (token : Token) (state : Own Node) (change : Own Node × List (ℕ × Token))
       → ((i k : ℕ) → end ≡ Some (Link i k) → (i < N) × (k < 4))
@@ -293,9 +234,9 @@ module _ {Node : Type 0} {M : Machine Node} {E : Ends Node} (four : HasFourLinks
   receives_moves N (Some (Link i k)) token (OfHost ports) change links e = cc
   receives_moves N (Some (AtPort p)) token (OfNode node) change links e = cc
   receives_moves N (Some (Link i k)) token (OfNode node) change links e =
-      let found = mapped (of_node i) (M.took node k token) change e in
+      let found = map_some (of_node i) (M.took node k token) change e in
       subst (λ c. Moves E N i (OfNode node) ((4 * i + k, token) ∷ []) c) found.2
-      (node_moves N i node ((k, token) ∷ []) found.0 (links i k refl).0 ((links i k refl).1, tt) (took_moves four keeps node k token found.0 found.1))
+      (node_moves N i node ((k, token) ∷ []) found.0 (links i k refl).0 (took_moves keeps node k token found.0 found.1))
   receives_moves N (Some (AtPort p)) token (OfHost ports) change links e =
       of_port_moves N p ports (token ∷ []) (port_took token) change (port_took_moves token) e
 
@@ -308,9 +249,9 @@ module _ {Node : Type 0} {M : Machine Node} {E : Ends Node} (four : HasFourLinks
   does_moves s (HostIn p x) (OfNode node) change wired o d = cc
   does_moves s (Confirm p upto) (OfNode node) change wired o d = cc
   does_moves s (Run i k) (OfNode node) change wired o d =
-      let found = mapped (of_node i) (steps M k node) change (tested _ _ change d) in
+      let found = map_some (of_node i) (steps M k node) change (tested (nat_lt 0 k && nat_le k MAX_STEPS) (option_map (of_node i) (steps M k node)) change d).1 in
       subst (λ c. Moves E (length s.nodes) i (OfNode node) [] c) found.2
-      (node_moves (length s.nodes) i node [] found.0 (own_node s i node o).0 tt (steps_moves four keeps k node found.0 found.1))
+      (node_moves (length s.nodes) i node [] found.0 (own_node s i node o).0 (steps_moves keeps k node found.0 found.1))
   does_moves s (Take line token) state change wired o d =
       receives_moves (length s.nodes) (receiver s.wires line) token state change (wired.links line) d
   does_moves s (HostIn p x) (OfHost ports) change wired o d =

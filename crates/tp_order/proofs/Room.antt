@@ -1,19 +1,21 @@
 -- How much a run sends, and how much a line of a sound network holds.
-use Rattle.std.proofs.Common.{◌≡◌, ◌≢◌, ℕ, zero, suc, ◌+◌, ◌*◌, ◌<◌, ◌≤◌, Bool, true, false, cond, inl, inr, List, [], ◌∷◌, ◌++◌, map, length, refl, sym, ap, subst, ◌∙◌, arith, Option, Some, None, eqb}
-use Rattle.std.proofs.lemmas.Bool.{eq-eqb, ne_eqb, cases_Bool, cases_eq}
+use Rattle.std.proofs.Common.{◌≡◌, ℕ, zero, suc, ◌+◌, ◌<◌, ◌≤◌, Bool, true, false, inl, inr, List, [], ◌∷◌, ◌++◌, map, length, refl, sym, ap, subst, ◌∙◌, arith, Some, eqb}
+use Rattle.std.proofs.lemmas.Bool.{cases_Bool}
 use Rattle.std.proofs.lemmas.List.{length-append, length-map}
 use Rattle.std.specs.List.{AllByRecursion}
 use Rattle.tp_model.specs.declared.link.Token.{Token}
 use Rattle.tp_model.specs.declared.link.Token.TheVariants.{Data, Ack, Marker}
 use Rattle.tp_model.specs.declared.entry.Entry.{Entry}
 use Rattle.tp_model.specs.Word.{bit}
-use Rattle.tp_model.specs.Network.{◌>>=◌, Machine, steps, Network, own, receiver, has_wire, back, on_line, taken, sent, for_line}
-use Rattle.tp_model.specs.Entries.{HasFourLinks, process, takes, does, next}
-use Rattle.tp_model.specs.Sound.{Ends, datas, acks, end_waits, end_holds, Wired, Sound, KeepsFlight}
+use Rattle.tp_model.specs.Network.{◌>>=◌, Machine, steps, Network, own, has_wire, on_line, sent, for_line}
+use Rattle.tp_model.specs.Entries.{HasFourLinks, takes}
+use Rattle.tp_model.specs.Sound.{Ends, datas, acks, end_waits, end_holds, Sound, KeepsFlight}
 use Rattle.tp_model.specs.Markers.{is_marker, plain, markers, plain_network, NeverMarks}
-use Rattle.tp_order.proofs.Flight.{bound, all_append, NodeMoves, steps_moves}
+use Rattle.tp_order.proofs.Partial.{bind_some}
+use Rattle.tp_order.proofs.Local.{Step, next_from, step_lines, steps_links}
+use Rattle.tp_order.proofs.Flight.{steps_moves}
 use Rattle.tp_order.proofs.Lines.{for_line-here, for_line-append, on_sent_open, length_taken}
-use Rattle.tp_order.proofs.Sound.{Parts, parts_next, lines-put, unwired-back, sound_kept, sound_small}
+use Rattle.tp_order.proofs.Sound.{unwired-back, sound_kept, sound_small}
 
 -- a line's tokens, by kind
 pub length-kinds : (ts : List Token) → length ts ≡ datas ts + acks ts + markers ts
@@ -40,12 +42,16 @@ markers-for_line l (m ∷ ms) all = elim (cases_Bool (eqb m.0 l)) [
   | inr n ↦ rw n (markers-for_line l ms all.1)
 ]
 
+all_append : {A : Type 0} (P : A → Type 0) (xs ys : List A) → AllByRecursion P xs → AllByRecursion P ys → AllByRecursion P (xs ++ ys)
+all_append P [] ys h k = k
+all_append P (x ∷ xs) ys h k = (h.0, all_append P xs ys h.1 k)
+
 pub steps_unmarked : {Node : Type 0} {M : Machine Node} → NeverMarks M → (count : ℕ) (node : Node) (after : Node × List (ℕ × Token)) → steps M count node ≡ Some after → AllByRecursion (λ m. is_marker m.1 ≡ false) after.1
 unfolding steps
 steps_unmarked never zero node after e = let same : (node, []) ≡ after = cc in subst (λ r. AllByRecursion (λ m. is_marker m.1 ≡ false) r.1) same tt
 steps_unmarked {M = M} never (suc count) node after e =
-    let a = bound (M.step node) (λ first. steps M count first.0 >>= λ rest. Some (rest.0, first.1 ++ rest.1)) after e in
-    let b = bound (steps M count a.0.0) (λ rest. Some (rest.0, a.0.1 ++ rest.1)) after a.2 in
+    let a = bind_some (M.step node) (λ first. steps M count first.0 >>= λ rest. Some (rest.0, first.1 ++ rest.1)) after e in
+    let b = bind_some (steps M count a.0.0) (λ rest. Some (rest.0, a.0.1 ++ rest.1)) after a.2 in
     let same : (b.0.0, a.0.1 ++ b.0.1) ≡ after = cc in
     subst (λ r. AllByRecursion (λ m. is_marker m.1 ≡ false) r.1) same
     (all_append (λ m. is_marker m.1 ≡ false) a.0.1 b.0.1 (never.step node a.0 a.1) (steps_unmarked never count a.0.0 b.0 b.1))
@@ -55,7 +61,7 @@ module _ {Node : Type 0} {M : Machine Node} {E : Ends Node} (four : HasFourLinks
   pub run_small : (count : ℕ) (node : Node) (after : Node × List (ℕ × Token)) → steps M count node ≡ Some after
       → (k : ℕ) → k < 4 → (datas (for_line k after.1) ≤ 1) × (acks (for_line k after.1) ≤ 1)
   run_small count node after e k h =
-      let moves = steps_moves four keeps count node after e in
+      let moves = steps_moves keeps count node after e in
       (low _ (E.waits node k) (E.waits after.0 k) (moves.out k h), high _ (E.holds after.0 k) (E.holds node k) (moves.inn k h))
     where
       low : (d : ℕ) (b c : Bool) → bit c + 0 ≡ bit b + d → d ≤ 1
@@ -69,7 +75,7 @@ module _ {Node : Type 0} {M : Machine Node} {E : Ends Node} (four : HasFourLinks
   -- So a run sends at most 8 tokens.
   pub run_bounded : NeverMarks M → (count : ℕ) (node : Node) (after : Node × List (ℕ × Token)) → steps M count node ≡ Some after → length after.1 ≤ 8
   run_bounded never count node after e =
-      rw (length-links after.1 (steps_moves four keeps count node after e).four) (omega (arith, each 0 (omega arith), each 1 (omega arith), each 2 (omega arith), each 3 (omega arith)))
+      rw (length-links after.1 (steps_links M four count node after e)) (omega (arith, each 0 (omega arith), each 1 (omega arith), each 2 (omega arith), each 3 (omega arith)))
     where
       each : (k : ℕ) → k < 4 → length (for_line k after.1) ≤ 2
       each k h = let small = run_small count node after e k h in
@@ -88,16 +94,16 @@ push_longer on lines front m more y h =
     rw (on_sent_open on lines front m.0 y h, on_sent_open on lines (front ++ m ∷ more) m.0 y h, for_line-append m.0 front (m ∷ more), for_line-here m.0 m.1 more) (omega (arith, length-append (on_line lines m.0) (for_line m.0 front), length-append (on_line lines m.0) (for_line m.0 front ++ m.1 ∷ for_line m.0 more), length-append (for_line m.0 front) (m.1 ∷ for_line m.0 more)))
 
 -- Where an entry pushes a token, fewer than two stand on the line beside its Markers.
-pub push_room : {Node : Type 0} {M : Machine Node} {E : Ends Node} → HasFourLinks M → KeepsFlight M E → (s t : Network Node) (e : Entry) → Sound E s → (P : Parts M s e t)
-    → (front : List (ℕ × Token)) (m : ℕ × Token) (more : List (ℕ × Token)) → P.change.1 ≡ front ++ m ∷ more → has_wire s.wires m.0 ≡ true
-    → length (on_line (sent (has_wire s.wires) P.rest front) m.0) < 2 + markers (on_line t.lines m.0)
-push_room four keeps s t e sound P front m more is y =
-    let last = line_room (sound_kept four keeps s t e sound (parts_next P)) m.0 in
-    let there : m.0 < length P.rest = rw (length_taken s.lines (takes s e) P.rest P.is_taken) (sound.there m.0 y) in
-    let longer = push_longer (has_wire s.wires) P.rest front m more y there in
-    let same : on_line t.lines m.0 ≡ on_line (sent (has_wire s.wires) P.rest (front ++ m ∷ more)) m.0 =
-    ap (λ u. on_line u.lines m.0) (sym P.is) ∙ ap (λ ls. on_line ls m.0) (lines-put (record s { lines = sent (has_wire s.wires) P.rest P.change.1 }) (process s e) P.change.0) ∙ ap (λ ms. on_line (sent (has_wire s.wires) P.rest ms) m.0) is in
-    let shorter : length (on_line (sent (has_wire s.wires) P.rest front) m.0) < length (on_line t.lines m.0) = rw same longer in
+pub push_room : {Node : Type 0} {M : Machine Node} {E : Ends Node} → HasFourLinks M → KeepsFlight M E → (s t : Network Node) (e : Entry) → Sound E s → (S : Step M s e t)
+    → (front : List (ℕ × Token)) (m : ℕ × Token) (more : List (ℕ × Token)) → S.sends ≡ front ++ m ∷ more → has_wire s.wires m.0 ≡ true
+    → length (on_line (sent (has_wire s.wires) S.out front) m.0) < 2 + markers (on_line t.lines m.0)
+push_room {M = M} four keeps s t e sound S front m more is y =
+    let last = line_room (sound_kept four keeps s t e sound (next_from M s e t S)) m.0 in
+    let there : m.0 < length S.out = rw (length_taken s.lines (takes s e) S.out S.takes_out) (sound.there m.0 y) in
+    let longer = push_longer (has_wire s.wires) S.out front m more y there in
+    let same : on_line t.lines m.0 ≡ on_line (sent (has_wire s.wires) S.out (front ++ m ∷ more)) m.0 =
+    ap (λ ls. on_line ls m.0) (step_lines M four s e t S) ∙ ap (λ ms. on_line (sent (has_wire s.wires) S.out ms) m.0) is in
+    let shorter : length (on_line (sent (has_wire s.wires) S.out front) m.0) < length (on_line t.lines m.0) = rw same longer in
     omega arith
 
 -- ## Lines with Markers

@@ -1,80 +1,20 @@
 -- Every entry keeps a sound network sound, and of what that bounds.
-use Rattle.std.proofs.Common.{◌≡◌, ◌≢◌, ℕ, zero, suc, ◌+◌, ◌*◌, ◌<◌, ◌≤◌, Bool, true, false, cond, inl, inr, List, [], ◌∷◌, ◌++◌, length, set, refl, sym, ap, subst, ◌∙◌, arith, Option, Some, None, length-set, eqb}
+use Rattle.std.proofs.Common.{◌≡◌, ◌≢◌, ℕ, ◌+◌, ◌<◌, ◌≤◌, Bool, true, false, cond, inl, inr, List, [], ◌∷◌, ◌++◌, length, refl, sym, ap, subst, ◌∙◌, arith, Option, Some, None}
 use Rattle.std.proofs.lemmas.Bool.{eq-eqb, ne_eqb, cases_eq}
-use Rattle.std.proofs.lemmas.List.{append-nil}
-use Rattle.std.specs.Prelude.{◌==◌, slice_get}
 use Rattle.std.specs.Option.{option_map}
 use Rattle.tp_model.specs.declared.link.Token.{Token}
 use Rattle.tp_model.specs.declared.wire.WireEnd.{WireEnd}
-use Rattle.tp_model.specs.declared.wire.WireEnd.TheVariants.{Link}
 use Rattle.tp_model.specs.declared.entry.Entry.{Entry}
 use Rattle.tp_model.specs.declared.entry.Entry.TheVariants.{Run, Take, HostIn, Confirm}
 use Rattle.tp_model.specs.Word.{bit}
-use Rattle.tp_model.specs.Network.{◌>>=◌, Machine, Network, Port, Own, OfNode, OfHost, own, put, receiver, is_wired, has_wire, line_of, back, on_line, taken, sent, for_line}
-use Rattle.tp_model.specs.Entries.{HasFourLinks, process, takes, does, next}
+use Rattle.tp_model.specs.Network.{Machine, Network, Own, own, receiver, is_wired, has_wire, line_of, back, on_line, for_line}
+use Rattle.tp_model.specs.Entries.{HasFourLinks, process, takes, next}
 use Rattle.tp_model.specs.Order.{after}
 use Rattle.tp_model.specs.Sound.{Ends, datas, acks, owner, own_waits, own_holds, end_waits, end_holds, Wired, Sound, KeepsFlight}
-use Rattle.tp_order.proofs.Lines.{for_line-here, for_line-other, on_taken, length_taken, on_sent, length_sent}
-use Rattle.tp_order.proofs.Flight.{bound, datas-append, acks-append, SameKind, Moves, own_node, own_host, arrival, arrivals, slice_get-set_same, slice_get-set_other, does_moves}
-
--- ## The parts of an entry
-
--- the lines without what it takes, the state of its process, and what that becomes and sends
-pub record Parts {Node : Type 0} (M : Machine Node) (s : Network Node) (e : Entry) (t : Network Node) : Type 0 where
-  pub rest : List (List Token)
-  pub state : Own Node
-  pub change : Own Node × List (ℕ × Token)
-  pub is_taken : taken s.lines (takes s e) ≡ Some rest
-  pub is_own : own s (process s e) ≡ Some state
-  pub is_done : does M s.wires (length s.nodes) e state ≡ Some change
-  pub is : put (record s { lines = sent (has_wire s.wires) rest change.1 }) (process s e) change.0 ≡ t
-
-pub next_parts : {Node : Type 0} {M : Machine Node} (s : Network Node) (e : Entry) (t : Network Node) → next M s e ≡ Some t → Parts M s e t
-unfolding next
-next_parts {Node = Node} {M = M} s e t h =
-    let last : List (List Token) → Own Node × List (ℕ × Token) → Option (Network Node) = λ rest change. Some (put (record s { lines = sent (has_wire s.wires) rest change.1 }) (process s e) change.0) in
-    let a = bound (taken s.lines (takes s e)) (λ rest. own s (process s e) >>= λ state. does M s.wires (length s.nodes) e state >>= last rest) t h in
-    let b = bound (own s (process s e)) (λ state. does M s.wires (length s.nodes) e state >>= last a.0) t a.2 in
-    let c = bound (does M s.wires (length s.nodes) e b.0) (last a.0) t b.2 in
-    record { rest = a.0; state = b.0; change = c.0; is_taken = a.1; is_own = b.1; is_done = c.1; is = cc }
-
-pub parts_next : {Node : Type 0} {M : Machine Node} {s t : Network Node} {e : Entry} → Parts M s e t → next M s e ≡ Some t
-unfolding next
-parts_next P = rw (P.is_taken, P.is_own, P.is_done) (ap Some P.is)
-
--- ## The network with another state of a process
-
-module _ {Node : Type 0} (s : Network Node) (p : ℕ) where
-  pub lines-put : (x : Own Node) → (put s p x).lines ≡ s.lines
-  unfolding put
-  lines-put (OfNode node) = refl
-  lines-put (OfHost ports) = refl
-
-  pub wires-put : (x : Own Node) → (put s p x).wires ≡ s.wires
-  unfolding put
-  wires-put (OfNode node) = refl
-  wires-put (OfHost ports) = refl
-
-  pub length-put : (x : Own Node) → length (put s p x).nodes ≡ length s.nodes
-  unfolding put
-  length-put (OfNode node) = length-set s.nodes p node
-  length-put (OfHost ports) = refl
-
-  pub own-put_same : (state x : Own Node) → own s p ≡ Some state → SameKind state x → own (put s p x) p ≡ Some x
-  unfolding put own
-  own-put_same (OfNode old) (OfNode node) o k =
-      let is = own_node s p old o in
-      rw (length-set s.nodes p node, ne_eqb p (length s.nodes) (λ e. absurd (omega arith)), slice_get-set_same s.nodes p node is.0) refl
-  own-put_same (OfHost old) (OfHost ports) o k = rw (eq-eqb p (length s.nodes) (own_host s p old o).0) refl
-  own-put_same (OfNode old) (OfHost ports) o k = absurd k
-  own-put_same (OfHost old) (OfNode node) o k = absurd k
-
-  pub own-put_other : (state x : Own Node) (q : ℕ) → own s p ≡ Some state → SameKind state x → q ≢ p → own (put s p x) q ≡ own s q
-  unfolding put own
-  own-put_other (OfNode old) (OfNode node) q o k n = rw (length-set s.nodes p node, slice_get-set_other s.nodes p q node n) refl
-  own-put_other (OfHost old) (OfHost ports) q o k n = rw (ne_eqb q (length s.nodes) (λ e. n (e ∙ sym (own_host s p old o).0))) refl
-  own-put_other (OfNode old) (OfHost ports) q o k n = absurd k
-  own-put_other (OfHost old) (OfNode node) q o k n = absurd k
+use Rattle.tp_order.proofs.Lines.{for_line-elsewhere, on_taken, length_taken, on_sent}
+use Rattle.tp_order.proofs.Partial.{bind_some}
+use Rattle.tp_order.proofs.Local.{Step, step_of, SameShape, step_lines, step_sends, step_shape, step_own_same, step_own_other}
+use Rattle.tp_order.proofs.Flight.{datas-append, acks-append, Moves, arrival, arrivals, arrivals_own, does_moves}
 
 -- ## The ends and the lines, before and after
 
@@ -92,10 +32,6 @@ end_waits_as E s t z n o = rw (n, o) refl
 pub end_holds_as : {Node : Type 0} (E : Ends Node) (s t : Network Node) (z : ℕ) → length t.nodes ≡ length s.nodes → own t (owner (length s.nodes) z) ≡ own s (owner (length s.nodes) z) → end_holds E t z ≡ end_holds E s z
 end_holds_as E s t z n o = rw (n, o) refl
 
-pub own-lines : {Node : Type 0} (s : Network Node) (ls : List (List Token)) (q : ℕ) → own (record s { lines = ls }) q ≡ own s q
-unfolding own
-own-lines s ls q = refl
-
 -- What an entry changes: each line loses a front and gains a back, and what each end does agrees with that.
 pub record Across {Node : Type 0} (E : Ends Node) (s : Network Node) (e : Entry) (t : Network Node) : Type 0 where
   pub wires : t.wires ≡ s.wires
@@ -109,53 +45,52 @@ pub record Across {Node : Type 0} (E : Ends Node) (s : Network Node) (e : Entry)
   pub inn : (z : ℕ) → bit (end_holds E t z) + acks (for_line z sends) ≡ bit (end_holds E s z) + datas (for_line z (arrivals s e))
 
 module _ {Node : Type 0} {M : Machine Node} {E : Ends Node} (four : HasFourLinks M) (keeps : KeepsFlight M E) where
-  pub across_put : (s : Network Node) (e : Entry) (rest : List (List Token)) (state : Own Node) (change : Own Node × List (ℕ × Token))
-      → taken s.lines (takes s e) ≡ Some rest → own s (process s e) ≡ Some state → Moves E (length s.nodes) (process s e) state (arrivals s e) change
-      → Across E s e (put (record s { lines = sent (has_wire s.wires) rest change.1 }) (process s e) change.0)
-  across_put s e rest state change is_taken is_own moves = record {
-    wires = wires-put u p change.0;
-    nodes = size;
-    long = ap length (lines-put u p change.0) ∙ length_sent (has_wire s.wires) rest change.1 ∙ length_taken s.lines (takes s e) rest is_taken;
-    sends = change.1;
-    rest = rest;
-    front = on_taken s.lines (takes s e) rest is_taken;
-    behind = λ x there. ap (λ ls. on_line ls x) (lines-put u p change.0) ∙ on_sent (has_wire s.wires) rest change.1 x (λ y. subst (λ n. x < n) (sym (length_taken s.lines (takes s e) rest is_taken)) (there y));
+  pub across_step : (s t : Network Node) (e : Entry) → Wired s → Step M s e t → Across E s e t
+  across_step s t e wired S = record {
+    wires = shape.wires;
+    nodes = shape.nodes;
+    long = shape.lines;
+    sends = S.sends;
+    rest = S.out;
+    front = on_taken s.lines (takes s e) S.out S.takes_out;
+    behind = λ x there. ap (λ ls. on_line ls x) (step_lines M four s e t S) ∙ on_sent (has_wire s.wires) S.out S.sends x (λ y. subst (λ n. x < n) (sym (length_taken s.lines (takes s e) S.out S.takes_out)) (there y));
     out = out;
     inn = inn;
   }
     where
-      p : ℕ
-      p = process s e
+      shape : SameShape s t
+      shape = step_shape M four s e t S
 
-      u : Network Node
-      u = record s { lines = sent (has_wire s.wires) rest change.1 }
+      moves : Moves E (length s.nodes) (process s e) S.was (arrivals s e) (S.now, S.sends)
+      moves = does_moves keeps s e S.was (S.now, S.sends) wired S.own_was S.change
 
-      size : length (put u p change.0).nodes ≡ length s.nodes
-      size = length-put u p change.0
+      -- lines of other processes
+      no_sends : (z : ℕ) → owner (length s.nodes) z ≢ process s e → for_line z S.sends ≡ []
+      no_sends z n = for_line-elsewhere (owner (length s.nodes)) (process s e) z S.sends (step_sends M four s e t S) n
 
-      of_p : own u p ≡ Some state
-      of_p = own-lines s (sent (has_wire s.wires) rest change.1) p ∙ is_own
+      no_arrivals : (z : ℕ) → owner (length s.nodes) z ≢ process s e → for_line z (arrivals s e) ≡ []
+      no_arrivals z n = for_line-elsewhere (owner (length s.nodes)) (process s e) z (arrivals s e) (arrivals_own s e wired) n
 
-      of_other : (q : ℕ) → q ≢ p → own (put u p change.0) q ≡ own s q
-      of_other q n = own-put_other u p state change.0 q of_p moves.kind n ∙ own-lines s (sent (has_wire s.wires) rest change.1) q
+      now_own : (z : ℕ) → owner (length s.nodes) z ≡ process s e → own t (owner (length s.nodes) z) ≡ Some S.now
+      now_own z y = ap (own t) y ∙ step_own_same M four s e t S
 
-      out : (z : ℕ) → bit (end_waits E (put u p change.0) z) + acks (for_line z (arrivals s e)) ≡ bit (end_waits E s z) + datas (for_line z change.1)
-      out z = elim (cases_eq (owner (length s.nodes) z) p) [
-        | inl y ↦ rw (end_waits_is E (put u p change.0) (length s.nodes) z change.0 size (rw y (own-put_same u p state change.0 of_p moves.kind)), end_waits_is E s (length s.nodes) z state refl (rw y is_own)) (moves.out z y)
-        | inr n ↦ rw (end_waits_as E s (put u p change.0) z size (of_other (owner (length s.nodes) z) n), (moves.away z n).0, (moves.away z n).1) refl
+      was_own : (z : ℕ) → owner (length s.nodes) z ≡ process s e → own s (owner (length s.nodes) z) ≡ Some S.was
+      was_own z y = ap (own s) y ∙ S.own_was
+
+      out : (z : ℕ) → bit (end_waits E t z) + acks (for_line z (arrivals s e)) ≡ bit (end_waits E s z) + datas (for_line z S.sends)
+      out z = elim (cases_eq (owner (length s.nodes) z) (process s e)) [
+        | inl y ↦ rw (end_waits_is E t (length s.nodes) z S.now shape.nodes (now_own z y), end_waits_is E s (length s.nodes) z S.was refl (was_own z y)) (moves.out z y)
+        | inr n ↦ rw (end_waits_as E s t z shape.nodes (step_own_other M four s e t S (owner (length s.nodes) z) n), no_sends z n, no_arrivals z n) refl
       ]
 
-      inn : (z : ℕ) → bit (end_holds E (put u p change.0) z) + acks (for_line z change.1) ≡ bit (end_holds E s z) + datas (for_line z (arrivals s e))
-      inn z = elim (cases_eq (owner (length s.nodes) z) p) [
-        | inl y ↦ rw (end_holds_is E (put u p change.0) (length s.nodes) z change.0 size (rw y (own-put_same u p state change.0 of_p moves.kind)), end_holds_is E s (length s.nodes) z state refl (rw y is_own)) (moves.inn z y)
-        | inr n ↦ rw (end_holds_as E s (put u p change.0) z size (of_other (owner (length s.nodes) z) n), (moves.away z n).0, (moves.away z n).1) refl
+      inn : (z : ℕ) → bit (end_holds E t z) + acks (for_line z S.sends) ≡ bit (end_holds E s z) + datas (for_line z (arrivals s e))
+      inn z = elim (cases_eq (owner (length s.nodes) z) (process s e)) [
+        | inl y ↦ rw (end_holds_is E t (length s.nodes) z S.now shape.nodes (now_own z y), end_holds_is E s (length s.nodes) z S.was refl (was_own z y)) (moves.inn z y)
+        | inr n ↦ rw (end_holds_as E s t z shape.nodes (step_own_other M four s e t S (owner (length s.nodes) z) n), no_sends z n, no_arrivals z n) refl
       ]
 
   pub across : (s t : Network Node) (e : Entry) → Wired s → next M s e ≡ Some t → Across E s e t
-  across s t e wired h = go (next_parts s e t h)
-    where
-      go : Parts M s e t → Across E s e t
-      go P = subst (λ u. Across E s e u) P.is (across_put s e P.rest P.state P.change P.is_taken P.is_own (does_moves four keeps s e P.state P.change wired P.is_own P.is_done))
+  across s t e wired h = across_step s t e wired (step_of M s e t h)
 
 -- ## What comes in, by the line that it is taken from and by the end at which it comes in
 
@@ -264,7 +199,7 @@ pub sound_after : {Node : Type 0} {M : Machine Node} {E : Ends Node} → HasFour
 unfolding after
 sound_after {E = E} four keeps s t [] sound h = let same : s ≡ t = cc in subst (λ u. Sound E u) same sound
 sound_after {M = M} four keeps s t (e ∷ es) sound h =
-    let a = bound (next M s e) (λ u. after M u es) t h in
+    let a = bind_some (next M s e) (λ u. after M u es) t h in
     sound_after four keeps a.0 t es (sound_kept four keeps s a.0 e sound a.1) a.2
 
 -- At most one Data and one Ack are on a line.
