@@ -1,4 +1,4 @@
--- Every entry keeps a sound network sound, and of what that bounds.
+-- Every entry keeps a sound network sound; in one, at most one Data and one Ack are on a line.
 use Rattle.std.proofs.Common.{◌≡◌, ◌≢◌, ℕ, ◌+◌, ◌<◌, ◌≤◌, Bool, true, false, cond, inl, inr, List, [], ◌∷◌, ◌++◌, length, refl, sym, ap, subst, ◌∙◌, arith, Option, Some, None}
 use Rattle.std.proofs.lemmas.Bool.{eq-eqb, ne_eqb, cases_eq}
 use Rattle.std.specs.Option.{option_map}
