@@ -1,0 +1,9 @@
+pub mod Choice
+pub mod Flight
+pub mod Lines
+pub mod Room
+pub mod Sound
+pub mod Local
+pub mod Partial
+pub mod Reorder
+pub mod Swap
