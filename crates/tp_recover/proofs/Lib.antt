@@ -1,2 +1,3 @@
 pub mod Moments
 pub mod Device
+pub mod Prefix
