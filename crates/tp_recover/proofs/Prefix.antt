@@ -42,13 +42,17 @@ held_of kept tail durable base = record { network = kept; entries = tail ++ dura
 abbrev pub in_counts : List ℕ → Cut
 in_counts counts p = get_or counts p 0
 
+-- A snapshot runs in which all have recorded, with these counts.
+pub record HasCounts (snapshot : Option Snapshot) (counts : List ℕ) : Type 0 where
+  pub snap : Snapshot
+  pub runs : snapshot ≡ Some snap
+  pub recorded : all_some snap.counts ≡ Some counts
+
 -- A cut and its tail were copied, when the book's entries were `before` and the journal `first`. Each process had all
 -- its counted entries by then, so all since are outside the cut.
 pub record Copied {Node : Type 0} (M : Machine Node) (start kept : Network Node) (entries : List Entry) (base : ℕ) (journal : List Entry) (stored : ℕ) (snapshot : Option Snapshot) (copy : Held Node) (upto : ℕ) : Type 0 where
-  pub snap : Snapshot
-  pub runs : snapshot ≡ Some snap
   pub counts : List ℕ
-  pub recorded : all_some snap.counts ≡ Some counts
+  pub whole : HasCounts snapshot counts
   pub before : List Entry
   pub first : List Entry
   pub since : List Entry
@@ -211,10 +215,8 @@ module _ {Node : Type 0} (M : Machine Node) (start kept : Network Node) (entries
 
     pub copied_grows : (e : Entry) → Copied M start kept (entries ++ e ∷ []) base (journal ++ e ∷ []) stored snapshot copy upto
     copied_grows e = record {
-      snap = C.snap;
-      runs = C.runs;
       counts = C.counts;
-      recorded = C.recorded;
+      whole = C.whole;
       before = C.before;
       first = C.first;
       since = C.since ++ e ∷ [];
@@ -231,12 +233,10 @@ module _ {Node : Type 0} (M : Machine Node) (start kept : Network Node) (entries
     }
 
     -- the copy stays where the snapshot's counts stay
-    pub copied_stays : (later : Option Snapshot) (snap : Snapshot) → later ≡ Some snap → all_some snap.counts ≡ Some C.counts → Copied M start kept entries base journal stored later copy upto
-    copied_stays later snap runs recorded = record {
-      snap = snap;
-      runs = runs;
+    pub copied_stays : (later : Option Snapshot) → HasCounts later C.counts → Copied M start kept entries base journal stored later copy upto
+    copied_stays later whole = record {
       counts = C.counts;
-      recorded = recorded;
+      whole = whole;
       before = C.before;
       first = C.first;
       since = C.since;
