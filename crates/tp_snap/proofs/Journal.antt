@@ -1,13 +1,12 @@
 -- An entry is journalled while a snapshot runs.
-use Rattle.std.proofs.Common.{◌≡◌, ◌≢◌, ℕ, ◌+◌, ◌*◌, ◌<◌, ◌≤◌, Bool, true, false, cond, not, ◌⊎◌, inl, inr, List, [], ◌∷◌, ◌++◌, length, get_or, set, drop, refl, sym, ap, subst, ◌∙◌, arith, Option, Some, None, append-nil, append_assoc}
-use Rattle.std.specs.Prelude.{◌==◌, nat_lt, ◌&&◌, is_some}
-use Rattle.std.specs.Option.{option_map}
+use Rattle.std.proofs.Common.{◌≡◌, ◌≢◌, ℕ, ◌+◌, ◌<◌, ◌≤◌, Bool, true, false, cond, not, ◌⊎◌, inl, inr, List, [], ◌∷◌, ◌++◌, length, refl, sym, ap, subst, ◌∙◌, arith, Option, Some, None, append-nil, append_assoc}
+use Rattle.std.specs.Prelude.{◌&&◌, is_some}
 use Rattle.std.specs.List.{AllByRecursion}
 use Rattle.std.proofs.lemmas.Bool.{cases_Bool, cases_eq, cases_lt, true≢false, false≢true, le-ltb, not-true, cond_both}
 use Rattle.std.proofs.lemmas.List.{append_cancel_left, get_or_past, length_push}
 use Rattle.tp_model.specs.declared.link.Token.{Token}
 use Rattle.tp_model.specs.declared.entry.Entry.{Entry}
-use Rattle.tp_model.specs.Network.{Machine, Network, Own, own, put, has_wire, on_line, taken, sent, for_line, process_at, receiver}
+use Rattle.tp_model.specs.Network.{Machine, Network, own, put, has_wire, on_line, taken, sent, for_line, process_at, receiver}
 use Rattle.tp_model.specs.Entries.{process, takes, does, next, HasFourLinks}
 use Rattle.tp_model.specs.Order.{after, Reorder, made}
 use Rattle.tp_model.specs.Sound.{owner}
@@ -17,10 +16,9 @@ use Rattle.tp_order.proofs.Lines.{for_line-elsewhere, on_taken, taken_from, leng
 use Rattle.tp_order.proofs.Local.{Step, SameShape, next_from, takes_same, takes_own, step_sends, step_lines, step_shape, step_own_same, step_own_other}
 use Rattle.tp_order.proofs.Choice.{made-append, chosen_last_in, chosen_last_out, chosen_passed}
 use Rattle.tp_order.proofs.Reorder.{after_front, after_last, reorder_trans, reorder_front, reorder_back, reorder_end, move_left}
-use Rattle.tp_snap.proofs.Marks.{markers-append, before_unmarked, before-append, before-append_marked, for_line_unmarked}
-use Rattle.tp_snap.proofs.Plain.{step_takes_unmarked, step_sends_unmarked}
+use Rattle.tp_snap.proofs.Marks.{before_unmarked, before-append, before-append_marked}
 use Rattle.tp_snap.proofs.Invariant.{in_count, in_cut, early, late, as_recorded, Base, Marking}
-use Rattle.tp_snap.proofs.Shape.{live_nodes, live_process, mid_wires, mid_nodes, mid_lines, mid_process, was_line, now_line}
+use Rattle.tp_snap.proofs.Shape.{live_process, mid_wires, mid_nodes, mid_lines, mid_process, was_line, now_line, takes_unmarked, sends_unmarked, markers_kept, markers_left}
 
 -- ## One line
 
@@ -59,10 +57,6 @@ behind_unmarked out sends h k = before-append out sends h ∙ ap (λ ts. out ++ 
 
 behind_none : (out sends : List Token) → sends ≡ [] → before (out ++ sends) ≡ before out ++ sends
 behind_none out sends none = ap before (ap (λ ts. out ++ ts) none ∙ append-nil out) ∙ sym (append-nil (before out)) ∙ ap (λ ts. before out ++ ts) (sym none)
-
--- an entry leaves as many Markers
-same_markers : (live out ms sends now : List Token) → live ≡ ms ++ out → now ≡ out ++ sends → markers ms ≡ 0 → markers sends ≡ 0 → markers now ≡ markers live
-same_markers live out ms sends now l n h k = omega (arith, ap markers l, ap markers n, markers-append ms out, markers-append out sends)
 
 -- ## Whether an entry is in the cut
 
@@ -119,26 +113,9 @@ module _ {Node : Type 0} (M : Machine Node) (four : HasFourLinks M) (never : Nev
       go true = sends_elsewhere l other
       go false = refl
 
-  takes_unmarked : (l : ℕ) → markers (for_line l (takes w.live e)) ≡ 0
-  takes_unmarked l = for_line_unmarked l (takes w.live e) (step_takes_unmarked M never w.live e v S)
-
-  out_unmarked : (l : ℕ) → markers (goes_out l) ≡ 0
-  out_unmarked l = go (has_wire w.live.wires l)
-    where
-      go : (b : Bool) → ◌≡◌ {A = ℕ} (markers (cond b (for_line l S.sends) [])) 0
-      go true = for_line_unmarked l S.sends (step_sends_unmarked M never w.live e v S)
-      go false = refl
-
-  markers_now : (l : ℕ) → markers (on_line v.lines l) ≡ markers (on_line w.live.lines l)
-  markers_now l = same_markers (on_line w.live.lines l) (on_line S.out l) (for_line l (takes w.live e)) (goes_out l) (on_line v.lines l)
-      (was_line M four w B e v S l) (now_line M four w B e v S l) (takes_unmarked l) (out_unmarked l)
-
-  markers_out : (l : ℕ) → markers (on_line S.out l) ≡ markers (on_line w.live.lines l)
-  markers_out l = omega (arith, ap markers (was_line M four w B e v S l), markers-append (for_line l (takes w.live e)) (on_line S.out l), takes_unmarked l)
-
   -- what both kinds of entry keep
   marks_now : (l : ℕ) → has_wire v.wires l ≡ true → markers (on_line v.lines l) ≡ cond (has_recorded snap (owner (length v.nodes) l) && not (is_closed snap l)) 1 0
-  marks_now l y = markers_now l ∙ K.marks l (ap (λ wires. has_wire wires l) (sym shape.wires) ∙ y)
+  marks_now l y = markers_kept M four w B e v S never l ∙ K.marks l (ap (λ wires. has_wire wires l) (sym shape.wires) ∙ y)
       ∙ ap (λ N. cond (has_recorded snap (owner N l) && not (is_closed snap l)) 1 0) (sym shape.nodes)
 
   closed_now : (l : ℕ) → is_closed snap l ≡ true → has_recorded snap (owner (length v.nodes) l) ≡ true
@@ -187,7 +164,7 @@ module _ {Node : Type 0} (M : Machine Node) (four : HasFourLinks M) (never : Nev
     late_behind : (l : ℕ) → is_closed snap l ≡ false → before (on_line S.out l ++ goes_out l) ≡ before (on_line S.out l)
     late_behind l n = elim (cases_eq (owner (length w.live.nodes) l) whose) [
       | inl same ↦ elim (cases_Bool (has_wire w.live.wires l)) [
-        | inl y ↦ before-append_marked (on_line S.out l) (goes_out l) (omega (arith, markers_out l, K.marks l y ∙ one l same n))
+        | inl y ↦ before-append_marked (on_line S.out l) (goes_out l) (omega (arith, markers_left M four w B e v S never l, K.marks l y ∙ one l same n))
         | inr no_wire ↦ ap (λ b. before (on_line S.out l ++ cond b (for_line l S.sends) [])) no_wire ∙ ap before (append-nil (on_line S.out l))
       ]
       | inr other ↦ ap (λ ts. before (on_line S.out l ++ ts)) (nothing_out l other) ∙ ap before (append-nil (on_line S.out l))
@@ -205,7 +182,7 @@ module _ {Node : Type 0} (M : Machine Node) (four : HasFourLinks M) (never : Nev
     late_lines : (l : ℕ) → on_line K.mid.lines l ≡ cond (is_closed snap l) (on_line collects.lines l) (on_line collects.lines l ++ before (on_line v.lines l))
     late_lines l =
         late_line (is_closed snap l) (has_wire w.live.wires l) (on_line snap.lines l) (on_line K.mid.lines l) (on_line w.live.lines l) (on_line S.out l) (for_line l (takes w.live e)) (for_line l S.sends)
-        (K.on_lines l) (was_line M four w B e v S l) (takes_unmarked l) (late_behind l)
+        (K.on_lines l) (was_line M four w B e v S l) (takes_unmarked M four w B e v S never l) (late_behind l)
         ∙ ap (λ ts. cond (is_closed snap l) ts (ts ++ before (on_line S.out l ++ goes_out l))) (sym (late_collected l))
         ∙ ap (λ ts. cond (is_closed snap l) (on_line collects.lines l) (on_line collects.lines l ++ before ts)) (sym (now_line M four w B e v S l))
 
@@ -258,7 +235,7 @@ module _ {Node : Type 0} (M : Machine Node) (four : HasFourLinks M) (never : Nev
             ∙ ap (λ b. cond b (on_line snap.lines l) (on_line snap.lines l ++ before (on_line w.live.lines l))) (untouched l same).0
             ∙ ap (λ ts. ts ++ before (on_line w.live.lines l)) (untouched l same).1
             ∙ ap before (was_line M four w B e v S l)
-            ∙ before-append (for_line l (takes w.live e)) (on_line S.out l) (takes_unmarked l),
+            ∙ before-append (for_line l (takes w.live e)) (on_line S.out l) (takes_unmarked M four w B e v S never l),
       )
       | inr other ↦ (on_line K.mid.lines l, ap (λ ts. ts ++ on_line K.mid.lines l) (sym (takes_elsewhere l other)))
     ]
@@ -304,7 +281,7 @@ module _ {Node : Type 0} (M : Machine Node) (four : HasFourLinks M) (never : Nev
     early_behind : (l : ℕ) → before (on_line S.out l ++ goes_out l) ≡ before (on_line S.out l) ++ goes_out l
     early_behind l = elim (cases_eq (owner (length w.live.nodes) l) whose) [
       | inl same ↦ elim (cases_Bool (has_wire w.live.wires l)) [
-        | inl y ↦ behind_unmarked (on_line S.out l) (goes_out l) (markers_out l ∙ K.marks l y ∙ zero_at l same) (out_unmarked l)
+        | inl y ↦ behind_unmarked (on_line S.out l) (goes_out l) (markers_left M four w B e v S never l ∙ K.marks l y ∙ zero_at l same) (sends_unmarked M four w B e v S never l)
         | inr no_wire ↦ behind_none (on_line S.out l) (goes_out l) (ap (λ b. cond b (for_line l S.sends) []) no_wire)
       ]
       | inr other ↦ behind_none (on_line S.out l) (goes_out l) (nothing_out l other)
@@ -322,7 +299,7 @@ module _ {Node : Type 0} (M : Machine Node) (four : HasFourLinks M) (never : Nev
         mid_line l
         ∙ early_line (is_closed snap l) (on_line snap.lines l) (on_line mid_out.0 l) (on_line S.out l) (goes_out l)
         (rest_line (is_closed snap l) (on_line snap.lines l) (on_line K.mid.lines l) (on_line mid_out.0 l) (on_line w.live.lines l) (on_line S.out l) (for_line l (takes w.live e))
-        (K.on_lines l) (was_line M four w B e v S l) (on_taken K.mid.lines (takes w.live e) mid_out.0 mid_out.1 l) (takes_unmarked l) one)
+        (K.on_lines l) (was_line M four w B e v S l) (on_taken K.mid.lines (takes w.live e) mid_out.0 mid_out.1 l) (takes_unmarked M four w B e v S never l) one)
         (early_shut l) (λ shut. early_behind l)
         ∙ ap (λ ts. cond (is_closed snap l) (on_line snap.lines l) (on_line snap.lines l ++ before ts)) (sym (now_line M four w B e v S l))
       where

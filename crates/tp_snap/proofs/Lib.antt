@@ -5,3 +5,11 @@ pub mod Shape
 pub mod Journal
 pub mod Sending
 pub mod Record
+pub mod Begin
+pub mod Close
+pub mod Whole
+pub mod Kept
+pub mod Acts
+pub mod Happens
+pub mod Stays
+pub mod Halves

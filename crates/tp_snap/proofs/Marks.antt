@@ -1,15 +1,15 @@
 -- Lines with Markers: what stands before the first one, how many there are, and the line without them.
-use Rattle.std.proofs.Common.{◌≡◌, ℕ, ◌+◌, ◌*◌, ◌<◌, Bool, true, false, cond, inl, inr, List, [], ◌∷◌, ◌++◌, length, map, set, drop, refl, sym, ap, subst, ◌∙◌, arith, Option, Some, None, append-nil}
+use Rattle.std.proofs.Common.{◌≡◌, ℕ, ◌+◌, ◌<◌, Bool, true, false, cond, inl, inr, List, [], ◌∷◌, ◌++◌, map, set, drop, refl, sym, ap, ◌∙◌, arith, Some, append-nil}
 use Rattle.std.specs.Prelude.{◌==◌}
 use Rattle.std.specs.List.{AllByRecursion}
 use Rattle.std.proofs.lemmas.Bool.{cases_Bool}
 use Rattle.std.proofs.lemmas.List.{map-set, set-get_or}
 use Rattle.std.proofs.Math.ListN.{get_or-map}
 use Rattle.tp_model.specs.declared.link.Token.{Token}
-use Rattle.tp_model.specs.declared.link.Token.TheVariants.{Data, Ack, Marker}
+use Rattle.tp_model.specs.declared.link.Token.TheVariants.{Marker}
 use Rattle.tp_model.specs.Network.{on_line, is_first, taken, pushed, sent, for_line}
 use Rattle.tp_model.specs.Markers.{is_marker, plain, before, markers}
-use Rattle.tp_order.proofs.Lines.{first_is, same_token-self, on_sent, length_sent, cons_taken, taken_cons}
+use Rattle.tp_order.proofs.Lines.{first_is, same_token-self, cons_taken, taken_cons}
 
 -- ## One line
 
@@ -127,9 +127,9 @@ pub pushed_plain : (on : ℕ → Bool) (lines : List (List Token)) (k : ℕ) (t 
 unfolding pushed
 pushed_plain on lines k t n = elim (cases_Bool (on k)) [
   | inl y ↦ rw y (
-    map-set plain lines k (on_line lines k ++ t ∷ [])
-    ∙ ap (λ ts. set (map plain lines) k ts) (plain-append (on_line lines k) (t ∷ []) ∙ ap (λ b. plain (on_line lines k) ++ cond b [] (t ∷ [])) n ∙ ap (λ ts. ts ++ t ∷ []) (sym (on_plain lines k)))
-  )
+      map-set plain lines k (on_line lines k ++ t ∷ [])
+      ∙ ap (λ ts. set (map plain lines) k ts) (plain-append (on_line lines k) (t ∷ []) ∙ ap (λ b. plain (on_line lines k) ++ cond b [] (t ∷ [])) n ∙ ap (λ ts. ts ++ t ∷ []) (sym (on_plain lines k)))
+      )
   | inr shut ↦ rw shut
 ]
 
@@ -143,10 +143,10 @@ pub pushed_marker : (on : ℕ → Bool) (lines : List (List Token)) (k : ℕ) (t
 unfolding pushed
 pushed_marker on lines k t y = elim (cases_Bool (on k)) [
   | inl opens ↦ rw opens (
-    map-set plain lines k (on_line lines k ++ t ∷ [])
-    ∙ ap (λ ts. set (map plain lines) k ts) (plain-append (on_line lines k) (t ∷ []) ∙ ap (λ b. plain (on_line lines k) ++ cond b [] (t ∷ [])) y ∙ append-nil (plain (on_line lines k)) ∙ sym (on_plain lines k))
-    ∙ set-get_or (map plain lines) k []
-  )
+      map-set plain lines k (on_line lines k ++ t ∷ [])
+      ∙ ap (λ ts. set (map plain lines) k ts) (plain-append (on_line lines k) (t ∷ []) ∙ ap (λ b. plain (on_line lines k) ++ cond b [] (t ∷ [])) y ∙ append-nil (plain (on_line lines k)) ∙ sym (on_plain lines k))
+      ∙ set-get_or (map plain lines) k []
+      )
   | inr shut ↦ rw shut
 ]
 

@@ -1,5 +1,5 @@
 -- A step over lines with Markers is a step over the lines without them.
-use Rattle.std.proofs.Common.{◌≡◌, ℕ, zero, suc, ◌+◌, ◌-◌, ◌*◌, Bool, true, false, cond, List, [], ◌∷◌, ◌++◌, length, map, set, drop, refl, sym, ap, subst, ◌∙◌, Option, Some, None}
+use Rattle.std.proofs.Common.{◌≡◌, ℕ, zero, suc, ◌+◌, ◌*◌, false, List, [], ◌∷◌, ◌++◌, length, map, refl, sym, ap, subst, ◌∙◌, Option, Some, None}
 use Rattle.std.specs.Prelude.{nat_lt, nat_le, ◌&&◌}
 use Rattle.std.specs.Option.{option_map}
 use Rattle.std.specs.List.{AllByRecursion}
@@ -10,7 +10,7 @@ use Rattle.tp_model.specs.declared.wire.WireEnd.TheVariants.{Link, Port as AtPor
 use Rattle.tp_model.specs.declared.entry.Entry.{Entry}
 use Rattle.tp_model.specs.declared.entry.Entry.TheVariants.{Run, Take, HostIn, Confirm}
 use Rattle.tp_model.specs.declared.limits.TheConstants.{MAX_STEPS, MAX_HELD}
-use Rattle.tp_model.specs.Network.{◌>>=◌, Machine, steps, Port, Network, Own, OfNode, OfHost, own, put, receiver, has_wire, taken, sent}
+use Rattle.tp_model.specs.Network.{Machine, steps, Port, Network, Own, OfNode, OfHost, own, put, receiver, has_wire, taken, sent}
 use Rattle.tp_model.specs.Entries.{process, takes, acked, port_took, first_only, handed_in, confirmed, of_node, of_port, receives, does, next}
 use Rattle.tp_model.specs.Markers.{is_marker, plain, plain_network, NeverMarks}
 use Rattle.tp_order.proofs.Partial.{bind_some, map_some, cond_some}

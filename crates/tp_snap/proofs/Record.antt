@@ -1,20 +1,18 @@
 -- A node records.
-use Rattle.std.proofs.Common.{◌≡◌, ◌≢◌, ℕ, ◌+◌, ◌*◌, ◌<◌, ◌≤◌, Bool, true, false, cond, not, inl, inr, List, [], ◌∷◌, ◌++◌, length, get_or, set, refl, sym, ap, subst, ◌∙◌, arith, Option, Some, None, slice_get, append-nil, length-set, get_or-set_same, get_or-set_other, ne_eqb}
-use Rattle.std.specs.Prelude.{◌==◌, nat_lt, ◌&&◌, is_some}
+use Rattle.std.proofs.Common.{◌≡◌, ◌≢◌, ℕ, ◌+◌, ◌<◌, ◌≤◌, true, false, cond, not, inl, inr, List, ◌++◌, length, get_or, set, refl, sym, ap, subst, ◌∙◌, arith, Option, Some, None, slice_get, length-set, get_or-set_same, get_or-set_other, ne_eqb}
+use Rattle.std.specs.Prelude.{◌==◌, ◌&&◌, is_some}
 use Rattle.std.specs.Option.{option_map}
-use Rattle.std.proofs.lemmas.Bool.{cases_eq, cases_Bool, true≢false, false≢true, lt-ltb}
-use Rattle.tp_model.specs.declared.link.Token.{Token}
-use Rattle.tp_model.specs.declared.entry.Entry.{Entry}
-use Rattle.tp_model.specs.Network.{Machine, Network, Own, OfNode, OfHost, own, has_wire, on_line, for_line}
+use Rattle.std.proofs.lemmas.Bool.{cases_eq, cases_Bool, true≢false, lt-ltb}
+use Rattle.tp_model.specs.Network.{Machine, OfNode, OfHost, own, has_wire, on_line, for_line}
 use Rattle.tp_model.specs.Entries.{process}
 use Rattle.tp_model.specs.Order.{after, Reorder, made}
 use Rattle.tp_model.specs.Sound.{owner}
-use Rattle.tp_model.specs.Markers.{before, markers}
-use Rattle.tp_model.specs.Snapshot.{Snapshot, MarkedNetwork, count_of, has_recorded, is_closed, taker, with_count, with_markers, node_markers, recorded}
+use Rattle.tp_model.specs.Markers.{markers}
+use Rattle.tp_model.specs.Snapshot.{Snapshot, MarkedNetwork, count_of, has_recorded, is_closed, taker, with_count, with_markers, node_markers}
 use Rattle.tp_order.proofs.Local.{own-node, own-lines}
 use Rattle.tp_order.proofs.Choice.{chosen_agree}
 use Rattle.tp_snap.proofs.Invariant.{in_count, in_cut, early, late, as_recorded, Base, Marking}
-use Rattle.tp_snap.proofs.Sending.{node_marked, node_markers_all, node_elsewhere, owner_node, before_marked, markers_marked, marked_length, base_marked}
+use Rattle.tp_snap.proofs.Sending.{node_marked, node_markers_all, node_elsewhere, owner_node, before_marked, markers_marked, marked_length}
 
 module _ {Node : Type 0} (M : Machine Node) (w : MarkedNetwork Node) (B : Base M w)
     (snap : Snapshot) (K : Marking M w.start w.entries w.live w.frozen snap) (i : ℕ) (below : i < length w.live.nodes) (new : has_recorded snap i ≡ false) where

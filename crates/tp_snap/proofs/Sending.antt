@@ -1,14 +1,14 @@
 -- Markers are sent: one on each line of a process, and on no other.
-use Rattle.std.proofs.Common.{◌≡◌, ◌≢◌, ℕ, zero, suc, ◌+◌, ◌*◌, ◌/◌, ◌<◌, ◌≤◌, Bool, true, false, cond, inl, inr, List, [], ◌∷◌, ◌++◌, length, map, refl, sym, ap, subst, ◌∙◌, arith, Option, Some, None, append-nil, eq-eqb, ne_eqb}
+use Rattle.std.proofs.Common.{◌≡◌, ◌≢◌, ℕ, zero, suc, ◌+◌, ◌*◌, ◌/◌, ◌<◌, ◌≤◌, Bool, true, false, cond, inl, inr, List, [], ◌∷◌, ◌++◌, length, refl, sym, ap, subst, ◌∙◌, arith, Option, Some, eq-eqb, ne_eqb}
 use Rattle.std.specs.Prelude.{◌==◌, nat_lt}
 use Rattle.std.specs.List.{AllByRecursion}
 use Rattle.std.proofs.lemmas.Bool.{cases_eq, ltb-true, ltb-false}
 use Rattle.tp_model.specs.declared.link.Token.{Token}
 use Rattle.tp_model.specs.declared.link.Token.TheVariants.{Marker}
-use Rattle.tp_model.specs.Network.{Machine, Network, has_wire, on_line, sent, for_line}
+use Rattle.tp_model.specs.Network.{Machine, Network, has_wire, on_line, for_line}
 use Rattle.tp_model.specs.Sound.{owner}
 use Rattle.tp_model.specs.Word.{bit}
-use Rattle.tp_model.specs.Markers.{before, markers, plain, plain_network}
+use Rattle.tp_model.specs.Markers.{before, markers}
 use Rattle.tp_model.specs.Snapshot.{Snapshot, MarkedNetwork, node_markers, host_markers, with_markers}
 use Rattle.tp_order.proofs.Lines.{on_sent, on_sent_shut, length_sent, for_line-elsewhere}
 use Rattle.tp_order.proofs.Local.{owner_of_link, owner_of_port}
@@ -86,8 +86,10 @@ node_elsewhere N i l h other = for_line-elsewhere (owner N) i l (node_markers i)
     first = omega arith
 
     all : AllByRecursion (λ m. owner N m.0 ≡ i) (node_markers i)
-    all = (subst (λ k. owner N k ≡ i) first (owner_of_link N i 0 h (omega arith)),
-        (owner_of_link N i 1 h (omega arith), (owner_of_link N i 2 h (omega arith), (owner_of_link N i 3 h (omega arith), tt))))
+    all = (
+      subst (λ k. owner N k ≡ i) first (owner_of_link N i 0 h (omega arith)),
+      (owner_of_link N i 1 h (omega arith), (owner_of_link N i 2 h (omega arith), (owner_of_link N i 3 h (omega arith), tt))),
+    )
 
 pub host_elsewhere : (N p l : ℕ) → owner N l ≢ N → for_line l (host_markers N p) ≡ []
 host_elsewhere N p l other = for_line-elsewhere (owner N) N l (host_markers N p) (all p) other

@@ -1,18 +1,18 @@
 -- The networks of the invariant have one shape, and an entry keeps what holds at any time.
-use Rattle.std.proofs.Common.{◌≡◌, ℕ, ◌+◌, ◌*◌, ◌<◌, Bool, true, false, cond, List, [], ◌∷◌, ◌++◌, length, map, refl, sym, ap, subst, ◌∙◌, Option, Some, None, append-nil}
+use Rattle.std.proofs.Common.{◌≡◌, ℕ, ◌+◌, ◌*◌, ◌<◌, Bool, true, false, cond, List, [], ◌∷◌, ◌++◌, length, refl, sym, ap, subst, ◌∙◌, arith, append-nil}
 use Rattle.std.proofs.lemmas.List.{length-map}
 use Rattle.std.proofs.Math.Path.{fun_ext}
 use Rattle.tp_model.specs.declared.link.Token.{Token}
 use Rattle.tp_model.specs.declared.entry.Entry.{Entry}
 use Rattle.tp_model.specs.Network.{Machine, Network, has_wire, on_line, for_line}
-use Rattle.tp_model.specs.Entries.{process, takes, next, HasFourLinks}
-use Rattle.tp_model.specs.Order.{after}
+use Rattle.tp_model.specs.Entries.{process, takes, HasFourLinks}
 use Rattle.tp_model.specs.Markers.{markers, plain, plain_network, NeverMarks}
 use Rattle.tp_model.specs.Snapshot.{Snapshot, MarkedNetwork, journalled}
-use Rattle.tp_order.proofs.Lines.{on_taken, length_taken, on_sent, on_sent_shut}
+use Rattle.tp_order.proofs.Lines.{on_taken, length_taken, on_sent}
 use Rattle.tp_order.proofs.Local.{Step, SameShape, step_shape, step_lines, next_from, process_kept}
 use Rattle.tp_order.proofs.Reorder.{after_last, after_shape}
-use Rattle.tp_snap.proofs.Plain.{plain_step}
+use Rattle.tp_snap.proofs.Marks.{markers-append, for_line_unmarked}
+use Rattle.tp_snap.proofs.Plain.{plain_step, step_takes_unmarked, step_sends_unmarked}
 use Rattle.tp_snap.proofs.Invariant.{Base, Marking}
 
 module _ {Node : Type 0} (M : Machine Node) (four : HasFourLinks M) (w : MarkedNetwork Node) (B : Base M w) where
@@ -64,17 +64,39 @@ module _ {Node : Type 0} (M : Machine Node) (four : HasFourLinks M) (w : MarkedN
         both [] vs h = (refl, h)
         both (u ∷ us) vs h = cc
 
-    -- An entry keeps what holds at any time.
-    pub base_journalled : NeverMarks M → Base M (journalled w e v)
-    base_journalled never = record {
-      now = after_last M w.start (plain_network w.live) w.entries e B.now ∙ plain_step M never w.live e v (next_from M w.live e v S);
-      lines = shape.lines ∙ B.lines ∙ ap (λ n. 4 * n + length w.live.ports) (sym shape.nodes) ∙ ap (λ n. 4 * length v.nodes + n) (sym shape.ports);
-      wired = λ l y. subst (λ n. l < n) (sym shape.lines) (B.wired l (ap (λ wires. has_wire wires l) (sym shape.wires) ∙ y));
-      unwired = λ l n. unwired l (ap (λ wires. has_wire wires l) (sym shape.wires) ∙ n);
-    }
-      where
-        shape : SameShape w.live v
-        shape = step_shape M four w.live e v S
+    module _ (never : NeverMarks M) where
+      pub takes_unmarked : (l : ℕ) → markers (for_line l (takes w.live e)) ≡ 0
+      takes_unmarked l = for_line_unmarked l (takes w.live e) (step_takes_unmarked M never w.live e v S)
 
-        unwired : (l : ℕ) → has_wire w.live.wires l ≡ false → on_line v.lines l ≡ []
-        unwired l n = now_line l ∙ ap (λ b. on_line S.out l ++ cond b (for_line l S.sends) []) n ∙ append-nil (on_line S.out l) ∙ (out_unwired l n).1
+      pub sends_unmarked : (l : ℕ) → ◌≡◌ {A = ℕ} (markers (cond (has_wire w.live.wires l) (for_line l S.sends) [])) 0
+      sends_unmarked l = go (has_wire w.live.wires l)
+        where
+          go : (b : Bool) → ◌≡◌ {A = ℕ} (markers (cond b (for_line l S.sends) [])) 0
+          go true = for_line_unmarked l S.sends (step_sends_unmarked M never w.live e v S)
+          go false = refl
+
+      -- an entry leaves as many Markers
+      pub markers_left : (l : ℕ) → markers (on_line S.out l) ≡ markers (on_line w.live.lines l)
+      markers_left l = omega (arith, ap markers (was_line l), markers-append (for_line l (takes w.live e)) (on_line S.out l), takes_unmarked l)
+
+      pub markers_kept : (l : ℕ) → markers (on_line v.lines l) ≡ markers (on_line w.live.lines l)
+      markers_kept l = sum (has_wire w.live.wires l) (ap markers (now_line l)) (sends_unmarked l)
+        where
+          sum : (b : Bool) → markers (on_line v.lines l) ≡ markers (on_line S.out l ++ cond b (for_line l S.sends) []) → ◌≡◌ {A = ℕ} (markers (cond b (for_line l S.sends) [])) 0
+              → markers (on_line v.lines l) ≡ markers (on_line w.live.lines l)
+          sum b h k = omega (arith, markers_left l, markers-append (on_line S.out l) (cond b (for_line l S.sends) []))
+
+      -- An entry keeps what holds at any time.
+      pub base_journalled : Base M (journalled w e v)
+      base_journalled = record {
+        now = after_last M w.start (plain_network w.live) w.entries e B.now ∙ plain_step M never w.live e v (next_from M w.live e v S);
+        lines = shape.lines ∙ B.lines ∙ ap (λ n. 4 * n + length w.live.ports) (sym shape.nodes) ∙ ap (λ n. 4 * length v.nodes + n) (sym shape.ports);
+        wired = λ l y. subst (λ n. l < n) (sym shape.lines) (B.wired l (ap (λ wires. has_wire wires l) (sym shape.wires) ∙ y));
+        unwired = λ l n. unwired l (ap (λ wires. has_wire wires l) (sym shape.wires) ∙ n);
+      }
+        where
+          shape : SameShape w.live v
+          shape = step_shape M four w.live e v S
+
+          unwired : (l : ℕ) → has_wire w.live.wires l ≡ false → on_line v.lines l ≡ []
+          unwired l n = now_line l ∙ ap (λ b. on_line S.out l ++ cond b (for_line l S.sends) []) n ∙ append-nil (on_line S.out l) ∙ (out_unwired l n).1
