@@ -4,3 +4,6 @@ pub mod Prefix
 pub mod Invariant
 pub mod Acts
 pub mod Steps
+pub mod Switch
+pub mod Runs
+pub mod Stay

@@ -1,0 +1,146 @@
+-- The copy of a cut with its tail, and the trim of the book to that cut.
+use Rattle.std.proofs.Common.{◌≡◌, ℕ, zero, suc, ◌+◌, ◌≤◌, List, [], ◌∷◌, ◌++◌, length, get_or, map, refl, sym, ap, subst, ◌∙◌, arith, append-nil, length-append, Option, Some, None}
+use Rattle.std.specs.Option.{option_map}
+use Rattle.tp_model.specs.declared.entry.Entry.{Entry}
+use Rattle.tp_model.specs.Network.{Machine, Network}
+use Rattle.tp_model.specs.Entries.{process, HasFourLinks}
+use Rattle.tp_model.specs.Order.{after, pre, post, made}
+use Rattle.tp_model.specs.Snapshot.{Snapshot, MarkedNetwork, count_of}
+use Rattle.tp_model.specs.WholeCut.{WholeCut, count_in, all_some, whole, network_in, trimmed}
+use Rattle.tp_model.specs.Acts.{CutHolds}
+use Rattle.tp_model.specs.Disk.{AreWithin}
+use Rattle.tp_model.specs.Areas.{Areas, Held, next_number}
+use Rattle.tp_model.specs.Runs.{World, HasCut, copy_of}
+use Rattle.tp_order.proofs.Partial.{map_some}
+use Rattle.tp_order.proofs.Choice.{pre-append_outside, post-append_outside}
+use Rattle.tp_order.proofs.Reorder.{after_shape, same_behind}
+use Rattle.tp_snap.proofs.Invariant.{Holds, Inside}
+use Rattle.tp_recover.specs.Standing.{Rests}
+use Rattle.tp_recover.proofs.Prefix.{Kept, Copied, HasCounts, held_of, in_counts, copied_exact, copied_count}
+use Rattle.tp_recover.proofs.Acts.{whole_counts, same_counts}
+use Rattle.tp_recover.proofs.Invariant.{KeptOf, CopiedOf}
+use Rattle.tp_snap.proofs.Whole.{whole_holds}
+
+-- ## Lists whose elements are all there
+
+all_some-map : {X : Type 0} (xs : List X) → all_some (map Some xs) ≡ Some xs
+all_some-map [] = refl
+all_some-map (x ∷ xs) = ap (option_map (λ ys. x ∷ ys)) (all_some-map xs)
+
+all_counts : (xs : List (Option ℕ)) (ys : List ℕ) (p : ℕ) → all_some xs ≡ Some ys → get_or xs p (Some 0) ≡ Some (get_or ys p 0)
+all_counts [] ys p is = let none : [] ≡ ys = cc in ap (λ zs. Some (get_or zs p 0)) none
+all_counts (None ∷ xs) ys p is = cc
+all_counts (Some x ∷ xs) ys zero is = let rest = map_some (λ zs. x ∷ zs) (all_some xs) ys is in ap (λ zs. Some (get_or zs zero 0)) rest.2
+all_counts (Some x ∷ xs) ys (suc p) is =
+    let rest = map_some (λ zs. x ∷ zs) (all_some xs) ys is in
+    all_counts xs rest.0 p rest.1 ∙ ap (λ zs. Some (get_or zs (suc p) 0)) rest.2
+
+-- the counts of a snapshot are of entries that are there
+counts_there : {Node : Type 0} (M : Machine Node) (net : MarkedNetwork Node) (counts : List ℕ) → Holds M net → HasCounts net.snapshot counts
+    → (p : ℕ) → in_counts counts p ≤ made (process net.start) p net.entries
+counts_there M net counts holds H p = (subst (Inside M net) H.runs holds.inside).counted p (in_counts counts p) (all_counts H.snap.counts counts p H.recorded)
+
+module _ {Node : Type 0} (M : Machine Node) (four : HasFourLinks M) where
+  -- the network of a whole cut with the frozen nodes is the one that its entries lead to
+  pub cut_network : (net : MarkedNetwork Node) (cut : WholeCut) (nodes : List Node) → (C : CutHolds M net cut) → all_some net.frozen ≡ Some nodes
+      → network_in net.start cut nodes ≡ C.consistent.state
+  cut_network net cut nodes C images =
+      let shape = after_shape M four net.start C.consistent.state (pre (process net.start) (count_in cut) net.entries) C.consistent.is in
+      let frozen = sym images ∙ ap all_some C.nodes ∙ all_some-map C.consistent.state.nodes in
+      let same : nodes ≡ C.consistent.state.nodes = cc in
+      λ i. record { wires = sym shape.wires i; nodes = same i; ports = sym C.ports i; lines = sym C.lines i }
+
+  module _ (A : Areas Node) (start : Network Node) (w : World Node) (holds : Holds M w.net) (agree : after M w.net.start w.net.entries ≡ after M start w.journal)
+      (cut : WholeCut) (nodes : List Node) (has : HasCut w.net cut nodes) where
+    -- the cut and its tail are copied
+    pub copies : KeptOf M start w → CopiedOf M start w (copy_of w.net w.base cut nodes) (w.base + length w.net.entries)
+    copies K =
+        let C = whole_holds M four w.net holds cut has.is in
+        let H = whole_counts w.net cut has.is in
+        let size : length w.journal ≡ w.base + length w.net.entries =
+            omega (arith, K.count, ap length K.own, ap length K.all, length-append K.tail (K.durable ++ (w.backlog ++ K.rest)), length-append K.front (K.durable ++ (w.backlog ++ K.rest)))
+        in
+        record {
+          counts = cut.counts;
+          whole = H;
+          before = w.net.entries;
+          first = w.journal;
+          since = [];
+          own = sym (append-nil w.net.entries);
+          all = sym (append-nil w.journal);
+          number = size;
+          count = size;
+          there = counts_there M w.net cut.counts holds H;
+          network = C.consistent.is ∙ ap Some (sym (cut_network w.net cut nodes C has.images));
+          tail = refl;
+          size = ap (λ n. w.base + n) C.size;
+          same = C.same ∙ agree;
+          no_less = omega (arith, K.reach, ap length K.all, length-append K.front (K.durable ++ (w.backlog ++ K.rest)), length-append K.durable (w.backlog ++ K.rest));
+        }
+
+    -- a book that starts at a network, with these entries behind a cut of so many, agrees with journal and device
+    abbrev Goes : Network Node → List Entry → ℕ → List Entry → Type 0
+    Goes kept entries base backlog =
+        (after M kept entries ≡ after M start w.journal)
+        × ((K : Kept M start kept entries base w.journal w.stored backlog) × Rests A (held_of kept K.tail K.durable base) w.disk)
+
+    -- The book is trimmed: it starts at the copied cut, and its entries are the copied tail and those since. The device
+    -- stands for the cut and the tail already.
+    pub trims : (copy : Held Node) (upto : ℕ) → CopiedOf M start w copy upto → w.stored ≡ upto → A.verdict w.disk.bytes ≡ Some copy → w.disk.unsynced ≡ [] → w.backlog ≡ []
+        → Goes (network_in w.net.start cut nodes) (post (process w.net.start) (count_in cut) w.net.entries) (w.base + cut.size) w.backlog
+    trims copy upto C reached reads synced none =
+        subst (λ n. Goes n (post (process w.net.start) (count_in cut) w.net.entries) (w.base + cut.size) w.backlog) (sym network)
+        (subst (λ es. Goes copy.network es (w.base + cut.size) w.backlog) (sym entries)
+        (subst (λ n. Goes copy.network (copy.entries ++ C.since) n w.backlog) (sym base)
+        (subst (Goes copy.network (copy.entries ++ C.since) copy.base) (sym none) goes)))
+      where
+        now : CutHolds M w.net cut
+        now = whole_holds M four w.net holds cut has.is
+
+        same : C.counts ≡ cut.counts
+        same = same_counts w.net.snapshot C.counts cut.counts C.whole (whole_counts w.net cut has.is)
+
+        inside : pre (process w.net.start) (count_in cut) w.net.entries ≡ pre (process w.net.start) (in_counts C.counts) C.before
+        inside =
+            ap (λ counts. pre (process w.net.start) (in_counts counts) w.net.entries) (sym same)
+            ∙ ap (pre (process w.net.start) (in_counts C.counts)) C.own
+            ∙ pre-append_outside (process w.net.start) (in_counts C.counts) C.before C.since C.there
+
+        entries : post (process w.net.start) (count_in cut) w.net.entries ≡ copy.entries ++ C.since
+        entries =
+            ap (λ counts. post (process w.net.start) (in_counts counts) w.net.entries) (sym same)
+            ∙ ap (post (process w.net.start) (in_counts C.counts)) C.own
+            ∙ post-append_outside (process w.net.start) (in_counts C.counts) C.before C.since C.there
+            ∙ ap (λ es. es ++ C.since) (sym C.tail)
+
+        network : network_in w.net.start cut nodes ≡ copy.network
+        network =
+            let both = sym now.consistent.is ∙ ap (after M w.net.start) inside ∙ C.network in
+            let one : now.consistent.state ≡ copy.network = cc in
+            cut_network w.net cut nodes now has.images ∙ one
+
+        base : w.base + cut.size ≡ copy.base
+        base = ap (λ n. w.base + n) (now.size ∙ ap length inside) ∙ sym C.size
+
+        goes : Goes copy.network (copy.entries ++ C.since) copy.base []
+        goes = (
+          same_behind M copy.network start copy.entries C.first C.since (copied_exact M start w.net.start w.net.entries w.base w.journal w.stored w.net.snapshot copy upto C)
+              ∙ ap (after M start) (sym C.all),
+          (
+            record {
+              front = C.first;
+              tail = copy.entries;
+              durable = [];
+              rest = C.since;
+              own = refl;
+              all = C.all;
+              count = copied_count M start w.net.start w.net.entries w.base w.journal w.stored w.net.snapshot copy upto C;
+              exact = copied_exact M start w.net.start w.net.entries w.base w.journal w.stored w.net.snapshot copy upto C;
+              reach = omega (arith, reached, C.number);
+            },
+            record {
+              reads = reads ∙ ap (λ es. Some (record { network = copy.network; entries = es; base = copy.base })) (sym (append-nil copy.entries));
+              loose = subst (λ ranges. AreWithin (A.spare w.disk.bytes) ranges) (sym synced) tt;
+            },
+          ),
+        )
