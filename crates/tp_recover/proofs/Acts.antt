@@ -1,5 +1,4 @@
--- What an act of the network, its book and its markers changes: the book grows by what is journalled, and once all have
--- recorded the counts of the cut stay.
+-- What stays of the flusher's position through an act of the network, its book and its markers.
 use Rattle.std.proofs.Common.{◌≡◌, ℕ, zero, suc, ◌+◌, Bool, true, false, cond, not, List, [], ◌∷◌, ◌++◌, length, get_or, set, refl, sym, ap, subst, ◌∙◌, append_assoc, Option, Some, None}
 use Rattle.std.specs.Prelude.{nat_lt, ◌&&◌, is_some}
 use Rattle.std.specs.Option.{option_map}
@@ -18,106 +17,10 @@ use Rattle.tp_model.specs.WriteOrder.{Position, Resting, Body, Ready, Gate, Clea
 use Rattle.tp_model.specs.Runs.{World, grown, is_trim}
 use Rattle.tp_order.proofs.Partial.{bind_some, map_some, cond_some}
 use Rattle.tp_order.proofs.Reorder.{same_behind}
+use Rattle.tp_snap.proofs.Stays.{HasCounts}
 use Rattle.tp_recover.specs.Standing.{Rests, Bodied, Readied, Gated, Clearing, Switching}
-use Rattle.tp_recover.proofs.Prefix.{Stands, Kept, Copied, HasCounts, held_of, kept_grows, copied_grows, copied_stays}
+use Rattle.tp_recover.proofs.Prefix.{Stands, Kept, Copied, held_of, kept_grows, copied_grows, copied_stays}
 use Rattle.tp_recover.proofs.Invariant.{Reads, CopiedOf, WithKept, At}
-
--- ## Acts taken apart
-
-begin_is : {Node : Type 0} (w v : MarkedNetwork Node) (snapshot : Option Snapshot) → begin w snapshot ≡ Some v → (snapshot ≡ None) × (v ≡ begun w)
-begin_is w v None is = (refl, cc)
-begin_is w v (Some snap) is = cc
-
-record_is : {Node : Type 0} (w v : MarkedNetwork Node) (snapshot : Option Snapshot) (i : ℕ) → record_node w snapshot i ≡ Some v
-    → (snap : Snapshot) × (snapshot ≡ Some snap) × (has_recorded snap i ≡ false) × (v ≡ recorded w snap i)
-record_is w v None i is = cc
-record_is w v (Some snap) i is =
-    let split = cond_some (nat_lt i (length w.live.nodes) && not (has_recorded snap i)) (Some (recorded w snap i)) v is in
-    (snap, refl, waits (nat_lt i (length w.live.nodes)) (has_recorded snap i) split.0, cc)
-  where
-    waits : (a b : Bool) → (a && not b) ≡ true → b ≡ false
-    waits true true is = cc
-    waits true false is = refl
-    waits false b is = cc
-
-close_is : {Node : Type 0} (w v : MarkedNetwork Node) (snapshot : Option Snapshot) (line : ℕ) → close_line w snapshot line ≡ Some v
-    → (snap : Snapshot) × (snapshot ≡ Some snap) × (v ≡ line_closed w snap line)
-close_is w v None line is = cc
-close_is w v (Some snap) line is =
-    let split = cond_some (is_first (on_line w.live.lines line) Marker && has_recorded snap (taker w.live line)) (Some (line_closed w snap line)) v is in
-    (snap, refl, cc)
-
-pub journal_is : {Node : Type 0} (M : Machine Node) (w v : MarkedNetwork Node) (e : Entry) → happens M w (Journal e) ≡ Some v
-    → (live : Network Node) × (next M w.live e ≡ Some live) × (v ≡ journalled w e live)
-unfolding happens
-journal_is M w v e is = let split = bind_some (next M w.live e) (λ live. Some (journalled w e live)) v is in (split.0, split.1, cc)
-
--- an act that is no trim leaves the kept network, and the entries grow by what is journalled
-pub act_book : {Node : Type 0} (M : Machine Node) (w v : MarkedNetwork Node) (act : Act) → is_trim act ≡ false → happens M w act ≡ Some v
-    → (v.start ≡ w.start) × (v.entries ≡ grown act w.entries)
-unfolding happens
-act_book M w v Begin other is = let a = begin_is w v w.snapshot is in (ap (λ n. n.start) a.1, ap (λ n. n.entries) a.1)
-act_book M w v (Record i) other is = let a = record_is w v w.snapshot i is in (ap (λ n. n.start) a.3, ap (λ n. n.entries) a.3)
-act_book M w v (Journal e) other is = let a = journal_is M w v e is in (ap (λ n. n.start) a.2, ap (λ n. n.entries) a.2)
-act_book M w v (Close line) other is = let a = close_is w v w.snapshot line is in (ap (λ n. n.start) a.2, ap (λ n. n.entries) a.2)
-act_book M w v Trim other is = cc
-
--- ## Once all have recorded
-
-pub all_recorded : (xs : List (Option ℕ)) (ys : List ℕ) (i : ℕ) → all_some xs ≡ Some ys → is_some (get_or xs i (Some 0)) ≡ true
-all_recorded [] ys i is = refl
-all_recorded (None ∷ xs) ys i is = cc
-all_recorded (Some x ∷ xs) ys zero is = refl
-all_recorded (Some x ∷ xs) ys (suc i) is = let rest = map_some (λ zs. x ∷ zs) (all_some xs) ys is in all_recorded xs rest.0 i rest.1
-
-pub collected_counts : (p : ℕ) (tokens : List (ℕ × Token)) (snap : Snapshot) → (collected p tokens snap).counts ≡ snap.counts
-collected_counts p tokens snap =
-    go (has_recorded snap p) (record snap { lines = sent (λ line. not (is_closed snap line)) snap.lines tokens }) (record snap { size = snap.size + 1 }) refl refl
-  where
-    go : (b : Bool) (x y : Snapshot) → x.counts ≡ snap.counts → y.counts ≡ snap.counts → (cond b x y).counts ≡ snap.counts
-    go true x y a c = a
-    go false x y a c = c
-
--- the counts stay until the trim
-pub counts_stay : {Node : Type 0} (M : Machine Node) (w v : MarkedNetwork Node) (act : Act) (counts : List ℕ) → is_trim act ≡ false → happens M w act ≡ Some v
-    → HasCounts w.snapshot counts → HasCounts v.snapshot counts
-unfolding happens
-counts_stay M w v Begin counts other is H = let a = begin_is w v w.snapshot is in let none = sym a.0 ∙ H.runs in cc
-counts_stay M w v (Record i) counts other is H =
-    let a = record_is w v w.snapshot i is in
-    let same : a.0 ≡ H.snap = let runs = sym a.1 ∙ H.runs in cc in
-    let here = all_recorded H.snap.counts counts i H.recorded in
-    let waits = ap (λ s. has_recorded s i) (sym same) ∙ a.2 in
-    cc
-counts_stay M w v (Journal e) counts other is H =
-    let a = journal_is M w v e is in
-    record {
-      snap = collected (process w.start e) (takes w.live e) H.snap;
-      runs = ap (λ n. n.snapshot) a.2 ∙ ap (option_map (collected (process w.start e) (takes w.live e))) H.runs;
-      recorded = ap all_some (collected_counts (process w.start e) (takes w.live e) H.snap) ∙ H.recorded;
-    }
-counts_stay M w v (Close line) counts other is H =
-    let a = close_is w v w.snapshot line is in
-    let same : a.0 ≡ H.snap = let runs = sym a.1 ∙ H.runs in cc in
-    record { snap = with_closed a.0 line; runs = ap (λ n. n.snapshot) a.2; recorded = ap (λ s. all_some s.counts) same ∙ H.recorded }
-counts_stay M w v Trim counts other is H = cc
-
--- the cut of a snapshot with these counts
-abbrev cut_of : Snapshot → List ℕ → WholeCut
-cut_of snap counts = record { counts = counts; ports = snap.ports; lines = snap.lines; size = snap.size }
-
--- a whole cut has the snapshot's counts
-pub whole_counts : {Node : Type 0} (w : MarkedNetwork Node) (cut : WholeCut) → whole w ≡ Some cut → HasCounts w.snapshot cut.counts
-unfolding whole
-whole_counts w cut is = go w.snapshot is
-  where
-    go : (snapshot : Option Snapshot) → whole_of w.live.wires (length w.live.lines) snapshot ≡ Some cut → HasCounts snapshot cut.counts
-    go None answers = cc
-    go (Some snap) answers =
-        let all = bind_some (all_some snap.counts) (λ counts. cond (all_closed (has_wire w.live.wires) (is_closed snap) (length w.live.lines)) (Some (cut_of snap counts)) None) cut answers in
-        let one = cond_some (all_closed (has_wire w.live.wires) (is_closed snap) (length w.live.lines)) (Some (cut_of snap all.0)) cut all.2 in
-        let same : cut_of snap all.0 ≡ cut = let given = one.1 in cc in
-        record { snap = snap; runs = refl; recorded = all.1 ∙ ap (λ c. Some c.counts) same }
 
 -- counts of a snapshot are one list
 pub same_counts : (snapshot : Option Snapshot) (xs ys : List ℕ) → HasCounts snapshot xs → HasCounts snapshot ys → xs ≡ ys

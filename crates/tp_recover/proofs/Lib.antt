@@ -7,3 +7,4 @@ pub mod Steps
 pub mod Switch
 pub mod Runs
 pub mod Stay
+pub mod Acknowledged

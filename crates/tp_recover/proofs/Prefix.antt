@@ -6,10 +6,10 @@ use Rattle.tp_model.specs.Network.{Machine, Network}
 use Rattle.tp_model.specs.Entries.{process}
 use Rattle.tp_model.specs.Order.{after, Cut, pre, post, made}
 use Rattle.tp_model.specs.Snapshot.{Snapshot}
-use Rattle.tp_model.specs.WholeCut.{all_some}
 use Rattle.tp_model.specs.Areas.{Held, next_number, with_more, ArePossible}
 use Rattle.tp_order.proofs.Choice.{length-pre-post}
 use Rattle.tp_order.proofs.Reorder.{after_front, front_possible, same_behind}
+use Rattle.tp_snap.proofs.Stays.{HasCounts}
 
 -- What is held leads where the first entries of the journal lead, as many as its number says, and these are no fewer
 -- than `least`.
@@ -41,12 +41,6 @@ held_of kept tail durable base = record { network = kept; entries = tail ++ dura
 -- a cut by a list of counts
 abbrev pub in_counts : List ℕ → Cut
 in_counts counts p = get_or counts p 0
-
--- A snapshot runs in which all have recorded, with these counts.
-pub record HasCounts (snapshot : Option Snapshot) (counts : List ℕ) : Type 0 where
-  pub snap : Snapshot
-  pub runs : snapshot ≡ Some snap
-  pub recorded : all_some snap.counts ≡ Some counts
 
 -- A cut and its tail were copied, when the book's entries were `before` and the journal `first`. Each process had all
 -- its counted entries by then, so all since are outside the cut.

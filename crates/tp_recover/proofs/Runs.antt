@@ -19,12 +19,14 @@ use Rattle.tp_order.proofs.Reorder.{first_possible, front_possible, same_behind}
 use Rattle.tp_snap.proofs.Invariant.{Base, Inside, Holds}
 use Rattle.tp_recover.specs.Standing.{Rests}
 use Rattle.tp_recover.proofs.Moments.{broken_may}
-use Rattle.tp_recover.proofs.Prefix.{Stands, Kept, HasCounts, copy_kept, forget_kept}
+use Rattle.tp_recover.proofs.Prefix.{Stands, Kept, copy_kept, forget_kept}
 use Rattle.tp_recover.proofs.Invariant.{Reads, WithKept, At, Inv}
-use Rattle.tp_recover.proofs.Acts.{act_book, counts_stay, same_at, grown_at}
+use Rattle.tp_recover.proofs.Acts.{same_at, grown_at}
 use Rattle.tp_recover.proofs.Steps.{reads_at, reads_within, done_at}
 use Rattle.tp_recover.proofs.Switch.{copies, trims}
+use Rattle.tp_snap.proofs.Kept.{trim_holds}
 use Rattle.tp_snap.proofs.Whole.{whole_holds}
+use Rattle.tp_snap.proofs.Stays.{HasCounts, start_stays, entries_grow, counts_stay}
 use Rattle.tp_snap.proofs.Happens.{happens_holds, opened_holds}
 
 -- each number of a list is no more than a larger one
@@ -155,11 +157,11 @@ module _ {Node : Type 0} (M : Machine Node) (four : HasFourLinks M) (never : Nev
       mark = I.mark;
       seen = I.seen;
       at = subst (λ n. At M A start (record w { net = n; journal = grown act w.journal }) w.at) parts
-          (act_at w act net.live net.snapshot net.frozen (λ counts H. counts_stay M w.net net act counts other is H) I.at);
+          (act_at w act net.live net.snapshot net.frozen (λ counts H. counts_stay M w.net net act other is counts H) I.at);
     }
       where
         book : (net.start ≡ w.net.start) × (net.entries ≡ grown act w.net.entries)
-        book = act_book M w.net net act other is
+        book = (start_stays M w.net net act other is, entries_grow M w.net net act other is)
 
         parts : ◌≡◌ {A = MarkedNetwork Node} (record { start = w.net.start; entries = grown act w.net.entries; live = net.live; snapshot = net.snapshot; frozen = net.frozen }) net
         parts = λ i. record { start = sym book.0 i; entries = sym book.1 i; live = net.live; snapshot = net.snapshot; frozen = net.frozen }
@@ -168,10 +170,6 @@ module _ {Node : Type 0} (M : Machine Node) (four : HasFourLinks M) (never : Nev
 
     resting : (w : World Node) → Inv M A start w → w.at ≡ Resting → WithKept M start w (λ h. Rests A h w.disk)
     resting w I rests = subst (At M A start w) rests I.at
-
-    trim_happens : (net : MarkedNetwork Node) (cut : WholeCut) (nodes : List Node) → HasCut net cut nodes → happens M net Trim ≡ Some (trimmed net cut nodes)
-    unfolding happens
-    trim_happens net cut nodes has = λ i. trim net (has.is i) (has.images i)
 
     copies_keeps : (w : World Node) → Inv M A start w → w.at ≡ Resting → Inv M A start (record w { backlog = drop (w.stored - w.base) w.net.entries })
     copies_keeps w I rests = record {
@@ -220,7 +218,7 @@ module _ {Node : Type 0} (M : Machine Node) (four : HasFourLinks M) (never : Nev
     trims_keeps : (w : World Node) → Inv M A start w → (copy : Held Node) (upto : ℕ) (cut : WholeCut) (nodes : List Node) → w.at ≡ Opened copy upto → HasCut w.net cut nodes
         → Inv M A start (record w { net = trimmed w.net cut nodes; base = w.base + cut.size; at = Resting })
     trims_keeps w I copy upto cut nodes is has = record {
-      net = happens_holds M four never w.net (trimmed w.net cut nodes) Trim I.net (trim_happens w.net cut nodes has);
+      net = trim_holds M four w.net I.net cut nodes has.is has.images;
       agree = T.0;
       mark = I.mark;
       seen = I.seen;

@@ -16,40 +16,19 @@ use Rattle.tp_order.proofs.Choice.{pre-append_outside, post-append_outside}
 use Rattle.tp_order.proofs.Reorder.{after_shape, same_behind}
 use Rattle.tp_snap.proofs.Invariant.{Holds, Inside}
 use Rattle.tp_recover.specs.Standing.{Rests}
-use Rattle.tp_recover.proofs.Prefix.{Kept, Copied, HasCounts, held_of, in_counts, copied_exact, copied_count}
-use Rattle.tp_recover.proofs.Acts.{whole_counts, same_counts}
+use Rattle.tp_recover.proofs.Prefix.{Kept, Copied, held_of, in_counts, copied_exact, copied_count}
+use Rattle.tp_recover.proofs.Acts.{same_counts}
 use Rattle.tp_recover.proofs.Invariant.{KeptOf, CopiedOf}
-use Rattle.tp_snap.proofs.Whole.{whole_holds}
-
--- ## Lists whose elements are all there
-
-all_some-map : {X : Type 0} (xs : List X) → all_some (map Some xs) ≡ Some xs
-all_some-map [] = refl
-all_some-map (x ∷ xs) = ap (option_map (λ ys. x ∷ ys)) (all_some-map xs)
-
-all_counts : (xs : List (Option ℕ)) (ys : List ℕ) (p : ℕ) → all_some xs ≡ Some ys → get_or xs p (Some 0) ≡ Some (get_or ys p 0)
-all_counts [] ys p is = let none : [] ≡ ys = cc in ap (λ zs. Some (get_or zs p 0)) none
-all_counts (None ∷ xs) ys p is = cc
-all_counts (Some x ∷ xs) ys zero is = let rest = map_some (λ zs. x ∷ zs) (all_some xs) ys is in ap (λ zs. Some (get_or zs zero 0)) rest.2
-all_counts (Some x ∷ xs) ys (suc p) is =
-    let rest = map_some (λ zs. x ∷ zs) (all_some xs) ys is in
-    all_counts xs rest.0 p rest.1 ∙ ap (λ zs. Some (get_or zs (suc p) 0)) rest.2
+use Rattle.tp_snap.proofs.Kept.{cut_network}
+use Rattle.tp_snap.proofs.Stays.{HasCounts, whole_counts}
+use Rattle.tp_snap.proofs.Whole.{all_counts, whole_holds}
 
 -- the counts of a snapshot are of entries that are there
 counts_there : {Node : Type 0} (M : Machine Node) (net : MarkedNetwork Node) (counts : List ℕ) → Holds M net → HasCounts net.snapshot counts
     → (p : ℕ) → in_counts counts p ≤ made (process net.start) p net.entries
-counts_there M net counts holds H p = (subst (Inside M net) H.runs holds.inside).counted p (in_counts counts p) (all_counts H.snap.counts counts p H.recorded)
+counts_there M net counts holds H p = (subst (Inside M net) H.runs holds.inside).counted p (in_counts counts p) (all_counts H.snap.counts counts H.recorded p)
 
 module _ {Node : Type 0} (M : Machine Node) (four : HasFourLinks M) where
-  -- the network of a whole cut with the frozen nodes is the one that its entries lead to
-  pub cut_network : (net : MarkedNetwork Node) (cut : WholeCut) (nodes : List Node) → (C : CutHolds M net cut) → all_some net.frozen ≡ Some nodes
-      → network_in net.start cut nodes ≡ C.consistent.state
-  cut_network net cut nodes C images =
-      let shape = after_shape M four net.start C.consistent.state (pre (process net.start) (count_in cut) net.entries) C.consistent.is in
-      let frozen = sym images ∙ ap all_some C.nodes ∙ all_some-map C.consistent.state.nodes in
-      let same : nodes ≡ C.consistent.state.nodes = cc in
-      λ i. record { wires = sym shape.wires i; nodes = same i; ports = sym C.ports i; lines = sym C.lines i }
-
   module _ (A : Areas Node) (start : Network Node) (w : World Node) (holds : Holds M w.net) (agree : after M w.net.start w.net.entries ≡ after M start w.journal)
       (cut : WholeCut) (nodes : List Node) (has : HasCut w.net cut nodes) where
     -- the cut and its tail are copied
@@ -71,7 +50,7 @@ module _ {Node : Type 0} (M : Machine Node) (four : HasFourLinks M) where
           number = size;
           count = size;
           there = counts_there M w.net cut.counts holds H;
-          network = C.consistent.is ∙ ap Some (sym (cut_network w.net cut nodes C has.images));
+          network = C.consistent.is ∙ ap Some (sym (cut_network M four w.net cut nodes C has.images));
           tail = refl;
           size = ap (λ n. w.base + n) C.size;
           same = C.same ∙ agree;
@@ -117,7 +96,7 @@ module _ {Node : Type 0} (M : Machine Node) (four : HasFourLinks M) where
         network =
             let both = sym now.consistent.is ∙ ap (after M w.net.start) inside ∙ C.network in
             let one : now.consistent.state ≡ copy.network = cc in
-            cut_network w.net cut nodes now has.images ∙ one
+            cut_network M four w.net cut nodes now has.images ∙ one
 
         base : w.base + cut.size ≡ copy.base
         base = ap (λ n. w.base + n) (now.size ∙ ap length inside) ∙ sym C.size
