@@ -1,6 +1,6 @@
 -- What a host may rely on: entries of an acknowledged receipt, and the causes of output that is shown, are in the journal
 -- for good, and in what any crash leaves.
-use Rattle.std.proofs.Common.{◌≡◌, ℕ, zero, suc, ◌+◌, ◌<◌, ◌≤◌, Bool, true, false, List, [], ◌∷◌, ◌++◌, length, take, refl, sym, ap, subst, ◌∙◌, arith, append_assoc, append-nil, length-append, Some}
+use Rattle.std.proofs.Common.{◌≡◌, ℕ, ◌+◌, ◌<◌, ◌≤◌, false, List, [], ◌∷◌, ◌++◌, length, take, refl, sym, ap, subst, ◌∙◌, arith, append_assoc, append-nil}
 use Rattle.std.specs.List.{AllByRecursion}
 use Rattle.std.proofs.lemmas.List.{take-append-le}
 use Rattle.tp_model.specs.declared.entry.Entry.{Entry}
@@ -9,7 +9,7 @@ use Rattle.tp_model.specs.Entries.{HasFourLinks}
 use Rattle.tp_model.specs.Markers.{NeverMarks}
 use Rattle.tp_model.specs.Acts.{Act, Begin, Record, Journal, Close, Trim, IsOpened}
 use Rattle.tp_model.specs.Disk.{MayBe}
-use Rattle.tp_model.specs.Areas.{Areas, AreasHold, Held, next_number}
+use Rattle.tp_model.specs.Areas.{Areas, AreasHold, next_number}
 use Rattle.tp_model.specs.Runs.{World, Event, Acts, Copies, CopiesTail, Does, Breaks, Trims, Raises, Reads, Reopens, grown, Step, Run, fresh, IsFormatted, Recovers}
 use Rattle.tp_model.specs.Acknowledged.{is_reopening, IsAcknowledged, IsShown}
 use Rattle.tp_recover.proofs.Invariant.{Inv}

@@ -1,22 +1,12 @@
 -- What stays of the flusher's position through an act of the network, its book and its markers.
-use Rattle.std.proofs.Common.{◌≡◌, ℕ, zero, suc, ◌+◌, Bool, true, false, cond, not, List, [], ◌∷◌, ◌++◌, length, get_or, set, refl, sym, ap, subst, ◌∙◌, append_assoc, Option, Some, None}
-use Rattle.std.specs.Prelude.{nat_lt, ◌&&◌, is_some}
-use Rattle.std.specs.Option.{option_map}
+use Rattle.std.proofs.Common.{◌≡◌, ℕ, List, [], ◌∷◌, ◌++◌, sym, ap, ◌∙◌, append_assoc, Option}
 use Rattle.tp_model.specs.declared.entry.Entry.{Entry}
-use Rattle.tp_model.specs.declared.link.Token.{Token}
-use Rattle.tp_model.specs.declared.link.Token.TheVariants.{Marker}
-use Rattle.tp_model.specs.Network.{◌>>=◌, Machine, Network, has_wire, on_line, is_first, sent}
-use Rattle.tp_model.specs.Entries.{next, process, takes}
-use Rattle.tp_model.specs.Order.{after}
-use Rattle.tp_model.specs.Disk.{MayBe}
-use Rattle.tp_model.specs.Snapshot.{Snapshot, MarkedNetwork, has_recorded, is_closed, with_closed, collected, taker, begun, recorded, journalled, line_closed}
-use Rattle.tp_model.specs.WholeCut.{WholeCut, all_some, all_closed, whole, whole_of}
-use Rattle.tp_model.specs.Acts.{Act, Begin, Record, Journal, Close, Trim, begin, record_node, close_line, happens}
+use Rattle.tp_model.specs.Network.{Machine, Network}
+use Rattle.tp_model.specs.Snapshot.{Snapshot}
+use Rattle.tp_model.specs.WholeCut.{all_some}
 use Rattle.tp_model.specs.Areas.{Areas, Held}
 use Rattle.tp_model.specs.WriteOrder.{Position, Resting, Body, Ready, Gate, Cleared, Tail, Opening, Opened, Broken}
-use Rattle.tp_model.specs.Runs.{World, grown, is_trim}
-use Rattle.tp_order.proofs.Partial.{bind_some, map_some, cond_some}
-use Rattle.tp_order.proofs.Reorder.{same_behind}
+use Rattle.tp_model.specs.Runs.{World}
 use Rattle.tp_snap.proofs.Stays.{HasCounts}
 use Rattle.tp_recover.specs.Standing.{Rests, Bodied, Readied, Gated, Clearing, Switching}
 use Rattle.tp_recover.proofs.Prefix.{Stands, Kept, Copied, held_of, kept_grows, copied_grows, copied_stays}

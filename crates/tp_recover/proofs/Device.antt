@@ -1,10 +1,10 @@
 -- What the device stands for at each position of the flusher, and what a crash may leave of it.
-use Rattle.std.proofs.Common.{◌≡◌, ℕ, ◌+◌, ◌≤◌, ◌⊎◌, inl, inr, List, [], ◌∷◌, ◌++◌, length, refl, sym, ap, subst, ◌∙◌, arith, Some}
+use Rattle.std.proofs.Common.{◌≡◌, ℕ, ◌+◌, ◌≤◌, ◌⊎◌, inl, List, [], ◌∷◌, ◌++◌, length, refl, sym, ap, subst, ◌∙◌, arith, Some}
 use Rattle.tp_model.specs.declared.entry.Entry.{Entry}
 use Rattle.tp_model.specs.Network.{Machine}
-use Rattle.tp_model.specs.Disk.{Moment, MayBe, Call, Write, Sync, Read, written, done, within, IsWithin, AreWithin}
+use Rattle.tp_model.specs.Disk.{Moment, MayBe, Call, Write, Sync, written, done, within, IsWithin, AreWithin}
 use Rattle.tp_model.specs.Areas.{Areas, AreasHold, Held, with_more, gate_open, gate_closed, ArePossible}
-use Rattle.tp_model.specs.WriteOrder.{Position, Resting, Body, Ready, Gate, Cleared, Tail, Opening, Opened, Broken, Allows, putting, syncing, looking, clearing, clear_done, add_body, body_done, add_gate, gate_done, tail_putting, tail_syncing, switching, switch_done}
+use Rattle.tp_model.specs.WriteOrder.{Position, Allows, putting, syncing, looking, clearing, clear_done, add_body, body_done, add_gate, gate_done, tail_putting, tail_syncing, switching, switch_done}
 use Rattle.tp_recover.specs.Standing.{Rests, Bodied, Readied, Gated, Clearing, Switching, DeviceAt, held_next, held_after, IsPossibleAt}
 use Rattle.tp_recover.proofs.Moments.{length-written, within_last, may_stand, may_be_written, write_may, synced_may, loose_may, loose_more}
 

@@ -1,5 +1,5 @@
 -- How what the device holds, and what a copy for it holds, lie to the journal.
-use Rattle.std.proofs.Common.{◌≡◌, ℕ, ◌+◌, ◌-◌, ◌≤◌, List, [], ◌∷◌, ◌++◌, length, drop, get_or, refl, sym, ap, subst, ◌∙◌, arith, append_assoc, append-nil, length-append, Option, Some, None}
+use Rattle.std.proofs.Common.{◌≡◌, ℕ, ◌+◌, ◌-◌, ◌≤◌, List, [], ◌∷◌, ◌++◌, length, drop, get_or, sym, ap, subst, ◌∙◌, arith, append_assoc, append-nil, length-append, Option, Some}
 use Rattle.std.proofs.Math.Seq.{drop-append_seam}
 use Rattle.tp_model.specs.declared.entry.Entry.{Entry}
 use Rattle.tp_model.specs.Network.{Machine, Network}
@@ -100,7 +100,7 @@ module _ {Node : Type 0} (M : Machine Node) (start kept : Network Node) (entries
     pub group_possible : (last : Network Node) → after M kept entries ≡ Some last → ArePossible M (held_of kept K.tail K.durable base) es
     group_possible last now =
         let F = front_possible M kept last ((K.tail ++ K.durable) ++ es) (more ++ K.rest)
-            (ap (after M kept) (sym (K.own ∙ parts_with_group K.tail K.durable es more K.rest backlog begins)) ∙ now) in
+        (ap (after M kept) (sym (K.own ∙ parts_with_group K.tail K.durable es more K.rest backlog begins)) ∙ now) in
         record { last = F.0; is = F.1 }
 
     -- once its gate is synced, the group is kept

@@ -1,25 +1,25 @@
 -- The invariant holds at each moment of a run, and so what a crash leaves stands for a prefix of the journal.
-use Rattle.std.proofs.Common.{◌≡◌, ℕ, zero, suc, ◌+◌, ◌-◌, ◌*◌, ◌<◌, ◌≤◌, max, Bool, true, false, List, [], ◌∷◌, ◌++◌, length, take, drop, refl, sym, ap, subst, ◌∙◌, arith, append_assoc, append-nil, length-append, le_refl, Option, Some, None}
+use Rattle.std.proofs.Common.{◌≡◌, ℕ, ◌+◌, ◌-◌, ◌*◌, ◌<◌, ◌≤◌, max, true, false, List, [], ◌∷◌, ◌++◌, length, take, drop, refl, sym, ap, subst, ◌∙◌, arith, append_assoc, append-nil, length-append, le_refl, Option, Some, None}
 use Rattle.std.specs.List.{AllByRecursion}
 use Rattle.std.specs.Option.{option_map}
 use Rattle.std.proofs.lemmas.List.{take_at}
 use Rattle.tp_model.specs.declared.entry.Entry.{Entry}
 use Rattle.tp_model.specs.Network.{◌>>=◌, Machine, Network, has_wire, on_line}
-use Rattle.tp_model.specs.Entries.{next, process, takes, HasFourLinks}
+use Rattle.tp_model.specs.Entries.{process, takes, HasFourLinks}
 use Rattle.tp_model.specs.Order.{after, post}
 use Rattle.tp_model.specs.Markers.{NeverMarks, markers, plain_network}
 use Rattle.tp_model.specs.Snapshot.{Snapshot, MarkedNetwork, collected, journalled}
-use Rattle.tp_model.specs.WholeCut.{WholeCut, count_in, all_some, whole, network_in, trimmed}
-use Rattle.tp_model.specs.Acts.{Act, Begin, Record, Journal, Close, Trim, trim, happens, IsOpened, CutHolds}
+use Rattle.tp_model.specs.WholeCut.{WholeCut, count_in, whole, network_in, trimmed}
+use Rattle.tp_model.specs.Acts.{Act, Begin, Record, Journal, Close, Trim, happens, IsOpened, CutHolds}
 use Rattle.tp_model.specs.Disk.{MayBe, AreWithin, Call, done, within, broken}
 use Rattle.tp_model.specs.Areas.{Areas, AreasHold, Held, next_number}
 use Rattle.tp_model.specs.WriteOrder.{Position, Resting, Body, Ready, Gate, Cleared, Tail, Opening, Opened, Broken, Allows, reached, left}
 use Rattle.tp_model.specs.Runs.{World, Event, Acts, Copies, CopiesTail, Does, Breaks, Trims, Raises, Reads as ReadsMark, Reopens, grown, is_trim, copy_of, reopened, HasCut, Leaves, Step, Run, fresh, IsFormatted, Recovers}
 use Rattle.tp_order.proofs.Reorder.{first_possible, front_possible, same_behind}
-use Rattle.tp_snap.proofs.Invariant.{Base, Inside, Holds}
+use Rattle.tp_snap.proofs.Invariant.{Inside, Holds}
 use Rattle.tp_recover.specs.Standing.{Rests}
 use Rattle.tp_recover.proofs.Moments.{broken_may}
-use Rattle.tp_recover.proofs.Prefix.{Stands, Kept, copy_kept, forget_kept}
+use Rattle.tp_recover.proofs.Prefix.{Stands, copy_kept, forget_kept}
 use Rattle.tp_recover.proofs.Invariant.{Reads, WithKept, At, Inv}
 use Rattle.tp_recover.proofs.Acts.{same_at, grown_at}
 use Rattle.tp_recover.proofs.Steps.{reads_at, reads_within, done_at}
@@ -97,26 +97,26 @@ module _ {Node : Type 0} (M : Machine Node) (four : HasFourLinks M) (never : Nev
     reopens : (w : World Node) → Inv M A start w → (bytes : List ℕ) (h : Held Node) (now : Network Node) → Leaves M A w.disk bytes h now → Inv M A start (reopened w bytes h now)
     reopens w I bytes h now L =
         subst (λ journal. Inv M A start (record (reopened w bytes h now) { journal = journal })) (sym cut) (
-          record {
-            net = reopened_holds S.first h now (sym S.exact ∙ L.is) L.is;
-            agree = S.exact;
-            mark = le_refl (next_number h);
-            seen = all_up w.seen w.mark (next_number h) (omega (arith, I.mark, S.no_less, S.count)) I.seen;
-            at = (
-              record {
-                front = S.first;
-                tail = h.entries;
-                durable = [];
-                rest = [];
-                own = sym (append-nil h.entries);
-                all = sym (append-nil S.first);
-                count = S.count;
-                exact = S.exact;
-                reach = omega (arith, S.count);
-              },
-              record { reads = L.reads ∙ ap (λ es. Some (record { network = h.network; entries = es; base = h.base })) (sym (append-nil h.entries)); loose = tt },
-            );
-          }
+        record {
+          net = reopened_holds S.first h now (sym S.exact ∙ L.is) L.is;
+          agree = S.exact;
+          mark = le_refl (next_number h);
+          seen = all_up w.seen w.mark (next_number h) (omega (arith, I.mark, S.no_less, S.count)) I.seen;
+          at = (
+            record {
+              front = S.first;
+              tail = h.entries;
+              durable = [];
+              rest = [];
+              own = sym (append-nil h.entries);
+              all = sym (append-nil S.first);
+              count = S.count;
+              exact = S.exact;
+              reach = omega (arith, S.count);
+            },
+            record { reads = L.reads ∙ ap (λ es. Some (record { network = h.network; entries = es; base = h.base })) (sym (append-nil h.entries)); loose = tt },
+          );
+        }
         )
       where
         R : Reads M A start w.journal w.stored bytes
@@ -242,23 +242,23 @@ module _ {Node : Type 0} (M : Machine Node) (four : HasFourLinks M) (never : Nev
     step_keeps w v (Breaks call to bytes) I s = subst (Inv M A start) (sym s.2) (breaks_keeps w I call to bytes s.0 s.1)
     step_keeps w v (Trims copy upto cut nodes) I s = subst (Inv M A start) (sym s.2) (trims_keeps w I copy upto cut nodes s.0 s.1)
     step_keeps w v Raises I s = subst (Inv M A start) (sym s) (
-      record {
-        net = I.net;
-        agree = I.agree;
-        mark = omega (arith, I.mark);
-        seen = all_up w.seen w.mark (max w.mark w.stored) (omega arith) I.seen;
-        at = mark_at M A start w (max w.mark w.stored) w.seen w.at I.at;
-      }
-    )
+        record {
+          net = I.net;
+          agree = I.agree;
+          mark = omega (arith, I.mark);
+          seen = all_up w.seen w.mark (max w.mark w.stored) (omega arith) I.seen;
+          at = mark_at M A start w (max w.mark w.stored) w.seen w.at I.at;
+        }
+        )
     step_keeps w v ReadsMark I s = subst (Inv M A start) (sym s) (
-      record {
-        net = I.net;
-        agree = I.agree;
-        mark = I.mark;
-        seen = (le_refl w.mark, I.seen);
-        at = mark_at M A start w w.mark (w.mark ∷ w.seen) w.at I.at;
-      }
-    )
+        record {
+          net = I.net;
+          agree = I.agree;
+          mark = I.mark;
+          seen = (le_refl w.mark, I.seen);
+          at = mark_at M A start w w.mark (w.mark ∷ w.seen) w.at I.at;
+        }
+        )
     step_keeps w v (Reopens bytes h now) I s = subst (Inv M A start) (sym s.1) (reopens w I bytes h now s.0)
 
     pub run_keeps : (events : List (Event Node)) (w v : World Node) → Inv M A start w → Run M A w events v → Inv M A start v

@@ -1,16 +1,16 @@
 -- What the journal has below the mark stays: openings cut only what is above it.
-use Rattle.std.proofs.Common.{◌≡◌, ℕ, zero, suc, ◌+◌, ◌≤◌, max, List, [], ◌∷◌, ◌++◌, length, take, refl, sym, ap, subst, ◌∙◌, arith, length-append, le_refl}
+use Rattle.std.proofs.Common.{◌≡◌, ℕ, zero, suc, ◌≤◌, List, [], ◌∷◌, length, take, refl, sym, ap, subst, ◌∙◌, arith, length-append, le_refl}
 use Rattle.std.proofs.lemmas.List.{take-append-le}
 use Rattle.tp_model.specs.declared.entry.Entry.{Entry}
 use Rattle.tp_model.specs.Network.{Machine, Network}
 use Rattle.tp_model.specs.Entries.{HasFourLinks}
 use Rattle.tp_model.specs.Markers.{NeverMarks}
 use Rattle.tp_model.specs.Acts.{Act, Begin, Record, Journal, Close, Trim, IsOpened}
-use Rattle.tp_model.specs.Areas.{Areas, AreasHold, Held, next_number}
+use Rattle.tp_model.specs.Areas.{Areas, AreasHold, next_number}
 use Rattle.tp_model.specs.Runs.{World, Event, Acts, Copies, CopiesTail, Does, Breaks, Trims, Raises, Reads as ReadsMark, Reopens, grown, Step, Run, fresh, IsFormatted}
 use Rattle.tp_recover.proofs.Moments.{may_stand}
 use Rattle.tp_recover.proofs.Prefix.{Stands}
-use Rattle.tp_recover.proofs.Invariant.{Reads, Inv}
+use Rattle.tp_recover.proofs.Invariant.{Inv}
 use Rattle.tp_recover.proofs.Runs.{reads_now, step_keeps, formatted_run}
 
 pub take-take : {X : Type 0} (m n : ℕ) (xs : List X) → m ≤ n → take m (take n xs) ≡ take m xs
@@ -59,8 +59,7 @@ module _ {Node : Type 0} (M : Machine Node) (four : HasFourLinks M) (never : Nev
       let one = step_stays w run.0 event I run.1 in
       let more = run_stays events run.0 v (step_keeps M four never A law start opened w run.0 event I run.1) run.2 in
       let up = one.0 in
-      let rest = more.0 in
-      (
+      let rest = more.0 in (
         omega arith,
         sym (take-take w.mark run.0.mark v.journal up) ∙ ap (take w.mark) more.1 ∙ take-take w.mark run.0.mark run.0.journal up ∙ one.1,
       )

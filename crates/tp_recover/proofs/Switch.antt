@@ -1,22 +1,20 @@
 -- The copy of a cut with its tail, and the trim of the book to that cut.
-use Rattle.std.proofs.Common.{◌≡◌, ℕ, zero, suc, ◌+◌, ◌≤◌, List, [], ◌∷◌, ◌++◌, length, get_or, map, refl, sym, ap, subst, ◌∙◌, arith, append-nil, length-append, Option, Some, None}
-use Rattle.std.specs.Option.{option_map}
+use Rattle.std.proofs.Common.{◌≡◌, ℕ, ◌+◌, ◌≤◌, List, [], ◌++◌, length, refl, sym, ap, subst, ◌∙◌, arith, append-nil, length-append, Some}
 use Rattle.tp_model.specs.declared.entry.Entry.{Entry}
 use Rattle.tp_model.specs.Network.{Machine, Network}
 use Rattle.tp_model.specs.Entries.{process, HasFourLinks}
 use Rattle.tp_model.specs.Order.{after, pre, post, made}
-use Rattle.tp_model.specs.Snapshot.{Snapshot, MarkedNetwork, count_of}
-use Rattle.tp_model.specs.WholeCut.{WholeCut, count_in, all_some, whole, network_in, trimmed}
+use Rattle.tp_model.specs.Snapshot.{MarkedNetwork}
+use Rattle.tp_model.specs.WholeCut.{WholeCut, count_in, network_in}
 use Rattle.tp_model.specs.Acts.{CutHolds}
 use Rattle.tp_model.specs.Disk.{AreWithin}
-use Rattle.tp_model.specs.Areas.{Areas, Held, next_number}
+use Rattle.tp_model.specs.Areas.{Areas, Held}
 use Rattle.tp_model.specs.Runs.{World, HasCut, copy_of}
-use Rattle.tp_order.proofs.Partial.{map_some}
 use Rattle.tp_order.proofs.Choice.{pre-append_outside, post-append_outside}
-use Rattle.tp_order.proofs.Reorder.{after_shape, same_behind}
+use Rattle.tp_order.proofs.Reorder.{same_behind}
 use Rattle.tp_snap.proofs.Invariant.{Holds, Inside}
 use Rattle.tp_recover.specs.Standing.{Rests}
-use Rattle.tp_recover.proofs.Prefix.{Kept, Copied, held_of, in_counts, copied_exact, copied_count}
+use Rattle.tp_recover.proofs.Prefix.{Kept, held_of, in_counts, copied_exact, copied_count}
 use Rattle.tp_recover.proofs.Acts.{same_counts}
 use Rattle.tp_recover.proofs.Invariant.{KeptOf, CopiedOf}
 use Rattle.tp_snap.proofs.Kept.{cut_network}
@@ -37,7 +35,7 @@ module _ {Node : Type 0} (M : Machine Node) (four : HasFourLinks M) where
         let C = whole_holds M four w.net holds cut has.is in
         let H = whole_counts w.net cut has.is in
         let size : length w.journal ≡ w.base + length w.net.entries =
-            omega (arith, K.count, ap length K.own, ap length K.all, length-append K.tail (K.durable ++ (w.backlog ++ K.rest)), length-append K.front (K.durable ++ (w.backlog ++ K.rest)))
+        omega (arith, K.count, ap length K.own, ap length K.all, length-append K.tail (K.durable ++ (w.backlog ++ K.rest)), length-append K.front (K.durable ++ (w.backlog ++ K.rest)))
         in
         record {
           counts = cut.counts;
