@@ -1,0 +1,10 @@
+pub mod Moments
+pub mod Device
+pub mod Prefix
+pub mod Invariant
+pub mod Acts
+pub mod Steps
+pub mod Switch
+pub mod Runs
+pub mod Stay
+pub mod Acknowledged
