@@ -1,0 +1,4 @@
+pub mod Bytes
+pub mod Contents
+pub mod Ranges
+pub mod Stored

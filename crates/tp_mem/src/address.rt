@@ -1,0 +1,40 @@
+//! Addresses as places in a list of bytes.
+
+ghost use Rattle.std.specs.Prelude.{◌≡◌, ℕ, ◌^◌, ◌<◌, List, length};
+ghost use Rattle.tp_model.specs.Memory.{offset, word_offset, is_inside};
+ghost use Rattle.tp_mem.specs.Ranges.{are_inside};
+
+const FIRST: u32 = 0x8000_0000;
+
+/// How far an address lies behind the first one.
+#[inline(always)]
+pub(crate) fn offset(address: u32) -> usize
+    ensures { result ≡ offset address }
+{
+    address.wrapping_sub(FIRST) as usize
+}
+
+/// Where the word of an address begins.
+#[inline(always)]
+pub(crate) fn word_offset(address: u32) -> usize
+    ensures { result ≡ word_offset address }
+{
+    offset(address / 4 * 4)
+}
+
+/// Whether a range of `count` bytes from an address lies inside so many bytes of memory.
+#[inline(always)]
+pub(crate) fn is_inside(len: usize, address: u32, count: u32) -> bool
+    requires { len < 2 ^ 32 }
+    ensures { (memory : List ℕ) → length memory ≡ len → result ≡ is_inside memory address count }
+{
+    count == 0 || offset(address) + count as usize <= len
+}
+
+/// Whether each write goes to a word inside so many bytes of memory.
+#[inline(always)]
+pub(crate) fn are_inside(len: usize, writes: &[(u32, u32)]) -> bool
+    ensures { result ≡ are_inside len writes.now }
+{
+    writes.iter().all(|write| word_offset(write.0) < len)
+}

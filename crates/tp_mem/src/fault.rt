@@ -1,0 +1,10 @@
+//! Why a write was refused.
+
+/// Nothing was written.
+#[derive(Clone, Copy)]
+pub enum WriteFault {
+    /// An address lies outside memory. This is answered wherever it is so.
+    Outside,
+    /// A frame was wanted for a page that is shared with the frozen bytes, and none was free.
+    NoFrame,
+}

@@ -1,0 +1,15 @@
+//! A node's memory: live bytes, and the bytes as they were when it was last frozen.
+//!
+//! [`Mem`] is what the processor sees, [`Freeze`] what a snapshot sees beside it, and [`FlatMemory`] is both, over two
+//! flat lists.
+#![tactic(auto)]
+
+mod address;
+mod fault;
+mod flat;
+mod memory;
+mod write;
+
+pub use fault::WriteFault;
+pub use flat::FlatMemory;
+pub use memory::{Freeze, Mem};

@@ -1,0 +1,59 @@
+//! Writes into a list of bytes.
+
+ghost use Rattle.std.specs.Prelude.{◌≡◌, ◌+◌, ◌%◌, ◌<◌, ◌≤◌, Some, length, slice_range, IsTrue};
+ghost use Rattle.std.specs.Int.{from_le_bytes, w32};
+ghost use Rattle.tp_model.specs.Memory.{set_byte, set_word, stored, is_inside, copied};
+ghost use Rattle.tp_mem.specs.Ranges.{are_inside};
+
+use crate::address::{offset, word_offset};
+
+/// Reads the word at a place.
+#[inline(always)]
+pub(crate) fn read_word(live: &[u8], at: usize) -> u32
+    requires { at + 4 ≤ length live.now }
+    ensures { result ≡ from_le_bytes w32 (slice_range live.now at (at + 4)) }
+{
+    u32::from_le_bytes([live[at], live[at + 1], live[at + 2], live[at + 3]])
+}
+
+/// Writes a byte at a place.
+#[inline(always)]
+pub(crate) fn put_byte(live: &mut [u8], at: usize, byte: u8)
+    requires { at < length live.old }
+    ensures { live.new ≡ set_byte live.old at byte }
+{
+    live[at] = byte;
+}
+
+/// Writes a word at a place.
+#[inline(always)]
+pub(crate) fn put_word(live: &mut [u8], at: usize, word: u32)
+    requires { at + 4 ≤ length live.old }
+    ensures { live.new ≡ set_word live.old at word }
+{
+    live[at..at + 4].copy_from_slice(&word.to_le_bytes());
+}
+
+/// Writes words that all go inside.
+#[inline(always)]
+pub(crate) fn put_words(live: &mut [u8], writes: &[(u32, u32)])
+    requires aligned { length live.old % 4 ≡ 0 }
+    requires inside { IsTrue (are_inside (length live.old) writes.now) }
+    ensures { stored live.old writes.now ≡ Some live.new }
+{
+    for write in writes {
+        put_word(live, word_offset(write.0), write.1);
+    }
+}
+
+/// Copies a block between ranges that lie inside.
+pub(crate) fn move_block(live: &mut [u8], to: u32, from: u32, count: u32)
+    requires to { IsTrue (is_inside live.old to count) }
+    requires from { IsTrue (is_inside live.old from count) }
+    ensures { copied live.old to from count ≡ Some live.new }
+{
+    if count > 0 {
+        let start = offset(from);
+        live.copy_within(start..start + count as usize, offset(to));
+    }
+}
