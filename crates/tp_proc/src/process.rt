@@ -1,0 +1,1 @@
+//! How a process starts, stops, makes room and is interrupted.
