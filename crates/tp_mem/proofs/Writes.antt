@@ -92,3 +92,5 @@ byte_changed_outside memory address byte writes whole out = then_outside (byte_s
 
 pub changed_outside : (memory : List ℕ) (to from count : ℕ) (writes : List (ℕ × ℕ)) → length memory % 4 ≡ 0 → are_inside (length memory) writes ≡ false → changed memory to from count writes ≡ None
 changed_outside memory to from count writes whole out = then_outside (copied memory to from count) writes (length memory) (length-copied memory to from count) whole out
+
+pub ruleset behind_a_word = (changed_outside, length-set_word, length-copied)
