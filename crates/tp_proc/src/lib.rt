@@ -4,6 +4,7 @@
 #![tactic(auto)]
 
 mod access;
+mod after;
 mod process;
 mod queue;
 mod undone;
