@@ -5,6 +5,7 @@
 
 mod access;
 mod after;
+mod alternative;
 mod process;
 mod queue;
 mod undone;
