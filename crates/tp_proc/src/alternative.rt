@@ -7,9 +7,9 @@ ghost use Rattle.tp_proc.specs.Ends.{Does, MayRefuse};
 
 use crate::access::{load, store, store_all};
 use crate::process::end;
-use crate::queue::queue;
+use crate::queues::queue;
 use crate::undone::Undone;
-use crate::workspace::{saved_at, state_at};
+use crate::workspaces::{saved_at, state_at};
 use tp_mem::Mem;
 use tp_model::Cpu;
 

@@ -2,12 +2,13 @@
 
 ghost use Rattle.std.specs.Prelude.{◌≡◌, [], ◌∷◌, option_to_list};
 ghost use Rattle.tp_model.specs.Processor.{emptied, dispatch_high, dispatch_low, stopped, stop, counted, past, must_slice, link_writes, arrive, interrupt, restore};
+ghost use Rattle.tp_model.specs.Step.{startp, runp, endp};
 ghost use Rattle.tp_proc.specs.Ends.{Does, MayRefuse};
 
 use crate::access::{load, store, store_all};
-use crate::queue::{NOT_PROCESS, joined, link_write, rest_of_queue};
+use crate::queues::{NOT_PROCESS, enqueue, joined, link_write, queue, queue_write, rest_of_queue};
 use crate::undone::Undone;
-use crate::workspace::{descriptor_of, is_low, saved_at, workspace};
+use crate::workspaces::{descriptor_of, is_low, saved_at, workspace};
 use tp_mem::Mem;
 use tp_model::limits;
 use tp_model::{Cpu, Regs, State};
@@ -160,5 +161,49 @@ pub fn restore<M: Mem>(cpu: &mut Cpu, mem: &mut M, descriptor: u32) -> Result<()
     cpu.wptr = workspace(descriptor);
     cpu.regs = Regs { a, b, c, ..cpu.regs };
     cpu.state = State::Low;
+    Ok(())
+}
+
+/// Starts a process with the workspace A at N + B, at the priority of the one that runs. N is the next instruction.
+pub fn startp<M: Mem>(cpu: &mut Cpu, mem: &mut M) -> Result<(), Undone>
+    ensures does { Does startp (MayRefuse (M.may_refuse mem.old)) cpu.old (M.bytes mem.old) result cpu.new (M.bytes mem.new) }
+    ensures kept { M.frozen mem.new ≡ M.frozen mem.old }
+{
+    let Regs { a, b, .. } = cpu.regs;
+    let process = workspace(a) + u32::from(is_low(cpu));
+    let start = (saved_at(a), cpu.iptr.wrapping_add(b));
+    match queue_write(process, cpu) {
+        None => store_all(mem, &[start])?,
+        Some(link) => store_all(mem, &[start, link])?,
+    }
+    queue(process, cpu);
+    Ok(())
+}
+
+/// Queues the process of the descriptor A.
+pub fn runp<M: Mem>(cpu: &mut Cpu, mem: &mut M) -> Result<(), Undone>
+    ensures does { Does runp (MayRefuse (M.may_refuse mem.old)) cpu.old (M.bytes mem.old) result cpu.new (M.bytes mem.new) }
+    ensures kept { M.frozen mem.new ≡ M.frozen mem.old }
+{
+    enqueue(cpu, mem, cpu.regs.a)
+}
+
+/// Ends one of the processes that count down the word behind A. The last one goes on for all.
+pub fn endp<M: Mem>(cpu: &mut Cpu, mem: &mut M) -> Result<(), Undone>
+    ensures does { Does endp (MayRefuse (M.may_refuse mem.old)) cpu.old (M.bytes mem.old) result cpu.new (M.bytes mem.new) }
+    ensures kept { M.frozen mem.new ≡ M.frozen mem.old }
+{
+    let a = cpu.regs.a;
+    let count_at = a.wrapping_add(4);
+    let count = load(mem, count_at)?;
+    if count == 1 {
+        let next = load(mem, a)?;
+        store(mem, count_at, 0)?;
+        cpu.iptr = next;
+        cpu.wptr = workspace(a);
+        return Ok(());
+    }
+    store(mem, count_at, count.wrapping_sub(1))?;
+    end(cpu);
     Ok(())
 }

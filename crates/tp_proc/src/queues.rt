@@ -8,7 +8,7 @@ ghost use Rattle.tp_proc.specs.Ends.{Does, Finds, MayRefuse};
 
 use crate::access::{load, store};
 use crate::undone::Undone;
-use crate::workspace::{has_low_priority, link_at, workspace};
+use crate::workspaces::{has_low_priority, link_at, workspace};
 use tp_mem::Mem;
 use tp_model::{Cpu, Queue};
 
