@@ -1,8 +1,9 @@
 //! How a process starts, stops, makes room and is interrupted.
 
 ghost use Rattle.std.specs.Prelude.{◌≡◌, [], ◌∷◌, option_to_list};
-ghost use Rattle.tp_model.specs.Processor.{emptied, dispatch_high, dispatch_low, stopped, stop, counted, past, must_slice, link_writes, arrive, interrupt, restore};
+ghost use Rattle.tp_model.specs.Processor.{emptied, started, dispatch_high, dispatch_low, stopped, stop, counted, past, must_slice, sliced, jump, interrupt, restore};
 ghost use Rattle.tp_model.specs.Step.{startp, runp, endp};
+ghost use Rattle.tp_proc.specs.Room.{makes_room};
 ghost use Rattle.tp_proc.specs.Ends.{Does, MayRefuse};
 
 use crate::access::{load, store, store_all};
@@ -29,18 +30,26 @@ fn emptied(regs: Regs) -> Regs
     }
 }
 
+/// Starts the process of a workspace, in a state, from where it had stopped.
+#[inline(always)]
+fn start<M: Mem>(cpu: &mut Cpu, mem: &M, front: u32, state: State) -> Result<(), Undone>
+    ensures { Does (started front state) (MayRefuse (M.may_refuse mem.now)) cpu.old (M.bytes mem.now) result cpu.new (M.bytes mem.now) }
+{
+    let iptr = load(mem, saved_at(front))?;
+    cpu.iptr = iptr;
+    cpu.wptr = workspace(front);
+    cpu.regs = emptied(cpu.regs);
+    cpu.state = state;
+    Ok(())
+}
+
 /// Starts the process at the front of the high queue.
 pub fn dispatch_high<M: Mem>(cpu: &mut Cpu, mem: &M) -> Result<(), Undone>
     ensures { Does dispatch_high (MayRefuse (M.may_refuse mem.now)) cpu.old (M.bytes mem.now) result cpu.new (M.bytes mem.now) }
 {
-    let front = cpu.high.front;
     let rest = rest_of_queue(cpu.high, mem)?;
-    let iptr = load(mem, saved_at(front))?;
+    start(cpu, mem, cpu.high.front, State::High)?;
     cpu.high = rest;
-    cpu.iptr = iptr;
-    cpu.wptr = workspace(front);
-    cpu.regs = emptied(cpu.regs);
-    cpu.state = State::High;
     Ok(())
 }
 
@@ -48,14 +57,9 @@ pub fn dispatch_high<M: Mem>(cpu: &mut Cpu, mem: &M) -> Result<(), Undone>
 pub fn dispatch_low<M: Mem>(cpu: &mut Cpu, mem: &M) -> Result<(), Undone>
     ensures { Does dispatch_low (MayRefuse (M.may_refuse mem.now)) cpu.old (M.bytes mem.now) result cpu.new (M.bytes mem.now) }
 {
-    let front = cpu.low.front;
     let rest = rest_of_queue(cpu.low, mem)?;
-    let iptr = load(mem, saved_at(front))?;
+    start(cpu, mem, cpu.low.front, State::Low)?;
     cpu.low = rest;
-    cpu.iptr = iptr;
-    cpu.wptr = workspace(front);
-    cpu.regs = emptied(cpu.regs);
-    cpu.state = State::Low;
     cpu.slice = 0;
     Ok(())
 }
@@ -108,22 +112,79 @@ pub fn must_slice(cpu: &Cpu) -> bool
     is_low(cpu) && cpu.slice >= SLICE
 }
 
-/// At an instruction that was jumped to: a low process whose slice is over makes room.
-#[inline(always)]
-pub fn slice<M: Mem>(cpu: &mut Cpu, mem: &mut M) -> Result<(), Undone>
-    ensures does { Does (arrive []) (MayRefuse (M.may_refuse mem.old)) cpu.old (M.bytes mem.old) result cpu.new (M.bytes mem.new) }
+/// The low process that runs is at the back of its queue, to go on later.
+#[inline]
+fn leave(cpu: &mut Cpu)
+    ensures { cpu.new ≡ sliced cpu.old }
+{
+    cpu.low = joined(cpu.wptr, cpu.low);
+    end(cpu);
+}
+
+/// The low process that runs makes room, to go on at an address.
+pub fn slice<M: Mem>(cpu: &mut Cpu, mem: &mut M, to: u32) -> Result<(), Undone>
+    ensures does { Does (makes_room to []) (MayRefuse (M.may_refuse mem.old)) cpu.old (M.bytes mem.old) result cpu.new (M.bytes mem.new) }
     ensures kept { M.frozen mem.new ≡ M.frozen mem.old }
 {
-    if !must_slice(cpu) {
-        return Ok(());
-    }
-    let saved = (saved_at(cpu.wptr), cpu.iptr);
+    let saved = (saved_at(cpu.wptr), to);
     match link_write(cpu.wptr, cpu.low) {
         None => store_all(mem, &[saved])?,
         Some(link) => store_all(mem, &[saved, link])?,
     }
-    cpu.low = joined(cpu.wptr, cpu.low);
-    end(cpu);
+    leave(cpu);
+    Ok(())
+}
+
+/// Jumps to an address, where a low process whose slice is over makes room.
+#[inline(always)]
+pub fn jump<M: Mem>(cpu: &mut Cpu, mem: &mut M, to: u32) -> Result<(), Undone>
+    ensures does { Does (jump to []) (MayRefuse (M.may_refuse mem.old)) cpu.old (M.bytes mem.old) result cpu.new (M.bytes mem.new) }
+    ensures kept { M.frozen mem.new ≡ M.frozen mem.old }
+{
+    if must_slice(cpu) {
+        return slice(cpu, mem, to);
+    }
+    cpu.iptr = to;
+    Ok(())
+}
+
+/// Makes room like `slice`, behind the two words of a loop.
+fn slice_looping<M: Mem>(
+    cpu: &mut Cpu,
+    mem: &mut M,
+    to: u32,
+    count: (u32, u32),
+    index: (u32, u32),
+) -> Result<(), Undone>
+    ensures does { Does (makes_room to (count ∷ index ∷ [])) (MayRefuse (M.may_refuse mem.old)) cpu.old (M.bytes mem.old) result cpu.new (M.bytes mem.new) }
+    ensures kept { M.frozen mem.new ≡ M.frozen mem.old }
+{
+    let saved = (saved_at(cpu.wptr), to);
+    match link_write(cpu.wptr, cpu.low) {
+        None => store_all(mem, &[count, index, saved])?,
+        Some(link) => store_all(mem, &[count, index, saved, link])?,
+    }
+    leave(cpu);
+    Ok(())
+}
+
+/// Jumps like `jump`, behind the two words of a loop.
+#[inline]
+pub fn jump_looping<M: Mem>(
+    cpu: &mut Cpu,
+    mem: &mut M,
+    to: u32,
+    count: (u32, u32),
+    index: (u32, u32),
+) -> Result<(), Undone>
+    ensures does { Does (jump to (count ∷ index ∷ [])) (MayRefuse (M.may_refuse mem.old)) cpu.old (M.bytes mem.old) result cpu.new (M.bytes mem.new) }
+    ensures kept { M.frozen mem.new ≡ M.frozen mem.old }
+{
+    if must_slice(cpu) {
+        return slice_looping(cpu, mem, to, count, index);
+    }
+    store_all(mem, &[count, index])?;
+    cpu.iptr = to;
     Ok(())
 }
 
