@@ -1,3 +1,5 @@
+pub mod Images
 pub mod LinkEnds
 pub mod LinkLaws
+pub mod Numbers
 pub mod Requests

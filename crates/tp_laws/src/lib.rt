@@ -2,7 +2,9 @@
 //! definitions.
 #![tactic(auto)]
 
+mod bytes;
 pub mod examples;
 mod machine;
 
+pub use bytes::{images_determine_nodes, numbers_determine_images};
 pub use machine::{links_keep_flight, machine_has_four_links, machine_never_marks};
