@@ -1,3 +1,4 @@
+pub mod EndImages
 pub mod Images
 pub mod LinkEnds
 pub mod LinkLaws
