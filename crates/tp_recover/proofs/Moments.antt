@@ -29,6 +29,14 @@ get_or-written_outside old at bytes room place (inr high) =
     ∙ get_or-drop (at + length bytes) old (place - (at + length bytes)) 0
     ∙ ap (λ n. get_or old n 0) (omega arith)
 
+pub get_or-written_inside : (old : List ℕ) (at : ℕ) (bytes : List ℕ) → at + length bytes ≤ length old → (k : ℕ) → k < length bytes → get_or (written old at bytes) (at + k) 0 ≡ get_or bytes k 0
+get_or-written_inside old at bytes room k low =
+    let first : length (take at old) ≡ at = length-take-le at old (omega arith) in
+    let size : length (take at old ++ bytes) ≡ at + length bytes = omega (arith, length-append (take at old) bytes) in
+    get_or_append_left (take at old ++ bytes) (drop (at + length bytes) old) 0 (at + k) (omega arith)
+    ∙ get_or-append_right (take at old) bytes at (at + k) 0 first (omega arith)
+    ∙ ap (λ n. get_or bytes n 0) (omega arith)
+
 pub written_same_outside : (old : List ℕ) (at : ℕ) (bytes : List ℕ) → at + length bytes ≤ length old → SameOutside at (length bytes) old (written old at bytes)
 written_same_outside old at bytes room = record { same_length = length-written old at bytes room; same = get_or-written_outside old at bytes room }
 
