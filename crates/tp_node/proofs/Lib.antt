@@ -1,0 +1,2 @@
+pub mod EndsAsBytes
+pub mod Pieces
