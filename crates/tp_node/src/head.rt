@@ -1,10 +1,11 @@
 //! A node apart from its memory, and the bytes in front of the memory in its image.
 
-ghost use Rattle.std.specs.Prelude.{◌≡◌, ◌≤◌, ◌+◌, ◌*◌, ◌++◌, length, drop};
+ghost use Rattle.std.specs.Prelude.{◌≡◌, ◌≤◌, ◌+◌, ◌*◌, ◌∷◌, ◌++◌, ℕ, List, length, drop};
 ghost use Rattle.std.specs.List.{flat_map};
-ghost use Rattle.tp_model.specs.Bytes.{u32_bytes, u32_at};
+ghost use Rattle.tp_model.specs.Bytes.{u16_bytes, u32_bytes, u32_at};
 ghost use Rattle.tp_model.specs.EndBytes.{ends_at, out_end_at, in_end_at};
-ghost use Rattle.tp_model.specs.Image.{words_of, cpu_at};
+ghost use Rattle.tp_model.specs.Image.{words_of, cpu_at, page_count, image_head};
+ghost use Rattle.tp_node.specs.StateWith.{state_with};
 
 use crate::code::{halt_byte, halt_of, state_byte, state_of};
 use crate::ends::{inputs_at, outputs_at, put_inputs, put_outputs};
@@ -80,6 +81,16 @@ fn put_words(out: &mut [u8], words: &[u32])
     }
 }
 
+/// Writes two bytes and a number behind them.
+fn put_four(out: &mut [u8], first: u8, second: u8, number: u16)
+    requires { 4 ≤ length out.old }
+    ensures { out.new ≡ (first ∷ second ∷ u16_bytes number) ++ drop 4 out.old }
+{
+    out[0] = first;
+    out[1] = second;
+    LittleEndian::write_u16(&mut out[2..], number);
+}
+
 impl Head {
     /// The head that the bytes spell, if they spell one.
     pub(crate) fn read(bytes: &[u8]) -> Head
@@ -93,5 +104,20 @@ impl Head {
             outputs: outputs_at(bytes, 44),
             inputs: inputs_at(bytes, 108),
         }
+    }
+
+    /// Writes the bytes in front of a memory of so many pages.
+    pub(crate) fn write(&self, pages: u16, out: &mut [u8])
+        requires { IMAGE_HEAD_BYTES ≤ length out.old }
+        ensures { (memory : List ℕ) → page_count memory ≡ pages → out.new ≡ image_head (state_with self.now memory) ++ drop IMAGE_HEAD_BYTES out.old }
+    {
+        let Cpu {
+            regs, state, slice, ..
+        } = self.cpu;
+        put_four(out, IMAGE_VERSION, halt_byte(self.cpu.halt), pages);
+        put_words(&mut out[4..], &words_of(&self.cpu));
+        put_four(&mut out[40..], u8::from(regs.error), state_byte(state), slice);
+        put_outputs(&mut out[44..], &self.outputs);
+        put_inputs(&mut out[108..], &self.inputs);
     }
 }
