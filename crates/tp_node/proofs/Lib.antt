@@ -1,2 +1,3 @@
 pub mod EndsAsBytes
+pub mod Images
 pub mod Pieces

@@ -3,6 +3,13 @@
 
 mod code;
 mod ends;
+mod fault;
 mod head;
+mod image;
+mod memory;
+mod node;
 mod number;
 mod rules;
+
+pub use fault::ImageFault;
+pub use node::Node;
