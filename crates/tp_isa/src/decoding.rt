@@ -21,7 +21,8 @@ impl Decoder {
     /// A decoder in front of an instruction's first byte.
     #[inline]
     pub fn new() -> Self
-        ensures { (bytes : List ℕ) → reads_on result bytes ≡ decoded bytes }
+        ensures answer { (bytes : List ℕ) → reads_on result bytes ≡ decoded bytes }
+        ensures count { result.count ≡ 0 }
     {
         Decoder {
             operand: 0,
@@ -34,6 +35,7 @@ impl Decoder {
     pub fn feed(&mut self, byte: u8) -> Option<Result<Instr, DecodeFault>>
         ensures answer { (rest : List ℕ) → MatchOption result (reads_on self.old (byte ∷ rest) ≡ reads_on self.new rest) (λ r. reads_on self.old (byte ∷ rest) ≡ r) }
         ensures count { IfNone result (self.new.count ≡ self.old.count + 1) }
+        ensures done { OnSome result (self.new ≡ self.old) }
     {
         match fun_at(byte) {
             None => self.prefix(byte),
@@ -46,6 +48,7 @@ impl Decoder {
         requires { is_prefix byte ≡ true }
         ensures answer { (rest : List ℕ) → MatchOption result (reads_on self.old (byte ∷ rest) ≡ reads_on self.new rest) (λ r. reads_on self.old (byte ∷ rest) ≡ r) }
         ensures count { IfNone result (self.new.count ≡ self.old.count + 1) }
+        ensures done { OnSome result (self.new ≡ self.old) }
     {
         if self.count == 16 {
             return Some(Err(DecodeFault::LongPrefix));

@@ -86,3 +86,11 @@ length-byte_changed memory address byte writes after whole is =
 pub length-changed : (memory : List ℕ) (to from count : ℕ) (writes : List (ℕ × ℕ)) (after : List ℕ) → length memory % 4 ≡ 0 → changed memory to from count writes ≡ Some after → length after ≡ length memory
 length-changed memory to from count writes after whole is =
     length-then (copied memory to from count) writes (length memory) after (length-copied memory to from count) whole is
+
+pub byte_changed_outside : (memory : List ℕ) (address byte : ℕ) (writes : List (ℕ × ℕ)) → length memory % 4 ≡ 0 → are_inside (length memory) writes ≡ false → byte_changed memory address byte writes ≡ None
+byte_changed_outside memory address byte writes whole out = then_outside (byte_stored memory address byte) writes (length memory) (length-byte_stored memory address byte) whole out
+
+pub changed_outside : (memory : List ℕ) (to from count : ℕ) (writes : List (ℕ × ℕ)) → length memory % 4 ≡ 0 → are_inside (length memory) writes ≡ false → changed memory to from count writes ≡ None
+changed_outside memory to from count writes whole out = then_outside (copied memory to from count) writes (length memory) (length-copied memory to from count) whole out
+
+pub ruleset behind_a_word = (changed_outside, length-set_word, length-copied)

@@ -1,6 +1,6 @@
 use Rattle.std.proofs.Common.{◌∙◌}
 use Rattle.tp_isa.proofs.Whole.{quotient_kept}
-use Rattle.tp_isa.proofs.stack.quotient.Goals as goal
+use Rattle.tp_isa.proofs.arithmetic.quotient.Goals as goal
 
 pub returns : goal.returns
 returns c =
