@@ -9,6 +9,7 @@ mod image;
 mod memory;
 mod node;
 mod number;
+mod output;
 mod rules;
 
 pub use fault::ImageFault;
