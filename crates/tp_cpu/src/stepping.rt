@@ -1,6 +1,6 @@
 //! One step.
 
-ghost use Rattle.std.specs.Prelude.{◌≡◌, Ok};
+ghost use Rattle.std.specs.Prelude.{◌≡◌, Ok, IsSome};
 ghost use Rattle.tp_model.specs.Step.{executed, instruction, idle, in_state, step_of, MakesStep};
 ghost use Rattle.tp_proc.specs.Ends.{Does, MayRefuse};
 ghost use Rattle.tp_cpu.specs.Acts.{Acts, OnNoFrame, fault_of};
@@ -92,6 +92,7 @@ pub fn step<M: Mem>(cpu: &mut Cpu, mem: &mut M) -> StepEnd
     ensures makes { MakesStep (step_of cpu.old (M.bytes mem.old)) cpu.old (M.bytes mem.old) result cpu.new (M.bytes mem.new) }
     ensures kept { M.frozen mem.new ≡ M.frozen mem.old }
     ensures refusal { OnNoFrame result (MayRefuse (M.may_refuse mem.old)) }
+    ensures frozen { OnNoFrame result (IsSome (M.frozen mem.old)) }
 {
     if cpu.halt.is_some() {
         return StepEnd::Idle;
