@@ -10,7 +10,7 @@ trap 'rm -rf "$work"' EXIT
 rustc -O --edition 2021 -o "$work/plain" "$top/bench/plain.rs"
 cp -r "$top/crates" "$top/crates.txt" "$top/HANDLES" "$work"
 mkdir -p "$work/crates/bench_steps/src"
-cp "$top/bench/steps.rt" "$work/crates/bench_steps/src/main.rt"
+cp "$top/bench/steps.rattle" "$work/crates/bench_steps/src/main.rt"
 echo "bench_steps: tp_cpu tp_mem tp_model" >> "$work/crates.txt"
 (cd "$work/crates/bench_steps" && rt run > "$work/build.log" 2>&1) || true
 proved=$work/crates/bench_steps/out/bench_steps
