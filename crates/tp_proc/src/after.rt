@@ -28,6 +28,7 @@ pub(crate) fn load_after<M: Mem>(
 fn load_behind<M: Mem>(mem: &M, at: u32, word: u32, address: u32) -> Result<u32, Undone>
     ensures { Finds (word_after (Some (at, word)) address (M.bytes mem.now)) result }
 {
+    // Memory has whole words: its length says so.
     let _len = mem.len();
     let _old = load(mem, at)?;
     if address / 4 == at / 4 {

@@ -15,7 +15,9 @@ use tp_model::Cpu;
 
 /// The states of an alternative: its branches are being enabled; it waits; a partner has come.
 pub const ENABLING: u32 = 0x8000_0001;
+
 pub const WAITING: u32 = 0x8000_0002;
+
 pub const READY: u32 = 0x8000_0003;
 
 /// What stands at the workspace while no branch is chosen.
@@ -71,11 +73,14 @@ pub fn altwt<M: Mem>(cpu: &mut Cpu, mem: &mut M) -> Result<(), Undone>
     if state == READY {
         return store(mem, wptr, NONE_CHOSEN);
     }
-    store_all(mem, &[
-        (wptr, NONE_CHOSEN),
-        (state_at(wptr), WAITING),
-        (saved_at(wptr), cpu.iptr),
-    ])?;
+    store_all(
+        mem,
+        &[
+            (wptr, NONE_CHOSEN),
+            (state_at(wptr), WAITING),
+            (saved_at(wptr), cpu.iptr),
+        ],
+    )?;
     end(cpu);
     Ok(())
 }

@@ -8,7 +8,9 @@ ghost use Rattle.tp_proc.specs.Ends.{Does, Writes, MayRefuse};
 
 use crate::access::{load, store};
 use crate::after::{change_after, load_after, store_after};
-use crate::alternative::{ENABLING, READY, WAITING, choose, drop_b, is_alternative, pass_over, signal};
+use crate::alternative::{
+    ENABLING, READY, WAITING, choose, drop_b, is_alternative, pass_over, signal,
+};
 use crate::process::end;
 use crate::queues::{NOT_PROCESS, queue, queue_write};
 use crate::undone::{BAD_ADDRESS, Undone};
@@ -31,28 +33,47 @@ pub fn channel_at(address: u32) -> ChannelWord
     }
 }
 
+/// A message on a channel that is a word of memory: so many bytes, to or from a pointer.
+#[derive(Clone, Copy)]
+struct Message {
+    channel: u32,
+    pointer: u32,
+    count: u32,
+}
+
+/// A block of bytes to be copied.
+#[derive(Clone, Copy)]
+struct Block {
+    to: u32,
+    from: u32,
+    count: u32,
+}
+
 /// The first process at a channel waits there.
 #[tactic(auto, using(crate::proofs::Behind::behind))]
 fn waits_first<M: Mem>(
     cpu: &mut Cpu,
     mem: &mut M,
     first: Option<(u32, u32)>,
-    channel: u32,
-    pointer: u32,
-    count: u32,
+    message: Message,
 ) -> Result<(), Undone>
-    ensures does { Does (after first (waits_first channel pointer count)) (MayRefuse (M.may_refuse mem.old)) cpu.old (M.bytes mem.old) result cpu.new (M.bytes mem.new) }
+    ensures does { Does (after first (waits_first message.channel message.pointer message.count)) (MayRefuse (M.may_refuse mem.old)) cpu.old (M.bytes mem.old) result cpu.new (M.bytes mem.new) }
     ensures kept { M.frozen mem.new ≡ M.frozen mem.old }
 {
+    // Memory has whole words: its length says so.
     let _len = mem.len();
-    if !mem.is_inside(pointer, count) {
+    if !mem.is_inside(message.pointer, message.count) {
         return Err(BAD_ADDRESS);
     }
-    store_after(mem, first, &[
-        (channel, descriptor_of(cpu)),
-        (state_at(cpu.wptr), pointer),
-        (saved_at(cpu.wptr), cpu.iptr),
-    ])?;
+    store_after(
+        mem,
+        first,
+        &[
+            (message.channel, descriptor_of(cpu)),
+            (state_at(cpu.wptr), message.pointer),
+            (saved_at(cpu.wptr), cpu.iptr),
+        ],
+    )?;
     end(cpu);
     Ok(())
 }
@@ -63,15 +84,14 @@ fn meets<M: Mem>(
     cpu: &mut Cpu,
     mem: &mut M,
     first: Option<(u32, u32)>,
-    to: u32,
-    from: u32,
-    count: u32,
+    block: Block,
     channel: u32,
     partner: u32,
 ) -> Result<(), Undone>
-    ensures does { Does (after first (meets to from count channel partner)) (MayRefuse (M.may_refuse mem.old)) cpu.old (M.bytes mem.old) result cpu.new (M.bytes mem.new) }
+    ensures does { Does (after first (meets block.to block.from block.count channel partner)) (MayRefuse (M.may_refuse mem.old)) cpu.old (M.bytes mem.old) result cpu.new (M.bytes mem.new) }
     ensures kept { M.frozen mem.new ≡ M.frozen mem.old }
 {
+    let Block { to, from, count } = block;
     let empty = (channel, NOT_PROCESS);
     match queue_write(partner, cpu) {
         None => change_after(mem, first, to, from, count, &[empty])?,
@@ -87,28 +107,27 @@ fn write_signal<M: Mem>(
     cpu: &Cpu,
     mem: &mut M,
     first: Option<(u32, u32)>,
+    message: Message,
     state: u32,
     partner: u32,
-    channel: u32,
-    pointer: u32,
 ) -> Result<(), Undone>
-    ensures written { Writes (stored_after first (signal_writes state partner cpu.now ++ wait_writes channel pointer cpu.now) (M.bytes mem.old)) (MayRefuse (M.may_refuse mem.old)) (M.bytes mem.old) result (M.bytes mem.new) }
+    ensures written { Writes (stored_after first (signal_writes state partner cpu.now ++ wait_writes message.channel message.pointer cpu.now) (M.bytes mem.old)) (MayRefuse (M.may_refuse mem.old)) (M.bytes mem.old) result (M.bytes mem.new) }
     ensures kept { M.frozen mem.new ≡ M.frozen mem.old }
 {
     let ready = (state_at(workspace(partner)), READY);
-    let own = (channel, descriptor_of(cpu));
-    let message = (state_at(cpu.wptr), pointer);
+    let own = (message.channel, descriptor_of(cpu));
+    let pointer = (state_at(cpu.wptr), message.pointer);
     let saved = (saved_at(cpu.wptr), cpu.iptr);
     if state == ENABLING {
-        return store_after(mem, first, &[ready, own, message, saved]);
+        return store_after(mem, first, &[ready, own, pointer, saved]);
     }
     if state == WAITING {
         return match queue_write(partner, cpu) {
-            None => store_after(mem, first, &[ready, own, message, saved]),
-            Some(link) => store_after(mem, first, &[ready, link, own, message, saved]),
+            None => store_after(mem, first, &[ready, own, pointer, saved]),
+            Some(link) => store_after(mem, first, &[ready, link, own, pointer, saved]),
         };
     }
-    store_after(mem, first, &[own, message, saved])
+    store_after(mem, first, &[own, pointer, saved])
 }
 
 /// An output that finds an alternative in this state makes that ready and waits.
@@ -117,66 +136,68 @@ fn waits_for_alternative<M: Mem>(
     cpu: &mut Cpu,
     mem: &mut M,
     first: Option<(u32, u32)>,
+    message: Message,
     state: u32,
     partner: u32,
-    channel: u32,
-    pointer: u32,
-    count: u32,
 ) -> Result<(), Undone>
-    ensures does { Does (after first (waits_for_alternative state partner channel pointer count)) (MayRefuse (M.may_refuse mem.old)) cpu.old (M.bytes mem.old) result cpu.new (M.bytes mem.new) }
+    ensures does { Does (after first (waits_for_alternative state partner message.channel message.pointer message.count)) (MayRefuse (M.may_refuse mem.old)) cpu.old (M.bytes mem.old) result cpu.new (M.bytes mem.new) }
     ensures kept { M.frozen mem.new ≡ M.frozen mem.old }
 {
+    // Memory has whole words: its length says so.
     let _len = mem.len();
-    if !mem.is_inside(pointer, count) {
+    if !mem.is_inside(message.pointer, message.count) {
         return Err(BAD_ADDRESS);
     }
-    write_signal(cpu, mem, first, state, partner, channel, pointer)?;
+    write_signal(cpu, mem, first, message, state, partner)?;
     signal(state, partner, cpu);
     end(cpu);
     Ok(())
 }
 
-/// Inputs `count` bytes to a pointer, on a channel that is a word of memory.
-fn input<M: Mem>(
-    cpu: &mut Cpu,
-    mem: &mut M,
-    count: u32,
-    channel: u32,
-    pointer: u32,
-) -> Result<(), Undone>
-    ensures does { Does (input count channel pointer) (MayRefuse (M.may_refuse mem.old)) cpu.old (M.bytes mem.old) result cpu.new (M.bytes mem.new) }
+/// Inputs a message.
+fn input<M: Mem>(cpu: &mut Cpu, mem: &mut M, message: Message) -> Result<(), Undone>
+    ensures does { Does (input message.count message.channel message.pointer) (MayRefuse (M.may_refuse mem.old)) cpu.old (M.bytes mem.old) result cpu.new (M.bytes mem.new) }
     ensures kept { M.frozen mem.new ≡ M.frozen mem.old }
 {
+    let channel = message.channel;
     let partner = load(mem, channel)?;
     if partner == NOT_PROCESS {
-        return waits_first(cpu, mem, None, channel, pointer, count);
+        return waits_first(cpu, mem, None, message);
     }
-    let from = load(mem, state_at(workspace(partner)))?;
-    meets(cpu, mem, None, pointer, from, count, channel, partner)
+    let block = Block {
+        to: message.pointer,
+        from: load(mem, state_at(workspace(partner)))?,
+        count: message.count,
+    };
+    meets(cpu, mem, None, block, channel, partner)
 }
 
-/// Outputs `count` bytes from a pointer, on a channel that is a word of memory.
+/// Outputs a message, behind a first word that is to be stored.
 #[tactic(auto, using(crate::proofs::Behind::behind))]
 fn output<M: Mem>(
     cpu: &mut Cpu,
     mem: &mut M,
     first: Option<(u32, u32)>,
-    count: u32,
-    channel: u32,
-    pointer: u32,
+    message: Message,
 ) -> Result<(), Undone>
-    ensures does { Does (after first (output count channel pointer)) (MayRefuse (M.may_refuse mem.old)) cpu.old (M.bytes mem.old) result cpu.new (M.bytes mem.new) }
+    ensures does { Does (after first (output message.count message.channel message.pointer)) (MayRefuse (M.may_refuse mem.old)) cpu.old (M.bytes mem.old) result cpu.new (M.bytes mem.new) }
     ensures kept { M.frozen mem.new ≡ M.frozen mem.old }
 {
+    let channel = message.channel;
     let partner = load_after(mem, first, channel)?;
     if partner == NOT_PROCESS {
-        return waits_first(cpu, mem, first, channel, pointer, count);
+        return waits_first(cpu, mem, first, message);
     }
     let to = load_after(mem, first, state_at(workspace(partner)))?;
     if is_alternative(to) {
-        return waits_for_alternative(cpu, mem, first, to, partner, channel, pointer, count);
+        return waits_for_alternative(cpu, mem, first, message, to, partner);
     }
-    meets(cpu, mem, first, to, pointer, count, channel, partner)
+    let block = Block {
+        to,
+        from: message.pointer,
+        count: message.count,
+    };
+    meets(cpu, mem, first, block, channel, partner)
 }
 
 /// The instruction that inputs: count A, channel B, pointer C.
@@ -195,7 +216,15 @@ pub fn chan_in<M: Mem>(cpu: &mut Cpu, mem: &mut M) -> Result<(), Undone>
             },
             next: cpu.iptr,
         })),
-        ChannelWord::Internal => input(cpu, mem, a, b, c),
+        ChannelWord::Internal => input(
+            cpu,
+            mem,
+            Message {
+                channel: b,
+                pointer: c,
+                count: a,
+            },
+        ),
     }
 }
 
@@ -214,7 +243,16 @@ pub fn chan_out<M: Mem>(cpu: &mut Cpu, mem: &mut M) -> Result<(), Undone>
             next: cpu.iptr,
         })),
         ChannelWord::Input(_) => Err(BAD_ADDRESS),
-        ChannelWord::Internal => output(cpu, mem, None, a, b, c),
+        ChannelWord::Internal => output(
+            cpu,
+            mem,
+            None,
+            Message {
+                channel: b,
+                pointer: c,
+                count: a,
+            },
+        ),
     }
 }
 
@@ -234,7 +272,16 @@ pub fn chan_out_word<M: Mem>(cpu: &mut Cpu, mem: &mut M, count: u32) -> Result<(
             next: cpu.iptr,
         })),
         ChannelWord::Input(_) => Err(BAD_ADDRESS),
-        ChannelWord::Internal => output(cpu, mem, Some((wptr, a)), count, b, wptr),
+        ChannelWord::Internal => output(
+            cpu,
+            mem,
+            Some((wptr, a)),
+            Message {
+                channel: b,
+                pointer: wptr,
+                count,
+            },
+        ),
     }
 }
 

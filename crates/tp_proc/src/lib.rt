@@ -13,11 +13,14 @@ mod undone;
 mod workspaces;
 
 pub use access::{change, load, store, store_all};
-pub use alternative::{alt, altwt, choose, diss, drop_b, enbs, note_choice, pass_over};
+pub use alternative::{
+    ENABLING, NONE_CHOSEN, READY, WAITING, alt, altwt, choose, diss, drop_b, enbs, is_alternative,
+    note_choice, pass_over,
+};
 pub use channel::{alt_disable, alt_enable, chan_in, chan_out, chan_out_word, channel_at};
 pub use process::{
-    KEPT_AT, dispatch_high, dispatch_low, end, endp, interrupt, jump, jump_looping, must_slice, pass,
-    restore, runp, slice, startp, stop,
+    KEPT_AT, dispatch_high, dispatch_low, end, endp, interrupt, jump, jump_looping, must_slice,
+    pass, restore, runp, slice, startp, stop,
 };
 pub use queues::{NOT_PROCESS, enqueue, queue, queue_write};
 pub use undone::{BAD_ADDRESS, Undone};

@@ -11,8 +11,7 @@ use crate::queues::{NOT_PROCESS, enqueue, joined, link_write, queue, queue_write
 use crate::undone::Undone;
 use crate::workspaces::{descriptor_of, is_low, saved_at, workspace};
 use tp_mem::Mem;
-use tp_model::limits;
-use tp_model::{Cpu, Regs, State};
+use tp_model::{Cpu, Regs, State, limits};
 
 /// How many instructions a low process has before it makes room.
 const SLICE: u16 = limits::SLICE as u16;
@@ -87,11 +86,15 @@ pub fn stop<M: Mem>(cpu: &mut Cpu, mem: &mut M) -> Result<(), Undone>
 
 /// An instruction of a low process counts in its slice, up to the length of a slice.
 #[inline(always)]
-pub fn count(cpu: &mut Cpu)
+fn count(cpu: &mut Cpu)
     ensures { cpu.new ≡ counted cpu.old }
 {
     if is_low(cpu) {
-        cpu.slice = if cpu.slice < SLICE { cpu.slice + 1 } else { SLICE };
+        cpu.slice = if cpu.slice < SLICE {
+            cpu.slice + 1
+        } else {
+            SLICE
+        };
     }
 }
 
@@ -197,13 +200,16 @@ pub fn interrupt<M: Mem>(cpu: &mut Cpu, mem: &mut M) -> Result<(), Undone>
     ensures kept { M.frozen mem.new ≡ M.frozen mem.old }
 {
     let Regs { a, b, c, .. } = cpu.regs;
-    store_all(mem, &[
-        (KEPT_AT, descriptor_of(cpu)),
-        (KEPT_AT + 4, cpu.iptr),
-        (KEPT_AT + 8, a),
-        (KEPT_AT + 12, b),
-        (KEPT_AT + 16, c),
-    ])?;
+    store_all(
+        mem,
+        &[
+            (KEPT_AT, descriptor_of(cpu)),
+            (KEPT_AT + 4, cpu.iptr),
+            (KEPT_AT + 8, a),
+            (KEPT_AT + 12, b),
+            (KEPT_AT + 16, c),
+        ],
+    )?;
     cpu.state = State::Idle;
     Ok(())
 }
@@ -220,7 +226,12 @@ pub fn restore<M: Mem>(cpu: &mut Cpu, mem: &mut M, descriptor: u32) -> Result<()
     store(mem, KEPT_AT, NOT_PROCESS)?;
     cpu.iptr = iptr;
     cpu.wptr = workspace(descriptor);
-    cpu.regs = Regs { a, b, c, ..cpu.regs };
+    cpu.regs = Regs {
+        a,
+        b,
+        c,
+        ..cpu.regs
+    };
     cpu.state = State::Low;
     Ok(())
 }
