@@ -6,7 +6,7 @@ use Rattle.tp_model.specs.Disk.{Moment, MayBe, IsOutside, Call, Write, Sync, Rea
 use Rattle.tp_model.specs.DiskHistory.{State, Goes, Fails, IsSynced, SomeMay, Since, moment, LeavesOnly}
 use Rattle.tp_model.specs.StoreCalls.{all_done, moments_of, Called, BrokeIn}
 use Rattle.tp_disk.specs.Laws.{IsInside}
-use Rattle.tp_disk.proofs.Moments.{outside_each, may_within, write_may, broken_may}
+use Rattle.tp_disk.proofs.Moments.{outside_each, may_within, write_may, may_write, broken_may}
 
 -- ## One call
 
@@ -15,6 +15,17 @@ pub done_may : (m : Moment) (call : Call) (left : List ℕ) → IsInside call m 
 done_may m (Write at bytes) left inside may = write_may m at bytes left inside may
 done_may m Sync left inside may = record { same_length = may.same_length; same_outside = λ place out. may.same_outside place tt }
 done_may m Read left inside may = may
+
+-- so may one before it and one after it
+pub before_or_after_may : (call : Call) (m : Moment) (left : List ℕ) → IsInside call m → MayBe m left ⊎ MayBe (done call m) left → MayBe (within call m) left
+before_or_after_may call m left inside (inl may) = may_within m call left may
+before_or_after_may call m left inside (inr may) = done_may m call left inside may
+
+-- and the other way round
+pub may_before_or_after : (call : Call) (m : Moment) (left : List ℕ) → IsInside call m → MayBe (within call m) left → MayBe m left ⊎ MayBe (done call m) left
+may_before_or_after (Write at bytes) m left inside may = inr (may_write m at bytes left inside may)
+may_before_or_after Sync m left inside may = inl may
+may_before_or_after Read m left inside may = inl may
 
 -- the moment after a call that failed
 pub now_broken : (call : Call) (s t : State) → Fails call s t → t.now ≡ broken call t.now.bytes s.now
