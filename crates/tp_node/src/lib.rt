@@ -6,6 +6,7 @@ mod ends;
 mod fault;
 mod head;
 mod image;
+mod input;
 mod memory;
 mod node;
 mod number;
