@@ -1,9 +1,11 @@
 //! A node: its processor, its memory and the ends of its four links.
 #![tactic(auto)]
 
+mod arrival;
 mod code;
 mod ends;
 mod fault;
+mod first;
 mod head;
 mod image;
 mod input;
