@@ -1,12 +1,10 @@
 //! Whom a token concerns, and what that changes.
 
-ghost use Rattle.std.specs.Prelude.{◌≡◌, ℕ, List, IsSome};
-ghost use Rattle.tp_model.specs.Node.{bad_address, wake, signal_state, tell};
+ghost use Rattle.std.specs.Prelude.{◌≡◌, ℕ, List, Some, IsSome};
+ghost use Rattle.tp_model.specs.Node.{bad_address, wake, tell};
 ghost use Rattle.tp_model.specs.NodeState.{NodeState};
-ghost use Rattle.tp_model.specs.Memory.{word_at};
-ghost use Rattle.tp_model.specs.Processor.{workspace, state_at};
 ghost use Rattle.tp_proc.specs.Ends.{MayRefuse};
-ghost use Rattle.tp_node.specs.First.{first_stored};
+ghost use Rattle.tp_node.specs.First.{GoesWith, first_stored};
 ghost use Rattle.tp_node.specs.Hears.{Hears, with_both};
 
 use crate::fault::NoFrame;
@@ -58,5 +56,46 @@ fn wake<M: Mem>(
             halt_outside(cpu);
             Ok(())
         }
+    }
+}
+
+/// A partner has come for the alternative of a descriptor.
+#[tactic(auto, using(crate::proofs::FirstStored::word_behind))]
+fn signal<M: Mem>(cpu: &mut Cpu, mem: &mut M, descriptor: u32) -> Result<(), NoFrame>
+    ensures hears { Hears (tell (News.Alternative descriptor)) (Some (M.bytes mem.old)) (MayRefuse (M.may_refuse mem.old)) cpu.old (M.bytes mem.old) result cpu.new (M.bytes mem.new) }
+    ensures kept { M.frozen mem.new ≡ M.frozen mem.old }
+{
+    let address = state_at(workspace(descriptor));
+    let ready = First::Word {
+        address,
+        word: READY,
+    };
+    match mem.read_word(address) {
+        None => {
+            halt_outside(cpu);
+            Ok(())
+        }
+        Some(WAITING) => wake(cpu, mem, ready, descriptor),
+        Some(ENABLING) => ready.store(mem, &[]),
+        Some(_) => Ok(()),
+    }
+}
+
+/// Puts into memory what the token does, and tells whom it concerns.
+pub(crate) fn tell<M: Mem>(
+    cpu: &mut Cpu,
+    mem: &mut M,
+    first: First,
+    news: News,
+) -> Result<(), NoFrame>
+    requires inside { IsSome (first_stored first (M.bytes mem.old)) }
+    requires alone { GoesWith first news }
+    ensures hears { Hears (tell news) (first_stored first (M.bytes mem.old)) (MayRefuse (M.may_refuse mem.old)) cpu.old (M.bytes mem.old) result cpu.new (M.bytes mem.new) }
+    ensures kept { M.frozen mem.new ≡ M.frozen mem.old }
+{
+    match news {
+        News::Nobody => first.store(mem, &[]),
+        News::Process(descriptor) => wake(cpu, mem, first, descriptor),
+        News::Alternative(descriptor) => signal(cpu, mem, descriptor),
     }
 }
