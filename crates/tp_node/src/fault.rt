@@ -1,4 +1,4 @@
-//! Why an image isn't read.
+//! Why a call is refused.
 
 /// No node was made.
 #[derive(Clone, Copy, Debug, PartialEq, Eq)]
@@ -8,3 +8,7 @@ pub enum ImageFault {
     /// Memory was refused. No bytes cause it.
     Memory,
 }
+
+/// Memory is frozen and has no free frame. Nothing has changed.
+#[derive(Clone, Copy, Debug, PartialEq, Eq)]
+pub struct NoFrame;

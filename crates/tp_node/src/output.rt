@@ -25,7 +25,7 @@ fn byte_after<M: Mem>(mem: &M, first: Option<(u32, u32)>, address: u32) -> Optio
     }
 }
 
-const LINK_BUSY: Undone = Undone::Faulty(Fault::LinkBusy);
+pub(crate) const LINK_BUSY: Undone = Undone::Faulty(Fault::LinkBusy);
 
 /// Stores a first word, if there is one.
 fn hold<M: Mem>(mem: &mut M, first: Option<(u32, u32)>) -> Result<(), Undone>
