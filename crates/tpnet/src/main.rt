@@ -27,6 +27,9 @@ fn main(rt: HostRuntime) -> ExitCode {
         }
     };
     match asked {
-        Asked::Try { image, turns } => ExitCode::from(0),
+        Asked::Try { .. } => {
+            let _ = write!(&mut err, "tpnet: try is not built yet\n");
+            ExitCode::from(1)
+        }
     }
 }
