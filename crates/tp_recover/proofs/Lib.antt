@@ -7,6 +7,7 @@ pub mod Prefix
 pub mod Runs
 pub mod Small
 pub mod SmallHolds
+pub mod SmallRun
 pub mod Stay
 pub mod Steps
 pub mod Switch
