@@ -3,6 +3,7 @@ pub mod Acts
 pub mod Device
 pub mod Invariant
 pub mod Moments
+pub mod Planned
 pub mod Prefix
 pub mod Runs
 pub mod Small
