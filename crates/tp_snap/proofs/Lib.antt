@@ -13,3 +13,4 @@ pub mod Acts
 pub mod Happens
 pub mod Stays
 pub mod Halves
+pub mod Room

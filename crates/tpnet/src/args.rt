@@ -27,7 +27,10 @@ impl fmt::Display for ArgFault {
     fn fmt<W: fmt::Write>(&self, f: &mut fmt::Formatter<W>) -> fmt::Result {
         match self {
             ArgFault::Words(error) => write!(f, "{error}"),
-            ArgFault::Number => write!(f, "tpnet: --turns takes a whole number from 0 to 4294967295\n"),
+            ArgFault::Number => write!(
+                f,
+                "tpnet: --turns takes a whole number from 0 to 4294967295\n"
+            ),
             ArgFault::Memory => write!(f, "tpnet: Memory\n"),
         }
     }
@@ -64,7 +67,9 @@ fn command<'a>(alloc: Global) -> Result<Command<'a>, AllocError> {
         .value_name("N")
         .help("how many turns: node, host, node, host ..");
     let attempt = Command::new(alloc, "try")
-        .about("Runs one node without a device, its link 0 wired to port 0, and prints what port 0 puts out")
+        .about(
+            "Runs one node without a device, its link 0 wired to port 0, and prints what port 0 puts out",
+        )
         .arg(image)?
         .arg(turns)?;
     Command::new(alloc, "tpnet")

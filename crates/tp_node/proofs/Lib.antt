@@ -1,0 +1,3 @@
+pub mod EndsAsBytes
+pub mod Images
+pub mod Pieces
