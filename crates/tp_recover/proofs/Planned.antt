@@ -1,11 +1,11 @@
 -- Whatever a call of the store does to the device, done or broken, is a run of the world.
-use Rattle.std.proofs.Common.{◌≡◌, ℕ, ◌+◌, List, [], ◌∷◌, ◌++◌, length, map, refl, sym, ap, subst, ◌∙◌, Some}
+use Rattle.std.proofs.Common.{◌≡◌, ℕ, ◌+◌, List, [], ◌∷◌, ◌++◌, refl, sym, ap, subst, ◌∙◌, Some}
 use Rattle.tp_model.specs.declared.entry.Entry.{Entry}
 use Rattle.tp_model.specs.Network.{Machine}
 use Rattle.tp_model.specs.Disk.{Moment, MayBe, Call, Write, Sync, done, within, broken}
 use Rattle.tp_model.specs.StoreCalls.{all_done, BrokeIn, group_calls, switch_calls}
 use Rattle.tp_model.specs.Areas.{Areas, Held, gate_open}
-use Rattle.tp_model.specs.WriteOrder.{Position, Resting, Body, Ready, Gate, Tail, Opening, Opened, Broken, Allows, add_body, body_done, add_gate, gate_done, switching, switch_done, reached, left}
+use Rattle.tp_model.specs.WriteOrder.{Position, Resting, Body, Ready, Gate, Tail, Opening, Opened, Broken, Allows, add_body, body_done, add_gate, gate_done, switching, switch_done}
 use Rattle.tp_model.specs.Runs.{World, Event, Does, Breaks, Run}
 use Rattle.tp_recover.specs.Planned.{moved, ArePlanned, calls_of, all_moved, all_does}
 

@@ -1,5 +1,5 @@
 -- Calls of the store as events of a run: its device calls with the positions of the flusher that they lead to.
-use Rattle.std.specs.Prelude.{ℕ, List, [], ◌∷◌, map}
+use Rattle.std.specs.Prelude.{List, [], ◌∷◌, map}
 use Rattle.tp_model.specs.Disk.{Call, done}
 use Rattle.tp_model.specs.Areas.{Areas}
 use Rattle.tp_model.specs.WriteOrder.{Position, Allows, reached, left}
