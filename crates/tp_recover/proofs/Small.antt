@@ -1,13 +1,13 @@
 -- The small format: what is read of it depends on which bytes.
-use Rattle.std.proofs.Common.{◌≡◌, ℕ, zero, suc, ◌+◌, ◌-◌, ◌*◌, ◌<◌, ◌≤◌, ◌⊎◌, inl, inr, Bool, true, false, cond, not, List, [], ◌∷◌, ◌++◌, length, get_or, refl, sym, ap, subst, ◌∙◌, arith, append-nil, length-append, eq-eqb, eqb-true, Option, Some, None}
+use Rattle.std.proofs.Common.{◌≡◌, ℕ, zero, suc, ◌+◌, ◌-◌, ◌*◌, ◌<◌, ◌≤◌, ◌⊎◌, inl, inr, Bool, true, false, cond, not, List, [], ◌∷◌, ◌++◌, length, refl, ap, subst, ◌∙◌, arith, append-nil, length-append, eq-eqb, eqb-true, Some, None}
 use Rattle.std.specs.Prelude.{◌==◌, nat_lt}
 use Rattle.std.proofs.lemmas.Bool.{cases_Bool, lt-ltb, le-ltb}
 use Rattle.tp_model.specs.declared.entry.Entry.{Entry}
 use Rattle.tp_model.specs.declared.entry.Entry.TheVariants.{HostIn}
-use Rattle.tp_model.specs.declared.limits.TheConstants.{GATE_OPEN, GATE_CLOSED}
+use Rattle.tp_model.specs.declared.limits.TheConstants.{GATE_OPEN}
 use Rattle.tp_model.specs.Network.{◌>>=◌, Machine, Network}
 use Rattle.tp_model.specs.Order.{after}
-use Rattle.tp_model.specs.Areas.{Held, with_more, ArePossible}
+use Rattle.tp_model.specs.Areas.{Held}
 use Rattle.tp_order.proofs.Partial.{bind_some, cond_some}
 use Rattle.tp_recover.specs.Small.{byte_at, is_open, begins, current_of, current, entries_at, held_at, if_possible, small_verdict}
 
@@ -42,7 +42,7 @@ entries_closed bytes (suc more) place is = ap (λ b. cond b (HostIn 0 (byte_at b
 entries_split : (bytes left : List ℕ) (more place : ℕ)
     → ((q : ℕ) → place ≤ q → q < place + 2 * length (entries_at bytes more place) → byte_at left q ≡ byte_at bytes q)
     → entries_at left more place
-        ≡ entries_at bytes more place ++ entries_at left (more - length (entries_at bytes more place)) (place + 2 * length (entries_at bytes more place))
+    ≡ entries_at bytes more place ++ entries_at left (more - length (entries_at bytes more place)) (place + 2 * length (entries_at bytes more place))
 unfolding entries_at
 entries_split bytes left zero place same = refl
 entries_split bytes left (suc more) place same = go (is_open bytes place) refl same (entries_split bytes left more (place + 2))
@@ -53,10 +53,10 @@ entries_split bytes left (suc more) place same = go (is_open bytes place) refl s
     go : (b : Bool) → is_open bytes place ≡ b
         → ((q : ℕ) → place ≤ q → q < place + 2 * length (cond b (HostIn 0 (byte_at bytes (place + 1)) ∷ rest) []) → byte_at left q ≡ byte_at bytes q)
         → (((q : ℕ) → place + 2 ≤ q → q < place + 2 + 2 * length rest → byte_at left q ≡ byte_at bytes q)
-            → entries_at left more (place + 2) ≡ rest ++ entries_at left (more - length rest) (place + 2 + 2 * length rest))
+        → entries_at left more (place + 2) ≡ rest ++ entries_at left (more - length rest) (place + 2 + 2 * length rest))
         → entries_at left (suc more) place
-            ≡ cond b (HostIn 0 (byte_at bytes (place + 1)) ∷ rest) []
-                ++ entries_at left (suc more - length (cond b (HostIn 0 (byte_at bytes (place + 1)) ∷ rest) [])) (place + 2 * length (cond b (HostIn 0 (byte_at bytes (place + 1)) ∷ rest) []))
+        ≡ cond b (HostIn 0 (byte_at bytes (place + 1)) ∷ rest) []
+        ++ entries_at left (suc more - length (cond b (HostIn 0 (byte_at bytes (place + 1)) ∷ rest) [])) (place + 2 * length (cond b (HostIn 0 (byte_at bytes (place + 1)) ∷ rest) []))
     go true is here there =
         entries_open left more place (same_gate bytes left place (here place (omega arith) (omega arith)) ∙ is)
         ∙ ap (λ x. HostIn 0 x ∷ entries_at left more (place + 2)) (here (place + 1) (omega arith) (omega arith))
@@ -108,7 +108,7 @@ entries_end bytes more place room = elim (cases_Bool (is_open bytes gate)) [ inr
         let others = more - length (entries_at bytes more place) - 1 in
         let whole = entries_split bytes bytes more place (λ q low high. refl) in
         let next : entries_at bytes (more - length (entries_at bytes more place)) gate ≡ HostIn 0 (byte_at bytes (gate + 1)) ∷ entries_at bytes others (gate + 2) =
-            ap (λ n. entries_at bytes n gate) (omega arith) ∙ entries_open bytes others gate opened
+        ap (λ n. entries_at bytes n gate) (omega arith) ∙ entries_open bytes others gate opened
         in
         omega (arith, ap length whole, length-append (entries_at bytes more place) (entries_at bytes (more - length (entries_at bytes more place)) gate), ap length next)
 

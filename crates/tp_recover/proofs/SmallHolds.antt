@@ -1,5 +1,5 @@
 -- The small format meets what the laws of runs ask.
-use Rattle.std.proofs.Common.{◌≡◌, ℕ, zero, suc, ◌+◌, ◌-◌, ◌*◌, ◌<◌, ◌≤◌, ◌⊎◌, inl, inr, Bool, true, false, cond, not, List, [], ◌∷◌, ◌++◌, length, get_or, refl, sym, ap, subst, ◌∙◌, arith, le_refl, Option, Some, None}
+use Rattle.std.proofs.Common.{◌≡◌, ℕ, zero, ◌+◌, ◌*◌, ◌<◌, ◌≤◌, ◌⊎◌, inl, inr, Bool, true, false, cond, not, List, [], ◌∷◌, length, refl, sym, ap, subst, ◌∙◌, arith, le_refl, Option, Some, None}
 use Rattle.std.specs.Prelude.{◌==◌, nat_lt, nat_le, ◌||◌}
 use Rattle.std.specs.Option.{option_map}
 use Rattle.std.proofs.lemmas.Bool.{cases_Bool, both_ways, ltb-true, leb-false, or_parts}
@@ -8,11 +8,11 @@ use Rattle.tp_model.specs.declared.entry.Entry.TheVariants.{HostIn}
 use Rattle.tp_model.specs.declared.limits.TheConstants.{GATE_OPEN, GATE_CLOSED}
 use Rattle.tp_model.specs.Network.{◌>>=◌, Machine, Network}
 use Rattle.tp_model.specs.Order.{after}
-use Rattle.tp_model.specs.Disk.{Moment, MayBe, written}
-use Rattle.tp_model.specs.Areas.{Areas, AreasHold, Held, with_more, ArePossible, gate_open}
+use Rattle.tp_model.specs.Disk.{MayBe, written}
+use Rattle.tp_model.specs.Areas.{AreasHold, Held, with_more, ArePossible, gate_open}
 use Rattle.tp_order.proofs.Partial.{bind_some, map_some, cond_some}
 use Rattle.tp_recover.specs.Small.{byte_at, is_open, begins, current, entries_at, held_at, if_possible, small_verdict, behind, spare_of, open_of, spelt, group_of, other_of, small_areas}
-use Rattle.tp_recover.proofs.Moments.{length-written, get_or-written_outside, get_or-written_inside, may_be_written, synced_may}
+use Rattle.tp_recover.proofs.Moments.{length-written, get_or-written_outside, get_or-written_inside}
 use Rattle.tp_recover.proofs.Small.{same_gate, entries_most, entries_same, entries_added, entries_end, places, current_open, current_alone, current_later, current_same, Verdict, verdict_parts, verdict_from}
 
 -- the place lies outside the range
@@ -106,7 +106,7 @@ module _ {Node : Type 0} (M : Machine Node) (image : ℕ → Network Node) (byte
         let o = begins (not V.second) in
         let few = entries_most bytes 2 (o + 4) in
         let entries = entries_same bytes left 2 (o + 4) (λ q low high. same q (omega arith) (omega arith))
-            (λ room. same_gate bytes left (o + 4 + 2 * length (entries_at bytes 2 (o + 4))) (same (o + 4 + 2 * length (entries_at bytes 2 (o + 4))) (omega arith) (omega arith)) ∙ entries_end bytes 2 (o + 4) room)
+        (λ room. same_gate bytes left (o + 4 + 2 * length (entries_at bytes 2 (o + 4))) (same (o + 4 + 2 * length (entries_at bytes 2 (o + 4))) (omega arith) (omega arith)) ∙ entries_end bytes 2 (o + 4) room)
         in
         let base = same (o + 2) (omega arith) (omega arith) in
         let code = same (o + 3) (omega arith) (omega arith) in
@@ -231,10 +231,10 @@ module _ {Node : Type 0} (M : Machine Node) (image : ℕ → Network Node) (byte
 
     group_next : is_open left (gate + 2) ≡ false
     group_next = ap (λ byte. byte == GATE_OPEN) (
-      same (gate + 2) (inr (omega arith))
-      ∙ ap (byte_at (written bytes (gate + 1) (x ∷ GATE_CLOSED ∷ []))) (omega arith)
-      ∙ get_or-written_inside bytes (gate + 1) (x ∷ GATE_CLOSED ∷ []) fits 1 (omega arith)
-    )
+        same (gate + 2) (inr (omega arith))
+        ∙ ap (byte_at (written bytes (gate + 1) (x ∷ GATE_CLOSED ∷ []))) (omega arith)
+        ∙ get_or-written_inside bytes (gate + 1) (x ∷ GATE_CLOSED ∷ []) fits 1 (omega arith)
+        )
 
     group_gate : ArePossible M h (HostIn 0 x ∷ []) → (small_verdict M image left ≡ Some h) ⊎ (small_verdict M image left ≡ Some (with_more h (HostIn 0 x ∷ [])))
     group_gate possible = elim (cases_Bool (is_open left gate)) [
@@ -256,9 +256,9 @@ module _ {Node : Type 0} (M : Machine Node) (image : ℕ → Network Node) (byte
     switch_either : (small_verdict M image left ≡ Some h) ⊎ (small_verdict M image left ≡ Some k)
     switch_either = elim (cases_Bool (is_open left (begins (not V.second)))) [
       | inr closed ↦ inl (
-        keeps left size switch_head (λ opened. absurd (both_ways (is_open left (begins (not V.second))) closed opened))
-        (λ room. same_gate bytes left gate (same gate (apart V.second gate (omega arith) (omega arith))) ∙ entries_end bytes 2 (begins V.second + 4) room)
-      )
+          keeps left size switch_head (λ opened. absurd (both_ways (is_open left (begins (not V.second))) closed opened))
+          (λ room. same_gate bytes left gate (same gate (apart V.second gate (omega arith) (omega arith))) ∙ entries_end bytes 2 (begins V.second + 4) room)
+          )
       | inl opened ↦ inr (switch_opened opened)
     ]
 
@@ -364,7 +364,7 @@ module _ {Node : Type 0} (M : Machine Node) (image : ℕ → Network Node) where
       let S = open_parts M image bytes h V at was in
       let o = begins (not V.second) in
       let same : (q : ℕ) → IsOut (o, 1) q → byte_at left q ≡ byte_at bytes q =
-          λ q out. may.same_outside q (spare_none M image bytes h V S.0 q, (subst (λ place. IsOut (place, 1) q) (sym S.1) out, tt))
+      λ q out. may.same_outside q (spare_none M image bytes h V S.0 q, (subst (λ place. IsOut (place, 1) q) (sym S.1) out, tt))
       in
       let area : (q : ℕ) → begins V.second ≤ q → q < begins V.second + 9 → byte_at left q ≡ byte_at bytes q = λ q low high. same q (apart V.second q low high) in
       let few = entries_most bytes 2 (begins V.second + 4) in
@@ -399,8 +399,7 @@ module _ {Node : Type 0} (M : Machine Node) (image : ℕ → Network Node) where
   pub small_holds : AreasHold M (small_areas M image)
   small_holds = record {
     spare = λ bytes left h reads may.
-        let V = verdict_parts M image bytes h reads in
-        (
+        let V = verdict_parts M image bytes h reads in (
           loose_keeps M image bytes h V left may.same_length (λ q out beside. may.same_outside q (out, tt)),
           loose_spare M image bytes h V left may.same_length (λ q out beside. may.same_outside q (out, tt)),
         );

@@ -3,10 +3,10 @@
 -- The device has two areas of nine bytes. An area is its gate, its generation, the number of entries in its cut, an image
 -- of one byte, two places for groups of two bytes each, and a last gate. A group is its gate and one entry: a byte that
 -- the host hands to port 0. Which network an image stands for is left open.
-use Rattle.std.specs.Prelude.{◌≡◌, ℕ, zero, suc, ◌+◌, ◌*◌, ◌==◌, nat_lt, nat_le, Bool, true, false, not, ◌||◌, if◌then◌else◌, List, [], ◌∷◌, ◌++◌, length, get_or, replicate, Option, Some, None}
+use Rattle.std.specs.Prelude.{ℕ, zero, suc, ◌+◌, ◌*◌, ◌==◌, nat_lt, nat_le, Bool, true, false, not, ◌||◌, if◌then◌else◌, List, [], ◌∷◌, length, get_or, Option, Some, None}
 use Rattle.std.specs.Option.{option_map}
 use Rattle.tp_model.specs.declared.entry.Entry.{Entry}
-use Rattle.tp_model.specs.declared.entry.Entry.TheVariants.{Run, Take, HostIn, Confirm}
+use Rattle.tp_model.specs.declared.entry.Entry.TheVariants.{HostIn}
 use Rattle.tp_model.specs.declared.limits.TheConstants.{GATE_OPEN, GATE_CLOSED}
 use Rattle.tp_model.specs.Network.{◌>>=◌, Machine, Network}
 use Rattle.tp_model.specs.Order.{after}

@@ -16,6 +16,8 @@ ghost use Rattle.tp_model.specs.Disk.{MayBe};
 ghost use Rattle.tp_model.specs.Areas.{Areas, AreasHold, next_number};
 ghost use Rattle.tp_model.specs.Runs.{World, Event, Reopens, Step, Run, IsFormatted, Recovers, reopened};
 ghost use Rattle.tp_model.specs.Acknowledged.{IsAcknowledged, IsShown};
+ghost use Rattle.tp_recover.specs.Small.{small_areas};
+ghost use Rattle.tp_recover.specs.SmallRun.{EachAnswers, Stores, one_port, made_world};
 
 /// After each run, whatever a crash leaves stands for the network after a prefix of the journal, and the prefix has each
 /// entry below a mark that was ever read. Opening it goes on with the run. What the journal has below the mark at some
@@ -56,4 +58,13 @@ pub fn every_run_holds()
         → (number line port byte : ℕ) → (s : IsShown t414 areas number line port byte first last)
         → (bytes : List ℕ) → MayBe last.disk bytes → (r : Recovers t414 areas start last bytes)
         → (number < next_number r.held) × (take (number + 1) last.journal ≡ take (number + 1) s.reading.journal) }
+{}
+
+/// What the laws of runs ask of a format can be met: a small format meets it, each of its functions answers something, and
+/// on a device made with it a run stores an entry.
+pub fn areas_can_hold()
+    ensures hold { (image : ℕ → Network NodeState) → AreasHold t414 (small_areas t414 image) }
+    ensures answers { (image : ℕ → Network NodeState) → EachAnswers t414 image }
+    ensures formatted { IsFormatted t414 (small_areas t414 (λ code. one_port)) one_port (made_world (λ code. one_port)) }
+    ensures stores { (x : ℕ) → Stores t414 (λ code. one_port) x }
 {}
