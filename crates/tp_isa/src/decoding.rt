@@ -21,7 +21,8 @@ impl Decoder {
     /// A decoder in front of an instruction's first byte.
     #[inline]
     pub fn new() -> Self
-        ensures { (bytes : List ℕ) → reads_on result bytes ≡ decoded bytes }
+        ensures answer { (bytes : List ℕ) → reads_on result bytes ≡ decoded bytes }
+        ensures count { result.count ≡ 0 }
     {
         Decoder {
             operand: 0,
@@ -34,6 +35,7 @@ impl Decoder {
     pub fn feed(&mut self, byte: u8) -> Option<Result<Instr, DecodeFault>>
         ensures answer { (rest : List ℕ) → MatchOption result (reads_on self.old (byte ∷ rest) ≡ reads_on self.new rest) (λ r. reads_on self.old (byte ∷ rest) ≡ r) }
         ensures count { IfNone result (self.new.count ≡ self.old.count + 1) }
+        ensures done { OnSome result (self.new ≡ self.old) }
     {
         match fun_at(byte) {
             None => self.prefix(byte),
@@ -41,11 +43,13 @@ impl Decoder {
         }
     }
 
+    /// Takes a prefix byte, where there is room for one more.
     #[inline(always)]
     fn prefix(&mut self, byte: u8) -> Option<Result<Instr, DecodeFault>>
         requires { is_prefix byte ≡ true }
         ensures answer { (rest : List ℕ) → MatchOption result (reads_on self.old (byte ∷ rest) ≡ reads_on self.new rest) (λ r. reads_on self.old (byte ∷ rest) ≡ r) }
         ensures count { IfNone result (self.new.count ≡ self.old.count + 1) }
+        ensures done { OnSome result (self.new ≡ self.old) }
     {
         if self.count == 16 {
             return Some(Err(DecodeFault::LongPrefix));
@@ -56,6 +60,7 @@ impl Decoder {
     }
 }
 
+/// The operand register after a prefix byte.
 #[inline(always)]
 fn prefixed(operand: u32, byte: u8) -> u32
     requires { operand % 16 ≡ 0 }
@@ -70,6 +75,7 @@ fn prefixed(operand: u32, byte: u8) -> u32
     }
 }
 
+/// The operand register with a byte's low four bits in its low end.
 #[inline(always)]
 fn filled(operand: u32, byte: u8) -> u32
     requires { operand % 16 ≡ 0 }
@@ -92,6 +98,7 @@ pub fn decode(bytes: &[u8]) -> Result<Instr, DecodeFault>
     Err(DecodeFault::NeedMore)
 }
 
+/// The instruction of a function with an operand, spelt by so many bytes.
 #[inline(always)]
 fn instr_at(fun: Fun, operand: u32, len: u8) -> Result<Instr, DecodeFault>
     ensures { result ≡ instr_at (Some fun) operand len }

@@ -117,3 +117,5 @@ is_some-stored memory (write ∷ writes) whole =
     let same = length-set_word memory (word_offset write.0) write.1 (word_within write.0 (length memory) whole within) in
     let whole_after : length after % 4 ≡ 0 = rw same whole in
     is_some-stored after writes whole_after ∙ ap (λ n. are_inside n writes) same)
+
+pub ruleset behind_a_word = (changed_outside, length-set_word, length-copied)

@@ -1,3 +1,4 @@
+pub mod After
 pub mod Bytes
 pub mod Contents
 pub mod Ranges

@@ -1,0 +1,25 @@
+//! Fetching an instruction.
+
+ghost use Rattle.std.specs.Prelude.{◌≡◌, drop};
+ghost use Rattle.tp_model.specs.Memory.{offset};
+ghost use Rattle.tp_model.specs.Coding.{decoded};
+
+use tp_isa::Decoder;
+use tp_mem::Mem;
+use tp_model::{DecodeFault, Instr};
+
+/// Reads the instruction at an address, byte by byte. The end of memory is the end of the bytes.
+#[inline(always)]
+pub(crate) fn fetch<M: Mem>(mem: &M, iptr: u32) -> Result<Instr, DecodeFault>
+    ensures { result ≡ decoded (drop (offset iptr) (M.bytes mem.now)) }
+{
+    let mut decoder = Decoder::new();
+    let mut at = iptr;
+    while let Some(byte) = mem.read_byte(at) {
+        if let Some(answer) = decoder.feed(byte) {
+            return answer;
+        }
+        at = at.wrapping_add(1);
+    }
+    Err(DecodeFault::NeedMore)
+}

@@ -1,0 +1,111 @@
+//! One step.
+
+ghost use Rattle.std.specs.Prelude.{◌≡◌, Ok, IsSome};
+ghost use Rattle.tp_model.specs.Step.{executed, instruction, idle, in_state, step_of, MakesStep};
+ghost use Rattle.tp_proc.specs.Ends.{Does, MayRefuse};
+ghost use Rattle.tp_cpu.specs.Acts.{Acts, OnNoFrame, fault_of};
+
+use crate::effect::effect;
+use crate::fetch::fetch;
+use tp_mem::Mem;
+use tp_model::{Cpu, DecodeFault, Fault, Instr, State, StepEnd};
+use tp_proc::{
+    KEPT_AT, NOT_PROCESS, Undone, dispatch_high, dispatch_low, interrupt, load, pass, restore,
+};
+
+/// Why a node halts at bytes that are no instruction. Bytes that end too soon end outside memory.
+#[inline(always)]
+fn fault_of(fault: DecodeFault) -> Fault
+    ensures { result ≡ fault_of fault }
+{
+    match fault {
+        DecodeFault::NeedMore => Fault::BadAddress,
+        DecodeFault::LongPrefix => Fault::LongPrefix,
+        DecodeFault::UnknownOp => Fault::UnknownOp,
+    }
+}
+
+/// Does an instruction that was read. It counts in the slice, and the instruction pointer moves past it first.
+#[inline(always)]
+fn execute<M: Mem>(cpu: &mut Cpu, mem: &mut M, instr: Instr) -> Result<(), Undone>
+    ensures does { Does (executed (Ok instr)) (MayRefuse (M.may_refuse mem.old)) cpu.old (M.bytes mem.old) result cpu.new (M.bytes mem.new) }
+    ensures kept { M.frozen mem.new ≡ M.frozen mem.old }
+{
+    let iptr = cpu.iptr;
+    let slice = cpu.slice;
+    pass(cpu, iptr.wrapping_add(u32::from(instr.len)));
+    match effect(cpu, mem, instr.fun, instr.operand.cast_unsigned()) {
+        Ok(()) => Ok(()),
+        Err(undone) => {
+            cpu.iptr = iptr;
+            cpu.slice = slice;
+            Err(undone)
+        }
+    }
+}
+
+/// Reads an instruction and does it.
+#[inline(always)]
+fn instruction<M: Mem>(cpu: &mut Cpu, mem: &mut M) -> Result<(), Undone>
+    ensures does { Does instruction (MayRefuse (M.may_refuse mem.old)) cpu.old (M.bytes mem.old) result cpu.new (M.bytes mem.new) }
+    ensures kept { M.frozen mem.new ≡ M.frozen mem.old }
+{
+    match fetch(mem, cpu.iptr) {
+        Ok(instr) => execute(cpu, mem, instr),
+        Err(fault) => Err(Undone::Faulty(fault_of(fault))),
+    }
+}
+
+/// With nothing to run: a high process comes first, then the low one that was interrupted, then another low one.
+fn idle<M: Mem>(cpu: &mut Cpu, mem: &mut M) -> Option<Result<(), Undone>>
+    ensures acts { Acts idle (MayRefuse (M.may_refuse mem.old)) cpu.old (M.bytes mem.old) result cpu.new (M.bytes mem.new) }
+    ensures kept { M.frozen mem.new ≡ M.frozen mem.old }
+{
+    if cpu.high.front != NOT_PROCESS {
+        return Some(dispatch_high(cpu, mem));
+    }
+    match load(mem, KEPT_AT) {
+        Err(undone) => Some(Err(undone)),
+        Ok(NOT_PROCESS) if cpu.low.front == NOT_PROCESS => None,
+        Ok(NOT_PROCESS) => Some(dispatch_low(cpu, mem)),
+        Ok(kept) => Some(restore(cpu, mem, kept)),
+    }
+}
+
+/// What the processor does in its state.
+#[inline(always)]
+fn act<M: Mem>(cpu: &mut Cpu, mem: &mut M) -> Option<Result<(), Undone>>
+    ensures acts { Acts (λ cpu. in_state cpu.state cpu) (MayRefuse (M.may_refuse mem.old)) cpu.old (M.bytes mem.old) result cpu.new (M.bytes mem.new) }
+    ensures kept { M.frozen mem.new ≡ M.frozen mem.old }
+{
+    match cpu.state {
+        State::Idle => idle(cpu, mem),
+        State::Low if cpu.high.front != NOT_PROCESS => Some(interrupt(cpu, mem)),
+        _ => Some(instruction(cpu, mem)),
+    }
+}
+
+/// Makes one step of the processor, if there is one.
+#[inline]
+#[tactic(auto, unfolding(tp_model::specs::Step::step_of))]
+pub fn step<M: Mem>(cpu: &mut Cpu, mem: &mut M) -> StepEnd
+    ensures makes { MakesStep (step_of cpu.old (M.bytes mem.old)) cpu.old (M.bytes mem.old) result cpu.new (M.bytes mem.new) }
+    ensures kept { M.frozen mem.new ≡ M.frozen mem.old }
+    ensures refusal { OnNoFrame result (MayRefuse (M.may_refuse mem.old)) }
+    ensures frozen { OnNoFrame result (IsSome (M.frozen mem.old)) }
+{
+    if cpu.halt.is_some() {
+        return StepEnd::Idle;
+    }
+    match act(cpu, mem) {
+        None => StepEnd::Idle,
+        Some(Ok(())) => StepEnd::Done,
+        Some(Err(Undone::NoFrame)) => StepEnd::NoFrame,
+        Some(Err(Undone::Faulty(fault))) => {
+            cpu.halt = Some(fault);
+            StepEnd::Halted(fault)
+        }
+        Some(Err(Undone::Asks(request))) => StepEnd::LinkOut(request),
+        Some(Err(Undone::Wants(request))) => StepEnd::LinkIn(request),
+    }
+}

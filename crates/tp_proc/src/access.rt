@@ -1,0 +1,64 @@
+//! Reads and writes of memory, as parts of a step.
+
+ghost use Rattle.std.specs.Prelude.{◌≡◌, [], ◌∷◌};
+ghost use Rattle.tp_model.specs.Memory.{byte_at, word_at, stored, byte_stored, copied, changed};
+ghost use Rattle.tp_proc.specs.Ends.{Finds, Writes, MayRefuse};
+
+use crate::undone::{BAD_ADDRESS, Undone};
+use tp_mem::{Mem, WriteFault};
+
+/// The word of an address.
+#[inline(always)]
+pub fn load<M: Mem>(mem: &M, address: u32) -> Result<u32, Undone>
+    ensures { Finds (word_at (M.bytes mem.now) address) result }
+{
+    match mem.read_word(address) {
+        None => Err(BAD_ADDRESS),
+        Some(word) => Ok(word),
+    }
+}
+
+/// Writes the word of an address.
+#[inline(always)]
+pub fn store<M: Mem>(mem: &mut M, address: u32, word: u32) -> Result<(), Undone>
+    ensures written { Writes (stored (M.bytes mem.old) ((address, word) ∷ [])) (MayRefuse (M.may_refuse mem.old)) (M.bytes mem.old) result (M.bytes mem.new) }
+    ensures kept { M.frozen mem.new ≡ M.frozen mem.old }
+{
+    match mem.write_word(address, word) {
+        Ok(()) => Ok(()),
+        Err(WriteFault::Outside) => Err(BAD_ADDRESS),
+        Err(WriteFault::NoFrame) => Err(Undone::NoFrame),
+    }
+}
+
+/// Writes words, one after another.
+#[inline(always)]
+pub fn store_all<M: Mem>(mem: &mut M, writes: &[(u32, u32)]) -> Result<(), Undone>
+    ensures written { Writes (stored (M.bytes mem.old) writes.now) (MayRefuse (M.may_refuse mem.old)) (M.bytes mem.old) result (M.bytes mem.new) }
+    ensures kept { M.frozen mem.new ≡ M.frozen mem.old }
+{
+    match mem.write_words(writes) {
+        Ok(()) => Ok(()),
+        Err(WriteFault::Outside) => Err(BAD_ADDRESS),
+        Err(WriteFault::NoFrame) => Err(Undone::NoFrame),
+    }
+}
+
+/// Copies `count` bytes, which are read whole first, and then writes words.
+#[inline(always)]
+pub fn change<M: Mem>(
+    mem: &mut M,
+    to: u32,
+    from: u32,
+    count: u32,
+    writes: &[(u32, u32)],
+) -> Result<(), Undone>
+    ensures written { Writes (changed (M.bytes mem.old) to from count writes.now) (MayRefuse (M.may_refuse mem.old)) (M.bytes mem.old) result (M.bytes mem.new) }
+    ensures kept { M.frozen mem.new ≡ M.frozen mem.old }
+{
+    match mem.change(to, from, count, writes) {
+        Ok(()) => Ok(()),
+        Err(WriteFault::Outside) => Err(BAD_ADDRESS),
+        Err(WriteFault::NoFrame) => Err(Undone::NoFrame),
+    }
+}

@@ -1,0 +1,100 @@
+//! The two queues of processes that are ready.
+
+ghost use Rattle.std.specs.Prelude.{◌≡◌, option_to_list};
+ghost use Rattle.tp_model.specs.Memory.{stored};
+ghost use Rattle.tp_model.specs.Outcome.{leaves};
+ghost use Rattle.tp_model.specs.Processor.{link_writes, joined, queue_writes, queued, rest_of_queue};
+ghost use Rattle.tp_proc.specs.Ends.{Does, Finds, MayRefuse};
+
+use crate::access::{load, store};
+use crate::undone::Undone;
+use crate::workspaces::{has_low_priority, link_at, workspace};
+use tp_mem::Mem;
+use tp_model::{Cpu, Queue};
+
+/// The word that names no process.
+pub const NOT_PROCESS: u32 = 0x8000_0000;
+
+/// What is written where a process joins the back of a queue.
+#[inline(always)]
+pub(crate) fn link_write(wptr: u32, queue: Queue) -> Option<(u32, u32)>
+    ensures { option_to_list result ≡ link_writes wptr queue }
+{
+    if queue.front == NOT_PROCESS {
+        None
+    } else {
+        Some((link_at(queue.back), wptr))
+    }
+}
+
+/// The queue with a process at its back.
+#[inline(always)]
+pub(crate) fn joined(wptr: u32, queue: Queue) -> Queue
+    ensures { result ≡ joined wptr queue }
+{
+    if queue.front == NOT_PROCESS {
+        Queue {
+            front: wptr,
+            back: wptr,
+        }
+    } else {
+        Queue {
+            back: wptr,
+            ..queue
+        }
+    }
+}
+
+/// What is written where the process of a descriptor joins the queue of its priority.
+#[inline]
+pub fn queue_write(descriptor: u32, cpu: &Cpu) -> Option<(u32, u32)>
+    ensures { option_to_list result ≡ queue_writes descriptor cpu.now }
+{
+    if has_low_priority(descriptor) {
+        link_write(workspace(descriptor), cpu.low)
+    } else {
+        link_write(workspace(descriptor), cpu.high)
+    }
+}
+
+/// The process of a descriptor is at the back of the queue of its priority.
+#[inline]
+pub fn queue(descriptor: u32, cpu: &mut Cpu)
+    ensures { cpu.new ≡ queued descriptor cpu.old }
+{
+    if has_low_priority(descriptor) {
+        cpu.low = joined(workspace(descriptor), cpu.low);
+    } else {
+        cpu.high = joined(workspace(descriptor), cpu.high);
+    }
+}
+
+/// Queues the process of a descriptor.
+pub fn enqueue<M: Mem>(cpu: &mut Cpu, mem: &mut M, descriptor: u32) -> Result<(), Undone>
+    ensures does { Does (λ cpu memory. leaves (stored memory (queue_writes descriptor cpu)) (queued descriptor cpu)) (MayRefuse (M.may_refuse mem.old)) cpu.old (M.bytes mem.old) result cpu.new (M.bytes mem.new) }
+    ensures kept { M.frozen mem.new ≡ M.frozen mem.old }
+{
+    if let Some((address, word)) = queue_write(descriptor, cpu) {
+        store(mem, address, word)?;
+    }
+    queue(descriptor, cpu);
+    Ok(())
+}
+
+/// What a queue is when its front process has left it.
+#[inline(always)]
+pub(crate) fn rest_of_queue<M: Mem>(queue: Queue, mem: &M) -> Result<Queue, Undone>
+    ensures { Finds (rest_of_queue queue (M.bytes mem.now)) result }
+{
+    if queue.front == queue.back {
+        return Ok(Queue {
+            front: NOT_PROCESS,
+            ..queue
+        });
+    }
+    let next = load(mem, link_at(queue.front))?;
+    Ok(Queue {
+        front: next,
+        ..queue
+    })
+}
