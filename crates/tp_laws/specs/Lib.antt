@@ -1,3 +1,4 @@
+pub mod BothWays
 pub mod Choosing
 pub mod Meeting
 pub mod OneDevice

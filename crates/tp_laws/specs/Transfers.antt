@@ -65,3 +65,9 @@ abbrev pub has_got_none : InEnd → NodeState
 has_got_none end = record (gets 0 end) {
   cpu = record (running 0x8000_0101 0x8000_0200) { regs = regs 0 0x8000_0013 0x8000_0300; slice = 1 };
 }
+
+-- A low process is at an output on this channel, by one byte of code, while another one waits at the output end of link 0.
+abbrev pub puts : ℕ → ℕ → ℕ → NodeState
+puts code channel wptr = record (node (record (running 0x8000_0100 wptr) { regs = regs 4 channel 0x8000_0300 }) (with_bytes 0x8000_0100 (code ∷ []) blank)) {
+  outputs = outputs (Waits (transfer 0x8000_0281 0x8000_0300 1));
+}

@@ -1,7 +1,7 @@
 //! Entries, groups and images as bytes, and the room that they have.
 #![tactic(auto, unfolding(tp_model::specs::EntryBytes::entry_at, tp_model::specs::Group::rows_at, tp_model::specs::Group::rows_behind, tp_model::specs::Image::image_head))]
 
-ghost use Rattle.std.specs.Prelude.{◌≡◌, ◌++◌, [], ◌∷◌, true, false, take};
+ghost use Rattle.std.specs.Prelude.{◌≡◌, ◌++◌, [], ◌∷◌, true, false, take, drop};
 ghost use Rattle.tp_model.specs.declared.link.Token.TheVariants.{Data, Ack};
 ghost use Rattle.tp_model.specs.declared.entry.Entry.TheVariants.{Run, Take, HostIn, Confirm};
 ghost use Rattle.tp_model.specs.Bytes.{zeros};
@@ -37,7 +37,7 @@ pub fn a_group_is_read()
     ensures group { group_at (short_run ++ 0 ∷ []) ≡ Ok (Some (rows_of ((Run 0 5, 7) ∷ []))) }
     ensures no_gate { group_at short_run ≡ Err (record {}) }
     ensures short { group_at (take 20 short_run) ≡ Err (record {}) }
-    ensures closed { group_at (0xA4 ∷ short_run) ≡ Ok None }
+    ensures closed { group_at (0xA4 ∷ drop 1 short_run) ≡ Ok None }
 {}
 
 /// The head of the image of a node that runs a low process: version and pages, the instruction pointer, the workspace,

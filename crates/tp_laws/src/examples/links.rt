@@ -8,7 +8,7 @@ ghost use Rattle.tp_model.specs.declared.link.InEnd.TheVariants.{Idle, Enabled};
 ghost use Rattle.tp_model.specs.Network.{steps};
 ghost use Rattle.tp_model.specs.Node.{t414, took, halted};
 ghost use Rattle.tp_laws.specs.Start.{queue};
-ghost use Rattle.tp_laws.specs.Transfers.{sends, awaits, has_sent, jumps, has_jumped, gets, has_got_one, has_got_first, has_got_both, has_got_none};
+ghost use Rattle.tp_laws.specs.Transfers.{sends, awaits, has_sent, jumps, has_jumped, gets, has_got_one, has_got_first, has_got_both, has_got_none, puts};
 ghost use Rattle.tp_laws.specs.Choosing.{hears, has_heard, cannot_queue};
 
 /// The node sends a byte, has no step until the acknowledge comes, and then has its process in the queue.
@@ -39,6 +39,14 @@ pub fn a_link_may_be_busy()
     ensures busy { steps t414 1 (gets 0xFFFF_FFFF (Enabled 0x8000_0281)) ≡ Some (halted LinkBusy (gets 0xFFFF_FFFF (Enabled 0x8000_0281)), []) }
     ensures nothing { steps t414 1 (gets 0 (Enabled 0x8000_0281)) ≡ Some (has_got_none (Enabled 0x8000_0281), []) }
     ensures outside { steps t414 1 (gets 0xFFFF_FFFF (Idle (Some 7))) ≡ Some (halted BadAddress (gets 0xFFFF_FFFF (Idle (Some 7))), []) }
+{}
+
+/// `out` on a link's input word; `outbyte` where the output end waits; and that again with a workspace outside memory,
+/// where the byte would be stored first.
+pub fn outputs_are_refused()
+    ensures direction { steps t414 1 (puts 0xFB 0x8000_0010 0x8000_0200) ≡ Some (halted BadAddress (puts 0xFB 0x8000_0010 0x8000_0200), []) }
+    ensures busy { steps t414 1 (puts 0xFE 0x8000_0000 0x8000_0200) ≡ Some (halted LinkBusy (puts 0xFE 0x8000_0000 0x8000_0200), []) }
+    ensures workspace { steps t414 1 (puts 0xFE 0x8000_0000 0x200) ≡ Some (halted BadAddress (puts 0xFE 0x8000_0000 0x200), []) }
 {}
 
 /// Data at an end that an alternative enabled is held, and the alternative is ready. What can't be done is left undone.
