@@ -1,10 +1,13 @@
 //! The words of a topology's text.
 
-ghost use Rattle.std.specs.Prelude.{◌≡◌, ◌==◌, ◌<◌, if◌then◌else◌, Some, None, length, map, filter, not, get_or, option_copied, IfOk, MatchOption, ◌∷◌, []};
+ghost use Rattle.std.specs.Prelude.{◌≡◌, ◌==◌, ◌<◌, if◌then◌else◌, Some, None, length, map, filter, not, get_or, option_copied, position, IfOk, IfSome, MatchOption, ◌∷◌, []};
+ghost use Rattle.std.specs.Option.{option_map};
 ghost use Rattle.std.specs.List.{list_all, slice_split};
-ghost use Rattle.std.specs.Str.Lines.{lines};
+ghost use Rattle.std.specs.Str.Lines.{lines, strip_carriage_return};
 ghost use Rattle.std.specs.Str.Parse.{digits_value};
 ghost use Rattle.tp_model.specs.TopologyWords.{has_space_around, is_digit, is_letter, is_link_digit, is_name, is_name_byte, is_pages, is_skipped, named_end, words};
+
+ghost use Rattle.tp_net.specs.Ends.{end_of_parts, link_in};
 
 use std::alloc::{AllocError, Global};
 use tp_model::limits::{MAX_NAME, MAX_PAGES, MIN_PAGES};
@@ -108,5 +111,77 @@ fn name_in(word: &[u8]) -> Option<&str>
     match str::from_utf8(word) {
         Ok(name) => Some(name),
         Err(_) => None,
+    }
+}
+
+/// The end of a wire as the text names it: a name, with the number of a link or without.
+#[derive(Clone, Copy)]
+pub(crate) struct EndName<'a> {
+    pub(crate) name: &'a str,
+    pub(crate) link: Option<u8>,
+}
+
+/// The end that a word names, if it names one.
+pub(crate) fn end_in(word: &[u8]) -> Option<EndName<'_>>
+    ensures { option_map (λ end. (end.name.now, end.link)) result ≡ named_end word.now }
+{
+    let (front, digits) = cut_at_dot(word);
+    let name = name_in(front)?;
+    let Some(digits) = digits else {
+        return Some(EndName { name, link: None });
+    };
+    let link = link_in(digits)?;
+    Some(EndName {
+        name,
+        link: Some(link),
+    })
+}
+
+/// What stands in front of a word's first dot, and behind it if there is one.
+fn cut_at_dot(word: &[u8]) -> (&[u8], Option<&[u8]>)
+    ensures { named_end word.now ≡ end_of_parts result.0.now (option_copied result.1) }
+{
+    match place_of(b'.', word) {
+        Some(at) => (&word[..at], Some(&word[at + 1..])),
+        None => (word, None),
+    }
+}
+
+/// The number of a link.
+fn link_in(digits: &[u8]) -> Option<u8>
+    ensures { result ≡ link_in digits.now }
+{
+    match digits {
+        [digit @ b'0'..=b'3'] => Some(*digit - b'0'),
+        _ => None,
+    }
+}
+
+fn place_of(byte: u8, bytes: &[u8]) -> Option<usize>
+    ensures value { result ≡ position (λ other. other == byte) bytes.now }
+    ensures bound { IfSome result (λ at. at < length bytes.now) }
+{
+    bytes.iter().position(|other| *other == byte)
+}
+
+/// The first line of a text, and what stands behind it. Lines end in LF; a CR before it is dropped.
+pub(crate) fn next_line(text: &[u8]) -> Option<(&[u8], &[u8])>
+    ensures { MatchOption result (lines text.now ≡ []) (λ parts. (lines text.now ≡ parts.0.now ∷ lines parts.1.now) × (length parts.1.now < length text.now)) }
+{
+    if text.is_empty() {
+        return None;
+    }
+    match place_of(b'\n', text) {
+        Some(at) => Some((without_return(&text[..at]), &text[at + 1..])),
+        None => Some((text, &text[text.len()..])),
+    }
+}
+
+fn without_return(line: &[u8]) -> &[u8]
+    ensures { result.now ≡ strip_carriage_return line.now }
+{
+    match line.split_last() {
+        Some((b'\r', front)) => front,
+        _ => line,
     }
 }
