@@ -2,5 +2,6 @@
 #![tactic(auto)]
 
 mod line;
+mod words;
 
 pub use line::{LINE_TOKENS, Lines};
