@@ -1,3 +1,4 @@
 pub mod Moments
 pub mod Calls
 pub mod Torn
+pub mod Agree

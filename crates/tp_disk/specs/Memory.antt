@@ -2,6 +2,7 @@
 use Rattle.std.specs.Prelude.{◌≡◌, ℕ, ◌+◌, Bool, map}
 use Rattle.tp_model.specs.Disk.{Moment, Call}
 use Rattle.tp_model.specs.DiskHistory.{State, Goes}
+use Rattle.tp_disk.specs.declared.counted.Counted.{Counted}
 use Rattle.tp_disk.specs.declared.memory.RawMemory.{RawMemory}
 use Rattle.tp_disk.specs.declared.plan.Outcome.{Outcome}
 use Rattle.tp_disk.specs.declared.plan.Plan.{Plan}
@@ -13,6 +14,14 @@ memory_state memory = record {
   now = record { bytes = memory.bytes.items; unsynced = memory.unsynced.items };
   past = map (λ before. record { bytes = before.0.items; unsynced = before.1.items }) memory.past.items;
 }
+
+-- the same of one that counts its failures
+abbrev pub disk_state : Counted RawMemory → State
+disk_state disk = memory_state disk.raw
+
+-- what its calls come to
+abbrev pub disk_plan : Counted RawMemory → Plan
+disk_plan disk = disk.raw.plan
 
 -- A call came to what was planned, and the moment before it is past.
 pub record CameTo (outcome : Outcome) (call : Call) (is_ok : Bool) (old new : State) : Type 0 where

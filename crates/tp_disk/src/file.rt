@@ -5,7 +5,7 @@ ghost use Rattle.tp_model.specs.DiskHistory.{unknown};
 ghost use Rattle.tp_disk.specs.File.{file_keeps, no_file};
 
 use crate::counted::Counted;
-use crate::disk::DeviceFailed;
+use crate::disk::{DeviceFailed, Disk};
 use crate::raw::RawDisk;
 use std::fs::{File, OpenOptions};
 use std::io;
@@ -50,11 +50,9 @@ impl RawDisk for RawFile {
 }
 
 impl Counted<RawFile> {
-    ghost use Rattle.tp_disk.specs.Failures.{number};
-
     /// The device in the file at this path, which has as many bytes as the file.
     pub fn open<R: Files<File = File>>(rt: &R, path: &str) -> io::Result<FileDisk>
-        ensures { IfOk result (λ disk. number disk.failed ≡ 0) }
+        ensures { IfOk result (λ disk. ⟦<FileDisk as Disk>⟧.failures_of disk ≡ 0) }
     {
         let file = OpenOptions::new().read(true).write(true).open(rt, path)?;
         let size = file.metadata()?.len();
@@ -63,8 +61,8 @@ impl Counted<RawFile> {
 
     /// A new file of so many bytes, all of them 0. A file of that path loses what it had.
     pub fn create<R: Files<File = File>>(rt: &R, path: &str, size: u64) -> io::Result<FileDisk>
-        ensures size { IfOk result (λ disk. disk.raw.size ≡ size) }
-        ensures failures { IfOk result (λ disk. number disk.failed ≡ 0) }
+        ensures size { IfOk result (λ disk. ⟦<FileDisk as Disk>⟧.size_of disk ≡ size) }
+        ensures failures { IfOk result (λ disk. ⟦<FileDisk as Disk>⟧.failures_of disk ≡ 0) }
     {
         let file = OpenOptions::new()
             .read(true)

@@ -5,7 +5,7 @@ ghost use Rattle.tp_model.specs.Disk.{MayBe, Write, Sync, Read, written};
 ghost use Rattle.tp_model.specs.DiskHistory.{IsSynced};
 
 use crate::counted::Counted;
-use crate::disk::DeviceFailed;
+use crate::disk::{DeviceFailed, Disk};
 use crate::plan::{Fault, Outcome, Plan};
 use crate::raw::RawDisk;
 use http_server::Log;
@@ -129,15 +129,14 @@ impl RawDisk for RawMemory {
 
 impl Counted<RawMemory> {
     ghost use Rattle.tp_disk.specs.declared.plan.Outcome.{Outcome};
-    ghost use Rattle.tp_disk.specs.Failures.{number};
-    ghost use Rattle.tp_disk.specs.Plan.{becomes, planned};
-    ghost use Rattle.tp_disk.specs.Memory.{memory_state};
+        ghost use Rattle.tp_disk.specs.Plan.{becomes, planned};
+    ghost use Rattle.tp_disk.specs.Memory.{disk_state, disk_plan};
 
     /// A device that holds these bytes. No call of it has a fault.
     pub fn of_bytes(bytes: Vec<u8>) -> MemDisk
-        ensures state { memory_state result.raw ≡ record { now = record { bytes = bytes.items; unsynced = [] }; past = [] } }
-        ensures faultless { (n : ℕ) → becomes result.raw.plan n ≡ Outcome.Done }
-        ensures failures { number result.failed ≡ 0 }
+        ensures state { disk_state result ≡ record { now = record { bytes = bytes.items; unsynced = [] }; past = [] } }
+        ensures faultless { (n : ℕ) → becomes (disk_plan result) n ≡ Outcome.Done }
+        ensures failures { ⟦<MemDisk as Disk>⟧.failures_of result ≡ 0 }
     {
         Counted::new(RawMemory {
             bytes,
@@ -147,9 +146,11 @@ impl Counted<RawMemory> {
         })
     }
 
-    /// A device of so many bytes, all of them 0.
+    /// A device of so many bytes, all of them 0. No call of it has a fault.
     pub fn zeroed(alloc: Global, size: usize) -> Result<MemDisk, AllocError>
-        ensures { IfOk result (λ disk. memory_state disk.raw ≡ record { now = record { bytes = replicate size 0; unsynced = [] }; past = [] }) }
+        ensures faultless { IfOk result (λ disk. (n : ℕ) → becomes (disk_plan disk) n ≡ Outcome.Done) }
+        ensures failures { IfOk result (λ disk. ⟦<MemDisk as Disk>⟧.failures_of disk ≡ 0) }
+        ensures state { IfOk result (λ disk. disk_state disk ≡ record { now = record { bytes = replicate size 0; unsynced = [] }; past = [] }) }
     {
         let mut bytes = Vec::new(alloc);
         bytes.resize(size, 0)?;
@@ -158,9 +159,9 @@ impl Counted<RawMemory> {
 
     /// The call with this number from now on has the fault, where the next one has number 0, and no other one has one.
     pub fn with_fault(self, call: u64, fault: Fault) -> MemDisk
-        ensures state { memory_state result.raw ≡ memory_state self.raw }
-        ensures planned { (n : ℕ) → becomes result.raw.plan n ≡ planned (Some fault) call n }
-        ensures failures { number result.failed ≡ number self.failed }
+        ensures state { disk_state result ≡ disk_state self }
+        ensures planned { (n : ℕ) → becomes (disk_plan result) n ≡ planned (Some fault) call n }
+        ensures failures { ⟦<MemDisk as Disk>⟧.failures_of result ≡ ⟦<MemDisk as Disk>⟧.failures_of self }
     {
         let mut disk = self;
         disk.raw.plan = Plan::with_fault(call, fault);
@@ -169,15 +170,15 @@ impl Counted<RawMemory> {
 
     /// What a read would give.
     pub fn bytes(&self) -> &[u8]
-        ensures { result.now ≡ (memory_state self.now.raw).now.bytes }
+        ensures { result.now ≡ (disk_state self.now).now.bytes }
     {
         &self.raw.bytes
     }
 
     /// What is left after a crash: what stood, which is one of the contents that the crash may leave.
     pub fn crash(self) -> Vec<u8>
-        ensures stood { result.items ≡ (memory_state self.raw).now.bytes }
-        ensures may { MayBe (memory_state self.raw).now result.items }
+        ensures stood { result.items ≡ (disk_state self).now.bytes }
+        ensures may { MayBe (disk_state self).now result.items }
     {
         self.raw.bytes
     }
