@@ -2,3 +2,4 @@ pub mod EndsAsBytes
 pub mod FirstStored
 pub mod Images
 pub mod Pieces
+pub mod Taken
