@@ -16,5 +16,5 @@ mod output;
 mod rules;
 mod take;
 
-pub use fault::ImageFault;
+pub use fault::{ImageFault, NoFrame};
 pub use node::Node;

@@ -2,7 +2,6 @@
 
 ghost use Rattle.std.specs.Prelude.{◌≡◌, ℕ, ◌<◌, List, None, IsSome};
 ghost use Rattle.tp_model.specs.Node.{placed, took_token};
-ghost use Rattle.tp_proc.specs.Ends.{MayRefuse};
 ghost use Rattle.tp_node.specs.First.{first_stored};
 ghost use Rattle.tp_node.specs.StateWith.{state_with};
 ghost use Rattle.tp_node.specs.Takes.{Takes, next_byte};
@@ -45,7 +44,7 @@ pub(crate) fn take_data<M: Mem>(
 ) -> Result<Option<Token>, NoFrame>
     requires link { link < 4 }
     requires can { IsSome (took_token (state_with head.old (M.bytes mem.old)) link (Token.Data byte)) }
-    ensures takes { Takes (took_token (state_with head.old (M.bytes mem.old)) link (Token.Data byte)) (MayRefuse (M.may_refuse mem.old)) link (state_with head.old (M.bytes mem.old)) result (state_with head.new (M.bytes mem.new)) }
+    ensures takes { Takes (took_token (state_with head.old (M.bytes mem.old)) link (Token.Data byte)) (IsSome (M.frozen mem.old)) link (state_with head.old (M.bytes mem.old)) result (state_with head.new (M.bytes mem.new)) }
     ensures kept { M.frozen mem.new ≡ M.frozen mem.old }
 {
     let mut engine = head.inputs[link];
@@ -63,7 +62,7 @@ pub(crate) fn take_ack<M: Mem>(
 ) -> Result<Option<Token>, NoFrame>
     requires link { link < 4 }
     requires can { IsSome (took_token (state_with head.old (M.bytes mem.old)) link Token.Ack) }
-    ensures takes { Takes (took_token (state_with head.old (M.bytes mem.old)) link Token.Ack) (MayRefuse (M.may_refuse mem.old)) link (state_with head.old (M.bytes mem.old)) result (state_with head.new (M.bytes mem.new)) }
+    ensures takes { Takes (took_token (state_with head.old (M.bytes mem.old)) link Token.Ack) (IsSome (M.frozen mem.old)) link (state_with head.old (M.bytes mem.old)) result (state_with head.new (M.bytes mem.new)) }
     ensures kept { M.frozen mem.new ≡ M.frozen mem.old }
 {
     let mut engine = head.outputs[link];

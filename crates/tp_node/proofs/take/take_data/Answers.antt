@@ -1,6 +1,5 @@
-use Rattle.std.proofs.Common.{◌<◌, length, get_or, ◌∙◌, arith}
+use Rattle.std.proofs.Common.{◌<◌, length, get_or, IsSome, ◌∙◌, arith}
 use Rattle.std.proofs.lemmas.Option.{slice_get-get_or}
-use Rattle.tp_proc.specs.Ends.{MayRefuse}
 use Rattle.tp_node.specs.StateWith.{state_with}
 use Rattle.tp_node.proofs.Taken.{data_taken}
 use Rattle.tp_node.proofs.take.take_data.Goals as goal
@@ -11,7 +10,7 @@ returns-clause-takes g c =
     let memory = g.M.Mem.bytes c.args.mem.now in
     let inside : c.args.link < length inputs = omega arith in
     data_taken (state_with c.args.head.now memory) c.args.link c.args.byte (get_or inputs c.args.link c.index-head-link.result) c.on_data-arrival.new.self c.on_data-arrival.result
-    (MayRefuse (g.M.Mem.may_refuse c.args.mem.now)) c.tell.new.cpu (g.M.Mem.bytes c.tell.new.mem)
+    (IsSome (g.M.Mem.frozen c.args.mem.now)) c.tell.new.cpu (g.M.Mem.bytes c.tell.new.mem)
     (slice_get-get_or inputs c.args.link c.index-head-link.result inside)
     c.on_data-arrival.ensures
     c.requires.can
