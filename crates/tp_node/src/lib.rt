@@ -14,6 +14,7 @@ mod node;
 mod number;
 mod output;
 mod rules;
+mod step;
 mod take;
 
 pub use fault::{ImageFault, NoFrame};
