@@ -1,4 +1,6 @@
 pub mod EndsAsBytes
 pub mod FirstStored
 pub mod Images
+pub mod OneMore
 pub mod Pieces
+pub mod Taken

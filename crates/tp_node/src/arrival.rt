@@ -3,7 +3,6 @@
 ghost use Rattle.std.specs.Prelude.{◌≡◌, ℕ, List, Some, IsSome};
 ghost use Rattle.tp_model.specs.Node.{bad_address, wake, tell};
 ghost use Rattle.tp_model.specs.NodeState.{NodeState};
-ghost use Rattle.tp_proc.specs.Ends.{MayRefuse};
 ghost use Rattle.tp_node.specs.First.{GoesWith, first_stored};
 ghost use Rattle.tp_node.specs.Hears.{Hears, with_both};
 
@@ -36,7 +35,7 @@ fn wake<M: Mem>(
     descriptor: u32,
 ) -> Result<(), NoFrame>
     requires { IsSome (first_stored first (M.bytes mem.old)) }
-    ensures hears { Hears (wake descriptor) (first_stored first (M.bytes mem.old)) (MayRefuse (M.may_refuse mem.old)) cpu.old (M.bytes mem.old) result cpu.new (M.bytes mem.new) }
+    ensures hears { Hears (wake descriptor) (first_stored first (M.bytes mem.old)) (IsSome (M.frozen mem.old)) cpu.old (M.bytes mem.old) result cpu.new (M.bytes mem.new) }
     ensures kept { M.frozen mem.new ≡ M.frozen mem.old }
 {
     let _len = mem.len();
@@ -62,7 +61,7 @@ fn wake<M: Mem>(
 /// A partner has come for the alternative of a descriptor.
 #[tactic(auto, using(crate::proofs::FirstStored::word_behind))]
 fn signal<M: Mem>(cpu: &mut Cpu, mem: &mut M, descriptor: u32) -> Result<(), NoFrame>
-    ensures hears { Hears (tell (News.Alternative descriptor)) (Some (M.bytes mem.old)) (MayRefuse (M.may_refuse mem.old)) cpu.old (M.bytes mem.old) result cpu.new (M.bytes mem.new) }
+    ensures hears { Hears (tell (News.Alternative descriptor)) (Some (M.bytes mem.old)) (IsSome (M.frozen mem.old)) cpu.old (M.bytes mem.old) result cpu.new (M.bytes mem.new) }
     ensures kept { M.frozen mem.new ≡ M.frozen mem.old }
 {
     let address = state_at(workspace(descriptor));
@@ -90,7 +89,7 @@ pub(crate) fn tell<M: Mem>(
 ) -> Result<(), NoFrame>
     requires inside { IsSome (first_stored first (M.bytes mem.old)) }
     requires alone { GoesWith first news }
-    ensures hears { Hears (tell news) (first_stored first (M.bytes mem.old)) (MayRefuse (M.may_refuse mem.old)) cpu.old (M.bytes mem.old) result cpu.new (M.bytes mem.new) }
+    ensures hears { Hears (tell news) (first_stored first (M.bytes mem.old)) (IsSome (M.frozen mem.old)) cpu.old (M.bytes mem.old) result cpu.new (M.bytes mem.new) }
     ensures kept { M.frozen mem.new ≡ M.frozen mem.old }
 {
     match news {

@@ -1,7 +1,6 @@
 //! What a token puts into memory.
 
 ghost use Rattle.std.specs.Prelude.{◌≡◌, Some, IsSome, OnOk, OnErr};
-ghost use Rattle.tp_proc.specs.Ends.{MayRefuse};
 ghost use Rattle.tp_node.specs.First.{stored_behind};
 
 use crate::fault::NoFrame;
@@ -22,7 +21,7 @@ impl First {
         ensures ok { OnOk result (stored_behind self behind.now (M.bytes mem.old) ≡ Some (M.bytes mem.new)) }
         ensures err { OnErr result (M.bytes mem.new ≡ M.bytes mem.old) }
         ensures kept { M.frozen mem.new ≡ M.frozen mem.old }
-        ensures refusal { OnErr result (MayRefuse (M.may_refuse mem.old)) }
+        ensures refusal { OnErr result (IsSome (M.frozen mem.old)) }
     {
         let written = match self {
             First::Nothing => mem.write_words(behind),

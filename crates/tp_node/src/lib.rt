@@ -14,6 +14,8 @@ mod node;
 mod number;
 mod output;
 mod rules;
+mod step;
+mod take;
 
-pub use fault::ImageFault;
+pub use fault::{ImageFault, NoFrame};
 pub use node::Node;

@@ -1,18 +1,21 @@
-//! A node, its image, and how it is frozen.
+//! A node: its image, the tokens that come in, and how it is frozen.
 
 ghost use Rattle.std.specs.Prelude.{◌≡◌, ◌*◌, ◌<◌, Some, None, length, IsSome, IsNone, IfSome, is_some};
 ghost use Rattle.tp_model.specs.Image.{image_head, node_of};
+ghost use Rattle.tp_model.specs.Node.{took};
 ghost use Rattle.tp_mem.specs.Contents.{page_of};
 ghost use Rattle.tp_node.specs.FromImage.{ReadsImage};
+ghost use Rattle.tp_node.specs.Takes.{Takes};
 
-use crate::fault::ImageFault;
+use crate::fault::{ImageFault, NoFrame};
 use crate::head::Head;
 use crate::image::read_image;
 use crate::memory::{Memory, reserve};
+use crate::take::{take_ack, take_data};
 use std::alloc::Global;
 use std::marker::Model;
 use tp_mem::Freeze;
-use tp_model::Fault;
+use tp_model::{Fault, Token};
 use tp_model::limits::{IMAGE_HEAD_BYTES, PAGE_BYTES};
 
 /// A node. While it is frozen, it is kept as it was then, beside what it is now.
@@ -109,5 +112,19 @@ impl Node {
     {
         self.memory.drop_frozen();
         self.frozen = None;
+    }
+
+    /// Takes a token that comes in on a link, also where the node has halted. Answers what leaves on that link.
+    #[tactic(auto, unfolding(tp_model::specs::Node::took))]
+    pub fn take(&mut self, link: u8, token: Token) -> Result<Option<Token>, NoFrame>
+        requires { IsSome (took self.old.live link token) }
+        ensures takes { Takes (took self.old.live link token) (IsSome self.old.frozen) link self.old.live result self.new.live }
+        ensures kept { self.new.frozen ≡ self.old.frozen }
+    {
+        match token {
+            Token::Data(byte) => take_data(&mut self.head, &mut self.memory, link as usize, byte),
+            Token::Ack => take_ack(&mut self.head, &mut self.memory, link as usize),
+            Token::Marker => unreachable!(),
+        }
     }
 }

@@ -1,0 +1,31 @@
+-- One step more behind others.
+use Rattle.std.proofs.Common.{◌≡◌, ℕ, zero, suc, ◌+◌, List, [], ◌++◌, Option, Some, None, refl, sym, ap, ◌∙◌, arith}
+use Rattle.std.proofs.lemmas.List.{append-nil, append_assoc}
+use Rattle.tp_model.specs.declared.link.Token.{Token}
+use Rattle.tp_model.specs.Network.{◌>>=◌, Machine, steps}
+
+-- where both parts are possible, so is the first
+pub bind_some : {A B : Type 0} (o : Option A) (f : A → Option B) (y : B) → (o >>= f) ≡ Some y → (x : A) × (o ≡ Some x) × (f x ≡ Some y)
+bind_some None f y is = absurd (cc)
+bind_some (Some x) f y is = (x, refl, is)
+
+pub one_more : {Node : Type 0} (M : Machine Node) (count : ℕ) (n m : Node) (sent : List (ℕ × Token)) (after : Node × List (ℕ × Token))
+    → steps M count n ≡ Some (m, sent) → M.step m ≡ Some after → steps M (count + 1) n ≡ Some (after.0, sent ++ after.1)
+unfolding steps
+one_more {Node} M zero n m sent after are next =
+    let same : ◌≡◌ {A = Node × List (ℕ × Token)} (n, []) (m, sent) = cc in
+    let first : M.step n ≡ Some after = ap (λ (p : Node × List (ℕ × Token)). M.step p.0) same ∙ next in
+    let empty : [] ≡ sent = ap (λ (p : Node × List (ℕ × Token)). p.1) same in
+    rw (first, append-nil after.1, ← empty) refl
+one_more {Node} M (suc count) n m sent after are next =
+    let one = bind_some (M.step n) (λ first. steps M count first.0 >>= λ rest. Some (rest.0, first.1 ++ rest.1)) (m, sent) are in
+    let first = one.0 in
+    let others = bind_some (steps M count first.0) (λ rest. Some (rest.0, first.1 ++ rest.1)) (m, sent) one.2 in
+    let rest = others.0 in
+    let same : ◌≡◌ {A = Node × List (ℕ × Token)} (rest.0, first.1 ++ rest.1) (m, sent) = cc in
+    let last : M.step rest.0 ≡ Some after = ap (λ (p : Node × List (ℕ × Token)). M.step p.0) same ∙ next in
+    let whole : first.1 ++ rest.1 ≡ sent = ap (λ (p : Node × List (ℕ × Token)). p.1) same in
+    let more : steps M (count + 1) first.0 ≡ Some (after.0, rest.1 ++ after.1) = one_more M count first.0 rest.0 rest.1 after others.1 last in
+    let number : suc count + 1 ≡ suc (count + 1) = omega arith in
+    let together : first.1 ++ (rest.1 ++ after.1) ≡ sent ++ after.1 = sym (append_assoc first.1 rest.1 after.1) ∙ ap (λ xs. xs ++ after.1) whole in
+    rw (number, one.1, more) (ap (λ xs. Some (after.0, xs)) together)

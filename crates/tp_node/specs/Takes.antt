@@ -1,0 +1,21 @@
+-- What a call answers and leaves that takes a token.
+use Rattle.std.specs.Prelude.{◌≡◌, ℕ, List, Option, Some, None, Result, Ok, Err}
+use Rattle.tp_model.specs.NodeState.{NodeState}
+use Rattle.tp_model.specs.Memory.{byte_at}
+use Rattle.tp_model.specs.Network.{◌>>=◌}
+use Rattle.tp_model.specs.LinkEnd.{next_pointer}
+use Rattle.tp_model.specs.Node.{on_link}
+use Rattle.tp_model.specs.declared.link.OutEnd.{OutEnd}
+use Rattle.tp_model.specs.declared.link.Token.{Token}
+use Rattle.tp_node.specs.declared.fault.NoFrame.{NoFrame}
+
+-- the byte that leaves at the next acknowledge, if any is left
+abbrev pub next_byte : OutEnd → List ℕ → Option ℕ
+next_byte end memory = next_pointer end >>= byte_at memory
+
+-- The node is the one after the token, and what leaves on that link is answered; or nothing has changed, and `cause`
+-- is so.
+abbrev pub Takes : Option (NodeState × List (ℕ × Token)) → Type 0 → ℕ → NodeState → Result (Option Token) NoFrame → NodeState → Type 0
+Takes (Some after) cause link before (Ok token) now = (now ≡ after.0) × (on_link link token ≡ after.1)
+Takes (Some after) cause link before (Err e) now = cause × (now ≡ before)
+Takes None cause link before result now = ⊥

@@ -1,0 +1,111 @@
+//! One step of a node.
+
+ghost use Rattle.std.specs.Prelude.{◌≡◌, IsSome, option_to_list};
+ghost use Rattle.tp_model.specs.Node.{on_link, asks_output, asks_input, node_step};
+ghost use Rattle.tp_node.specs.Makes.{Makes};
+ghost use Rattle.tp_node.specs.StateWith.{state_with};
+
+use crate::head::Head;
+use crate::input::begin_input;
+use crate::output::begin_output;
+use tp_cpu::step;
+use tp_mem::Mem;
+use tp_model::{InRequest, OutRequest, StepEnd, Token};
+use tp_proc::{Undone, pass};
+
+/// How a call that makes a step ends.
+#[derive(Clone, Copy)]
+pub(crate) enum Made {
+    /// A step was made. The token leaves on that link, if one does.
+    Step(Option<(u8, Token)>),
+    /// There is no step.
+    Idle,
+    /// Memory is frozen and has no free frame. Nothing has changed.
+    NoFrame,
+}
+
+/// What leaves, with its link.
+fn on_link(link: u8, token: Option<Token>) -> Option<(u8, Token)>
+    ensures { option_to_list result ≡ on_link link token }
+{
+    match token {
+        None => None,
+        Some(token) => Some((link, token)),
+    }
+}
+
+/// Ends a step that asks something of an output end.
+fn output<M: Mem>(head: &mut Head, mem: &mut M, request: OutRequest) -> Made
+    ensures makes { Makes (asks_output request (state_with head.old (M.bytes mem.old))) (IsSome (M.frozen mem.old)) (state_with head.old (M.bytes mem.old)) result (state_with head.new (M.bytes mem.new)) }
+    ensures kept { M.frozen mem.new ≡ M.frozen mem.old }
+{
+    let link = request.link as usize;
+    if link >= 4 {
+        return Made::Idle;
+    }
+    let before = head.cpu;
+    let mut engine = head.outputs[link];
+    pass(&mut head.cpu, request.next);
+    match begin_output(&mut engine, &mut head.cpu, mem, request) {
+        Ok(token) => {
+            head.outputs[link] = engine;
+            Made::Step(on_link(request.link, token))
+        }
+        Err(Undone::Faulty(fault)) => {
+            head.cpu = before;
+            head.cpu.halt = Some(fault);
+            Made::Step(None)
+        }
+        Err(Undone::NoFrame) => {
+            head.cpu = before;
+            Made::NoFrame
+        }
+        Err(_) => unreachable!(),
+    }
+}
+
+/// Ends a step that asks something of an input end.
+fn input<M: Mem>(head: &mut Head, mem: &mut M, request: InRequest) -> Made
+    ensures makes { Makes (asks_input request (state_with head.old (M.bytes mem.old))) (IsSome (M.frozen mem.old)) (state_with head.old (M.bytes mem.old)) result (state_with head.new (M.bytes mem.new)) }
+    ensures kept { M.frozen mem.new ≡ M.frozen mem.old }
+{
+    let link = request.link as usize;
+    if link >= 4 {
+        return Made::Idle;
+    }
+    let before = head.cpu;
+    let mut engine = head.inputs[link];
+    pass(&mut head.cpu, request.next);
+    match begin_input(&mut engine, &mut head.cpu, mem, request.wish) {
+        Ok(token) => {
+            head.inputs[link] = engine;
+            Made::Step(on_link(request.link, token))
+        }
+        Err(Undone::Faulty(fault)) => {
+            head.cpu = before;
+            head.cpu.halt = Some(fault);
+            Made::Step(None)
+        }
+        Err(Undone::NoFrame) => {
+            head.cpu = before;
+            Made::NoFrame
+        }
+        Err(_) => unreachable!(),
+    }
+}
+
+/// Makes a step, if there is one.
+#[inline]
+#[tactic(auto, unfolding(tp_model::specs::Node::node_step))]
+pub(crate) fn make_step<M: Mem>(head: &mut Head, mem: &mut M) -> Made
+    ensures makes { Makes (node_step (state_with head.old (M.bytes mem.old))) (IsSome (M.frozen mem.old)) (state_with head.old (M.bytes mem.old)) result (state_with head.new (M.bytes mem.new)) }
+    ensures kept { M.frozen mem.new ≡ M.frozen mem.old }
+{
+    match step(&mut head.cpu, mem) {
+        StepEnd::Done | StepEnd::Halted(_) => Made::Step(None),
+        StepEnd::Idle => Made::Idle,
+        StepEnd::NoFrame => Made::NoFrame,
+        StepEnd::LinkOut(request) => output(head, mem, request),
+        StepEnd::LinkIn(request) => input(head, mem, request),
+    }
+}

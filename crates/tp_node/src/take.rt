@@ -1,0 +1,74 @@
+//! Tokens that come in.
+
+ghost use Rattle.std.specs.Prelude.{◌≡◌, ℕ, ◌<◌, List, None, IsSome};
+ghost use Rattle.tp_model.specs.Node.{placed, took_token};
+ghost use Rattle.tp_node.specs.First.{first_stored};
+ghost use Rattle.tp_node.specs.StateWith.{state_with};
+ghost use Rattle.tp_node.specs.Takes.{Takes, next_byte};
+
+use crate::arrival::tell;
+use crate::fault::NoFrame;
+use crate::first::First;
+use crate::head::Head;
+use tp_link::OutEngine;
+use tp_mem::Mem;
+use tp_model::Token;
+
+/// What a byte puts into memory, by its place.
+fn placed(place: Option<u32>, byte: u8) -> First
+    ensures value { (memory : List ℕ) → first_stored result memory ≡ placed place byte memory }
+    ensures nowhere { place ≡ None → result ≡ First.Nothing }
+{
+    match place {
+        None => First::Nothing,
+        Some(address) => First::Byte { address, byte },
+    }
+}
+
+/// The byte that leaves at the next acknowledge, if any is left.
+fn next_byte<M: Mem>(engine: OutEngine, mem: &M) -> Option<u8>
+    ensures { result ≡ next_byte engine (M.bytes mem.now) }
+{
+    match engine.next_pointer() {
+        None => None,
+        Some(pointer) => mem.read_byte(pointer),
+    }
+}
+
+/// Takes a byte on a link.
+pub(crate) fn take_data<M: Mem>(
+    head: &mut Head,
+    mem: &mut M,
+    link: usize,
+    byte: u8,
+) -> Result<Option<Token>, NoFrame>
+    requires link { link < 4 }
+    requires can { IsSome (took_token (state_with head.old (M.bytes mem.old)) link (Token.Data byte)) }
+    ensures takes { Takes (took_token (state_with head.old (M.bytes mem.old)) link (Token.Data byte)) (IsSome (M.frozen mem.old)) link (state_with head.old (M.bytes mem.old)) result (state_with head.new (M.bytes mem.new)) }
+    ensures kept { M.frozen mem.new ≡ M.frozen mem.old }
+{
+    let mut engine = head.inputs[link];
+    let arrival = engine.on_data(byte);
+    tell(&mut head.cpu, mem, placed(arrival.place, byte), arrival.news)?;
+    head.inputs[link] = engine;
+    Ok(arrival.token)
+}
+
+/// Takes an acknowledge on a link.
+pub(crate) fn take_ack<M: Mem>(
+    head: &mut Head,
+    mem: &mut M,
+    link: usize,
+) -> Result<Option<Token>, NoFrame>
+    requires link { link < 4 }
+    requires can { IsSome (took_token (state_with head.old (M.bytes mem.old)) link Token.Ack) }
+    ensures takes { Takes (took_token (state_with head.old (M.bytes mem.old)) link Token.Ack) (IsSome (M.frozen mem.old)) link (state_with head.old (M.bytes mem.old)) result (state_with head.new (M.bytes mem.new)) }
+    ensures kept { M.frozen mem.new ≡ M.frozen mem.old }
+{
+    let mut engine = head.outputs[link];
+    let next = next_byte(engine, mem);
+    let arrival = engine.on_ack(next);
+    tell(&mut head.cpu, mem, First::Nothing, arrival.news)?;
+    head.outputs[link] = engine;
+    Ok(arrival.token)
+}
