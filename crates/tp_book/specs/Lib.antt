@@ -1,0 +1,6 @@
+pub mod Parts
+pub mod Book
+pub mod Kept
+pub mod Room
+pub mod Calls
+pub mod Refusals
