@@ -1,5 +1,5 @@
 -- Room on lines.
-use Rattle.std.specs.Prelude.{◌≡◌, ◌<◌, ℕ, Bool, true, List, [], ◌∷◌, length}
+use Rattle.std.specs.Prelude.{◌≡◌, ◌<◌, ℕ, ◌+◌, Bool, true, List, [], ◌∷◌, map, length}
 use Rattle.tp_model.specs.declared.link.Token.{Token}
 use Rattle.tp_model.specs.Network.{on_line, pushed}
 
@@ -11,3 +11,7 @@ line_room = 3
 abbrev pub HasRoom : (ℕ → Bool) → List (List Token) → List (ℕ × Token) → Type 0
 HasRoom on lines [] = Unit {0}
 HasRoom on lines (m ∷ ms) = (on m.0 ≡ true → length (on_line lines m.0) < line_room) × HasRoom on (pushed on lines m.0 m.1) ms
+
+-- the tokens that leave a node, each on the line of its link, from the node's first line on
+abbrev pub from_line : ℕ → List (ℕ × Token) → List (ℕ × Token)
+from_line first tokens = map (λ m. (first + m.0, m.1)) tokens
