@@ -1,6 +1,6 @@
 -- Why a call is refused. Where several reasons hold, the first one of these is answered: nothing to take, a snapshot that
 -- runs, a broken store, a full port, a full journal. Memory is answered only where none of them holds.
-use Rattle.std.specs.Prelude.{◌≡◌, ℕ, Bool, true, false, ◌||◌, nat_le, if◌then◌else◌, List, [], ◌∷◌, length, Option, Some, None, Result, Ok, Err, slice_get}
+use Rattle.std.specs.Prelude.{◌≡◌, ℕ, Bool, true, false, ◌||◌, nat_le, if◌then◌else◌, List, [], ◌∷◌, length, Option, Some, None, is_none, Result, Ok, Err, slice_get}
 use Rattle.tp_model.specs.declared.link.Token.{Token}
 use Rattle.tp_model.specs.declared.link.Token.TheVariants.{Data, Ack, Marker}
 use Rattle.tp_model.specs.declared.limits.TheConstants.{MAX_HELD}
@@ -19,12 +19,12 @@ else_if None holds other = if holds then Some other else None
 abbrev pub is_journal_full : BookValue → ℕ → Bool
 is_journal_full b more = is_full b.room (length b.state.lines) (length b.state.entries) (reserved b) (next_number b) more
 
--- nothing can be taken from a line: it is empty, or a Marker is in front
-abbrev pub has_nothing : List Token → Bool
-has_nothing [] = true
-has_nothing (Data b ∷ rest) = false
-has_nothing (Ack ∷ rest) = false
-has_nothing (Marker ∷ rest) = true
+-- what can be taken from a line: the token in front, unless that is a Marker
+abbrev pub takeable_of : List Token → Option Token
+takeable_of [] = None
+takeable_of (Data b ∷ rest) = Some (Data b)
+takeable_of (Ack ∷ rest) = Some Ack
+takeable_of (Marker ∷ rest) = None
 
 -- for an entry of which there may be one more
 abbrev pub entry_refusal : BookValue → ℕ → Option Refusal → Option Refusal
@@ -37,7 +37,7 @@ reserve_refusal b = entry_refusal b 1 (else_if None b.broken StoreBroken)
 -- why a line's front can't be made ready
 abbrev pub ready_refusal : BookValue → ℕ → Option Refusal
 ready_refusal b line =
-    entry_refusal b 1 (else_if (else_if None (has_nothing (on_line b.state.lines line)) NothingToTake) b.broken StoreBroken)
+    entry_refusal b 1 (else_if (else_if None (is_none (takeable_of (on_line b.state.lines line))) NothingToTake) b.broken StoreBroken)
 
 -- The answer to a call that is refused for this reason, where there is one. A call that isn't may still want memory.
 abbrev pub IsAnswer : {A : Type 0} → Option Refusal → Result A Refusal → Type 0

@@ -3,13 +3,13 @@
 
 mod book;
 mod full;
-mod lines;
 mod note;
 mod parts;
 mod port;
 mod refusal;
 mod run;
 mod send;
+mod take;
 
 pub use book::Book;
 pub use note::{Note, Numbered};

@@ -5,8 +5,8 @@ ghost use Rattle.std.specs.List.{AllByRecursion};
 ghost use Rattle.tp_model.specs.Network.{has_wire, sent, pushed};
 ghost use Rattle.tp_book.specs.Room.{HasRoom, from_line};
 
-use crate::lines::Lines;
 use tp_model::{Token, WireEnd};
+use tp_net::Lines;
 
 /// Sends a token on a line, where the line has a wire.
 pub(crate) fn send(wires: &[Option<WireEnd>], lines: &mut Lines, line: usize, token: Token)
