@@ -5,3 +5,4 @@ pub mod Changes
 pub mod Fields
 pub mod Journalled
 pub mod Ran
+pub mod Took

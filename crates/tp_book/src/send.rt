@@ -1,8 +1,10 @@
 //! Tokens onto their lines.
 
-ghost use Rattle.std.specs.Prelude.{◌≡◌, ◌+◌, ◌<◌, ◌≤◌, [], ◌∷◌, length, map};
+ghost use Rattle.std.specs.Prelude.{◌≡◌, ℕ, ◌*◌, Some, ◌+◌, ◌<◌, ◌≤◌, [], ◌∷◌, length, map};
 ghost use Rattle.std.specs.List.{AllByRecursion};
-ghost use Rattle.tp_model.specs.Network.{has_wire, sent, pushed};
+ghost use Rattle.tp_model.specs.Network.{has_wire, receiver, sent, pushed};
+ghost use Rattle.tp_model.specs.declared.wire.WireEnd.TheVariants.{Link};
+ghost use Rattle.tp_book.specs.Calls.{answer_from, sends_on};
 ghost use Rattle.tp_book.specs.Room.{HasRoom, from_line};
 
 use tp_model::{Token, WireEnd};
@@ -30,5 +32,35 @@ pub(crate) fn send_all(wires: &[Option<WireEnd>], lines: &mut Lines, first: usiz
 {
     for m in tokens {
         send(wires, lines, first + m.0 as usize, m.1);
+    }
+}
+
+/// Sends what a node answers to a token that came in on this line, where it answers.
+#[tactic(auto, unfolding(tp_model::specs::Network::sent))]
+pub(crate) fn send_answer(wires: &[Option<WireEnd>], lines: &mut Lines, line: usize, answer: Option<Token>)
+    requires known { line < length wires.now }
+    requires links { (node : ℕ) (link : ℕ) → receiver wires.now line ≡ Some (Link node link) → 4 * node + link < length wires.now }
+    requires there { length lines.old ≡ length wires.now }
+    requires room { HasRoom (has_wire wires.now) lines.old (answer_from (receiver wires.now line) answer) }
+    ensures { lines.new ≡ sent (has_wire wires.now) lines.old (answer_from (receiver wires.now line) answer) }
+{
+    match wires[line] {
+        Some(WireEnd::Link(node, link)) => send_some(wires, lines, 4 * node as usize + link as usize, answer),
+        Some(WireEnd::Port(_)) => {}
+        None => {}
+    }
+}
+
+/// Sends a token on a line, if there is one.
+#[tactic(auto, unfolding(tp_model::specs::Network::sent))]
+pub(crate) fn send_some(wires: &[Option<WireEnd>], lines: &mut Lines, line: usize, token: Option<Token>)
+    requires wired { line < length wires.now }
+    requires there { line < length lines.old }
+    requires room { HasRoom (has_wire wires.now) lines.old (sends_on line token) }
+    ensures { lines.new ≡ sent (has_wire wires.now) lines.old (sends_on line token) }
+{
+    match token {
+        Some(token) => send(wires, lines, line, token),
+        None => {}
     }
 }
