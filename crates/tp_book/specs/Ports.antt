@@ -1,0 +1,23 @@
+-- Ports as the book holds them.
+use Rattle.std.specs.Prelude.{◌≡◌, ℕ, ◌+◌, ◌-◌, List, [], ◌∷◌, ◌++◌, drop, Option, Some, option_to_list}
+use Rattle.tp_model.specs.declared.link.Token.{Token}
+use Rattle.tp_model.specs.declared.link.Token.TheVariants.{Data, Ack, Marker}
+use Rattle.tp_model.specs.Network.{Port}
+use Rattle.tp_model.specs.Entries.{port_took}
+
+-- A port, and for each of its outputs the least mark that shows it: one more than the number of the entry that made it.
+-- What the opened state held is shown by every mark.
+pub record PortValue : Type 0 where
+  pub port : Port
+  pub marks : List ℕ
+
+-- the marks after a token was taken whose output this mark shows
+abbrev pub marks_after : Token → List ℕ → ℕ → List ℕ
+marks_after (Data b) marks mark = marks ++ mark ∷ []
+marks_after Ack marks mark = marks
+marks_after Marker marks mark = marks
+
+-- the port can take the token
+pub record CanTake (port : Port) (token : Token) : Type 0 where
+  pub after : Port × List Token
+  pub is : port_took token port ≡ Some after

@@ -1,0 +1,47 @@
+-- Why a call is refused. Where several reasons hold, the first one of these is answered: nothing to take, a snapshot that
+-- runs, a broken store, a full port, a full journal. Memory is answered only where none of them holds.
+use Rattle.std.specs.Prelude.{◌≡◌, ℕ, Bool, true, false, ◌||◌, nat_le, if◌then◌else◌, List, [], ◌∷◌, length, Option, Some, None, is_none, Result, Ok, Err, slice_get}
+use Rattle.tp_model.specs.declared.link.Token.{Token}
+use Rattle.tp_model.specs.declared.link.Token.TheVariants.{Data, Ack, Marker}
+use Rattle.tp_model.specs.declared.limits.TheConstants.{MAX_HELD}
+use Rattle.tp_model.specs.Network.{Port, on_line}
+use Rattle.tp_model.specs.Journal.{is_full}
+use Rattle.tp_book.specs.declared.refusal.Refusal.{Refusal}
+use Rattle.tp_book.specs.declared.refusal.Refusal.TheVariants.{JournalFull, StoreBroken, Memory, NothingToTake, PortFull}
+use Rattle.tp_book.specs.Book.{BookValue, next_number, reserved}
+
+-- a reason, where it holds and no earlier one does
+abbrev pub else_if : Option Refusal → Bool → Refusal → Option Refusal
+else_if (Some reason) holds other = Some reason
+else_if None holds other = if holds then Some other else None
+
+-- the journal is full for so many more entries
+abbrev pub is_journal_full : BookValue → ℕ → Bool
+is_journal_full b more = is_full b.room (length b.state.lines) (length b.state.entries) (reserved b) (next_number b) more
+
+-- what can be taken from a line: the token in front, unless that is a Marker
+abbrev pub takeable_of : List Token → Option Token
+takeable_of [] = None
+takeable_of (Data b ∷ rest) = Some (Data b)
+takeable_of (Ack ∷ rest) = Some Ack
+takeable_of (Marker ∷ rest) = None
+
+-- for an entry of which there may be one more
+abbrev pub entry_refusal : BookValue → ℕ → Option Refusal → Option Refusal
+entry_refusal b more earlier = else_if earlier (is_journal_full b more) JournalFull
+
+-- why no run can be reserved
+abbrev pub reserve_refusal : BookValue → Option Refusal
+reserve_refusal b = entry_refusal b 1 (else_if None b.broken StoreBroken)
+
+-- why a line's front can't be made ready
+abbrev pub ready_refusal : BookValue → ℕ → Option Refusal
+ready_refusal b line =
+    entry_refusal b 1 (else_if (else_if None (is_none (takeable_of (on_line b.state.lines line))) NothingToTake) b.broken StoreBroken)
+
+-- The answer to a call that is refused for this reason, where there is one. A call that isn't may still want memory.
+abbrev pub IsAnswer : {A : Type 0} → Option Refusal → Result A Refusal → Type 0
+IsAnswer None (Ok x) = Unit {0}
+IsAnswer None (Err e) = e ≡ Memory
+IsAnswer (Some reason) (Ok x) = ⊥
+IsAnswer (Some reason) (Err e) = e ≡ reason

@@ -1,0 +1,66 @@
+//! Tokens onto their lines.
+
+ghost use Rattle.std.specs.Prelude.{◌≡◌, ℕ, ◌*◌, Some, ◌+◌, ◌<◌, ◌≤◌, [], ◌∷◌, length, map};
+ghost use Rattle.std.specs.List.{AllByRecursion};
+ghost use Rattle.tp_model.specs.Network.{has_wire, receiver, sent, pushed};
+ghost use Rattle.tp_model.specs.declared.wire.WireEnd.TheVariants.{Link};
+ghost use Rattle.tp_book.specs.Calls.{answer_from, sends_on};
+ghost use Rattle.tp_book.specs.Room.{HasRoom, from_line};
+
+use tp_model::{Token, WireEnd};
+use tp_net::Lines;
+
+/// Sends a token on a line, where the line has a wire.
+pub(crate) fn send(wires: &[Option<WireEnd>], lines: &mut Lines, line: usize, token: Token)
+    requires wired { line < length wires.now }
+    requires there { line < length lines.old }
+    requires room { HasRoom (has_wire wires.now) lines.old ((line, token) ∷ []) }
+    ensures { lines.new ≡ pushed (has_wire wires.now) lines.old line token }
+{
+    if wires[line].is_some() {
+        lines.push(line, token);
+    }
+}
+
+/// Sends the tokens that leave a node whose first line is this one, each on the line of its link, in order.
+pub(crate) fn send_all(wires: &[Option<WireEnd>], lines: &mut Lines, first: usize, tokens: &[(u8, Token)])
+    requires wired { first + 4 ≤ length wires.now }
+    requires there { length lines.old ≡ length wires.now }
+    requires links { AllByRecursion (λ m. m.0 < 4) tokens.now }
+    requires room { HasRoom (has_wire wires.now) lines.old (from_line first tokens.now) }
+    ensures { lines.new ≡ sent (has_wire wires.now) lines.old (from_line first tokens.now) }
+{
+    for m in tokens {
+        send(wires, lines, first + m.0 as usize, m.1);
+    }
+}
+
+/// Sends what a node answers to a token that came in on this line, where it answers.
+#[tactic(auto, unfolding(tp_model::specs::Network::sent))]
+pub(crate) fn send_answer(wires: &[Option<WireEnd>], lines: &mut Lines, line: usize, answer: Option<Token>)
+    requires known { line < length wires.now }
+    requires links { (node : ℕ) (link : ℕ) → receiver wires.now line ≡ Some (Link node link) → 4 * node + link < length wires.now }
+    requires there { length lines.old ≡ length wires.now }
+    requires room { HasRoom (has_wire wires.now) lines.old (answer_from (receiver wires.now line) answer) }
+    ensures { lines.new ≡ sent (has_wire wires.now) lines.old (answer_from (receiver wires.now line) answer) }
+{
+    match wires[line] {
+        Some(WireEnd::Link(node, link)) => send_some(wires, lines, 4 * node as usize + link as usize, answer),
+        Some(WireEnd::Port(_)) => {}
+        None => {}
+    }
+}
+
+/// Sends a token on a line, if there is one.
+#[tactic(auto, unfolding(tp_model::specs::Network::sent))]
+pub(crate) fn send_some(wires: &[Option<WireEnd>], lines: &mut Lines, line: usize, token: Option<Token>)
+    requires wired { line < length wires.now }
+    requires there { line < length lines.old }
+    requires room { HasRoom (has_wire wires.now) lines.old (sends_on line token) }
+    ensures { lines.new ≡ sent (has_wire wires.now) lines.old (sends_on line token) }
+{
+    match token {
+        Some(token) => send(wires, lines, line, token),
+        None => {}
+    }
+}
