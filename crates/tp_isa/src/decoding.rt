@@ -43,6 +43,7 @@ impl Decoder {
         }
     }
 
+    /// Takes a prefix byte, where there is room for one more.
     #[inline(always)]
     fn prefix(&mut self, byte: u8) -> Option<Result<Instr, DecodeFault>>
         requires { is_prefix byte ≡ true }
@@ -59,6 +60,7 @@ impl Decoder {
     }
 }
 
+/// The operand register after a prefix byte.
 #[inline(always)]
 fn prefixed(operand: u32, byte: u8) -> u32
     requires { operand % 16 ≡ 0 }
@@ -73,6 +75,7 @@ fn prefixed(operand: u32, byte: u8) -> u32
     }
 }
 
+/// The operand register with a byte's low four bits in its low end.
 #[inline(always)]
 fn filled(operand: u32, byte: u8) -> u32
     requires { operand % 16 ≡ 0 }
@@ -95,6 +98,7 @@ pub fn decode(bytes: &[u8]) -> Result<Instr, DecodeFault>
     Err(DecodeFault::NeedMore)
 }
 
+/// The instruction of a function with an operand, spelt by so many bytes.
 #[inline(always)]
 fn instr_at(fun: Fun, operand: u32, len: u8) -> Result<Instr, DecodeFault>
     ensures { result ≡ instr_at (Some fun) operand len }

@@ -19,6 +19,7 @@ pub fn encode(fun: Fun, operand: i32, out: &mut Vec<u8>) -> Result<(), AllocErro
     out.extend_from_slice(&bytes)
 }
 
+/// The spelling of a function with a word.
 fn spell(fun: Fun, operand: u32, bytes: &mut ArrayVec<u8, 8>)
     requires { bytes.old.items ≡ [] }
     ensures { bytes.new.items ≡ spelling fun operand }
@@ -44,6 +45,7 @@ fn spell_natural(more: u8, code: u8, operand: u32, bytes: &mut ArrayVec<u8, 8>)
     bytes.push(coded(code, operand));
 }
 
+/// A byte of a code with the low four bits of an operand.
 fn coded(code: u8, operand: u32) -> u8
     requires { code < 16 }
     ensures { result ≡ coded code operand }
@@ -51,6 +53,7 @@ fn coded(code: u8, operand: u32) -> u8
     16 * code + (operand % 16) as u8
 }
 
+/// The upper four bits of a function's byte.
 fn code(fun: Fun) -> u8
     ensures value { result ≡ code fun }
     ensures bound { result < 16 }

@@ -1,10 +1,10 @@
 -- Writes to memory: they keep its length, and where one goes outside they have no meaning.
-use Rattle.std.proofs.Common.{◌≡◌, ℕ, ◌+◌, ◌%◌, ◌<◌, ◌≤◌, true, false, ◌&&◌, cond, List, [], ◌∷◌, length, Option, Some, None, ltb, eqb, sym, refl, ap, ◌∙◌, arith, rules}
-use Rattle.std.specs.Prelude.{option_and_then}
+use Rattle.std.proofs.Common.{Bool, ◌≡◌, ℕ, ◌+◌, ◌%◌, ◌<◌, ◌≤◌, true, false, ◌&&◌, cond, List, [], ◌∷◌, ◌++◌, length, Option, Some, None, ltb, eqb, sym, refl, ap, ◌∙◌, arith, rules}
+use Rattle.std.specs.Prelude.{option_and_then, is_some}
 use Rattle.std.proofs.lemmas.Bool.{cond_both, ltb-true, leb-true, lt-ltb, and_parts}
 use Rattle.std.proofs.lemmas.Grind.{common_steps}
-use Rattle.tp_model.specs.Memory.{offset, word_offset, set_byte, set_word, stored, is_inside, moved, copied, changed}
-use Rattle.tp_mem.specs.Bytes.{byte_stored, byte_changed}
+use Rattle.tp_model.specs.Memory.{offset, word_offset, set_byte, set_word, byte_stored, stored, is_inside, moved, copied, changed}
+use Rattle.tp_mem.specs.Bytes.{byte_changed}
 use Rattle.tp_mem.specs.Ranges.{are_inside}
 
 -- a word that begins inside memory of whole words lies inside
@@ -94,3 +94,28 @@ pub changed_outside : (memory : List ℕ) (to from count : ℕ) (writes : List (
 changed_outside memory to from count writes whole out = then_outside (copied memory to from count) writes (length memory) (length-copied memory to from count) whole out
 
 pub ruleset behind_a_word = (changed_outside, length-set_word, length-copied)
+
+-- more writes behind the first ones
+pub stored-append : (memory : List ℕ) (writes more : List (ℕ × ℕ)) → stored memory (writes ++ more) ≡ option_and_then (λ m. stored m more) (stored memory writes)
+stored-append memory [] more = refl
+stored-append memory (write ∷ writes) more =
+    let after = set_word memory (word_offset write.0) write.1 in
+    let inside = ltb (word_offset write.0) (length memory) in
+    elim inside as (λ b. cond b (stored after (writes ++ more)) None ≡ option_and_then (λ m. stored m more) (cond b (stored after writes) None))
+    [ true ↦ stored-append after writes more | false ↦ refl ]
+
+is_some-cond : (b : Bool) (o : Option (List ℕ)) (rest : Bool) → (b ≡ true → is_some o ≡ rest) → is_some (cond b o None) ≡ (b && rest)
+is_some-cond true o rest same = same refl
+is_some-cond false o rest same = refl
+
+-- writes have a meaning just where each goes to a word inside
+pub is_some-stored : (memory : List ℕ) (writes : List (ℕ × ℕ)) → length memory % 4 ≡ 0 → is_some (stored memory writes) ≡ are_inside (length memory) writes
+is_some-stored memory [] whole = refl
+is_some-stored memory (write ∷ writes) whole =
+    let after = set_word memory (word_offset write.0) write.1 in
+    is_some-cond (ltb (word_offset write.0) (length memory)) (stored after writes) (are_inside (length memory) writes)
+    (λ inside.
+    let within : word_offset write.0 < length memory = ltb-true (word_offset write.0) (length memory) inside in
+    let same = length-set_word memory (word_offset write.0) write.1 (word_within write.0 (length memory) whole within) in
+    let whole_after : length after % 4 ≡ 0 = rw same whole in
+    is_some-stored after writes whole_after ∙ ap (λ n. are_inside n writes) same)

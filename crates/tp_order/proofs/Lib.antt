@@ -1,5 +1,8 @@
 pub mod Choice
+pub mod Flight
 pub mod Lines
+pub mod Room
+pub mod Sound
 pub mod Local
 pub mod Partial
 pub mod Reorder

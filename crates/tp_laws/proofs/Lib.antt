@@ -1,0 +1,3 @@
+pub mod LinkEnds
+pub mod LinkLaws
+pub mod Requests
