@@ -1,7 +1,6 @@
 -- What the machine's step, and a token that comes in, do at the four links.
-use Rattle.std.proofs.Common.{◌≡◌, ◌≢◌, ℕ, zero, suc, ◌+◌, ◌<◌, Bool, true, false, cond, inl, inr, List, [], ◌∷◌, length, set, refl, sym, ap, subst, ◌∙◌, arith, Option, Some, None}
+use Rattle.std.proofs.Common.{◌≡◌, ◌≢◌, ℕ, ◌+◌, ◌<◌, Bool, true, false, cond, inl, inr, List, [], ◌∷◌, set, refl, sym, subst, ◌∙◌, arith, Option, Some, None}
 use Rattle.std.proofs.lemmas.Bool.{eq-eqb, ne_eqb, cases_Bool, cases_eq, ltb-true}
-use Rattle.std.proofs.lemmas.Option.{slice_get_within}
 use Rattle.std.specs.Prelude.{◌==◌, nat_lt, slice_get, is_some}
 use Rattle.std.specs.List.{AllByRecursion}
 use Rattle.tp_model.specs.declared.link.Token.{Token}
@@ -27,6 +26,7 @@ use Rattle.tp_model.specs.LinkEnd.{next_pointer, out_acked, in_arrived}
 use Rattle.tp_model.specs.LinkStep.{LinkOutcome, Did, Fails, begin_output, begin_input}
 use Rattle.tp_model.specs.NodeState.{NodeState}
 use Rattle.tp_model.specs.Node.{halted, on_link, after_output, after_input, ended, node_step, bad_address, with_memory, wake, make_ready, signal_state, tell, placed, took_token, took, t414, t414_ends, waits, holds}
+use Rattle.tp_laws.proofs.Partial.{bind_some, slice_get-set_same, slice_get-set_other}
 use Rattle.tp_laws.proofs.Requests.{IsInside, step_inside}
 use Rattle.tp_laws.proofs.LinkEnds.{tokens, OutMoves, InMoves, OutKept, InKept, Arrived, Acked, begin_output_kept, begin_input_kept, in_arrived_kept, out_acked_kept}
 
@@ -64,20 +64,6 @@ four_one : (k : ℕ) (token : Option Token) → k < 4 → AllByRecursion (λ m. 
 four_one k None h = tt
 four_one k (Some token) h = (h, tt)
 
--- ## One end of four
-
-slice_get-set_same : {A : Type 0} (xs : List A) (i : ℕ) (x : A) → i < length xs → slice_get (set xs i x) i ≡ Some x
-slice_get-set_same [] i x h = absurd (omega arith)
-slice_get-set_same (y ∷ ys) zero x h = refl
-slice_get-set_same (y ∷ ys) (suc i) x h = slice_get-set_same ys i x (omega arith)
-
-slice_get-set_other : {A : Type 0} (xs : List A) (i j : ℕ) (x : A) → j ≢ i → slice_get (set xs i x) j ≡ slice_get xs j
-slice_get-set_other [] i j x n = refl
-slice_get-set_other (y ∷ ys) zero zero x n = absurd (n refl)
-slice_get-set_other (y ∷ ys) zero (suc j) x n = refl
-slice_get-set_other (y ∷ ys) (suc i) zero x n = refl
-slice_get-set_other (y ∷ ys) (suc i) (suc j) x n = slice_get-set_other ys i j x (λ e. n (ap suc e))
-
 -- ## A step at a link
 
 -- What a step does at the links: an output end begins to wait exactly as it sends Data, an input end gives up its byte
@@ -102,7 +88,7 @@ output_keeps : (k : ℕ) (end : OutEnd) (outcome : LinkOutcome OutEnd) (node : N
 output_keeps k end (Fails fault) node h is kept = quiet node _ refl refl
 output_keeps k end (Did cpu memory now token) node h is kept = record {
   out = λ j. elim (cases_eq j k) [
-    | inl same ↦ rw (same, slice_get-set_same node.outputs k now (slice_get_within node.outputs k end is), is, for_line-same k token) moves.sent
+    | inl same ↦ rw (same, slice_get-set_same node.outputs k now end is, is, for_line-same k token) moves.sent
     | inr other ↦ rw (slice_get-set_other node.outputs k j now other, for_line-other j k token other) (omega arith)
   ];
   inn = λ j. omega (arith, acks_none j k token moves.no_acks);
@@ -119,7 +105,7 @@ input_keeps k end (Fails fault) node h is kept = quiet node _ refl refl
 input_keeps k end (Did cpu memory now token) node h is kept = record {
   out = λ j. omega (arith, datas_none j k token moves.no_datas);
   inn = λ j. elim (cases_eq j k) [
-    | inl same ↦ rw (same, slice_get-set_same node.inputs k now (slice_get_within node.inputs k end is), is, for_line-same k token) moves.sent
+    | inl same ↦ rw (same, slice_get-set_same node.inputs k now end is, is, for_line-same k token) moves.sent
     | inr other ↦ rw (slice_get-set_other node.inputs k j now other, for_line-other j k token other) (omega arith)
   ];
   unmarked = unmarked_one k token moves.no_markers;
@@ -128,11 +114,6 @@ input_keeps k end (Did cpu memory now token) node h is kept = record {
   where
     moves : InMoves end now token
     moves = kept.is
-
--- where a partial function after another gave something, so did the first
-bound : {A B : Type 0} (o : Option A) (f : A → Option B) (b : B) → (o >>= f) ≡ Some b → (a : A) × (o ≡ Some a) × (f a ≡ Some b)
-bound None f b e = cc
-bound (Some a) f b e = (a, refl, e)
 
 ended_keeps : (outcome : Outcome) (node : NodeState) (after : NodeState × List (ℕ × Token)) → IsInside outcome → ended outcome node ≡ Some after → StepKeeps node after
 ended_keeps (Next cpu memory) node after inside e =
@@ -143,12 +124,12 @@ ended_keeps (Halts fault) node after inside e =
 ended_keeps Rests node after inside e = cc
 ended_keeps (Sends request) node after inside e =
     let begun : OutEnd → LinkOutcome OutEnd = λ end. begin_output request end (past request.next node.cpu) node.memory in
-    let a = bound (slice_get node.outputs request.link) (λ end. Some (after_output request.link (begun end) node)) after e in
+    let a = bind_some (slice_get node.outputs request.link) (λ end. Some (after_output request.link (begun end) node)) after e in
     let same : after_output request.link (begun a.0) node ≡ after = cc in
     subst (λ r. StepKeeps node r) same (output_keeps request.link a.0 (begun a.0) node inside.is a.1 (begin_output_kept request a.0 (past request.next node.cpu) node.memory))
 ended_keeps (Receives request) node after inside e =
     let begun : InEnd → LinkOutcome InEnd = λ end. begin_input request.wish end (past request.next node.cpu) node.memory in
-    let a = bound (slice_get node.inputs request.link) (λ end. Some (after_input request.link (begun end) node)) after e in
+    let a = bind_some (slice_get node.inputs request.link) (λ end. Some (after_input request.link (begun end) node)) after e in
     let same : after_input request.link (begun a.0) node ≡ after = cc in
     subst (λ r. StepKeeps node r) same (input_keeps request.link a.0 (begun a.0) node inside.is a.1 (begin_input_kept request.wish a.0 (past request.next node.cpu) node.memory))
 
@@ -209,7 +190,7 @@ data_keeps : (node last : NodeState) (k byte : ℕ) (end now : InEnd) (token : O
 data_keeps node last k byte end now token h is moves o i = record {
   out = λ j. rw o (omega (arith, datas_none j k token moves.no_datas, acks_none j k (Some (Data byte)) refl));
   inn = λ j. elim (cases_eq j k) [
-    | inl same ↦ rw (i, same, slice_get-set_same node.inputs k now (slice_get_within node.inputs k end is), is, for_line-same k token, for_line-same k (Some (Data byte))) moves.sent
+    | inl same ↦ rw (i, same, slice_get-set_same node.inputs k now end is, is, for_line-same k token, for_line-same k (Some (Data byte))) moves.sent
     | inr other ↦ rw (i, slice_get-set_other node.inputs k j now other, for_line-other j k token other, for_line-other j k (Some (Data byte)) other) refl
   ];
   unmarked = unmarked_one k token moves.no_markers;
@@ -220,7 +201,7 @@ ack_keeps : (node last : NodeState) (k : ℕ) (end now : OutEnd) (token : Option
     → last.inputs ≡ node.inputs → last.outputs ≡ set node.outputs k now → TookKeeps node k Ack (last, on_link k token)
 ack_keeps node last k end now token h is moves i o = record {
   out = λ j. elim (cases_eq j k) [
-    | inl same ↦ rw (o, same, slice_get-set_same node.outputs k now (slice_get_within node.outputs k end is), is, for_line-same k token, for_line-same k (Some Ack)) moves.sent
+    | inl same ↦ rw (o, same, slice_get-set_same node.outputs k now end is, is, for_line-same k token, for_line-same k (Some Ack)) moves.sent
     | inr other ↦ rw (o, slice_get-set_other node.outputs k j now other, for_line-other j k token other, for_line-other j k (Some Ack) other) refl
   ];
   inn = λ j. rw i (omega (arith, acks_none j k token moves.no_acks, datas_none j k (Some Ack) refl));
@@ -253,14 +234,14 @@ took_along node k token r after e keeps = let same : r ≡ after = cc in subst (
 took_token_keeps : (node : NodeState) (k : ℕ) (token : Token) (after : NodeState × List (ℕ × Token)) → k < 4 → took_token node k token ≡ Some after → TookKeeps node k token after
 took_token_keeps node k (Data byte) after h e =
     let last : InEnd × Arrival → List ℕ → Option (NodeState × List (ℕ × Token)) = λ arrived memory. Some (after_data node k arrived memory) in
-    let a = bound (slice_get node.inputs k) (λ end. in_arrived byte end >>= λ arrived. placed arrived.1.place byte node.memory >>= last arrived) after e in
-    let b = bound (in_arrived byte a.0) (λ arrived. placed arrived.1.place byte node.memory >>= last arrived) after a.2 in
-    let c = bound (placed b.0.1.place byte node.memory) (last b.0) after b.2 in
+    let a = bind_some (slice_get node.inputs k) (λ end. in_arrived byte end >>= λ arrived. placed arrived.1.place byte node.memory >>= last arrived) after e in
+    let b = bind_some (in_arrived byte a.0) (λ arrived. placed arrived.1.place byte node.memory >>= last arrived) after a.2 in
+    let c = bind_some (placed b.0.1.place byte node.memory) (last b.0) after b.2 in
     took_along node k (Data byte) (after_data node k b.0 c.0) after c.2 (data_told node k byte a.0 b.0 c.0 h a.1 b.1)
 took_token_keeps node k Ack after h e =
     let last : OutEnd × Arrival → Option (NodeState × List (ℕ × Token)) = λ arrived. Some (after_ack node k arrived) in
-    let a = bound (slice_get node.outputs k) (λ end. out_acked (next_pointer end >>= byte_at node.memory) end >>= last) after e in
-    let b = bound (out_acked (next_pointer a.0 >>= byte_at node.memory) a.0) last after a.2 in
+    let a = bind_some (slice_get node.outputs k) (λ end. out_acked (next_pointer end >>= byte_at node.memory) end >>= last) after e in
+    let b = bind_some (out_acked (next_pointer a.0 >>= byte_at node.memory) a.0) last after a.2 in
     took_along node k Ack (after_ack node k b.0) after b.2 (ack_told node k (next_pointer a.0 >>= byte_at node.memory) a.0 b.0 h a.1 b.1)
 took_token_keeps node k Marker after h e = cc
 

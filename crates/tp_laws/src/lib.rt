@@ -1,6 +1,10 @@
-//! What is true of the node's machine itself, apart from any network that it stands in.
+//! What is true of the node's machine itself, apart from any network that it stands in, and worked examples of the
+//! definitions.
 #![tactic(auto)]
 
+mod bytes;
+pub mod examples;
 mod machine;
 
+pub use bytes::{images_determine_nodes, numbers_determine_images};
 pub use machine::{links_keep_flight, machine_has_four_links, machine_never_marks};

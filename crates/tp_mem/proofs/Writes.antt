@@ -93,8 +93,6 @@ byte_changed_outside memory address byte writes whole out = then_outside (byte_s
 pub changed_outside : (memory : List ℕ) (to from count : ℕ) (writes : List (ℕ × ℕ)) → length memory % 4 ≡ 0 → are_inside (length memory) writes ≡ false → changed memory to from count writes ≡ None
 changed_outside memory to from count writes whole out = then_outside (copied memory to from count) writes (length memory) (length-copied memory to from count) whole out
 
-pub ruleset behind_a_word = (changed_outside, length-set_word, length-copied)
-
 -- more writes behind the first ones
 pub stored-append : (memory : List ℕ) (writes more : List (ℕ × ℕ)) → stored memory (writes ++ more) ≡ option_and_then (λ m. stored m more) (stored memory writes)
 stored-append memory [] more = refl
@@ -119,3 +117,5 @@ is_some-stored memory (write ∷ writes) whole =
     let same = length-set_word memory (word_offset write.0) write.1 (word_within write.0 (length memory) whole within) in
     let whole_after : length after % 4 ≡ 0 = rw same whole in
     is_some-stored after writes whole_after ∙ ap (λ n. are_inside n writes) same)
+
+pub ruleset behind_a_word = (changed_outside, length-set_word, length-copied)

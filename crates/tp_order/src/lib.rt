@@ -1,2 +1,25 @@
-//! The order of a network's entries: which may be swapped, and what a cut of them leads to.
+//! The order of a network's entries: which may be swapped, and what a cut of them leads to. The functions do nothing;
+//! their contracts are laws of networks of this machine's nodes.
 #![tactic(auto)]
+
+ghost use Rattle.std.specs.Prelude.{◌≡◌, ◌≤◌, ◌+◌, ℕ, List, length};
+ghost use Rattle.tp_model.specs.declared.link.Token.{Token};
+ghost use Rattle.tp_model.specs.declared.entry.Entry.{Entry};
+ghost use Rattle.tp_model.specs.NodeState.{NodeState};
+ghost use Rattle.tp_model.specs.Network.{Network, steps, on_line};
+ghost use Rattle.tp_model.specs.Entries.{next};
+ghost use Rattle.tp_model.specs.Sound.{Sound, datas, acks};
+ghost use Rattle.tp_model.specs.Markers.{markers};
+ghost use Rattle.tp_model.specs.Node.{t414, t414_ends};
+
+/// Every entry keeps a sound network sound. In one, at most one Data and one Ack are on a line, beside its Markers.
+pub fn entries_keep_soundness()
+    ensures kept { (s t : Network NodeState) (e : Entry) → Sound t414_ends s → next t414 s e ≡ Some t → Sound t414_ends t }
+    ensures single { (s : Network NodeState) → Sound t414_ends s → (line : ℕ) → (datas (on_line s.lines line) ≤ 1) × (acks (on_line s.lines line) ≤ 1) }
+    ensures room { (s : Network NodeState) → Sound t414_ends s → (line : ℕ) → length (on_line s.lines line) ≤ 2 + markers (on_line s.lines line) }
+{}
+
+/// However many steps a run has, it sends at most eight tokens: a Data and an Ack on each link.
+pub fn runs_send_few()
+    ensures { (count : ℕ) (node : NodeState) (last : NodeState × List (ℕ × Token)) → steps t414 count node ≡ Some last → length last.1 ≤ 8 }
+{}

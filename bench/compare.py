@@ -1,0 +1,249 @@
+#!/usr/bin/env python3
+"""Compares `tpnet try` with the plain interpreter over random images, outside the gate.
+
+usage: bench/compare.py TPNET PLAIN [COUNT [SEED]]      10,000 images by default
+
+Each image's program ends by putting out its registers, the error flag and a block of its memory on link 0. A difference
+is kept as an image in the working folder, and the exit status is then 1.
+"""
+import os
+import random
+import struct
+import subprocess
+import sys
+import tempfile
+from concurrent.futures import ThreadPoolExecutor
+
+FIRST = 0x80000000
+WORK = 0x80000400          # the first process's workspace; what is put out begins here
+CODE = 0x80000100
+TURNS = 700
+
+FUNCTIONS = dict(j=0, ldlp=1, ldnl=3, ldc=4, ldnlp=5, ldl=7, adc=8, call=9, cj=10, ajw=11, eqc=12, stl=13, stnl=14, opr=15)
+STACK = [0x00, 0x02, 0x04, 0x05, 0x08, 0x09, 0x0A, 0x0C, 0x10, 0x13, 0x16, 0x1A, 0x1F, 0x29, 0x2C, 0x31, 0x32, 0x33, 0x34,
+         0x37, 0x38, 0x3F, 0x40, 0x41, 0x42, 0x46, 0x4B, 0x4D, 0x4F, 0x52, 0x53, 0x1B, 0x1E]
+EDGES = [0, 1, 2, 3, 31, 32, 33, 0x7FFFFFFF, 0x80000000, 0x80000001, 0x80000002, 0x80000003, 0xFFFFFFFF, 0xFFFFFFFE]
+
+
+def spelt(function, operand):
+    """The bytes of an instruction, its operand read as a signed word."""
+    operand &= 0xFFFFFFFF
+    if operand >= 0x80000000:
+        operand -= 1 << 32
+    if 0 <= operand < 16:
+        return bytes([function << 4 | operand])
+    if operand >= 16:
+        return spelt(2, operand >> 4) + bytes([function << 4 | operand & 15])
+    return spelt(6, ~operand >> 4) + bytes([function << 4 | operand & 15])
+
+
+def do(name, operand=0):
+    return spelt(FUNCTIONS[name], operand)
+
+
+def op(number):
+    return do("opr", number)
+
+
+def constant(rng):
+    return do("ldc", rng.choice(EDGES) if rng.random() < 0.5 else rng.getrandbits(rng.choice([4, 8, 16, 32])))
+
+
+def dump(at):
+    """Stores the stack and the flag at the workspace, and puts out 96 bytes from there."""
+    code = do("stl", 0) + do("stl", 1) + do("stl", 2) + op(0x29) + do("stl", 3) + op(0x1E) + do("stl", 4)
+    code += do("ldlp", 0) + do("ldc", FIRST) + do("ldc", at) + op(0x0B) + op(0x15)
+    return code
+
+
+def arithmetic(rng):
+    code = b""
+    for _ in range(rng.randrange(4, 40)):
+        kind = rng.random()
+        if kind < 0.35:
+            code += constant(rng)
+        elif kind < 0.45:
+            code += do(rng.choice(["adc", "eqc", "ldnlp"]), rng.choice(EDGES))
+        elif kind < 0.55:
+            code += do(rng.choice(["ldl", "stl"]), rng.randrange(5, 24))
+        else:
+            code += op(rng.choice(STACK))
+    return code
+
+
+def memory(rng):
+    code = b""
+    for _ in range(rng.randrange(3, 16)):
+        place = do("ldlp", rng.randrange(5, 20)) + (do("adc", rng.randrange(4)) if rng.random() < 0.5 else b"")
+        kind = rng.randrange(11)
+        if kind == 0:
+            code += place + do("ldnl", rng.randrange(-2, 4))
+        elif kind == 1:
+            code += constant(rng) + place + do("stnl", rng.randrange(-2, 4))
+        elif kind == 2:
+            code += place + op(0x01)
+        elif kind == 3:
+            code += constant(rng) + place + op(0x3B)
+        elif kind == 4:
+            code += place + do("ldlp", rng.randrange(5, 20)) + do("ldc", rng.randrange(0, 17)) + op(0x4A)
+        elif kind == 5:
+            skipped = constant(rng)
+            code += constant(rng) + do("cj", len(skipped)) + skipped
+        elif kind == 6:
+            skipped = constant(rng)
+            code += do("j", len(skipped)) + skipped
+        elif kind == 7:
+            inside = constant(rng) + do("stl", rng.randrange(5)) + op(0x20)
+            code += do("j", len(inside)) + inside + do("call", -(len(inside) + len(do("call", -(len(inside) + 2)))))
+        elif kind == 8:
+            code += do("ajw", 2) + constant(rng) + do("stl", 3) + do("ajw", -2)
+        elif kind == 9:
+            body = do("ldl", 8) + do("adc", 3) + do("stl", 8)
+            back = len(body) + len(do("ldlp", 6)) + 1 + 2
+            code += constant(rng) + do("stl", 6) + do("ldc", rng.randrange(0, 5)) + do("stl", 7)
+            code += body + do("ldlp", 6) + do("ldc", back) + op(0x21)
+        else:
+            code += place + op(rng.choice([0x02, 0x0A, 0x34, 0x3F])) + do("stl", rng.randrange(5, 20))
+    return code
+
+
+def processes(rng):
+    """Partners that talk over channels, at random priorities, with alternatives; the main one puts out."""
+    channel = WORK + 4 * 40
+    places = {}
+    code = b""
+    writes = [(channel + 4 * k, struct.pack("<I", FIRST)) for k in range(4)]
+    partners = rng.randrange(1, 4)
+    for k in range(partners):
+        wptr = 0x80000800 + 0x80 * k
+        start = 0x80000A00 + 0x80 * k
+        body = b""
+        chan = channel + 4 * rng.randrange(2)
+        for _ in range(rng.randrange(1, 4)):
+            kind = rng.randrange(5)
+            if kind == 0:
+                body += constant(rng) + do("ldc", chan) + op(0x00) + op(rng.choice([0x0E, 0x0F]))
+            elif kind == 1:
+                body += do("ldlp", 4) + do("ldc", chan) + do("ldc", rng.randrange(0, 9)) + op(rng.choice([0x07, 0x0B]))
+            elif kind == 2:
+                body += constant(rng) + do("stl", 5)
+            elif kind == 3:
+                body += op(0x1E) + do("stl", 6) + do("ldl", 6) + do("ldc", WORK + 4 * (6 + k)) + do("stnl", 0)
+            else:
+                body += constant(rng) + op(0x29) + do("stl", 7)
+        body += op(0x15)
+        writes.append((start, body[:0x80]))
+        places[k] = (wptr, start)
+        if rng.random() < 0.5:
+            writes.append((wptr - 4, struct.pack("<I", start)))
+            code += do("ldc", wptr | rng.randrange(2)) + op(0x39)
+        else:
+            ahead = do("ldc", wptr)
+            here = CODE + len(code)
+            distance = start - (here + 20)
+            step = do("ldc", distance) + ahead + op(0x0D)
+            for _ in range(4):
+                distance = start - (here + len(step))
+                step = do("ldc", distance) + ahead + op(0x0D)
+            code += step
+    for _ in range(rng.randrange(1, 5)):
+        chan = channel + 4 * rng.randrange(2)
+        kind = rng.randrange(6)
+        if kind == 0:
+            code += do("ldlp", 8) + do("ldc", chan) + do("ldc", rng.randrange(0, 9)) + op(rng.choice([0x07, 0x0B]))
+        elif kind == 1:
+            code += constant(rng) + do("ldc", chan) + op(0x00) + op(rng.choice([0x0E, 0x0F]))
+        elif kind == 2:
+            other = channel + 4 * rng.randrange(2)
+            code += op(0x43) + do("ldc", chan) + do("ldc", rng.randrange(2)) + op(0x48)
+            code += do("ldc", other) + do("ldc", rng.randrange(2)) + op(0x48)
+            if rng.random() < 0.6:
+                code += do("ldc", rng.randrange(2)) + op(0x49)
+            code += op(0x44)
+            code += do("ldc", chan) + do("ldc", rng.randrange(2)) + do("ldc", 0) + op(0x2F) + do("stl", 10)
+            code += do("ldc", other) + do("ldc", rng.randrange(2)) + do("ldc", 0) + op(0x2F) + do("stl", 11)
+            code += do("ldc", rng.randrange(2)) + do("ldc", 0) + op(0x30) + do("stl", 12)
+            code += (op(0x45) if rng.random() < 0.3 else b"")
+        elif kind == 3:
+            loops = rng.randrange(2, 1400)
+            body = do("ldl", 13) + do("adc", -1) + do("stl", 13) + do("ldl", 13)
+            back = len(body) + 1 + 3
+            code += do("ldc", loops) + do("stl", 13) + body + do("cj", len(do("j", -back))) + do("j", -(len(body) + 1 + len(do("j", -back))))
+        elif kind == 4:
+            code += do("ldlp", 14) + op(0x03) if rng.random() < 0.1 else do("ldc", rng.randrange(4)) + do("stl", 15)
+        else:
+            code += op(rng.choice([0x1E, 0x42, 0x29]))
+    return code, writes
+
+
+def image(rng, kind):
+    pages = rng.choice([4, 4, 5, 8])
+    memory_bytes = bytearray(1024 * pages)
+    writes = [(0x8000002C, struct.pack("<I", FIRST))]
+    if kind == "arithmetic":
+        code = arithmetic(rng)
+    elif kind == "memory":
+        code = memory(rng)
+    elif kind == "processes":
+        code, more = processes(rng)
+        writes += more
+    else:
+        code = bytes(rng.getrandbits(8) for _ in range(rng.randrange(2, 60)))
+    for k in range(24):
+        writes.append((WORK + 4 * k, struct.pack("<I", rng.choice(EDGES + [rng.getrandbits(32), WORK + 4 * rng.randrange(24)]))))
+    writes.append((CODE, code + dump(96)))
+    for address, data in writes:
+        at = address - FIRST
+        memory_bytes[at:at + len(data)] = data
+    state = rng.choice([2, 2, 2, 1])
+    queue = [FIRST] * 4
+    head = struct.pack("<BBHII", 1, 0, pages, CODE, WORK)
+    head += struct.pack("<III", *[rng.choice(EDGES + [rng.getrandbits(32)]) for _ in range(3)])
+    head += struct.pack("<IIII", *queue) + struct.pack("<BBH", rng.randrange(2), state, rng.choice([0, 0, 1000, 1023, 1024]))
+    return head + bytes(128) + bytes(memory_bytes)
+
+
+def run(command):
+    done = subprocess.run(command, capture_output=True, timeout=120)
+    return done.returncode, done.stdout
+
+
+def main():
+    if len(sys.argv) < 3:
+        sys.exit(__doc__)
+    tpnet, plain = sys.argv[1], sys.argv[2]
+    count = int(sys.argv[3]) if len(sys.argv) > 3 else 10000
+    seed = int(sys.argv[4]) if len(sys.argv) > 4 else 1
+    kinds = ["arithmetic", "memory", "processes", "processes", "wild"]
+    folder = tempfile.mkdtemp(prefix="compare-")
+    spoke, different = 0, 0
+
+    def one(k):
+        rng = random.Random(seed * 1000003 + k)
+        kind = kinds[k % len(kinds)]
+        path = os.path.join(folder, "%d.img" % k)
+        with open(path, "wb") as out:
+            out.write(image(rng, kind))
+        mine = run([tpnet, "try", path, "--turns", str(TURNS)])
+        other = run([plain, "try", path, str(TURNS)])
+        same = mine == other
+        if same:
+            os.unlink(path)
+        return kind, path, len(other[1]), same
+
+    told = {}
+    with ThreadPoolExecutor(os.cpu_count()) as pool:
+        for kind, path, length, same in pool.map(one, range(count)):
+            row = told.setdefault(kind, [0, 0])
+            row[0] += 1
+            row[1] += length > 0
+            if not same:
+                different += 1
+                print("different: %s" % path)
+    for kind in sorted(told):
+        print("%-10s %6d images, %6d put something out" % (kind, told[kind][0], told[kind][1]))
+    print("%d images, %d differences" % (count, different))
+    sys.exit(1 if different else 0)
+
+
+main()

@@ -1,0 +1,211 @@
+-- Calls in order: where they lead, what breaks, and what a crash on the way may leave.
+use Rattle.std.proofs.Common.{◌≡◌, ℕ, ◌+◌, ◌≤◌, ◌⊎◌, inl, inr, List, [], ◌∷◌, ◌++◌, length, drop, get_or, refl, sym, ap, subst, ◌∙◌, arith, append_assoc, append-nil, length-append, Result, Ok, Err, OnOk, OnErr}
+use Rattle.std.proofs.lemmas.List.{drop-append-le}
+use Rattle.std.proofs.Math.Seq.{drop-length}
+use Rattle.tp_model.specs.Disk.{Moment, MayBe, IsOutside, Call, Write, Sync, Read, written, done, within, broken, IsWithin, AreWithin, SameOutside}
+use Rattle.tp_model.specs.DiskHistory.{State, Goes, Fails, IsSynced, SomeMay, Since, moment, LeavesOnly}
+use Rattle.tp_model.specs.StoreCalls.{all_done, moments_of, Called, BrokeIn}
+use Rattle.tp_disk.specs.Laws.{IsInside}
+use Rattle.tp_disk.proofs.Moments.{outside_each, may_within, write_may, may_write, broken_may}
+
+-- ## One call
+
+-- after a call that was done, what a crash within it may leave
+pub done_may : (m : Moment) (call : Call) (left : List ℕ) → IsInside call m → MayBe (done call m) left → MayBe (within call m) left
+done_may m (Write at bytes) left inside may = write_may m at bytes left inside may
+done_may m Sync left inside may = record { same_length = may.same_length; same_outside = λ place out. may.same_outside place tt }
+done_may m Read left inside may = may
+
+-- so may one before it and one after it
+pub before_or_after_may : (call : Call) (m : Moment) (left : List ℕ) → IsInside call m → MayBe m left ⊎ MayBe (done call m) left → MayBe (within call m) left
+before_or_after_may call m left inside (inl may) = may_within m call left may
+before_or_after_may call m left inside (inr may) = done_may m call left inside may
+
+-- and the other way round
+pub may_before_or_after : (call : Call) (m : Moment) (left : List ℕ) → IsInside call m → MayBe (within call m) left → MayBe m left ⊎ MayBe (done call m) left
+may_before_or_after (Write at bytes) m left inside may = inr (may_write m at bytes left inside may)
+may_before_or_after Sync m left inside may = inl may
+may_before_or_after Read m left inside may = inl may
+
+-- the moment after a call that failed
+pub now_broken : (call : Call) (s t : State) → Fails call s t → t.now ≡ broken call t.now.bytes s.now
+now_broken call s t failed = ap (λ (ranges : List (ℕ × ℕ)). let m : Moment = record { bytes = t.now.bytes; unsynced = ranges } in m) failed.unsynced
+
+-- after a call, done or failed, what a crash within it may leave
+pub after_may : {E : Type 0} (r : Result Unit E) (call : Call) (s t : State) (left : List ℕ) → IsInside call s.now
+    → OnOk r (t.now ≡ done call s.now) → OnErr r (Fails call s t) → MayBe t.now left → MayBe (within call s.now) left
+after_may (Ok u) call s t left inside was failed may =
+    done_may s.now call left inside (subst (λ (m : Moment). MayBe m left) was may)
+after_may (Err e) call s t left inside was failed may =
+    broken_may s.now call t.now.bytes left failed.content (subst (λ (m : Moment). MayBe m left) (now_broken call s t failed) may)
+
+-- ## Several calls
+
+pub all_done-append : (first second : List Call) (m : Moment) → all_done (first ++ second) m ≡ all_done second (all_done first m)
+all_done-append [] second m = refl
+all_done-append (call ∷ first) second m = all_done-append first second (done call m)
+
+pub moments_of-append : (first second : List Call) (m : Moment)
+    → moments_of (first ++ second) m ≡ moments_of first m ++ moments_of second (all_done first m)
+moments_of-append [] second m = refl
+moments_of-append (call ∷ first) second m = ap (λ ms. m ∷ ms) (moments_of-append first second (done call m))
+
+pub called_one : (call : Call) (s t : State) → t.now ≡ done call s.now → Goes s t → Called (call ∷ []) s t
+called_one call s t was goes = record { now = was; past = goes }
+
+pub called_then : (first second : List Call) (s t u : State) → Called first s t → Called second t u → Called (first ++ second) s u
+called_then first second s t u one two = record {
+  now = two.now ∙ ap (all_done second) one.now ∙ sym (all_done-append first second s.now);
+  past = two.past ∙ ap (λ ms. ms ++ moments_of second t.now) one.past
+      ∙ append_assoc s.past (moments_of first s.now) (moments_of second t.now)
+      ∙ ap (λ (m : Moment). s.past ++ (moments_of first s.now ++ moments_of second m)) one.now
+      ∙ ap (λ ms. s.past ++ ms) (sym (moments_of-append first second s.now));
+}
+
+pub broke_one : (call : Call) (s t : State) → Fails call s t → BrokeIn (call ∷ []) s.now t.now
+broke_one call s t failed = record {
+  before = []; call = call; after = []; are = refl;
+  left = t.now.bytes;
+  may = failed.content;
+  is = now_broken call s t failed;
+}
+
+-- one of the first calls broke
+pub broke_first : (first second : List Call) (m n : Moment) → BrokeIn first m n → BrokeIn (first ++ second) m n
+broke_first first second m n broke = record {
+  before = broke.before; call = broke.call; after = broke.after ++ second;
+  are = ap (λ calls. calls ++ second) broke.are ∙ append_assoc broke.before (broke.call ∷ broke.after) second;
+  left = broke.left;
+  may = broke.may;
+  is = broke.is;
+}
+
+-- the first calls were done, and one of the second ones broke
+pub broke_later : (first second : List Call) (s t : State) (n : Moment) → Called first s t → BrokeIn second t.now n → BrokeIn (first ++ second) s.now n
+broke_later first second s t n one broke =
+    let same : all_done broke.before t.now ≡ all_done (first ++ broke.before) s.now =
+        ap (all_done broke.before) one.now ∙ sym (all_done-append first broke.before s.now) in
+    record {
+      before = first ++ broke.before; call = broke.call; after = broke.after;
+      are = ap (λ calls. first ++ calls) broke.are ∙ sym (append_assoc first broke.before (broke.call ∷ broke.after));
+      left = broke.left;
+      may = subst (λ (m : Moment). MayBe (within broke.call m) broke.left) same broke.may;
+      is = broke.is ∙ ap (broken broke.call broke.left) same;
+    }
+
+-- ## What a crash on the way may leave
+
+some_may-last : (ms : List Moment) (last : Moment) (left : List ℕ) → SomeMay (ms ++ last ∷ []) left → SomeMay ms left ⊎ MayBe last left
+some_may-last [] last left (inl may) = inr may
+some_may-last [] last left (inr more) = elim more [ ]
+some_may-last (m ∷ ms) last left (inl may) = inl (inl may)
+some_may-last (m ∷ ms) last left (inr more) =
+    elim (some_may-last ms last left more) [ inl earlier ↦ inl (inr earlier) | inr may ↦ inr may ]
+
+-- after one call more
+pub since_before : (s t : State) (from : ℕ) (left : List ℕ) → from ≤ moment s → Goes s t → Since t from left → Since s from left ⊎ MayBe t.now left
+since_before s t from left le goes (inr now) = inr now
+since_before s t from left le goes (inl past) =
+    let parts : drop from t.past ≡ drop from s.past ++ s.now ∷ [] = ap (drop from) goes ∙ drop-append-le from s.past (s.now ∷ []) le in
+    inl (some_may-last (drop from s.past) s.now left (subst (λ ms. SomeMay ms left) parts past))
+
+-- no call yet
+pub started : (s : State) (P : List ℕ → Type 0) → ((left : List ℕ) → MayBe s.now left → P left) → LeavesOnly s s P
+started s P here = record {
+  later = omega arith;
+  each = λ left since. here left (only_now left since);
+  before = λ from left le since. inl since;
+}
+  where
+    only_now : (left : List ℕ) → Since s (moment s) left → MayBe s.now left
+    only_now left (inr now) = now
+    only_now left (inl past) = absurd (subst (λ ms. SomeMay ms left) (drop-length s.past) past)
+
+-- one call more
+pub goes_on : (s t u : State) (P : List ℕ → Type 0) → LeavesOnly s t P → Goes t u → ((left : List ℕ) → MayBe u.now left → P left) → LeavesOnly s u P
+goes_on s t u P only goes here = record {
+  later = let first = only.later in let longer = ap length goes ∙ length-append t.past (t.now ∷ []) in omega (arith, longer);
+  each = λ left since.
+      elim (since_before t u (moment s) left only.later goes since) [ inl old ↦ only.each left old | inr now ↦ here left now ];
+  before = λ from left le since.
+      elim (since_before t u from left (let first = only.later in omega arith) goes since) [
+        inl old ↦ only.before from left le old
+      | inr now ↦ inr (here left now)
+      ];
+}
+
+-- one run of calls after another
+pub and_then : (s t u : State) (P : List ℕ → Type 0) → LeavesOnly s t P → LeavesOnly t u P → LeavesOnly s u P
+and_then s t u P one two = record {
+  later = let first = one.later in let second = two.later in omega arith;
+  each = λ left since. elim (two.before (moment s) left one.later since) [ inl old ↦ one.each left old | inr has ↦ has ];
+  before = λ from left le since.
+      elim (two.before from left (let first = one.later in omega arith) since) [ inl old ↦ one.before from left le old | inr has ↦ inr has ];
+}
+
+pub weaker : (s t : State) (P Q : List ℕ → Type 0) → ((left : List ℕ) → P left → Q left) → LeavesOnly s t P → LeavesOnly s t Q
+weaker s t P Q imply only = record {
+  later = only.later;
+  each = λ left since. imply left (only.each left since);
+  before = λ from left le since. elim (only.before from left le since) [ inl old ↦ inl old | inr has ↦ inr (imply left has) ];
+}
+
+-- one call, done or failed
+pub call_leaves : {E : Type 0} (r : Result Unit E) (call : Call) (s t : State) → IsInside call s.now → Goes s t
+    → OnOk r (t.now ≡ done call s.now) → OnErr r (Fails call s t) → LeavesOnly s t (MayBe (within call s.now))
+call_leaves r call s t inside goes was failed =
+    goes_on s s t (MayBe (within call s.now)) (started s (MayBe (within call s.now)) (may_within s.now call)) goes
+      (λ left may. after_may r call s t left inside was failed may)
+
+-- ## A write and a sync
+
+-- where all was synced before, a crash within a write leaves what is the same outside its range
+pub same_outside_write : (m : Moment) (at : ℕ) (bytes left : List ℕ) → m.unsynced ≡ [] → MayBe (within (Write at bytes) m) left
+    → SameOutside at (length bytes) m.bytes left
+same_outside_write m at bytes left synced may = record {
+  same_length = may.same_length;
+  same = λ place out. may.same_outside place
+      (subst (λ (ranges : List (ℕ × ℕ)). IsOutside (ranges ++ (at, length bytes) ∷ []) place) (sym synced) (out, tt));
+}
+
+-- and the other way round
+pub write_same_outside : (m : Moment) (at : ℕ) (bytes left : List ℕ) → SameOutside at (length bytes) m.bytes left → MayBe (within (Write at bytes) m) left
+write_same_outside m at bytes left same = record {
+  same_length = same.same_length;
+  same_outside = λ place out. same.same place (outside_each m.unsynced (at, length bytes) place out).1;
+}
+
+-- what stands after a write and a sync
+pub written_through : (at : ℕ) (bytes : List ℕ) (s t : State) → Called (Write at bytes ∷ Sync ∷ []) s t
+    → (t.now.bytes ≡ written s.now.bytes at bytes) × IsSynced t
+written_through at bytes s t called = (ap (λ (m : Moment). m.bytes) called.now, ap (λ (m : Moment). m.unsynced) called.now)
+
+-- ## Steps of a write and a sync, over their results
+
+-- a write that failed
+pub write_broke : (at : ℕ) (bytes : List ℕ) (s t : State) → Fails (Write at bytes) s t → BrokeIn (Write at bytes ∷ Sync ∷ []) s.now t.now
+write_broke at bytes s t failed = broke_first (Write at bytes ∷ []) (Sync ∷ []) s.now t.now (broke_one (Write at bytes) s t failed)
+
+-- a sync that failed, behind the write
+pub sync_broke : (at : ℕ) (bytes : List ℕ) (s t u : State) → t.now ≡ done (Write at bytes) s.now → Goes s t → Fails Sync t u
+    → BrokeIn (Write at bytes ∷ Sync ∷ []) s.now u.now
+sync_broke at bytes s t u was goes failed =
+    broke_later (Write at bytes ∷ []) (Sync ∷ []) s t u.now (called_one (Write at bytes) s t was goes) (broke_one Sync t u failed)
+
+-- both were done
+pub through_called : (at : ℕ) (bytes : List ℕ) (s t u : State) → t.now ≡ done (Write at bytes) s.now → Goes s t → u.now ≡ done Sync t.now → Goes t u
+    → Called (Write at bytes ∷ Sync ∷ []) s u
+through_called at bytes s t u was goes then goes_then =
+    called_then (Write at bytes ∷ []) (Sync ∷ []) s t u (called_one (Write at bytes) s t was goes) (called_one Sync t u then goes_then)
+
+-- the write was done, and then the sync was done or failed
+pub through_leaves : {E : Type 0} (r : Result Unit E) (at : ℕ) (bytes : List ℕ) (s t u : State) → at + length bytes ≤ length s.now.bytes
+    → t.now ≡ done (Write at bytes) s.now → Goes s t → Goes t u → OnOk r (u.now ≡ done Sync t.now) → OnErr r (Fails Sync t u)
+    → LeavesOnly s u (MayBe (within (Write at bytes) s.now))
+through_leaves {E} r at bytes s t u room was goes goes_then then failed =
+    let P : List ℕ → Type 0 = MayBe (within (Write at bytes) s.now) in
+    let unit_done : Result Unit E = Ok tt in
+    let first = call_leaves unit_done (Write at bytes) s t room goes was tt in
+    let second = call_leaves r Sync t u tt goes_then then failed in
+    and_then s t u P first (weaker t u (MayBe t.now) P
+      (λ left may. done_may s.now (Write at bytes) left room (subst (λ (m : Moment). MayBe m left) was may)) second)

@@ -1,0 +1,5 @@
+pub mod Failures
+pub mod Plan
+pub mod Memory
+pub mod Laws
+pub mod File

@@ -1,0 +1,25 @@
+-- A device in memory: what has become of it, and what a call of it comes to.
+use Rattle.std.specs.Prelude.{◌≡◌, ℕ, ◌+◌, Bool, map}
+use Rattle.tp_model.specs.Disk.{Moment, Call}
+use Rattle.tp_model.specs.DiskHistory.{State, Goes}
+use Rattle.tp_disk.specs.declared.memory.RawMemory.{RawMemory}
+use Rattle.tp_disk.specs.declared.plan.Outcome.{Outcome}
+use Rattle.tp_disk.specs.declared.plan.Plan.{Plan}
+use Rattle.tp_disk.specs.Plan.{becomes, is_done, came_to}
+
+-- its bytes and ranges now, and before each call so far
+abbrev pub memory_state : RawMemory → State
+memory_state memory = record {
+  now = record { bytes = memory.bytes.items; unsynced = memory.unsynced.items };
+  past = map (λ before. record { bytes = before.0.items; unsynced = before.1.items }) memory.past.items;
+}
+
+-- A call came to what was planned, and the moment before it is past.
+pub record CameTo (outcome : Outcome) (call : Call) (is_ok : Bool) (old new : State) : Type 0 where
+  pub result : is_ok ≡ is_done outcome
+  pub now : new.now ≡ came_to outcome call old.now
+  pub past : Goes old new
+
+-- a plan goes on by one call
+abbrev pub GoesOn : Plan → Plan → Type 0
+GoesOn old new = (n : ℕ) → becomes new n ≡ becomes old (n + 1)

@@ -1,0 +1,92 @@
+//! What the store sees of a device.
+
+ghost use Rattle.std.specs.Prelude.{◌≡◌, ℕ, ◌+◌, ◌-◌, ◌^◌, ◌≤◌, min, length, take, drop, is_ok, OnOk, OnErr};
+ghost use Rattle.tp_model.specs.Disk.{Write, Sync, Read, done};
+ghost use Rattle.tp_model.specs.DiskHistory.{State, Goes, Fails, Counts};
+
+/// A call of a device failed.
+#[derive(Clone, Copy, Debug, PartialEq, Eq)]
+pub struct DeviceFailed;
+
+/// A device of a fixed number of bytes.
+///
+/// What is said of its bytes and of crashes is said under a premise, `keeps`: that the devices of this type keep the model,
+/// whose moments and histories `tp_model` defines. The size and the count of failures are those of any device.
+pub trait Disk {
+    /// How many bytes it has.
+    ghost size_of: { Self → ℕ };
+
+    /// How many of its calls have failed.
+    ghost failures_of: { Self → ℕ };
+
+    /// The premise: devices of this type keep the model.
+    ghost keeps: { Type 0 };
+
+    /// What has become of it so far. Nothing is said of it but under the premise.
+    ghost state: { Self → State };
+
+    /// How many bytes it has.
+    fn size(&self) -> u64
+        ensures { result ≡ size_of self.now };
+
+    /// How many calls have failed, or the greatest number where there are more.
+    fn failures(&self) -> u64
+        ensures { result ≡ min (failures_of self.now) (2 ^ 64 - 1) };
+
+    /// Reads as many bytes as `out` has. After a failure `out` may hold anything.
+    fn read(&mut self, at: u64, out: &mut [u8]) -> Result<(), DeviceFailed>
+        requires { at + length out.old ≤ size_of self.old }
+        ensures counts { Counts (is_ok result) (size_of self.old) (size_of self.new) (failures_of self.old) (failures_of self.new) }
+        ensures goes { keeps → Goes (state self.old) (state self.new) }
+        ensures bytes { keeps → OnOk result (out.new ≡ take (length out.old) (drop at (state self.old).now.bytes)) }
+        ensures after { keeps → OnOk result ((state self.new).now ≡ done Read (state self.old).now) }
+        ensures failed { keeps → OnErr result (Fails Read (state self.old) (state self.new)) };
+
+    /// Writes over what is there. Until a sync succeeds, a crash may leave any bytes in the range.
+    fn write_at(&mut self, at: u64, bytes: &[u8]) -> Result<(), DeviceFailed>
+        requires { at + length bytes.now ≤ size_of self.old }
+        ensures counts { Counts (is_ok result) (size_of self.old) (size_of self.new) (failures_of self.old) (failures_of self.new) }
+        ensures goes { keeps → Goes (state self.old) (state self.new) }
+        ensures after { keeps → OnOk result ((state self.new).now ≡ done (Write at bytes.now) (state self.old).now) }
+        ensures failed { keeps → OnErr result (Fails (Write at bytes.now) (state self.old) (state self.new)) };
+
+    /// After it, a crash leaves what a read gives.
+    fn sync(&mut self) -> Result<(), DeviceFailed>
+        ensures counts { Counts (is_ok result) (size_of self.old) (size_of self.new) (failures_of self.old) (failures_of self.new) }
+        ensures goes { keeps → Goes (state self.old) (state self.new) }
+        ensures after { keeps → OnOk result ((state self.new).now ≡ done Sync (state self.old).now) }
+        ensures failed { keeps → OnErr result (Fails Sync (state self.old) (state self.new)) };
+
+    /// What a read gives has as many bytes as the device.
+    ghost whole: { keeps → (d : Self) → length (state d).now.bytes ≡ size_of d };
+}
+
+/// A device that is lent is one.
+impl<D: Disk> Disk for &mut D {
+    ghost size_of = { λ d. D.size_of d.now };
+    ghost failures_of = { λ d. D.failures_of d.now };
+    ghost keeps = { D.keeps };
+    ghost state = { λ d. D.state d.now };
+
+    fn size(&self) -> u64 {
+        (**self).size()
+    }
+
+    fn failures(&self) -> u64 {
+        (**self).failures()
+    }
+
+    fn read(&mut self, at: u64, out: &mut [u8]) -> Result<(), DeviceFailed> {
+        (**self).read(at, out)
+    }
+
+    fn write_at(&mut self, at: u64, bytes: &[u8]) -> Result<(), DeviceFailed> {
+        (**self).write_at(at, bytes)
+    }
+
+    fn sync(&mut self) -> Result<(), DeviceFailed> {
+        (**self).sync()
+    }
+
+    ghost whole = { λ k d. D.whole k d.now };
+}

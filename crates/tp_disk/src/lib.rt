@@ -1,0 +1,22 @@
+//! Devices: a fixed number of bytes that a crash may leave torn where they aren't synced.
+#![tactic(auto)]
+
+mod counted;
+mod disk;
+mod failures;
+mod file;
+mod laws;
+mod memory;
+mod plan;
+mod raw;
+mod through;
+
+pub use counted::Counted;
+pub use disk::{DeviceFailed, Disk};
+pub use failures::Failures;
+pub use file::{FileDisk, RawFile};
+pub use laws::{memory_keeps, moments_within_calls};
+pub use memory::{MemDisk, RawMemory};
+pub use plan::Fault;
+pub use raw::RawDisk;
+pub use through::write_through;

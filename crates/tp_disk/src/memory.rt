@@ -1,0 +1,184 @@
+//! A device in memory, one call of which may come to a bad end.
+
+ghost use Rattle.std.specs.Prelude.{◌≡◌, ℕ, ◌+◌, ◌≤◌, [], refl, ◌∷◌, ◌++◌, length, take, drop, replicate, is_ok, OnOk, IfOk};
+ghost use Rattle.tp_model.specs.Disk.{MayBe, Write, Sync, Read, written};
+ghost use Rattle.tp_model.specs.DiskHistory.{IsSynced};
+
+use crate::counted::Counted;
+use crate::disk::DeviceFailed;
+use crate::plan::{Fault, Outcome, Plan};
+use crate::raw::RawDisk;
+use http_server::Log;
+use std::alloc::{AllocError, Global};
+
+/// A device in memory that doesn't count its failures.
+#[derive(Drop)]
+pub struct RawMemory {
+    bytes: Vec<u8>,
+    plan: Plan,
+    /// The ranges since the last sync that was done. Only clauses read it; it takes no memory.
+    unsynced: Log<u64, u64>,
+    /// The moments before each call. Only clauses read it; it takes no memory.
+    past: Log<Vec<u8>, Log<u64, u64>>,
+}
+
+/// A device in memory.
+pub type MemDisk = Counted<RawMemory>;
+
+/// Puts bytes over others.
+fn put(bytes: &mut Vec<u8>, at: u64, piece: &[u8])
+    requires { at + length piece.now ≤ length bytes.old.items }
+    ensures { bytes.new.items ≡ written bytes.old.items at piece.now }
+{
+    let from = at as usize;
+    bytes[from..from + piece.len()].copy_from_slice(piece);
+}
+
+impl RawMemory {
+    ghost use Rattle.tp_disk.specs.Plan.{becomes};
+    ghost use Rattle.tp_disk.specs.Memory.{memory_state, CameTo, GoesOn};
+
+    /// The moment before a call is past, and the plan says what the call comes to.
+    fn begin(&mut self) -> Outcome
+        ensures outcome { result ≡ becomes self.old.plan 0 }
+        ensures later { (n : ℕ) → becomes self.new.plan n ≡ becomes self.old.plan (n + 1) }
+        ensures bytes { self.new.bytes ≡ self.old.bytes }
+        ensures unsynced { self.new.unsynced ≡ self.old.unsynced }
+        ensures past { self.new.past.items ≡ self.old.past.items ++ (self.old.bytes, self.old.unsynced) ∷ [] }
+    {
+        self.past = self.past.and(&self.bytes, &self.unsynced);
+        self.plan.next()
+    }
+
+    fn read_planned(&mut self, at: u64, out: &mut [u8]) -> Result<(), DeviceFailed>
+        requires { at + length out.old ≤ length self.old.bytes.items }
+        ensures came { CameTo (becomes self.old.plan 0) Read (is_ok result) (memory_state self.old) (memory_state self.new) }
+        ensures bytes { OnOk result (out.new ≡ take (length out.old) (drop at self.old.bytes.items)) }
+        ensures later { GoesOn self.old.plan self.new.plan }
+    {
+        match self.begin() {
+            Outcome::Done => {
+                let from = at as usize;
+                out.copy_from_slice(&self.bytes[from..from + out.len()]);
+                Ok(())
+            }
+            Outcome::Refused | Outcome::Torn(_) => Err(DeviceFailed),
+        }
+    }
+
+    fn write_planned(&mut self, at: u64, bytes: &[u8]) -> Result<(), DeviceFailed>
+        requires { at + length bytes.now ≤ length self.old.bytes.items }
+        ensures came { CameTo (becomes self.old.plan 0) (Write at bytes.now) (is_ok result) (memory_state self.old) (memory_state self.new) }
+        ensures later { GoesOn self.old.plan self.new.plan }
+    {
+        let outcome = self.begin();
+        self.unsynced = self.unsynced.and(&at, &(bytes.len() as u64));
+        match outcome {
+            Outcome::Done => {
+                put(&mut self.bytes, at, bytes);
+                Ok(())
+            }
+            Outcome::Refused => Err(DeviceFailed),
+            Outcome::Torn(mut torn) => {
+                torn.truncate(bytes.len());
+                put(&mut self.bytes, at, &torn);
+                Err(DeviceFailed)
+            }
+        }
+    }
+
+    fn sync_planned(&mut self) -> Result<(), DeviceFailed>
+        ensures came { CameTo (becomes self.old.plan 0) Sync (is_ok result) (memory_state self.old) (memory_state self.new) }
+        ensures later { GoesOn self.old.plan self.new.plan }
+    {
+        match self.begin() {
+            Outcome::Done => {
+                self.unsynced = Log::new();
+                Ok(())
+            }
+            Outcome::Refused | Outcome::Torn(_) => Err(DeviceFailed),
+        }
+    }
+}
+
+impl RawDisk for RawMemory {
+    ghost use Rattle.tp_disk.specs.Memory.{memory_state};
+
+    ghost size_of = { λ d. length d.bytes.items };
+    ghost keeps = { Unit {0} };
+    ghost state = { memory_state };
+
+    fn size(&self) -> u64 {
+        self.bytes.len() as u64
+    }
+
+    fn read(&mut self, at: u64, out: &mut [u8]) -> Result<(), DeviceFailed> {
+        self.read_planned(at, out)
+    }
+
+    fn write_at(&mut self, at: u64, bytes: &[u8]) -> Result<(), DeviceFailed> {
+        self.write_planned(at, bytes)
+    }
+
+    fn sync(&mut self) -> Result<(), DeviceFailed> {
+        self.sync_planned()
+    }
+
+    ghost whole = { λ k d. refl };
+}
+
+impl Counted<RawMemory> {
+    ghost use Rattle.tp_disk.specs.declared.plan.Outcome.{Outcome};
+    ghost use Rattle.tp_disk.specs.Failures.{number};
+    ghost use Rattle.tp_disk.specs.Plan.{becomes, planned};
+    ghost use Rattle.tp_disk.specs.Memory.{memory_state};
+
+    /// A device that holds these bytes. No call of it has a fault.
+    pub fn of_bytes(bytes: Vec<u8>) -> MemDisk
+        ensures state { memory_state result.raw ≡ record { now = record { bytes = bytes.items; unsynced = [] }; past = [] } }
+        ensures faultless { (n : ℕ) → becomes result.raw.plan n ≡ Outcome.Done }
+        ensures failures { number result.failed ≡ 0 }
+    {
+        Counted::new(RawMemory {
+            bytes,
+            plan: Plan::faultless(),
+            unsynced: Log::new(),
+            past: Log::new(),
+        })
+    }
+
+    /// A device of so many bytes, all of them 0.
+    pub fn zeroed(alloc: Global, size: usize) -> Result<MemDisk, AllocError>
+        ensures { IfOk result (λ disk. memory_state disk.raw ≡ record { now = record { bytes = replicate size 0; unsynced = [] }; past = [] }) }
+    {
+        let mut bytes = Vec::new(alloc);
+        bytes.resize(size, 0)?;
+        Ok(MemDisk::of_bytes(bytes))
+    }
+
+    /// The call with this number from now on has the fault, where the next one has number 0, and no other one has one.
+    pub fn with_fault(self, call: u64, fault: Fault) -> MemDisk
+        ensures state { memory_state result.raw ≡ memory_state self.raw }
+        ensures planned { (n : ℕ) → becomes result.raw.plan n ≡ planned (Some fault) call n }
+        ensures failures { number result.failed ≡ number self.failed }
+    {
+        let mut disk = self;
+        disk.raw.plan = Plan::with_fault(call, fault);
+        disk
+    }
+
+    /// What a read would give.
+    pub fn bytes(&self) -> &[u8]
+        ensures { result.now ≡ (memory_state self.now.raw).now.bytes }
+    {
+        &self.raw.bytes
+    }
+
+    /// What is left after a crash: what stood, which is one of the contents that the crash may leave.
+    pub fn crash(self) -> Vec<u8>
+        ensures stood { result.items ≡ (memory_state self.raw).now.bytes }
+        ensures may { MayBe (memory_state self.raw).now result.items }
+    {
+        self.raw.bytes
+    }
+}

@@ -1,0 +1,50 @@
+//! A device below the count of its failures.
+
+ghost use Rattle.std.specs.Prelude.{◌≡◌, ℕ, ◌+◌, ◌≤◌, length, take, drop, OnOk, OnErr};
+ghost use Rattle.tp_model.specs.Disk.{Write, Sync, Read, done};
+ghost use Rattle.tp_model.specs.DiskHistory.{State, Goes, Fails};
+
+use crate::disk::DeviceFailed;
+
+/// A device that doesn't count its failures. `Counted` makes a `Disk` of it.
+pub trait RawDisk {
+    /// How many bytes it has.
+    ghost size_of: { Self → ℕ };
+
+    /// The premise: devices of this type keep the model.
+    ghost keeps: { Type 0 };
+
+    /// What has become of it so far. Nothing is said of it but under the premise.
+    ghost state: { Self → State };
+
+    /// How many bytes it has.
+    fn size(&self) -> u64
+        ensures { result ≡ size_of self.now };
+
+    /// Reads as many bytes as `out` has. After a failure `out` may hold anything.
+    fn read(&mut self, at: u64, out: &mut [u8]) -> Result<(), DeviceFailed>
+        requires { at + length out.old ≤ size_of self.old }
+        ensures size { size_of self.new ≡ size_of self.old }
+        ensures goes { keeps → Goes (state self.old) (state self.new) }
+        ensures bytes { keeps → OnOk result (out.new ≡ take (length out.old) (drop at (state self.old).now.bytes)) }
+        ensures after { keeps → OnOk result ((state self.new).now ≡ done Read (state self.old).now) }
+        ensures failed { keeps → OnErr result (Fails Read (state self.old) (state self.new)) };
+
+    /// Writes over what is there. Until a sync succeeds, a crash may leave any bytes in the range.
+    fn write_at(&mut self, at: u64, bytes: &[u8]) -> Result<(), DeviceFailed>
+        requires { at + length bytes.now ≤ size_of self.old }
+        ensures size { size_of self.new ≡ size_of self.old }
+        ensures goes { keeps → Goes (state self.old) (state self.new) }
+        ensures after { keeps → OnOk result ((state self.new).now ≡ done (Write at bytes.now) (state self.old).now) }
+        ensures failed { keeps → OnErr result (Fails (Write at bytes.now) (state self.old) (state self.new)) };
+
+    /// After it, a crash leaves what a read gives.
+    fn sync(&mut self) -> Result<(), DeviceFailed>
+        ensures size { size_of self.new ≡ size_of self.old }
+        ensures goes { keeps → Goes (state self.old) (state self.new) }
+        ensures after { keeps → OnOk result ((state self.new).now ≡ done Sync (state self.old).now) }
+        ensures failed { keeps → OnErr result (Fails Sync (state self.old) (state self.new)) };
+
+    /// What a read gives has as many bytes as the device.
+    ghost whole: { keeps → (d : Self) → length (state d).now.bytes ≡ size_of d };
+}

@@ -1,0 +1,29 @@
+-- Partial functions taken apart, and elements of a list that may not be there.
+use Rattle.std.proofs.Common.{◌≡◌, ◌≢◌, ℕ, zero, suc, Bool, true, false, cond, List, [], ◌∷◌, set, refl, ap, Option, Some, None, slice_get}
+use Rattle.std.specs.Option.{option_map}
+use Rattle.tp_model.specs.Network.{◌>>=◌}
+
+-- what a chain of partial functions gives, its first one gives too
+pub bind_some : {A B : Type 0} (first : Option A) (f : A → Option B) (y : B) → (first >>= f) ≡ Some y → (x : A) × (first ≡ Some x) × (f x ≡ Some y)
+bind_some None f y e = cc
+bind_some (Some x) f y e = (x, refl, e)
+
+pub map_some : {A B : Type 0} (f : A → B) (given : Option A) (y : B) → option_map f given ≡ Some y → (x : A) × (given ≡ Some x) × (f x ≡ y)
+map_some f None y e = cc
+map_some f (Some x) y e = (x, refl, cc)
+
+pub cond_some : {A : Type 0} (b : Bool) (given : Option A) (y : A) → cond b given None ≡ Some y → (b ≡ true) × (given ≡ Some y)
+cond_some true given y e = (refl, e)
+cond_some false given y e = cc
+
+pub slice_get-set_same : {A : Type 0} (xs : List A) (i : ℕ) (y x : A) → slice_get xs i ≡ Some x → slice_get (set xs i y) i ≡ Some y
+slice_get-set_same [] i y x e = cc
+slice_get-set_same (z ∷ zs) zero y x e = refl
+slice_get-set_same (z ∷ zs) (suc i) y x e = slice_get-set_same zs i y x e
+
+pub slice_get-set_other : {A : Type 0} (xs : List A) (i j : ℕ) (y : A) → j ≢ i → slice_get (set xs i y) j ≡ slice_get xs j
+slice_get-set_other [] i j y n = refl
+slice_get-set_other (z ∷ zs) zero zero y n = absurd (n refl)
+slice_get-set_other (z ∷ zs) zero (suc j) y n = refl
+slice_get-set_other (z ∷ zs) (suc i) zero y n = refl
+slice_get-set_other (z ∷ zs) (suc i) (suc j) y n = slice_get-set_other zs i j y (λ e. n (ap suc e))

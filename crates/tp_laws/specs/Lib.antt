@@ -1,0 +1,10 @@
+pub mod Choosing
+pub mod Meeting
+pub mod OneDevice
+pub mod OneGroup
+pub mod OneNode
+pub mod Processes
+pub mod Start
+pub mod Text
+pub mod Transfers
+pub mod TwoNodes

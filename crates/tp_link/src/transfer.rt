@@ -1,0 +1,24 @@
+//! Messages under way.
+
+ghost use Rattle.std.specs.Prelude.{◌≡◌};
+ghost use Rattle.tp_model.specs.LinkEnd.{advanced, has_more};
+
+use tp_model::Transfer;
+
+/// One byte is done, and more are left behind it.
+pub(crate) fn advanced(transfer: Transfer) -> Transfer
+    ensures { result ≡ advanced transfer }
+{
+    Transfer {
+        pointer: transfer.pointer.wrapping_add(1),
+        left: transfer.left.saturating_sub(1),
+        ..transfer
+    }
+}
+
+/// Bytes are left behind the next one.
+pub(crate) fn has_more(transfer: Transfer) -> bool
+    ensures { result ≡ has_more transfer }
+{
+    transfer.left > 1
+}

@@ -1,0 +1,6 @@
+//! The network's shape, read from a text, and its lines.
+#![tactic(auto)]
+
+mod line;
+
+pub use line::{LINE_TOKENS, Lines};

@@ -1,0 +1,143 @@
+//! The lines of a network, with what is under way on them.
+
+ghost use Rattle.std.specs.Prelude.{◌≡◌, ◌≤◌, ◌<◌, [], ◌∷◌, ◌++◌, IfOk, length, drop, set, replicate, slice_get, ℕ};
+ghost use Rattle.tp_model.specs.Network.{on_line};
+
+use circular_buffer::HeapCircularBuffer;
+use std::alloc::{AllocError, Global};
+use std::marker::Model;
+use tp_model::Token;
+
+/// Tokens that a line has room for: a byte, an acknowledge and a marker are all that is ever under way on one.
+pub const LINE_TOKENS: usize = 3;
+
+/// A line: its tokens, first the one that comes next.
+#[derive(Drop)]
+struct Line {
+    ring: HeapCircularBuffer<Token>,
+}
+
+impl Model for Line {
+    ghost use Rattle.std.specs.Prelude.{◌≡◌, List};
+    ghost use Rattle.tp_model.specs.declared.link.Token.{Token};
+
+    ghost Value = { List Token };
+
+    ghost view = { λ line. line.ring.items };
+
+    ghost invariant = { λ line. line.ring.capacity ≡ 3 };
+}
+
+impl Line {
+    fn new(alloc: Global) -> Result<Line, AllocError>
+        ensures { IfOk result (λ line. line ≡ []) }
+    {
+        let ring = HeapCircularBuffer::with_capacity(alloc, LINE_TOKENS)?;
+        Ok(Line { ring })
+    }
+
+    fn push(&mut self, token: Token)
+        requires { length self.old < LINE_TOKENS }
+        ensures { self.new ≡ self.old ++ token ∷ [] }
+    {
+        self.ring.push_back(token);
+    }
+
+    fn pop(&mut self) -> Option<Token>
+        ensures value { result ≡ slice_get self.old 0 }
+        ensures after { self.new ≡ drop 1 self.old }
+    {
+        self.ring.pop_front()
+    }
+
+    fn get(&self, at: usize) -> Option<Token>
+        ensures { result ≡ slice_get self.now at }
+    {
+        self.ring.get(at).copied()
+    }
+
+    fn len(&self) -> usize
+        ensures value { result ≡ length self.now }
+        ensures bound { result ≤ LINE_TOKENS }
+    {
+        self.ring.len()
+    }
+}
+
+/// The lines of a network, by their numbers. Only `new` takes memory.
+#[derive(Drop)]
+pub struct Lines {
+    lines: Vec<Line>,
+}
+
+impl Model for Lines {
+    ghost use Rattle.std.specs.Prelude.{List};
+    ghost use Rattle.tp_model.specs.declared.link.Token.{Token};
+
+    ghost Value = { List (List Token) };
+
+    ghost view = { λ lines. lines.lines.items };
+}
+
+impl Lines {
+    /// So many lines, all empty.
+    pub fn new(alloc: Global, count: usize) -> Result<Lines, AllocError>
+        ensures { IfOk result (λ lines. lines ≡ replicate count []) }
+    {
+        let mut lines = Vec::with_capacity(alloc, count)?;
+        for _ in 0..count {
+            lines.push(Line::new(alloc)?)?;
+        }
+        Ok(Lines { lines })
+    }
+
+    /// How many lines there are.
+    pub fn count(&self) -> usize
+        ensures { result ≡ length self.now }
+    {
+        self.lines.len()
+    }
+
+    /// Appends a token to a line.
+    pub fn push(&mut self, line: usize, token: Token)
+        requires there { line < length self.old }
+        requires room { length (on_line self.old line) < LINE_TOKENS }
+        ensures { self.new ≡ set self.old line (on_line self.old line ++ token ∷ []) }
+    {
+        self.lines[line].push(token);
+    }
+
+    /// Takes the token off that comes next on a line.
+    pub fn pop(&mut self, line: usize) -> Option<Token>
+        requires { line < length self.old }
+        ensures value { result ≡ slice_get (on_line self.old line) 0 }
+        ensures after { self.new ≡ set self.old line (drop 1 (on_line self.old line)) }
+    {
+        self.lines[line].pop()
+    }
+
+    /// The token that comes next on a line.
+    pub fn front(&self, line: usize) -> Option<Token>
+        requires { line < length self.now }
+        ensures { result ≡ slice_get (on_line self.now line) 0 }
+    {
+        self.get(line, 0)
+    }
+
+    /// The token at a place of a line, the one that comes next being at 0.
+    pub fn get(&self, line: usize, at: usize) -> Option<Token>
+        requires { line < length self.now }
+        ensures { result ≡ slice_get (on_line self.now line) at }
+    {
+        self.lines[line].get(at)
+    }
+
+    /// How many tokens there are on a line.
+    pub fn len(&self, line: usize) -> usize
+        requires { line < length self.now }
+        ensures value { result ≡ length (on_line self.now line) }
+        ensures bound { result ≤ LINE_TOKENS }
+    {
+        self.lines[line].len()
+    }
+}

@@ -1,0 +1,4 @@
+pub mod EndsAsBytes
+pub mod FirstStored
+pub mod Images
+pub mod Pieces

@@ -1,0 +1,9 @@
+use Rattle.std.proofs.Common.{◌≡◌, ℕ, List, length, drop}
+use Rattle.std.specs.List.{list_all}
+use Rattle.tp_model.specs.EndBytes.{is_out_end}
+use Rattle.tp_node.proofs.rules.are_outputs.Given as goal
+
+-- the ends that are left say what all say
+abbrev pub invariant-loop-end : goal.invariant-loop-end
+invariant-loop-end l =
+    (memory : List ℕ) → length memory ≡ l.len → list_all (is_out_end memory) (drop l.end-index l.ends) ≡ list_all (is_out_end memory) l.ends

@@ -1,0 +1,23 @@
+-- What a token puts into memory, before the process that hears of it is queued.
+use Rattle.std.specs.Prelude.{◌≡◌, ℕ, List, [], ◌∷◌, Option, Some, option_and_then}
+use Rattle.tp_model.specs.Memory.{byte_stored, stored}
+use Rattle.tp_model.specs.declared.link.News.{News}
+use Rattle.tp_model.specs.declared.link.News.TheVariants.{Nobody, Process, Alternative}
+use Rattle.tp_node.specs.declared.first.First.{First}
+use Rattle.tp_node.specs.declared.first.First.TheVariants.{Nothing, Byte, Word}
+
+-- memory after it
+abbrev pub first_stored : First → List ℕ → Option (List ℕ)
+first_stored Nothing memory = Some memory
+first_stored (Byte address byte) memory = byte_stored memory address byte
+first_stored (Word address word) memory = stored memory ((address, word) ∷ [])
+
+-- and after words behind it
+abbrev pub stored_behind : First → List (ℕ × ℕ) → List ℕ → Option (List ℕ)
+stored_behind first writes memory = option_and_then (λ m. stored m writes) (first_stored first memory)
+
+-- a token for an alternative puts nothing into memory by itself
+abbrev pub GoesWith : First → News → Type 0
+GoesWith first Nobody = Unit {0}
+GoesWith first (Process descriptor) = Unit {0}
+GoesWith first (Alternative descriptor) = first ≡ Nothing

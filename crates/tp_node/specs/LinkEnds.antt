@@ -1,0 +1,25 @@
+-- What a call answers and leaves that does what an instruction asks of an end of a link.
+use Rattle.std.specs.Prelude.{◌≡◌, ℕ, List, Option, Result, Ok, Err}
+use Rattle.tp_model.specs.LinkStep.{LinkOutcome, Did, Fails}
+use Rattle.tp_model.specs.declared.processor.Cpu.{Cpu}
+use Rattle.tp_model.specs.declared.link.Token.{Token}
+use Rattle.tp_proc.specs.declared.undone.Undone.{Undone}
+use Rattle.tp_proc.specs.declared.undone.Undone.TheVariants.{Faulty, NoFrame, Asks, Wants}
+
+-- it can be done
+abbrev pub IsDone : {End : Type 0} → LinkOutcome End → Type 0
+IsDone (Did cpu memory end token) = Unit {0}
+IsDone (Fails fault) = ⊥
+
+-- why nothing was done; `cause` is what has to be so where memory has no frame
+abbrev pub IsUndone : {End : Type 0} → LinkOutcome End → Type 0 → Undone → Type 0
+IsUndone outcome cause (Faulty fault) = outcome ≡ Fails fault
+IsUndone outcome cause NoFrame = IsDone outcome × cause
+IsUndone outcome cause (Asks request) = ⊥
+IsUndone outcome cause (Wants request) = ⊥
+
+-- The processor, the memory and the end are what the outcome says, and the token that leaves is answered; else nothing
+-- has changed, and the answer says why.
+abbrev pub LinkEnds : {End : Type 0} → LinkOutcome End → Type 0 → Cpu → List ℕ → End → Result (Option Token) Undone → Cpu → List ℕ → End → Type 0
+LinkEnds outcome cause before was end (Ok token) after now new = outcome ≡ Did after now new token
+LinkEnds outcome cause before was end (Err undone) after now new = IsUndone outcome cause undone × (after ≡ before) × (now ≡ was) × (new ≡ end)

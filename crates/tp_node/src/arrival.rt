@@ -1,0 +1,101 @@
+//! Whom a token concerns, and what that changes.
+
+ghost use Rattle.std.specs.Prelude.{◌≡◌, ℕ, List, Some, IsSome};
+ghost use Rattle.tp_model.specs.Node.{bad_address, wake, tell};
+ghost use Rattle.tp_model.specs.NodeState.{NodeState};
+ghost use Rattle.tp_proc.specs.Ends.{MayRefuse};
+ghost use Rattle.tp_node.specs.First.{GoesWith, first_stored};
+ghost use Rattle.tp_node.specs.Hears.{Hears, with_both};
+
+use crate::fault::NoFrame;
+use crate::first::First;
+use tp_mem::Mem;
+use tp_model::{Cpu, Fault, News};
+use tp_proc::{queue, queue_write, state_at, workspace};
+
+/// The states of an alternative: its branches are being enabled; it waits; a partner has come.
+const ENABLING: u32 = 0x8000_0001;
+const WAITING: u32 = 0x8000_0002;
+pub(crate) const READY: u32 = 0x8000_0003;
+
+/// A node that runs halts, since a process lies outside memory.
+fn halt_outside(cpu: &mut Cpu)
+    ensures { (node : NodeState) (memory : List ℕ) → bad_address (with_both cpu.old memory node) ≡ with_both cpu.new memory node }
+{
+    if cpu.halt.is_none() {
+        cpu.halt = Some(Fault::BadAddress);
+    }
+}
+
+/// Queues the process of a descriptor, behind what the token puts into memory.
+#[tactic(auto, using(crate::proofs::FirstStored::word_behind))]
+fn wake<M: Mem>(
+    cpu: &mut Cpu,
+    mem: &mut M,
+    first: First,
+    descriptor: u32,
+) -> Result<(), NoFrame>
+    requires { IsSome (first_stored first (M.bytes mem.old)) }
+    ensures hears { Hears (wake descriptor) (first_stored first (M.bytes mem.old)) (MayRefuse (M.may_refuse mem.old)) cpu.old (M.bytes mem.old) result cpu.new (M.bytes mem.new) }
+    ensures kept { M.frozen mem.new ≡ M.frozen mem.old }
+{
+    let _len = mem.len();
+    match queue_write(descriptor, cpu) {
+        None => {
+            first.store(mem, &[])?;
+            queue(descriptor, cpu);
+            Ok(())
+        }
+        Some(link) if mem.read_word(link.0).is_some() => {
+            first.store(mem, &[link])?;
+            queue(descriptor, cpu);
+            Ok(())
+        }
+        Some(_) => {
+            first.store(mem, &[])?;
+            halt_outside(cpu);
+            Ok(())
+        }
+    }
+}
+
+/// A partner has come for the alternative of a descriptor.
+#[tactic(auto, using(crate::proofs::FirstStored::word_behind))]
+fn signal<M: Mem>(cpu: &mut Cpu, mem: &mut M, descriptor: u32) -> Result<(), NoFrame>
+    ensures hears { Hears (tell (News.Alternative descriptor)) (Some (M.bytes mem.old)) (MayRefuse (M.may_refuse mem.old)) cpu.old (M.bytes mem.old) result cpu.new (M.bytes mem.new) }
+    ensures kept { M.frozen mem.new ≡ M.frozen mem.old }
+{
+    let address = state_at(workspace(descriptor));
+    let ready = First::Word {
+        address,
+        word: READY,
+    };
+    match mem.read_word(address) {
+        None => {
+            halt_outside(cpu);
+            Ok(())
+        }
+        Some(WAITING) => wake(cpu, mem, ready, descriptor),
+        Some(ENABLING) => ready.store(mem, &[]),
+        Some(_) => Ok(()),
+    }
+}
+
+/// Puts into memory what the token does, and tells whom it concerns.
+pub(crate) fn tell<M: Mem>(
+    cpu: &mut Cpu,
+    mem: &mut M,
+    first: First,
+    news: News,
+) -> Result<(), NoFrame>
+    requires inside { IsSome (first_stored first (M.bytes mem.old)) }
+    requires alone { GoesWith first news }
+    ensures hears { Hears (tell news) (first_stored first (M.bytes mem.old)) (MayRefuse (M.may_refuse mem.old)) cpu.old (M.bytes mem.old) result cpu.new (M.bytes mem.new) }
+    ensures kept { M.frozen mem.new ≡ M.frozen mem.old }
+{
+    match news {
+        News::Nobody => first.store(mem, &[]),
+        News::Process(descriptor) => wake(cpu, mem, first, descriptor),
+        News::Alternative(descriptor) => signal(cpu, mem, descriptor),
+    }
+}

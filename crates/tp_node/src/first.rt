@@ -1,0 +1,38 @@
+//! What a token puts into memory.
+
+ghost use Rattle.std.specs.Prelude.{◌≡◌, Some, IsSome, OnOk, OnErr};
+ghost use Rattle.tp_proc.specs.Ends.{MayRefuse};
+ghost use Rattle.tp_node.specs.First.{stored_behind};
+
+use crate::fault::NoFrame;
+use tp_mem::{Mem, WriteFault};
+
+/// What a token puts into memory, before the process that hears of it is queued.
+#[derive(Clone, Copy)]
+pub(crate) enum First {
+    Nothing,
+    Byte { address: u32, byte: u8 },
+    Word { address: u32, word: u32 },
+}
+
+impl First {
+    /// Puts it into memory, and then writes a word, if there is one.
+    pub(crate) fn store<M: Mem>(self, mem: &mut M, behind: &[(u32, u32)]) -> Result<(), NoFrame>
+        requires { IsSome (stored_behind self behind.now (M.bytes mem.old)) }
+        ensures ok { OnOk result (stored_behind self behind.now (M.bytes mem.old) ≡ Some (M.bytes mem.new)) }
+        ensures err { OnErr result (M.bytes mem.new ≡ M.bytes mem.old) }
+        ensures kept { M.frozen mem.new ≡ M.frozen mem.old }
+        ensures refusal { OnErr result (MayRefuse (M.may_refuse mem.old)) }
+    {
+        let written = match self {
+            First::Nothing => mem.write_words(behind),
+            First::Byte { address, byte } => mem.change_byte(address, byte, behind),
+            First::Word { address, word } => mem.change_after((address, word), 0, 0, 0, behind),
+        };
+        match written {
+            Ok(()) => Ok(()),
+            Err(WriteFault::NoFrame) => Err(NoFrame),
+            Err(WriteFault::Outside) => unreachable!(),
+        }
+    }
+}

@@ -1,0 +1,123 @@
+//! A node apart from its memory, and the bytes in front of the memory in its image.
+
+ghost use Rattle.std.specs.Prelude.{◌≡◌, ◌≤◌, ◌+◌, ◌*◌, ◌∷◌, ◌++◌, ℕ, List, length, drop};
+ghost use Rattle.std.specs.List.{flat_map};
+ghost use Rattle.tp_model.specs.Bytes.{u16_bytes, u32_bytes, u32_at};
+ghost use Rattle.tp_model.specs.EndBytes.{ends_at, out_end_at, in_end_at};
+ghost use Rattle.tp_model.specs.Image.{words_of, cpu_at, page_count, image_head};
+ghost use Rattle.tp_node.specs.StateWith.{state_with};
+
+use crate::code::{halt_byte, halt_of, state_byte, state_of};
+use crate::ends::{inputs_at, outputs_at, put_inputs, put_outputs};
+use crate::number::{u16_at, u32_at};
+use byteorder::{ByteOrder, LittleEndian};
+use tp_link::{InEngine, OutEngine};
+use tp_model::limits::{IMAGE_HEAD_BYTES, IMAGE_VERSION};
+use tp_model::{Cpu, Queue, Regs};
+
+/// A node apart from its memory: its processor and the ends of links 0 to 3.
+#[derive(Clone, Copy)]
+pub(crate) struct Head {
+    pub(crate) cpu: Cpu,
+    pub(crate) outputs: [OutEngine; 4],
+    pub(crate) inputs: [InEngine; 4],
+}
+
+fn queue_at(bytes: &[u8], at: usize) -> Queue
+    requires { at + 8 ≤ length bytes.now }
+    ensures { result ≡ record { front = u32_at bytes.now at; back = u32_at bytes.now (at + 4) } }
+{
+    Queue {
+        front: u32_at(bytes, at),
+        back: u32_at(bytes, at + 4),
+    }
+}
+
+fn cpu_at(bytes: &[u8]) -> Cpu
+    requires { IMAGE_HEAD_BYTES ≤ length bytes.now }
+    ensures { result ≡ cpu_at bytes.now }
+{
+    Cpu {
+        iptr: u32_at(bytes, 4),
+        wptr: u32_at(bytes, 8),
+        regs: Regs {
+            a: u32_at(bytes, 12),
+            b: u32_at(bytes, 16),
+            c: u32_at(bytes, 20),
+            error: bytes[40] != 0,
+        },
+        high: queue_at(bytes, 24),
+        low: queue_at(bytes, 32),
+        state: state_of(bytes[41]),
+        slice: u16_at(bytes, 42),
+        halt: halt_of(bytes[1]),
+    }
+}
+
+/// The words from Iptr to the queues.
+fn words_of(cpu: &Cpu) -> [u32; 9]
+    ensures { result ≡ words_of cpu.now }
+{
+    [
+        cpu.iptr,
+        cpu.wptr,
+        cpu.regs.a,
+        cpu.regs.b,
+        cpu.regs.c,
+        cpu.high.front,
+        cpu.high.back,
+        cpu.low.front,
+        cpu.low.back,
+    ]
+}
+
+/// Writes words, one behind the other.
+fn put_words(out: &mut [u8], words: &[u32])
+    requires { 4 * length words.now ≤ length out.old }
+    ensures { out.new ≡ flat_map u32_bytes words.now ++ drop (4 * length words.now) out.old }
+{
+    for (i, word) in words.iter().enumerate() {
+        LittleEndian::write_u32(&mut out[4 * i..], *word);
+    }
+}
+
+/// Writes two bytes and a number behind them.
+fn put_four(out: &mut [u8], first: u8, second: u8, number: u16)
+    requires { 4 ≤ length out.old }
+    ensures { out.new ≡ (first ∷ second ∷ u16_bytes number) ++ drop 4 out.old }
+{
+    out[0] = first;
+    out[1] = second;
+    LittleEndian::write_u16(&mut out[2..], number);
+}
+
+impl Head {
+    /// The head that the bytes spell, if they spell one.
+    pub(crate) fn read(bytes: &[u8]) -> Head
+        requires { IMAGE_HEAD_BYTES ≤ length bytes.now }
+        ensures cpu { result.cpu ≡ cpu_at bytes.now }
+        ensures outputs { result.outputs ≡ ends_at out_end_at 4 (drop 44 bytes.now) }
+        ensures inputs { result.inputs ≡ ends_at in_end_at 4 (drop 108 bytes.now) }
+    {
+        Head {
+            cpu: cpu_at(bytes),
+            outputs: outputs_at(bytes, 44),
+            inputs: inputs_at(bytes, 108),
+        }
+    }
+
+    /// Writes the bytes in front of a memory of so many pages.
+    pub(crate) fn write(&self, pages: u16, out: &mut [u8])
+        requires { IMAGE_HEAD_BYTES ≤ length out.old }
+        ensures { (memory : List ℕ) → page_count memory ≡ pages → out.new ≡ image_head (state_with self.now memory) ++ drop IMAGE_HEAD_BYTES out.old }
+    {
+        let Cpu {
+            regs, state, slice, ..
+        } = self.cpu;
+        put_four(out, IMAGE_VERSION, halt_byte(self.cpu.halt), pages);
+        put_words(&mut out[4..], &words_of(&self.cpu));
+        put_four(&mut out[40..], u8::from(regs.error), state_byte(state), slice);
+        put_outputs(&mut out[44..], &self.outputs);
+        put_inputs(&mut out[108..], &self.inputs);
+    }
+}

@@ -1,0 +1,43 @@
+//! Reading images.
+
+ghost use Rattle.std.specs.Prelude.{◌≡◌, ℕ, List, length};
+ghost use Rattle.std.specs.Option.{option_map};
+ghost use Rattle.tp_model.specs.Image.{is_node, node_of};
+ghost use Rattle.tp_node.specs.StateWith.{state_with};
+
+use crate::head::Head;
+use crate::rules::{are_inputs, are_outputs, is_memory};
+use tp_model::limits::{IMAGE_HEAD_BYTES, PAGE_BYTES, SLICE};
+
+/// Whether a node with this head and a memory of so many bytes keeps the rules of images.
+#[tactic(auto, unfolding(tp_model::specs::Image::is_node))]
+fn keeps_rules(head: &Head, len: usize) -> bool
+    ensures { (memory : List ℕ) → length memory ≡ len → result ≡ is_node (state_with head.now memory) }
+{
+    is_memory(len)
+        && head.cpu.wptr % 4 == 0
+        && head.cpu.slice as usize <= SLICE
+        && are_outputs(len, &head.outputs)
+        && are_inputs(len, &head.inputs)
+}
+
+/// The head and the memory of the node whose image the bytes are, if they are one.
+pub(crate) fn read_image(bytes: &[u8]) -> Option<(Head, &[u8])>
+    ensures { node_of bytes.now ≡ option_map (λ parts. state_with parts.0 parts.1.now) result }
+{
+    if bytes.len() < IMAGE_HEAD_BYTES {
+        return None;
+    }
+    let head = Head::read(bytes);
+    let memory = &bytes[IMAGE_HEAD_BYTES..];
+    if !keeps_rules(&head, memory.len()) {
+        return None;
+    }
+    let mut spelled = [0; IMAGE_HEAD_BYTES];
+    head.write((memory.len() / PAGE_BYTES) as u16, &mut spelled);
+    if bytes[..IMAGE_HEAD_BYTES] == spelled[..] {
+        Some((head, memory))
+    } else {
+        None
+    }
+}

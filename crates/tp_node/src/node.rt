@@ -1,0 +1,113 @@
+//! A node, its image, and how it is frozen.
+
+ghost use Rattle.std.specs.Prelude.{◌≡◌, ◌*◌, ◌<◌, Some, None, length, IsSome, IsNone, IfSome, is_some};
+ghost use Rattle.tp_model.specs.Image.{image_head, node_of};
+ghost use Rattle.tp_mem.specs.Contents.{page_of};
+ghost use Rattle.tp_node.specs.FromImage.{ReadsImage};
+
+use crate::fault::ImageFault;
+use crate::head::Head;
+use crate::image::read_image;
+use crate::memory::{Memory, reserve};
+use std::alloc::Global;
+use std::marker::Model;
+use tp_mem::Freeze;
+use tp_model::Fault;
+use tp_model::limits::{IMAGE_HEAD_BYTES, PAGE_BYTES};
+
+/// A node. While it is frozen, it is kept as it was then, beside what it is now.
+#[derive(Drop)]
+pub struct Node {
+    head: Head,
+    memory: Memory,
+    frozen: Option<Head>,
+}
+
+impl Model for Node {
+    ghost use Rattle.std.specs.Prelude.{◌≡◌, is_some};
+    ghost use Rattle.tp_node.specs.NodeContents.{NodeContents, frozen_state};
+    ghost use Rattle.tp_node.specs.StateWith.{state_with};
+
+    ghost Value = { NodeContents };
+
+    ghost view = { λ n. record { live = state_with n.head n.memory.live; frozen = frozen_state n.frozen n.memory.frozen } };
+
+    ghost invariant = { λ n. is_some n.frozen ≡ is_some n.memory.frozen };
+}
+
+impl Node {
+    /// The node of an image. No more spare frames are reserved than the node has pages.
+    pub fn from_image(alloc: Global, bytes: &[u8], spare: usize) -> Result<Node, ImageFault>
+        ensures { ReadsImage (node_of bytes.now) result }
+    {
+        let Some((head, memory)) = read_image(bytes) else {
+            return Err(ImageFault::BadImage);
+        };
+        match reserve(alloc, memory.len() / PAGE_BYTES, spare, memory) {
+            Err(_) => Err(ImageFault::Memory),
+            Ok(memory) => Ok(Node {
+                head,
+                memory,
+                frozen: None,
+            }),
+        }
+    }
+
+    /// Why the node has halted, if it has.
+    pub fn halt(&self) -> Option<Fault>
+        ensures { result ≡ self.now.live.cpu.halt }
+    {
+        self.head.cpu.halt
+    }
+
+    /// How many pages its memory has.
+    pub fn pages(&self) -> usize
+        ensures live { length self.now.live.memory ≡ PAGE_BYTES * result }
+        ensures frozen { IfSome self.now.frozen (λ node. length node.memory ≡ PAGE_BYTES * result) }
+    {
+        self.memory.pages()
+    }
+
+    /// Whether it is frozen.
+    pub fn is_frozen(&self) -> bool
+        ensures { result ≡ is_some self.now.frozen }
+    {
+        self.frozen.is_some()
+    }
+
+    /// Keeps the node as it is now. It takes no memory.
+    pub fn freeze(&mut self)
+        requires { IsNone self.old.frozen }
+        ensures { self.new ≡ record self.old { frozen = Some self.old.live } }
+    {
+        self.memory.freeze();
+        self.frozen = Some(self.head);
+    }
+
+    /// Writes the bytes in front of the memory in the frozen node's image.
+    pub fn frozen_head(&self, out: &mut [u8; IMAGE_HEAD_BYTES])
+        requires { IsSome self.now.frozen }
+        ensures { IfSome self.now.frozen (λ node. out.new ≡ image_head node) }
+    {
+        if let Some(head) = &self.frozen {
+            head.write(self.memory.pages() as u16, out);
+        }
+    }
+
+    /// Reads a page of the frozen node's memory.
+    pub fn frozen_page(&self, page: usize, out: &mut [u8; PAGE_BYTES])
+        requires frozen { IsSome self.now.frozen }
+        requires inside { PAGE_BYTES * page < length self.now.live.memory }
+        ensures { IfSome self.now.frozen (λ node. out.new ≡ page_of node.memory page) }
+    {
+        self.memory.frozen_page(page, out);
+    }
+
+    /// Lets the frozen node go.
+    pub fn drop_frozen(&mut self)
+        ensures { self.new ≡ record self.old { frozen = None } }
+    {
+        self.memory.drop_frozen();
+        self.frozen = None;
+    }
+}

@@ -1,0 +1,124 @@
+//! What an instruction does at the output end of a link.
+
+ghost use Rattle.std.specs.Prelude.{◌≡◌, ℕ, List, [], ◌∷◌, Some, is_some};
+ghost use Rattle.tp_model.specs.Memory.{byte_at};
+ghost use Rattle.tp_model.specs.LinkStep.{begin_output};
+ghost use Rattle.tp_proc.specs.After.{held, stored_after};
+ghost use Rattle.tp_proc.specs.Ends.{Writes, MayRefuse};
+ghost use Rattle.tp_node.specs.LinkEnds.{LinkEnds};
+ghost use Rattle.tp_node.specs.OutputAfter.{output_after};
+
+use tp_link::OutEngine;
+use tp_mem::Mem;
+use tp_model::{Cpu, Fault, OutRequest, Token, Transfer};
+use tp_proc::{BAD_ADDRESS, Undone, descriptor_of, end, saved_at, store, store_all};
+
+/// The byte of an address, as it is behind a first word that is to be stored.
+fn byte_after<M: Mem>(mem: &M, first: Option<(u32, u32)>, address: u32) -> Option<u8>
+    ensures { (m : List ℕ) → held first (M.bytes mem.now) ≡ Some m → result ≡ byte_at m address }
+{
+    match first {
+        Some((at, word)) if address / 4 == at / 4 => {
+            Some(word.to_le_bytes()[(address % 4) as usize])
+        }
+        _ => mem.read_byte(address),
+    }
+}
+
+pub(crate) const LINK_BUSY: Undone = Undone::Faulty(Fault::LinkBusy);
+
+/// Stores a first word, if there is one.
+fn hold<M: Mem>(mem: &mut M, first: Option<(u32, u32)>) -> Result<(), Undone>
+    ensures written { Writes (held first (M.bytes mem.old)) (MayRefuse (M.may_refuse mem.old)) (M.bytes mem.old) result (M.bytes mem.new) }
+    ensures kept { M.frozen mem.new ≡ M.frozen mem.old }
+{
+    match first {
+        None => Ok(()),
+        Some((address, word)) => store(mem, address, word),
+    }
+}
+
+/// Writes a word behind a first one.
+fn store_behind<M: Mem>(
+    mem: &mut M,
+    first: Option<(u32, u32)>,
+    address: u32,
+    word: u32,
+) -> Result<(), Undone>
+    ensures written { Writes (stored_after first ((address, word) ∷ []) (M.bytes mem.old)) (MayRefuse (M.may_refuse mem.old)) (M.bytes mem.old) result (M.bytes mem.new) }
+    ensures kept { M.frozen mem.new ≡ M.frozen mem.old }
+{
+    match first {
+        None => store(mem, address, word),
+        Some(first) => store_all(mem, &[first, (address, word)]),
+    }
+}
+
+/// Whether a first word has its place in memory.
+fn is_held<M: Mem>(mem: &M, first: Option<(u32, u32)>) -> bool
+    ensures { result ≡ is_some (held first (M.bytes mem.now)) }
+{
+    match first {
+        None => true,
+        Some((address, _)) => mem.read_word(address).is_some(),
+    }
+}
+
+/// Begins an output behind a first word that is to be stored.
+#[tactic(auto, using(tp_proc::proofs::Behind::behind))]
+fn output_after<M: Mem>(
+    engine: &mut OutEngine,
+    cpu: &mut Cpu,
+    mem: &mut M,
+    first: Option<(u32, u32)>,
+    request: OutRequest,
+) -> Result<Option<Token>, Undone>
+    ensures does { LinkEnds (output_after first request engine.old cpu.old (M.bytes mem.old)) (MayRefuse (M.may_refuse mem.old)) cpu.old (M.bytes mem.old) engine.old result cpu.new (M.bytes mem.new) engine.new }
+    ensures kept { M.frozen mem.new ≡ M.frozen mem.old }
+{
+    let OutRequest { pointer, count, .. } = request;
+    let _len = mem.len();
+    if count == 0 {
+        hold(mem, first)?;
+        return Ok(None);
+    }
+    if !is_held(mem, first) {
+        return Err(BAD_ADDRESS);
+    }
+    if engine.is_waiting() {
+        return Err(LINK_BUSY);
+    }
+    if !mem.is_inside(pointer, count) {
+        return Err(BAD_ADDRESS);
+    }
+    let Some(byte) = byte_after(mem, first, pointer) else {
+        return Err(BAD_ADDRESS);
+    };
+    let message = Transfer {
+        process: descriptor_of(cpu),
+        pointer,
+        left: count,
+    };
+    store_behind(mem, first, saved_at(cpu.wptr), cpu.iptr)?;
+    end(cpu);
+    match engine.start(message, byte) {
+        Ok(token) => Ok(Some(token)),
+        Err(_) => unreachable!(),
+    }
+}
+
+/// Begins an output.
+pub(crate) fn begin_output<M: Mem>(
+    engine: &mut OutEngine,
+    cpu: &mut Cpu,
+    mem: &mut M,
+    request: OutRequest,
+) -> Result<Option<Token>, Undone>
+    ensures does { LinkEnds (begin_output request engine.old cpu.old (M.bytes mem.old)) (MayRefuse (M.may_refuse mem.old)) cpu.old (M.bytes mem.old) engine.old result cpu.new (M.bytes mem.new) engine.new }
+    ensures kept { M.frozen mem.new ≡ M.frozen mem.old }
+{
+    match request.word {
+        None => output_after(engine, cpu, mem, None, request),
+        Some(word) => output_after(engine, cpu, mem, Some((cpu.wptr, word)), request),
+    }
+}

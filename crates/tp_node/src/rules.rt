@@ -1,0 +1,70 @@
+//! The rules that a node's image keeps.
+
+ghost use Rattle.std.specs.Prelude.{◌≡◌, ◌<◌, ◌^◌, ℕ, List, length};
+ghost use Rattle.std.specs.List.{list_all};
+ghost use Rattle.tp_model.specs.EndBytes.{is_under_way, is_out_end, is_in_end};
+ghost use Rattle.tp_model.specs.Image.{is_memory};
+
+use tp_link::{InEngine, OutEngine};
+use tp_model::limits::{MAX_PAGES, MIN_PAGES, PAGE_BYTES};
+use tp_model::{InEnd, OutEnd, Transfer};
+
+const FIRST: u32 = 0x8000_0000;
+
+/// Memory of so many bytes is whole pages, as many as a node may have.
+pub(crate) fn is_memory(len: usize) -> bool
+    ensures { (memory : List ℕ) → length memory ≡ len → result ≡ is_memory memory }
+{
+    let pages = len / PAGE_BYTES;
+    len % PAGE_BYTES == 0 && MIN_PAGES <= pages && pages <= MAX_PAGES
+}
+
+/// A message under way has a byte left, and all that is left lies inside memory of so many bytes.
+fn is_under_way(len: usize, transfer: Transfer) -> bool
+    ensures { (memory : List ℕ) → length memory ≡ len → result ≡ is_under_way memory transfer }
+{
+    let start = transfer.pointer.wrapping_sub(FIRST) as usize;
+    transfer.left >= 1 && start + transfer.left as usize <= len
+}
+
+fn is_out_end(len: usize, end: OutEnd) -> bool
+    ensures { (memory : List ℕ) → length memory ≡ len → result ≡ is_out_end memory end }
+{
+    match end {
+        OutEnd::Idle => true,
+        OutEnd::Waits(transfer) => is_under_way(len, transfer),
+    }
+}
+
+fn is_in_end(len: usize, end: InEnd) -> bool
+    ensures { (memory : List ℕ) → length memory ≡ len → result ≡ is_in_end memory end }
+{
+    match end {
+        InEnd::Idle(_) | InEnd::Enabled(_) => true,
+        InEnd::Inputs(transfer) => is_under_way(len, transfer),
+    }
+}
+
+/// Each output end keeps its rule beside a memory of so many bytes.
+pub(crate) fn are_outputs(len: usize, ends: &[OutEngine]) -> bool
+    ensures { (memory : List ℕ) → length memory ≡ len → result ≡ list_all (is_out_end memory) ends.now }
+{
+    for end in ends {
+        if !is_out_end(len, end.end()) {
+            return false;
+        }
+    }
+    true
+}
+
+/// Each input end keeps its rule beside a memory of so many bytes.
+pub(crate) fn are_inputs(len: usize, ends: &[InEngine]) -> bool
+    ensures { (memory : List ℕ) → length memory ≡ len → result ≡ list_all (is_in_end memory) ends.now }
+{
+    for end in ends {
+        if !is_in_end(len, end.end()) {
+            return false;
+        }
+    }
+    true
+}

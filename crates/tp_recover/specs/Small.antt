@@ -1,0 +1,97 @@
+-- A small format of a device with two areas. It shows that what the laws of runs ask of a format can be met.
+--
+-- The device has two areas of nine bytes. An area is its gate, its generation, the number of entries in its cut, an image
+-- of one byte, two places for groups of two bytes each, and a last gate. A group is its gate and one entry: a byte that
+-- the host hands to port 0. Which network an image stands for is left open.
+use Rattle.std.specs.Prelude.{◌≡◌, ℕ, zero, suc, ◌+◌, ◌*◌, ◌==◌, nat_lt, nat_le, Bool, true, false, not, ◌||◌, if◌then◌else◌, List, [], ◌∷◌, ◌++◌, length, get_or, replicate, Option, Some, None}
+use Rattle.std.specs.Option.{option_map}
+use Rattle.tp_model.specs.declared.entry.Entry.{Entry}
+use Rattle.tp_model.specs.declared.entry.Entry.TheVariants.{Run, Take, HostIn, Confirm}
+use Rattle.tp_model.specs.declared.limits.TheConstants.{GATE_OPEN, GATE_CLOSED}
+use Rattle.tp_model.specs.Network.{◌>>=◌, Machine, Network}
+use Rattle.tp_model.specs.Order.{after}
+use Rattle.tp_model.specs.Areas.{Areas, Held}
+
+-- the byte at a place
+abbrev pub byte_at : List ℕ → ℕ → ℕ
+byte_at bytes place = get_or bytes place 0
+
+-- a gate is open
+abbrev pub is_open : List ℕ → ℕ → Bool
+is_open bytes place = byte_at bytes place == GATE_OPEN
+
+-- where an area begins
+abbrev pub begins : Bool → ℕ
+begins false = 0
+begins true = 9
+
+-- which area is the current one, by which gates are open and by whether the second is of higher generation: the only open
+-- one, or the one of higher generation
+abbrev pub current_of : Bool → Bool → Bool → Option Bool
+current_of true true later = Some later
+current_of true false later = Some false
+current_of false true later = Some true
+current_of false false later = None
+
+abbrev pub current : List ℕ → Option Bool
+current bytes = current_of (is_open bytes 0) (is_open bytes 9) (nat_lt (byte_at bytes 1) (byte_at bytes 10))
+
+-- the entries of the groups from a place on, at most so many, up to the first closed gate
+unfoldable pub entries_at : List ℕ → ℕ → ℕ → List Entry
+entries_at bytes zero place = []
+entries_at bytes (suc more) place =
+    if is_open bytes place then HostIn 0 (byte_at bytes (place + 1)) ∷ entries_at bytes more (place + 2) else []
+
+-- what the area at a place holds
+abbrev pub held_at : {Node : Type 0} → (ℕ → Network Node) → List ℕ → ℕ → Held Node
+held_at image bytes place = record {
+  network = image (byte_at bytes (place + 3));
+  entries = entries_at bytes 2 (place + 4);
+  base = byte_at bytes (place + 2);
+}
+
+-- that, where its entries are possible
+abbrev pub if_possible : {Node : Type 0} → Machine Node → Held Node → Option (Held Node)
+if_possible M h = after M h.network h.entries >>= λ last. Some h
+
+-- what opening answers, for a device of the right size
+unfoldable pub small_verdict : {Node : Type 0} → Machine Node → (ℕ → Network Node) → List ℕ → Option (Held Node)
+small_verdict M image bytes =
+    if length bytes == 18 then (current bytes >>= λ second. if_possible M (held_at image bytes (begins second))) else None
+
+-- the range behind a gate, where it is closed; and the gate's place, where it is open
+abbrev pub behind : Bool → ℕ → ℕ × ℕ
+behind true place = (0, 0)
+behind false place = (place + 1, 8)
+
+abbrev pub spare_of : List ℕ → Option Bool → ℕ × ℕ
+spare_of bytes None = (0, 0)
+spare_of bytes (Some second) = behind (is_open bytes (begins (not second))) (begins (not second))
+
+abbrev pub open_of : List ℕ → Bool → Option ℕ
+open_of bytes second = if is_open bytes (begins (not second)) then Some (begins (not second)) else None
+
+-- a group of one entry, where there is a place for it
+abbrev pub spelt : ℕ → ℕ → List Entry → Option (ℕ × List ℕ)
+spelt place count (HostIn zero x ∷ []) = if nat_lt count 2 then Some (place + 2 * count, x ∷ GATE_CLOSED ∷ []) else None
+spelt place count _ = None
+
+abbrev pub group_of : List ℕ → List Entry → Bool → Option (ℕ × List ℕ)
+group_of bytes es second = spelt (begins second + 4) (length (entries_at bytes 2 (begins second + 4))) es
+
+-- the other area as it is once its gate is open, where it is closed and the area's generation is higher
+abbrev pub other_of : {Node : Type 0} → Machine Node → (ℕ → Network Node) → List ℕ → Bool → Option (ℕ × Held Node)
+other_of M image bytes second =
+    if is_open bytes (begins (not second)) || nat_le (byte_at bytes (begins (not second) + 1)) (byte_at bytes (begins second + 1))
+    then None
+    else option_map (λ k. (begins (not second), k)) (if_possible M (held_at image bytes (begins (not second))))
+
+-- The format.
+abbrev pub small_areas : {Node : Type 0} → Machine Node → (ℕ → Network Node) → Areas Node
+small_areas M image = record {
+  verdict = small_verdict M image;
+  spare = λ bytes. spare_of bytes (current bytes);
+  group = λ bytes es. current bytes >>= group_of bytes es;
+  open_other = λ bytes. current bytes >>= open_of bytes;
+  other = λ bytes. current bytes >>= other_of M image bytes;
+}

@@ -1,0 +1,16 @@
+pub mod Marks
+pub mod Plain
+pub mod Invariant
+pub mod Shape
+pub mod Journal
+pub mod Sending
+pub mod Record
+pub mod Begin
+pub mod Close
+pub mod Whole
+pub mod Kept
+pub mod Acts
+pub mod Happens
+pub mod Stays
+pub mod Halves
+pub mod Room
