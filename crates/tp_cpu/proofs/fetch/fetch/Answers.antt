@@ -1,8 +1,7 @@
-use Rattle.std.proofs.Common.{◌≡◌, ℕ, ◌+◌, ◌<◌, ◌^◌, List, ◌∷◌, drop, Some, None, ◌∙◌, sym, ap, rules, arith}
+use Rattle.std.proofs.Common.{◌≡◌, ◌+◌, drop, ◌∙◌, sym, ap, arith}
 use Rattle.std.proofs.lemmas.Option.{slice_get_within}
 use Rattle.tp_model.specs.Word.{wrap}
 use Rattle.tp_model.specs.Memory.{offset}
-use Rattle.tp_model.specs.Coding.{decoded}
 use Rattle.tp_isa.specs.Decoding.{reads_on}
 use Rattle.tp_cpu.proofs.Ahead.{bytes_from, no_bytes_from, next_offset}
 use Rattle.tp_cpu.proofs.fetch.fetch.Goals as goal

@@ -1,4 +1,4 @@
-use Rattle.std.proofs.Common.{◌≡◌, drop, ℕ, ◌-◌}
+use Rattle.std.proofs.Common.{◌≡◌, drop, ◌-◌}
 use Rattle.tp_model.specs.Memory.{offset}
 use Rattle.tp_model.specs.Coding.{decoded}
 use Rattle.tp_isa.specs.Decoding.{reads_on}

@@ -1,5 +1,4 @@
-use Rattle.std.proofs.Common.{◌≡◌, ℕ, ◌%◌, length, rules, arith, sym, subst}
-use Rattle.tp_proc.specs.Ends.{Finds}
+use Rattle.std.proofs.Common.{◌≡◌, ◌%◌, length, rules, arith}
 use Rattle.tp_proc.proofs.Words.{word_after-same, word_after-other}
 use Rattle.tp_proc.proofs.after.load_behind.Goals as goal
 

@@ -1,8 +1,5 @@
-use Rattle.std.proofs.Common.{◌≡◌, ℕ, List, [], ◌∷◌, ◌++◌, rules, arith, subst, sym, ◌∙◌, ap}
-use Rattle.tp_model.specs.Alternative.{ready, signal_writes}
+use Rattle.std.proofs.Common.{◌≡◌, [], ◌∷◌, rules}
 use Rattle.tp_model.specs.Processor.{queue_writes}
-use Rattle.tp_proc.specs.After.{stored_after}
-use Rattle.tp_proc.specs.Ends.{Writes, MayRefuse}
 use Rattle.tp_proc.proofs.Behind.{signal-enabling, signal-waiting, signal-other}
 use Rattle.tp_proc.proofs.channel.write_signal.Goals as goal
 
