@@ -57,7 +57,10 @@ impl HostPort {
             Token::Ack => {
                 let _first = self.pending.remove(0);
                 self.in_base += 1;
-                self.pending.as_slice().first().map(|byte| Token::Data(*byte))
+                self.pending
+                    .as_slice()
+                    .first()
+                    .map(|byte| Token::Data(*byte))
             }
             Token::Marker => None,
         }

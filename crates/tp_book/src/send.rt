@@ -23,7 +23,12 @@ pub(crate) fn send(wires: &[Option<WireEnd>], lines: &mut Lines, line: usize, to
 }
 
 /// Sends the tokens that leave a node whose first line is this one, each on the line of its link, in order.
-pub(crate) fn send_all(wires: &[Option<WireEnd>], lines: &mut Lines, first: usize, tokens: &[(u8, Token)])
+pub(crate) fn send_all(
+    wires: &[Option<WireEnd>],
+    lines: &mut Lines,
+    first: usize,
+    tokens: &[(u8, Token)],
+)
     requires wired { first + 4 ≤ length wires.now }
     requires there { length lines.old ≡ length wires.now }
     requires links { AllByRecursion (λ m. m.0 < 4) tokens.now }
@@ -37,7 +42,12 @@ pub(crate) fn send_all(wires: &[Option<WireEnd>], lines: &mut Lines, first: usiz
 
 /// Sends what a node answers to a token that came in on this line, where it answers.
 #[tactic(auto, unfolding(tp_model::specs::Network::sent))]
-pub(crate) fn send_answer(wires: &[Option<WireEnd>], lines: &mut Lines, line: usize, answer: Option<Token>)
+pub(crate) fn send_answer(
+    wires: &[Option<WireEnd>],
+    lines: &mut Lines,
+    line: usize,
+    answer: Option<Token>,
+)
     requires known { line < length wires.now }
     requires links { (node : ℕ) (link : ℕ) → receiver wires.now line ≡ Some (Link node link) → 4 * node + link < length wires.now }
     requires there { length lines.old ≡ length wires.now }
@@ -45,7 +55,12 @@ pub(crate) fn send_answer(wires: &[Option<WireEnd>], lines: &mut Lines, line: us
     ensures { lines.new ≡ sent (has_wire wires.now) lines.old (answer_from (receiver wires.now line) answer) }
 {
     match wires[line] {
-        Some(WireEnd::Link(node, link)) => send_some(wires, lines, 4 * node as usize + link as usize, answer),
+        Some(WireEnd::Link(node, link)) => send_some(
+            wires,
+            lines,
+            4 * node as usize + link as usize,
+            answer,
+        ),
         Some(WireEnd::Port(_)) => {}
         None => {}
     }
@@ -53,7 +68,12 @@ pub(crate) fn send_answer(wires: &[Option<WireEnd>], lines: &mut Lines, line: us
 
 /// Sends a token on a line, if there is one.
 #[tactic(auto, unfolding(tp_model::specs::Network::sent))]
-pub(crate) fn send_some(wires: &[Option<WireEnd>], lines: &mut Lines, line: usize, token: Option<Token>)
+pub(crate) fn send_some(
+    wires: &[Option<WireEnd>],
+    lines: &mut Lines,
+    line: usize,
+    token: Option<Token>,
+)
     requires wired { line < length wires.now }
     requires there { line < length lines.old }
     requires room { HasRoom (has_wire wires.now) lines.old (sends_on line token) }

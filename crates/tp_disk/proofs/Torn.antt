@@ -19,7 +19,7 @@ may_be_torn m at bytes torn room fits =
       same_length = length-written m.bytes at torn inside;
       same_outside = λ place out. get_or-written_outside m.bytes at torn inside place
           (outside_inner (at, length bytes) (at, length torn) place (omega arith, omega arith)
-            (outside_each m.unsynced (at, length bytes) place out).1);
+          (outside_each m.unsynced (at, length bytes) place out).1);
     }
 
 torn_may : (m : Moment) (call : Call) (torn : List ℕ) → IsInside call m → MayBe (within call m) (torn_over call torn m.bytes)

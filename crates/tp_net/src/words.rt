@@ -6,7 +6,6 @@ ghost use Rattle.std.specs.List.{list_all, slice_split};
 ghost use Rattle.std.specs.Str.Lines.{lines, strip_carriage_return};
 ghost use Rattle.std.specs.Str.Parse.{digits_value};
 ghost use Rattle.tp_model.specs.TopologyWords.{has_space_around, is_digit, is_letter, is_link_digit, is_name, is_name_byte, is_pages, is_skipped, named_end, words};
-
 ghost use Rattle.tp_net.specs.Ends.{end_of_parts, link_in};
 
 use std::alloc::{AllocError, Global};
@@ -92,7 +91,11 @@ pub(crate) fn pages_in(word: &[u8]) -> Option<u16>
             return None;
         }
     }
-    if pages < MIN_PAGES { None } else { Some(pages as u16) }
+    if pages < MIN_PAGES {
+        None
+    } else {
+        Some(pages as u16)
+    }
 }
 
 fn begins_with_zero(word: &[u8]) -> bool

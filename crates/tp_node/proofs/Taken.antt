@@ -31,7 +31,7 @@ pub data_taken : (node : NodeState) (k byte : ℕ) (end new : InEnd) (arrival : 
     → Takes (took_token node k (Data byte)) cause k node (Ok arrival.token) (record node { cpu = cpu; memory = now; inputs = set node.inputs k new })
 data_taken node k byte end new arrival cause cpu now there arrived can hears =
     rw (there, arrived)
-        (told (placed arrival.place byte node.memory) (record node { inputs = set node.inputs k new }) k arrival.token arrival.news cause node cpu now (rw (there, arrived) at can) hears)
+    (told (placed arrival.place byte node.memory) (record node { inputs = set node.inputs k new }) k arrival.token arrival.news cause node cpu now (rw (there, arrived) at can) hears)
 
 pub ack_taken : (node : NodeState) (k : ℕ) (end new : OutEnd) (arrival : Arrival) (cause : Type 0) (cpu : Cpu) (now : List ℕ)
     → slice_get node.outputs k ≡ Some end → out_acked (next_pointer end >>= byte_at node.memory) end ≡ Some (new, arrival)

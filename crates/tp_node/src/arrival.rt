@@ -14,7 +14,9 @@ use tp_proc::{queue, queue_write, state_at, workspace};
 
 /// The states of an alternative: its branches are being enabled; it waits; a partner has come.
 const ENABLING: u32 = 0x8000_0001;
+
 const WAITING: u32 = 0x8000_0002;
+
 pub(crate) const READY: u32 = 0x8000_0003;
 
 /// A node that runs halts, since a process lies outside memory.
@@ -28,12 +30,7 @@ fn halt_outside(cpu: &mut Cpu)
 
 /// Queues the process of a descriptor, behind what the token puts into memory.
 #[tactic(auto, using(crate::proofs::FirstStored::word_behind))]
-fn wake<M: Mem>(
-    cpu: &mut Cpu,
-    mem: &mut M,
-    first: First,
-    descriptor: u32,
-) -> Result<(), NoFrame>
+fn wake<M: Mem>(cpu: &mut Cpu, mem: &mut M, first: First, descriptor: u32) -> Result<(), NoFrame>
     requires { IsSome (first_stored first (M.bytes mem.old)) }
     ensures hears { Hears (wake descriptor) (first_stored first (M.bytes mem.old)) (IsSome (M.frozen mem.old)) cpu.old (M.bytes mem.old) result cpu.new (M.bytes mem.new) }
     ensures kept { M.frozen mem.new ≡ M.frozen mem.old }

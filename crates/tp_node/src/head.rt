@@ -112,11 +112,19 @@ impl Head {
         ensures { (memory : List ℕ) → page_count memory ≡ pages → out.new ≡ image_head (state_with self.now memory) ++ drop IMAGE_HEAD_BYTES out.old }
     {
         let Cpu {
-            regs, state, slice, ..
+            regs,
+            state,
+            slice,
+            ..
         } = self.cpu;
         put_four(out, IMAGE_VERSION, halt_byte(self.cpu.halt), pages);
         put_words(&mut out[4..], &words_of(&self.cpu));
-        put_four(&mut out[40..], u8::from(regs.error), state_byte(state), slice);
+        put_four(
+            &mut out[40..],
+            u8::from(regs.error),
+            state_byte(state),
+            slice,
+        );
         put_outputs(&mut out[44..], &self.outputs);
         put_inputs(&mut out[108..], &self.inputs);
     }

@@ -5,7 +5,6 @@ ghost use Rattle.tp_model.specs.Memory.{stored};
 ghost use Rattle.tp_model.specs.LinkEnd.{in_started, in_enabled, in_disabled};
 ghost use Rattle.tp_model.specs.LinkStep.{message, with_byte, take_up, enabled, disabled, begin_input};
 ghost use Rattle.tp_model.specs.Processor.{descriptor_of};
-
 ghost use Rattle.tp_proc.specs.Ends.{Writes, MayRefuse};
 ghost use Rattle.tp_node.specs.LinkEnds.{LinkEnds};
 
@@ -72,7 +71,12 @@ fn take_up<M: Mem>(
         *engine = begun;
         return Ok(started.token);
     }
-    put(mem, pointer, started.byte, &[(saved_at(cpu.wptr), cpu.iptr)])?;
+    put(
+        mem,
+        pointer,
+        started.byte,
+        &[(saved_at(cpu.wptr), cpu.iptr)],
+    )?;
     end(cpu);
     *engine = begun;
     Ok(started.token)

@@ -15,8 +15,8 @@ use crate::take::{take_ack, take_data};
 use std::alloc::Global;
 use std::marker::Model;
 use tp_mem::Freeze;
-use tp_model::{Fault, Token};
 use tp_model::limits::{IMAGE_HEAD_BYTES, PAGE_BYTES};
+use tp_model::{Fault, Token};
 
 /// A node. While it is frozen, it is kept as it was then, beside what it is now.
 #[derive(Drop)]

@@ -49,7 +49,12 @@ pub(crate) fn take_data<M: Mem>(
 {
     let mut engine = head.inputs[link];
     let arrival = engine.on_data(byte);
-    tell(&mut head.cpu, mem, placed(arrival.place, byte), arrival.news)?;
+    tell(
+        &mut head.cpu,
+        mem,
+        placed(arrival.place, byte),
+        arrival.news,
+    )?;
     head.inputs[link] = engine;
     Ok(arrival.token)
 }

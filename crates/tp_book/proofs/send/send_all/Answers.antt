@@ -9,10 +9,11 @@ use Rattle.tp_book.proofs.send.send_all.Goals as goal
 
 pub loop-m-preserved : goal.loop-m-preserved
 loop-m-preserved c =
-    let N = next_sent (has_wire c.args.wires.now) c.loop-m.lines _ c.args.first c.args.tokens.now c.loop-m.m-index (0, Data 0) c.loop-m-test.true c.loop-m.invariant.1 c.loop-m.invariant.2 in
-    (ap length c.send.ensures ∙ length_pushed _ _ _ _ ∙ c.loop-m.invariant.0,
-    rw c.send.ensures N.behind,
-    rw c.send.ensures N.leads)
+    let N = next_sent (has_wire c.args.wires.now) c.loop-m.lines _ c.args.first c.args.tokens.now c.loop-m.m-index (0, Data 0) c.loop-m-test.true c.loop-m.invariant.1 c.loop-m.invariant.2 in (
+      ap length c.send.ensures ∙ length_pushed _ _ _ _ ∙ c.loop-m.invariant.0,
+      rw c.send.ensures N.behind,
+      rw c.send.ensures N.leads,
+    )
 
 pub returns : goal.returns
 unfolding sent

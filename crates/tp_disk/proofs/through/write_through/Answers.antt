@@ -33,8 +33,8 @@ returns-clause-broke g c k =
     let t = g.D.Disk.state c.write_at.new.self in
     let u = g.D.Disk.state c.sync.new.self in
     from_err c.sync.result (Fails Sync t u) _
-      (sync_broke c.args.at c.args.bytes.now s t u (c.in_ok-write_at.ensures.after k) (c.write_at.ensures.goes k))
-      (c.sync.ensures.failed k)
+    (sync_broke c.args.at c.args.bytes.now s t u (c.in_ok-write_at.ensures.after k) (c.write_at.ensures.goes k))
+    (c.sync.ensures.failed k)
 
 pub returns-clause-any_moment : goal.returns-clause-any_moment
 returns-clause-any_moment g c k =
@@ -43,4 +43,4 @@ returns-clause-any_moment g c k =
     let u = g.D.Disk.state c.sync.new.self in
     let room : c.args.at + length c.args.bytes.now ≤ length s.now.bytes = omega (arith, c.requires, g.met.D.Disk.whole k c.args.disk.now) in
     through_leaves c.sync.result c.args.at c.args.bytes.now s t u room (c.in_ok-write_at.ensures.after k) (c.write_at.ensures.goes k) (c.sync.ensures.goes k)
-      (c.sync.ensures.after k) (c.sync.ensures.failed k)
+    (c.sync.ensures.after k) (c.sync.ensures.failed k)
