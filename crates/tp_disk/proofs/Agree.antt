@@ -3,7 +3,7 @@ use Rattle.std.proofs.Common.{◌≡◌, ℕ, ◌+◌, ◌-◌, ◌<◌, ◌≤�
 use Rattle.std.proofs.lemmas.Bool.{cases_lt}
 use Rattle.std.proofs.lemmas.List.{length-take, length-take-le, get_or_append_left, get_or-take, get_or-append_right, get_or-drop, get_or_past, take-append-drop, drop-drop, drop_more, drop_at, take_at}
 use Rattle.std.proofs.lemmas.Grind.{same_number_lists}
-use Rattle.tp_model.specs.Disk.{Moment, MayBe, IsWithin, SameOutside, written}
+use Rattle.tp_model.specs.Disk.{MayBe, IsWithin, SameOutside, written}
 use Rattle.tp_disk.proofs.Moments.{length-written, get_or-written_outside, outside_inner}
 
 -- ## The relation
@@ -34,29 +34,29 @@ pub same_take : (at count : ℕ) (old new : List ℕ) (n : ℕ) → SameOutside 
 same_take at count old new n same low =
     let sizes : length (take n new) ≡ length (take n old) = length-take n new ∙ ap (min n) same.same_length ∙ sym (length-take n old) in
     same_number_lists (take n new) (take n old) sizes (λ k short.
-      let k_low : k < n = let bound = length-take n new in omega arith in
-      get_or-take n new k 0 k_low ∙ same.same k (inl (omega arith)) ∙ sym (get_or-take n old k 0 k_low))
+    let k_low : k < n = let bound = length-take n new in omega arith in
+    get_or-take n new k 0 k_low ∙ same.same k (inl (omega arith)) ∙ sym (get_or-take n old k 0 k_low))
 
 -- all from a place behind the range on
 pub same_drop : (at count : ℕ) (old new : List ℕ) (n : ℕ) → SameOutside at count old new → at + count ≤ n → drop n new ≡ drop n old
 same_drop at count old new n same high =
     let sizes : length (drop n new) ≡ length (drop n old) = length-drop n new ∙ ap (λ size. size - n) same.same_length ∙ sym (length-drop n old) in
     same_number_lists (drop n new) (drop n old) sizes (λ k short.
-      get_or-drop n new k 0 ∙ same.same (n + k) (inr (omega arith)) ∙ sym (get_or-drop n old k 0))
+    get_or-drop n new k 0 ∙ same.same (n + k) (inr (omega arith)) ∙ sym (get_or-drop n old k 0))
 
 -- a part that has nothing of the range
 pub same_apart : (at count : ℕ) (old new : List ℕ) (from size : ℕ) → SameOutside at count old new → (from + size ≤ at) ⊎ (at + count ≤ from)
     → take size (drop from new) ≡ take size (drop from old)
 same_apart at count old new from size same apart =
     let drops : length (drop from new) ≡ length (drop from old) =
-        length-drop from new ∙ ap (λ n. n - from) same.same_length ∙ sym (length-drop from old) in
+    length-drop from new ∙ ap (λ n. n - from) same.same_length ∙ sym (length-drop from old) in
     let sizes : length (take size (drop from new)) ≡ length (take size (drop from old)) =
-        length-take size (drop from new) ∙ ap (min size) drops ∙ sym (length-take size (drop from old)) in
+    length-take size (drop from new) ∙ ap (min size) drops ∙ sym (length-take size (drop from old)) in
     same_number_lists (take size (drop from new)) (take size (drop from old)) sizes (λ k short.
-      let k_low : k < size = let bound = length-take size (drop from new) in omega arith in
-      get_or-take size (drop from new) k 0 k_low ∙ get_or-drop from new k 0
-      ∙ same.same (from + k) (outside from size k k_low apart)
-      ∙ sym (get_or-drop from old k 0) ∙ sym (get_or-take size (drop from old) k 0 k_low))
+    let k_low : k < size = let bound = length-take size (drop from new) in omega arith in
+    get_or-take size (drop from new) k 0 k_low ∙ get_or-drop from new k 0
+    ∙ same.same (from + k) (outside from size k k_low apart)
+    ∙ sym (get_or-drop from old k 0) ∙ sym (get_or-take size (drop from old) k 0 k_low))
   where
     outside : (from size k : ℕ) → k < size → (from + size ≤ at) ⊎ (at + count ≤ from) → (from + k < at) ⊎ (at + count ≤ from + k)
     outside from size k low (inl before) = inl (omega arith)
@@ -79,13 +79,14 @@ pub same_taken : (at count : ℕ) (old new : List ℕ) (n : ℕ) → SameOutside
 same_taken at count old new n same = record {
   same_length = sizes;
   same = λ place out. elim (cases_lt place n) [
-    inl low ↦ get_or-take n new place 0 low ∙ same.same place out ∙ sym (get_or-take n old place 0 low)
-  | inr high ↦ beyond (take n new) place (let bound = length-take n new in omega arith) ∙ sym (beyond (take n old) place (let bound = length-take n old in omega arith))
+    | inl low ↦ get_or-take n new place 0 low ∙ same.same place out ∙ sym (get_or-take n old place 0 low)
+    | inr high ↦ beyond (take n new) place (let bound = length-take n new in omega arith) ∙ sym (beyond (take n old) place (let bound = length-take n old in omega arith))
   ];
 }
   where
     sizes : length (take n new) ≡ length (take n old)
     sizes = length-take n new ∙ ap (min n) same.same_length ∙ sym (length-take n old)
+
     beyond : (bytes : List ℕ) (place : ℕ) → length bytes ≤ place → get_or bytes place 0 ≡ 0
     beyond bytes place high = get_or_past bytes place 0 high
 
@@ -104,9 +105,9 @@ same_is_written at count old new same room =
     let size : length part ≡ count = length-take-le count (drop at new) (let dropped = length-drop at new in let sizes = same.same_length in omega arith) in
     let front : take at new ≡ take at old = same_take at count old new at same (omega arith) in
     let rest : drop count (drop at new) ≡ drop (at + length part) old =
-        drop-drop count at new ∙ same_drop at count old new (at + count) same (omega arith) ∙ ap (λ n. drop (at + n) old) (sym size) in
+    drop-drop count at new ∙ same_drop at count old new (at + count) same (omega arith) ∙ ap (λ n. drop (at + n) old) (sym size) in
     let halves : new ≡ take at new ++ (part ++ drop count (drop at new)) =
-        sym (take-append-drop at new) ∙ ap (λ bytes. take at new ++ bytes) (sym (take-append-drop count (drop at new))) in
+    sym (take-append-drop at new) ∙ ap (λ bytes. take at new ++ bytes) (sym (take-append-drop count (drop at new))) in
     halves ∙ ap (λ bytes. bytes ++ (part ++ drop count (drop at new))) front
     ∙ ap (λ bytes. take at old ++ (part ++ bytes)) rest
     ∙ sym (append_assoc (take at old) part (drop (at + length part) old))
@@ -124,7 +125,7 @@ one_changes at old new same inside =
 pub in_written : (old : List ℕ) (at : ℕ) (bytes : List ℕ) → at ≤ length old → take (length bytes) (drop at (written old at bytes)) ≡ bytes
 in_written old at bytes room =
     let front : drop at (take at old ++ (bytes ++ drop (at + length bytes) old)) ≡ bytes ++ drop (at + length bytes) old =
-        drop_at (take at old) (bytes ++ drop (at + length bytes) old) at (length-take-le at old room) in
+    drop_at (take at old) (bytes ++ drop (at + length bytes) old) at (length-take-le at old room) in
     ap (λ all. take (length bytes) (drop at all)) (append_assoc (take at old) bytes (drop (at + length bytes) old))
     ∙ ap (take (length bytes)) front
     ∙ take_at bytes (drop (at + length bytes) old) (length bytes) refl
@@ -154,19 +155,22 @@ pub between_ranges : (bytes left : List ℕ) (at count : ℕ) (second : ℕ × �
 between_ranges bytes left at count second room may =
     let part : List ℕ = take count (drop at left) in
     let size : length part ≡ count = length-take-le count (drop at left)
-        (let dropped = length-drop at left in let sizes = may.same_length in omega arith) in
+    (let dropped = length-drop at left in let sizes = may.same_length in omega arith) in
     let room_for : at + length part ≤ length bytes = omega arith in
     let one : SameOutside at (length part) bytes (written bytes at part) =
-        record { same_length = length-written bytes at part room_for; same = get_or-written_outside bytes at part room_for } in
-    let first : SameOutside at count bytes (written bytes at part) = subst (λ (n : ℕ). SameOutside at n bytes (written bytes at part)) size one in
-    (written bytes at part, first, record {
-      same_length = may.same_length ∙ sym first.same_length;
-      same = λ place out. elim (cases_lt place at) [
-          inl low ↦ may.same_outside place (inl low, (out, tt)) ∙ sym (first.same place (inl low))
-        | inr high ↦ elim (cases_lt place (at + count)) [
-            inl within ↦ sym (inside_written bytes at part place room_for high (omega arith) ∙ get_or-take count (drop at left) (place - at) 0 (omega arith)
+    record { same_length = length-written bytes at part room_for; same = get_or-written_outside bytes at part room_for } in
+    let first : SameOutside at count bytes (written bytes at part) = subst (λ (n : ℕ). SameOutside at n bytes (written bytes at part)) size one in (
+      written bytes at part,
+      first,
+      record {
+        same_length = may.same_length ∙ sym first.same_length;
+        same = λ place out. elim (cases_lt place at) [
+          | inl low ↦ may.same_outside place (inl low, (out, tt)) ∙ sym (first.same place (inl low))
+          | inr high ↦ elim (cases_lt place (at + count)) [
+            | inl within ↦ sym (inside_written bytes at part place room_for high (omega arith) ∙ get_or-take count (drop at left) (place - at) 0 (omega arith)
                 ∙ get_or-drop at left (place - at) 0 ∙ ap (λ n. get_or left n 0) (let place_is : at + (place - at) ≡ place = omega arith in place_is))
-          | inr behind ↦ may.same_outside place (inr behind, (out, tt)) ∙ sym (first.same place (inr behind))
+            | inr behind ↦ may.same_outside place (inr behind, (out, tt)) ∙ sym (first.same place (inr behind))
           ]
         ];
-    })
+      },
+    )

@@ -1,8 +1,8 @@
 -- Calls in order: where they lead, what breaks, and what a crash on the way may leave.
-use Rattle.std.proofs.Common.{◌≡◌, ℕ, ◌+◌, ◌≤◌, ◌⊎◌, inl, inr, List, [], ◌∷◌, ◌++◌, length, drop, get_or, refl, sym, ap, subst, ◌∙◌, arith, append_assoc, append-nil, length-append, Result, Ok, Err, OnOk, OnErr}
+use Rattle.std.proofs.Common.{◌≡◌, ℕ, ◌+◌, ◌≤◌, ◌⊎◌, inl, inr, List, [], ◌∷◌, ◌++◌, length, drop, refl, sym, ap, subst, ◌∙◌, arith, append_assoc, length-append, Result, Ok, Err, OnOk, OnErr}
 use Rattle.std.proofs.lemmas.List.{drop-append-le}
 use Rattle.std.proofs.Math.Seq.{drop-length}
-use Rattle.tp_model.specs.Disk.{Moment, MayBe, IsOutside, Call, Write, Sync, Read, written, done, within, broken, IsWithin, AreWithin, SameOutside}
+use Rattle.tp_model.specs.Disk.{Moment, MayBe, IsOutside, Call, Write, Sync, Read, written, done, within, broken, SameOutside}
 use Rattle.tp_model.specs.DiskHistory.{State, Goes, Fails, IsSynced, SomeMay, Since, moment, LeavesOnly}
 use Rattle.tp_model.specs.StoreCalls.{all_done, moments_of, Called, BrokeIn}
 use Rattle.tp_disk.specs.Laws.{IsInside}
@@ -64,7 +64,10 @@ called_then first second s t u one two = record {
 
 pub broke_one : (call : Call) (s t : State) → Fails call s t → BrokeIn (call ∷ []) s.now t.now
 broke_one call s t failed = record {
-  before = []; call = call; after = []; are = refl;
+  before = [];
+  call = call;
+  after = [];
+  are = refl;
   left = t.now.bytes;
   may = failed.content;
   is = now_broken call s t failed;
@@ -73,7 +76,9 @@ broke_one call s t failed = record {
 -- one of the first calls broke
 pub broke_first : (first second : List Call) (m n : Moment) → BrokeIn first m n → BrokeIn (first ++ second) m n
 broke_first first second m n broke = record {
-  before = broke.before; call = broke.call; after = broke.after ++ second;
+  before = broke.before;
+  call = broke.call;
+  after = broke.after ++ second;
   are = ap (λ calls. calls ++ second) broke.are ∙ append_assoc broke.before (broke.call ∷ broke.after) second;
   left = broke.left;
   may = broke.may;
@@ -84,9 +89,11 @@ broke_first first second m n broke = record {
 pub broke_later : (first second : List Call) (s t : State) (n : Moment) → Called first s t → BrokeIn second t.now n → BrokeIn (first ++ second) s.now n
 broke_later first second s t n one broke =
     let same : all_done broke.before t.now ≡ all_done (first ++ broke.before) s.now =
-        ap (all_done broke.before) one.now ∙ sym (all_done-append first broke.before s.now) in
+    ap (all_done broke.before) one.now ∙ sym (all_done-append first broke.before s.now) in
     record {
-      before = first ++ broke.before; call = broke.call; after = broke.after;
+      before = first ++ broke.before;
+      call = broke.call;
+      after = broke.after;
       are = ap (λ calls. first ++ calls) broke.are ∙ sym (append_assoc first broke.before (broke.call ∷ broke.after));
       left = broke.left;
       may = subst (λ (m : Moment). MayBe (within broke.call m) broke.left) same broke.may;
@@ -129,8 +136,8 @@ goes_on s t u P only goes here = record {
       elim (since_before t u (moment s) left only.later goes since) [ inl old ↦ only.each left old | inr now ↦ here left now ];
   before = λ from left le since.
       elim (since_before t u from left (let first = only.later in omega arith) goes since) [
-        inl old ↦ only.before from left le old
-      | inr now ↦ inr (here left now)
+        | inl old ↦ only.before from left le old
+        | inr now ↦ inr (here left now)
       ];
 }
 
@@ -155,7 +162,7 @@ pub call_leaves : {E : Type 0} (r : Result Unit E) (call : Call) (s t : State) �
     → OnOk r (t.now ≡ done call s.now) → OnErr r (Fails call s t) → LeavesOnly s t (MayBe (within call s.now))
 call_leaves r call s t inside goes was failed =
     goes_on s s t (MayBe (within call s.now)) (started s (MayBe (within call s.now)) (may_within s.now call)) goes
-      (λ left may. after_may r call s t left inside was failed may)
+    (λ left may. after_may r call s t left inside was failed may)
 
 -- ## A write and a sync
 
@@ -208,4 +215,4 @@ through_leaves {E} r at bytes s t u room was goes goes_then then failed =
     let first = call_leaves unit_done (Write at bytes) s t room goes was tt in
     let second = call_leaves r Sync t u tt goes_then then failed in
     and_then s t u P first (weaker t u (MayBe t.now) P
-      (λ left may. done_may s.now (Write at bytes) left room (subst (λ (m : Moment). MayBe m left) was may)) second)
+    (λ left may. done_may s.now (Write at bytes) left room (subst (λ (m : Moment). MayBe m left) was may)) second)

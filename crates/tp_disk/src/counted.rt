@@ -32,8 +32,11 @@ impl<F: RawDisk> Disk for Counted<F> {
     ghost use Rattle.tp_disk.specs.Failures.{number};
 
     ghost size_of = { λ d. F.size_of d.raw };
+
     ghost failures_of = { λ d. number d.failed };
+
     ghost keeps = { F.keeps };
+
     ghost state = { λ d. F.state d.raw };
 
     fn size(&self) -> u64 {

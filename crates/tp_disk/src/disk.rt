@@ -64,8 +64,11 @@ pub trait Disk {
 /// A device that is lent is one.
 impl<D: Disk> Disk for &mut D {
     ghost size_of = { λ d. D.size_of d.now };
+
     ghost failures_of = { λ d. D.failures_of d.now };
+
     ghost keeps = { D.keeps };
+
     ghost state = { λ d. D.state d.now };
 
     fn size(&self) -> u64 {

@@ -24,7 +24,9 @@ pub type FileDisk = Counted<RawFile>;
 
 impl RawDisk for RawFile {
     ghost size_of = { λ d. d.size };
+
     ghost keeps = { file_keeps };
+
     ghost state = { λ _. unknown };
 
     fn size(&self) -> u64 {

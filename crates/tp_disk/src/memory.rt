@@ -105,7 +105,9 @@ impl RawDisk for RawMemory {
     ghost use Rattle.tp_disk.specs.Memory.{memory_state};
 
     ghost size_of = { λ d. length d.bytes.items };
+
     ghost keeps = { Unit {0} };
+
     ghost state = { memory_state };
 
     fn size(&self) -> u64 {
@@ -129,7 +131,7 @@ impl RawDisk for RawMemory {
 
 impl Counted<RawMemory> {
     ghost use Rattle.tp_disk.specs.declared.plan.Outcome.{Outcome};
-        ghost use Rattle.tp_disk.specs.Plan.{becomes, planned};
+    ghost use Rattle.tp_disk.specs.Plan.{becomes, planned};
     ghost use Rattle.tp_disk.specs.Memory.{disk_state, disk_plan};
 
     /// A device that holds these bytes. No call of it has a fault.

@@ -1,7 +1,6 @@
-use Rattle.std.proofs.Common.{◌+◌, ◌≤◌, [], ◌∷◌, length, Result, Ok, Err, OnErr, arith}
-use Rattle.tp_model.specs.Disk.{MayBe, Write, Sync, within}
-use Rattle.tp_model.specs.DiskHistory.{State, Fails}
-use Rattle.tp_model.specs.StoreCalls.{BrokeIn}
+use Rattle.std.proofs.Common.{◌+◌, ◌≤◌, length, Result, Ok, Err, OnErr, arith}
+use Rattle.tp_model.specs.Disk.{Write, Sync}
+use Rattle.tp_model.specs.DiskHistory.{Fails}
 use Rattle.tp_disk.proofs.Calls.{call_leaves, write_broke, sync_broke, through_leaves}
 use Rattle.tp_disk.proofs.through.write_through.Goals as goal
 
@@ -33,8 +32,8 @@ returns-clause-broke g c k =
     let t = g.D.Disk.state c.write_at.new.self in
     let u = g.D.Disk.state c.sync.new.self in
     from_err c.sync.result (Fails Sync t u) _
-      (sync_broke c.args.at c.args.bytes.now s t u (c.in_ok-write_at.ensures.after k) (c.write_at.ensures.goes k))
-      (c.sync.ensures.failed k)
+    (sync_broke c.args.at c.args.bytes.now s t u (c.in_ok-write_at.ensures.after k) (c.write_at.ensures.goes k))
+    (c.sync.ensures.failed k)
 
 pub returns-clause-any_moment : goal.returns-clause-any_moment
 returns-clause-any_moment g c k =
@@ -43,4 +42,4 @@ returns-clause-any_moment g c k =
     let u = g.D.Disk.state c.sync.new.self in
     let room : c.args.at + length c.args.bytes.now ≤ length s.now.bytes = omega (arith, c.requires, g.met.D.Disk.whole k c.args.disk.now) in
     through_leaves c.sync.result c.args.at c.args.bytes.now s t u room (c.in_ok-write_at.ensures.after k) (c.write_at.ensures.goes k) (c.sync.ensures.goes k)
-      (c.sync.ensures.after k) (c.sync.ensures.failed k)
+    (c.sync.ensures.after k) (c.sync.ensures.failed k)
