@@ -3,7 +3,7 @@ use Rattle.std.proofs.Common.{◌≡◌, ℕ, ◌+◌, ◌-◌, ◌<◌, ◌≤�
 use Rattle.std.proofs.lemmas.Bool.{cases_lt}
 use Rattle.std.proofs.lemmas.List.{length-take, length-take-le, get_or_append_left, get_or-take, get_or-append_right, get_or-drop, get_or_past, take-append-drop, drop-drop, drop_more, drop_at, take_at}
 use Rattle.std.proofs.lemmas.Grind.{same_number_lists}
-use Rattle.tp_model.specs.Disk.{Moment, MayBe, IsWithin, SameOutside, written}
+use Rattle.tp_model.specs.Disk.{MayBe, IsWithin, SameOutside, written}
 use Rattle.tp_disk.proofs.Moments.{length-written, get_or-written_outside, outside_inner}
 
 -- ## The relation

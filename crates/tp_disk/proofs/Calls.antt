@@ -1,8 +1,8 @@
 -- Calls in order: where they lead, what breaks, and what a crash on the way may leave.
-use Rattle.std.proofs.Common.{◌≡◌, ℕ, ◌+◌, ◌≤◌, ◌⊎◌, inl, inr, List, [], ◌∷◌, ◌++◌, length, drop, get_or, refl, sym, ap, subst, ◌∙◌, arith, append_assoc, append-nil, length-append, Result, Ok, Err, OnOk, OnErr}
+use Rattle.std.proofs.Common.{◌≡◌, ℕ, ◌+◌, ◌≤◌, ◌⊎◌, inl, inr, List, [], ◌∷◌, ◌++◌, length, drop, refl, sym, ap, subst, ◌∙◌, arith, append_assoc, length-append, Result, Ok, Err, OnOk, OnErr}
 use Rattle.std.proofs.lemmas.List.{drop-append-le}
 use Rattle.std.proofs.Math.Seq.{drop-length}
-use Rattle.tp_model.specs.Disk.{Moment, MayBe, IsOutside, Call, Write, Sync, Read, written, done, within, broken, IsWithin, AreWithin, SameOutside}
+use Rattle.tp_model.specs.Disk.{Moment, MayBe, IsOutside, Call, Write, Sync, Read, written, done, within, broken, SameOutside}
 use Rattle.tp_model.specs.DiskHistory.{State, Goes, Fails, IsSynced, SomeMay, Since, moment, LeavesOnly}
 use Rattle.tp_model.specs.StoreCalls.{all_done, moments_of, Called, BrokeIn}
 use Rattle.tp_disk.specs.Laws.{IsInside}

@@ -1,12 +1,12 @@
 -- A device in memory keeps the model, whatever its plan.
-use Rattle.std.proofs.Common.{◌≡◌, ℕ, ◌+◌, ◌≤◌, Bool, true, false, Result, Ok, Err, OnErr, is_ok, List, [], ◌∷◌, ◌++◌, length, take, refl, sym, ap, subst, ◌∙◌, arith}
+use Rattle.std.proofs.Common.{◌≡◌, ℕ, ◌+◌, ◌≤◌, false, Result, Ok, Err, OnErr, is_ok, List, length, take, sym, ap, subst, arith}
 use Rattle.std.proofs.lemmas.List.{length-take}
 use Rattle.tp_model.specs.Disk.{Moment, MayBe, Call, Write, Sync, Read, written, within, broken}
-use Rattle.tp_model.specs.DiskHistory.{State, Goes, Fails}
+use Rattle.tp_model.specs.DiskHistory.{State, Fails}
 use Rattle.tp_disk.specs.declared.plan.Outcome.{Outcome}
 use Rattle.tp_disk.specs.declared.plan.Outcome.TheVariants.{Done, Refused, Torn}
 use Rattle.tp_disk.specs.Laws.{IsInside}
-use Rattle.tp_disk.specs.Plan.{torn_over, came_to}
+use Rattle.tp_disk.specs.Plan.{torn_over}
 use Rattle.tp_disk.specs.Memory.{CameTo}
 use Rattle.tp_disk.proofs.Moments.{length-written, get_or-written_outside, outside_each, outside_inner, may_stand, may_within}
 

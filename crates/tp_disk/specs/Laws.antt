@@ -1,5 +1,5 @@
 -- What a call asks of the device.
-use Rattle.std.specs.Prelude.{ℕ, ◌+◌, ◌≤◌, length}
+use Rattle.std.specs.Prelude.{◌+◌, ◌≤◌, length}
 use Rattle.tp_model.specs.Disk.{Moment, Call, Write, Sync, Read}
 
 -- a write's range lies inside

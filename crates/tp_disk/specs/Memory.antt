@@ -1,6 +1,6 @@
 -- A device in memory: what has become of it, and what a call of it comes to.
 use Rattle.std.specs.Prelude.{◌≡◌, ℕ, ◌+◌, Bool, map}
-use Rattle.tp_model.specs.Disk.{Moment, Call}
+use Rattle.tp_model.specs.Disk.{Call}
 use Rattle.tp_model.specs.DiskHistory.{State, Goes}
 use Rattle.tp_disk.specs.declared.counted.Counted.{Counted}
 use Rattle.tp_disk.specs.declared.memory.RawMemory.{RawMemory}

@@ -1,7 +1,6 @@
-use Rattle.std.proofs.Common.{◌+◌, ◌≤◌, [], ◌∷◌, length, Result, Ok, Err, OnErr, arith}
-use Rattle.tp_model.specs.Disk.{MayBe, Write, Sync, within}
-use Rattle.tp_model.specs.DiskHistory.{State, Fails}
-use Rattle.tp_model.specs.StoreCalls.{BrokeIn}
+use Rattle.std.proofs.Common.{◌+◌, ◌≤◌, length, Result, Ok, Err, OnErr, arith}
+use Rattle.tp_model.specs.Disk.{Write, Sync}
+use Rattle.tp_model.specs.DiskHistory.{Fails}
 use Rattle.tp_disk.proofs.Calls.{call_leaves, write_broke, sync_broke, through_leaves}
 use Rattle.tp_disk.proofs.through.write_through.Goals as goal
 

@@ -1,7 +1,4 @@
-use Rattle.std.proofs.Common.{Result, Ok, Err, OnErr, is_ok, length}
 use Rattle.tp_model.specs.Disk.{Write}
-use Rattle.tp_model.specs.DiskHistory.{State, Fails}
-use Rattle.tp_disk.specs.declared.plan.Outcome.{Outcome}
 use Rattle.tp_disk.specs.Memory.{memory_state}
 use Rattle.tp_disk.proofs.Torn.{failed_as_planned}
 use Rattle.tp_disk.proofs.memory.RawMemoryRawDisk.write_at.Goals as goal
