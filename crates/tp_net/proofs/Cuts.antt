@@ -28,9 +28,13 @@ none_false : {X : Type 0} (b : Bool) (x : X) → cond b (Some x) None ≡ None �
 none_false true x h = absurd (none-some x (sym h))
 none_false false x h = refl
 
+-- nothing passes
+pub none_passes : {X : Type 0} (p : X → Bool) (xs : List X) → position p xs ≡ None → length xs ≤ position_or_len p xs
+none_passes p xs h =
+    ltb-false (position_or_len p xs) (length xs) (none_false (nat_lt (position_or_len p xs) (length xs)) (position_or_len p xs) h)
+
 pub slice_split-none : {X : Type 0} (p : X → Bool) (xs : List X) → position p xs ≡ None → slice_split p xs ≡ xs ∷ []
-slice_split-none p xs h =
-    uncut p xs (ltb-false (position_or_len p xs) (length xs) (none_false (nat_lt (position_or_len p xs) (length xs)) (position_or_len p xs) h))
+slice_split-none p xs h = uncut p xs (none_passes p xs h)
 
 -- else it is cut at the first that passes
 pub slice_split-some : {X : Type 0} (p : X → Bool) (xs : List X) (at : ℕ) (d : X) → position p xs ≡ Some at

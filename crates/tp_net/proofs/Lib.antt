@@ -1,3 +1,4 @@
 pub mod Numerals
 pub mod Names
 pub mod Cuts
+pub mod Kept

@@ -2,6 +2,7 @@
 #![tactic(auto)]
 
 mod line;
+mod said;
 mod words;
 
 pub use line::{LINE_TOKENS, Lines};

@@ -105,7 +105,7 @@ fn begins_with_zero(word: &[u8]) -> bool
 }
 
 /// A word as text, if it is a name.
-fn name_in(word: &[u8]) -> Option<&str>
+pub(crate) fn name_in(word: &[u8]) -> Option<&str>
     ensures { option_copied result ≡ (if is_name word.now then Some word.now else None) }
 {
     if !is_name(word) {

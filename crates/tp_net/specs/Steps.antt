@@ -1,0 +1,21 @@
+-- What the reader of a topology's text keeps, and what a step of it leaves.
+use Rattle.std.specs.Prelude.{◌≡◌, ◌⊎◌, ℕ, List, map, Result, Ok, Err}
+use Rattle.std.specs.Borrow.{Bor}
+use Rattle.indexmap.specs.IndexMap.{IndexMap}
+use Rattle.indexmap.specs.IndexSet.{IndexSet}
+use Rattle.tp_model.specs.declared.topology.NetFault.{NetFault}
+use Rattle.tp_model.specs.declared.topology.NetFault.TheVariants.{Memory}
+use Rattle.tp_model.specs.TopologyText.{Said}
+
+-- each node's name with its pages
+abbrev pub nodes_in : {S : Type 0} → IndexMap (Bor (List ℕ)) ℕ S → List (List ℕ × ℕ)
+nodes_in nodes = map (λ node. (node.0.now, node.1)) nodes.entries
+
+-- each name
+abbrev pub names_in : {S : Type 0} → IndexSet (Bor (List ℕ)) S → List (List ℕ)
+names_in names = map (λ name. name.now) names.keys
+
+-- A step has left what it should have led to. Or it has a fault: the one that it should have led to, or memory was refused.
+abbrev pub IsStep : Result Said NetFault → Said → Result (Unit {0}) NetFault → Type 0
+IsStep want new (Ok done) = want ≡ Ok new
+IsStep want new (Err fault) = (fault ≡ Memory) ⊎ (want ≡ Err fault)

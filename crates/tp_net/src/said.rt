@@ -1,0 +1,196 @@
+//! What the lines of a topology's text have said.
+
+ghost use Rattle.std.specs.Prelude.{◌≡◌, ◌<◌, ◌≤◌, [], ◌∷◌, ◌++◌, false, IfSome, IfErr, OnOk, length};
+ghost use Rattle.std.specs.Option.{option_map};
+ghost use Rattle.tp_model.specs.TopologyText.{after_ends, after_node, after_port, after_wire, are_ports, end_named, has_wire, is_known, joined, node_named, port_named, same_end, nothing_said};
+ghost use Rattle.tp_net.specs.Steps.{IsStep};
+
+use indexmap::{IndexMap, IndexSet};
+use std::alloc::Global;
+use std::marker::Model;
+use tp_model::limits::{MAX_NODES, MAX_PORTS};
+use tp_model::{NetFault, WireEnd};
+
+use crate::words::{EndName, end_in, name_in, pages_in};
+
+/// What has been said: each node with its pages, and each port, by their names and in the order in which they were
+/// declared; and each wire's ends.
+#[derive(Drop)]
+pub(crate) struct Said<'a> {
+    nodes: IndexMap<&'a str, u16>,
+    ports: IndexSet<&'a str>,
+    wires: Vec<(WireEnd, WireEnd)>,
+}
+
+impl<'a> Model for Said<'a> {
+    ghost use Rattle.std.specs.Prelude.{◌≤◌, length};
+    ghost use Rattle.tp_model.specs.TopologyText.{Said as Words};
+    ghost use Rattle.tp_net.specs.Steps.{names_in, nodes_in};
+    ghost use Rattle.tp_model.specs.declared.limits.TheConstants.{MAX_NODES, MAX_PORTS};
+
+    ghost Value = { Words };
+
+    ghost view = { λ said. record { nodes = nodes_in said.nodes; ports = names_in said.ports; wires = said.wires.items } };
+
+    ghost invariant = { λ said. (length said.nodes.entries ≤ MAX_NODES) × (length said.ports.keys ≤ MAX_PORTS) };
+}
+
+impl<'a> Said<'a> {
+    pub(crate) fn new(alloc: Global) -> Said<'a>
+        ensures { result ≡ nothing_said }
+    {
+        Said {
+            nodes: IndexMap::new(alloc),
+            ports: IndexSet::new(alloc),
+            wires: Vec::new(alloc),
+        }
+    }
+
+    /// The number of the node with this name.
+    fn node_named(&self, name: &str) -> Option<usize>
+        ensures value { result ≡ node_named self.now name.now }
+        ensures bound { IfSome result (λ i. i < MAX_NODES) }
+    {
+        self.nodes.get_index_of(name)
+    }
+
+    /// The number of the port with this name.
+    fn port_named(&self, name: &str) -> Option<usize>
+        ensures value { result ≡ port_named self.now name.now }
+        ensures bound { IfSome result (λ p. p < MAX_PORTS) }
+    {
+        self.ports.get_index_of(name)
+    }
+
+    /// A node or a port has this name.
+    fn is_known(&self, name: &str) -> bool
+        ensures { result ≡ is_known self.now name.now }
+    {
+        self.node_named(name).is_some() || self.port_named(name).is_some()
+    }
+
+    /// The end with this name; none where a port has the number of a link with it, or a node has none.
+    fn end_named(&self, end: EndName<'_>) -> Option<WireEnd>
+        ensures { result ≡ end_named self.now (end.entry.name.now, end.entry.link) }
+    {
+        match end.link {
+            Some(link) => {
+                let node = self.node_named(end.name)?;
+                Some(WireEnd::Link(node as u8, link))
+            }
+            None => {
+                let port = self.port_named(end.name)?;
+                Some(WireEnd::Port(port as u8))
+            }
+        }
+    }
+
+    /// The end has a wire.
+    fn has_wire(&self, end: WireEnd) -> bool
+        ensures { result ≡ has_wire self.now end }
+    {
+        self.wires
+            .iter()
+            .any(|wire| same_end(end, wire.0) || same_end(end, wire.1))
+    }
+
+    /// A line declares a node.
+    pub(crate) fn add_node(&mut self, number: u64, name: &'a [u8], pages: &[u8]) -> Result<(), NetFault>
+        ensures { IsStep (after_node self.old number name.now pages.now) self.new result }
+    {
+        let (Some(name), Some(pages)) = (name_in(name), pages_in(pages)) else {
+            return Err(NetFault::Syntax(number));
+        };
+        if self.is_known(name) {
+            return Err(NetFault::Syntax(number));
+        }
+        if self.nodes.len() >= MAX_NODES {
+            return Err(NetFault::TooMany);
+        }
+        self.keep_node(name, pages)
+    }
+
+    fn keep_node(&mut self, name: &'a str, pages: u16) -> Result<(), NetFault>
+        requires new { is_known self.old name.now ≡ false }
+        requires room { length self.old.nodes < MAX_NODES }
+        ensures ok { OnOk result (self.new ≡ record self.old { nodes = self.old.nodes ++ (name.now, pages) ∷ [] }) }
+        ensures err { IfErr result (λ fault. fault ≡ NetFault.Memory) }
+    {
+        let Ok(_) = self.nodes.insert(name, pages) else {
+            return Err(NetFault::Memory);
+        };
+        Ok(())
+    }
+
+    /// A line declares a port.
+    pub(crate) fn add_port(&mut self, number: u64, name: &'a [u8]) -> Result<(), NetFault>
+        ensures { IsStep (after_port self.old number name.now) self.new result }
+    {
+        let Some(name) = name_in(name) else {
+            return Err(NetFault::Syntax(number));
+        };
+        if self.is_known(name) {
+            return Err(NetFault::Syntax(number));
+        }
+        if self.ports.len() >= MAX_PORTS {
+            return Err(NetFault::TooMany);
+        }
+        self.keep_port(name)
+    }
+
+    fn keep_port(&mut self, name: &'a str) -> Result<(), NetFault>
+        requires new { is_known self.old name.now ≡ false }
+        requires room { length self.old.ports < MAX_PORTS }
+        ensures ok { OnOk result (self.new ≡ record self.old { ports = self.old.ports ++ name.now ∷ [] }) }
+        ensures err { IfErr result (λ fault. fault ≡ NetFault.Memory) }
+    {
+        let Ok(_) = self.ports.insert(name) else {
+            return Err(NetFault::Memory);
+        };
+        Ok(())
+    }
+
+    /// A line declares a wire between two ends.
+    pub(crate) fn add_wire(&mut self, number: u64, first: &[u8], second: &[u8]) -> Result<(), NetFault>
+        ensures { IsStep (after_wire self.old number first.now second.now) self.new result }
+    {
+        let (Some(first), Some(second)) = (end_in(first), end_in(second)) else {
+            return Err(NetFault::Syntax(number));
+        };
+        if !(self.is_known(first.name) && self.is_known(second.name)) {
+            return Err(NetFault::UnknownNode);
+        }
+        let (Some(first), Some(second)) = (self.end_named(first), self.end_named(second)) else {
+            return Err(NetFault::Syntax(number));
+        };
+        self.join(number, first, second)
+    }
+
+    fn join(&mut self, number: u64, first: WireEnd, second: WireEnd) -> Result<(), NetFault>
+        ensures { IsStep (joined self.old number (Some first) (Some second)) self.new result }
+    {
+        if are_ports(first, second) {
+            return Err(NetFault::Syntax(number));
+        }
+        if same_end(first, second) || self.has_wire(first) || self.has_wire(second) {
+            return Err(NetFault::TwoWires);
+        }
+        let Ok(()) = self.wires.push((first, second)) else {
+            return Err(NetFault::Memory);
+        };
+        Ok(())
+    }
+}
+
+fn same_end(first: WireEnd, second: WireEnd) -> bool
+    ensures { result ≡ same_end first second }
+{
+    first == second
+}
+
+/// Both ends are ports.
+fn are_ports(first: WireEnd, second: WireEnd) -> bool
+    ensures { result ≡ are_ports first second }
+{
+    matches!((first, second), (WireEnd::Port(_), WireEnd::Port(_)))
+}
