@@ -6,3 +6,4 @@ pub mod Fields
 pub mod Journalled
 pub mod Ran
 pub mod Took
+pub mod Fresh

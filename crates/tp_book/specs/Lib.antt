@@ -5,4 +5,5 @@ pub mod Room
 pub mod Ports
 pub mod Inside
 pub mod Calls
+pub mod Start
 pub mod Refusals

@@ -1,10 +1,12 @@
 -- Why a call is refused. Where several reasons hold, the first one of these is answered: nothing to take, a snapshot that
 -- runs, a broken store, a full port, a full journal. Memory is answered only where none of them holds.
-use Rattle.std.specs.Prelude.{◌≡◌, ℕ, Bool, true, false, ◌||◌, nat_le, if◌then◌else◌, List, [], ◌∷◌, length, Option, Some, None, is_none, Result, Ok, Err, slice_get}
+use Rattle.std.specs.Prelude.{◌≡◌, ℕ, Bool, true, false, ◌||◌, nat_le, if◌then◌else◌, List, [], ◌∷◌, length, get_or, Option, Some, None, is_none, Result, Ok, Err, slice_get}
 use Rattle.tp_model.specs.declared.link.Token.{Token}
 use Rattle.tp_model.specs.declared.link.Token.TheVariants.{Data, Ack, Marker}
+use Rattle.tp_model.specs.declared.wire.WireEnd.{WireEnd}
+use Rattle.tp_model.specs.declared.wire.WireEnd.TheVariants.{Link, Port as AtPort}
 use Rattle.tp_model.specs.declared.limits.TheConstants.{MAX_HELD}
-use Rattle.tp_model.specs.Network.{Port, on_line}
+use Rattle.tp_model.specs.Network.{Port, receiver, on_line}
 use Rattle.tp_model.specs.Journal.{is_full}
 use Rattle.tp_book.specs.declared.refusal.Refusal.{Refusal}
 use Rattle.tp_book.specs.declared.refusal.Refusal.TheVariants.{JournalFull, StoreBroken, Memory, NothingToTake, PortFull}
@@ -38,6 +40,27 @@ reserve_refusal b = entry_refusal b 1 (else_if None b.broken StoreBroken)
 abbrev pub ready_refusal : BookValue → ℕ → Option Refusal
 ready_refusal b line =
     entry_refusal b 1 (else_if (else_if None (is_none (takeable_of (on_line b.state.lines line))) NothingToTake) b.broken StoreBroken)
+
+-- a port's outputs are full for the token
+abbrev pub is_full_for : Option Port → Token → Bool
+is_full_for None token = false
+is_full_for (Some port) (Data b) = nat_le MAX_HELD (length port.outputs)
+is_full_for (Some port) Ack = false
+is_full_for (Some port) Marker = false
+
+-- the port that a line goes to, in the book
+abbrev pub port_at : BookValue → Option WireEnd → Option Port
+port_at b None = None
+port_at b (Some (Link i k)) = None
+port_at b (Some (AtPort p)) = slice_get b.state.ports p
+
+-- why no port can take a line's front
+abbrev pub host_refusal : BookValue → ℕ → Option Refusal
+host_refusal b line =
+    entry_refusal b 1
+    (else_if
+        (else_if (else_if None (is_none (takeable_of (on_line b.state.lines line))) NothingToTake) b.broken StoreBroken)
+        (is_full_for (port_at b (receiver b.state.start.wires line)) (get_or (on_line b.state.lines line) 0 Marker)) PortFull)
 
 -- The answer to a call that is refused for this reason, where there is one. A call that isn't may still want memory.
 abbrev pub IsAnswer : {A : Type 0} → Option Refusal → Result A Refusal → Type 0

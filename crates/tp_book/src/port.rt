@@ -4,6 +4,7 @@ ghost use Rattle.std.specs.Prelude.{◌≡◌, ◌+◌, ◌^◌, ◌<◌, ◌≤
 ghost use Rattle.tp_model.specs.Entries.{port_took, handed_in};
 ghost use Rattle.tp_book.specs.Parts.{port_of};
 ghost use Rattle.tp_book.specs.Ports.{PortValue, marks_after, CanTake};
+ghost use Rattle.tp_book.specs.Start.{fresh_port};
 
 use crate::parts::PortParts;
 use std::alloc::{AllocError, Global};
@@ -34,6 +35,19 @@ impl Model for HostPort {
 }
 
 impl HostPort {
+    /// A port at which nothing has happened.
+    pub(crate) fn new(alloc: Global) -> Result<HostPort, AllocError>
+        ensures { IfOk result (λ port. port ≡ fresh_port) }
+    {
+        Ok(HostPort {
+            pending: Vec::with_capacity(alloc, MAX_HELD)?,
+            in_base: 0,
+            outputs: Vec::with_capacity(alloc, MAX_HELD)?,
+            marks: Vec::with_capacity(alloc, MAX_HELD)?,
+            out_base: 0,
+        })
+    }
+
     /// Whether there is no room for another output.
     pub(crate) fn is_full(&self) -> bool
         ensures { IsTrue result ↔ (MAX_HELD ≤ length self.now.port.outputs) }
@@ -72,4 +86,15 @@ impl HostPort {
     {
         self.outputs.as_slice()
     }
+}
+
+/// So many ports at which nothing has happened.
+pub(crate) fn fresh_ports(alloc: Global, count: usize) -> Result<Vec<HostPort>, AllocError>
+    ensures { IfOk result (λ ports. ports.items ≡ replicate count fresh_port) }
+{
+    let mut ports = Vec::with_capacity(alloc, count)?;
+    for _ in 0..count {
+        ports.push(HostPort::new(alloc)?)?;
+    }
+    Ok(ports)
 }

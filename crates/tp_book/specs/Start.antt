@@ -1,0 +1,38 @@
+-- A book at its start.
+use Rattle.std.specs.Prelude.{◌≡◌, ◌≤◌, ℕ, ◌+◌, ◌*◌, false, List, [], length, replicate, Option, None}
+use Rattle.tp_model.specs.NodeState.{NodeState}
+use Rattle.tp_model.specs.Node.{t414_ends}
+use Rattle.tp_model.specs.Network.{Port, Network}
+use Rattle.tp_model.specs.Sound.{Sound}
+use Rattle.tp_model.specs.declared.limits.TheConstants.{MAX_NODES, MAX_PORTS}
+use Rattle.tp_book.specs.Ports.{PortValue}
+use Rattle.tp_book.specs.Book.{BookValue}
+
+-- a port at which nothing has happened
+abbrev pub fresh_port : PortValue
+fresh_port = record { port = record { pending = []; in_base = 0; outputs = []; out_base = 0 }; marks = [] }
+
+-- The network is sound, nothing is under way and nothing has happened at its ports.
+pub record IsFresh (s : Network NodeState) : Type 0 where
+  pub sound : Sound t414_ends s
+  pub lines : s.lines ≡ replicate (length s.wires) []
+  pub ports : s.ports ≡ replicate (length s.ports) fresh_port.port
+
+-- A line for each link and each port, and no more nodes and ports than a network may have.
+pub record IsNetwork (s : Network NodeState) : Type 0 where
+  pub wires : length s.wires ≡ 4 * length s.nodes + length s.ports
+  pub few_nodes : length s.nodes ≤ MAX_NODES
+  pub few_ports : length s.ports ≤ MAX_PORTS
+
+-- the book of a network in which nothing has happened, on a device with so many bytes for groups or without one
+abbrev pub first_book : Network NodeState → Option ℕ → BookValue
+first_book s room = record {
+  state = record { start = s; entries = []; ports = s.ports; lines = s.lines; snapshot = None };
+  numbers = [];
+  base = 0;
+  runs = replicate (length s.nodes) false;
+  ready = None;
+  broken = false;
+  room = room;
+  marks = replicate (length s.ports) [];
+}
