@@ -3,4 +3,5 @@ pub mod FirstStored
 pub mod Images
 pub mod OneMore
 pub mod Pieces
+pub mod Room
 pub mod Taken

@@ -14,8 +14,10 @@ mod node;
 mod number;
 mod output;
 mod rules;
+mod run;
 mod step;
 mod take;
 
 pub use fault::{ImageFault, NoFrame};
 pub use node::Node;
+pub use run::{Ran, Why};
