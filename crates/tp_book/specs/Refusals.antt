@@ -59,8 +59,8 @@ abbrev pub host_refusal : BookValue → ℕ → Option Refusal
 host_refusal b line =
     entry_refusal b 1
     (else_if
-        (else_if (else_if None (is_none (takeable_of (on_line b.state.lines line))) NothingToTake) b.broken StoreBroken)
-        (is_full_for (port_at b (receiver b.state.start.wires line)) (get_or (on_line b.state.lines line) 0 Marker)) PortFull)
+    (else_if (else_if None (is_none (takeable_of (on_line b.state.lines line))) NothingToTake) b.broken StoreBroken)
+    (is_full_for (port_at b (receiver b.state.start.wires line)) (get_or (on_line b.state.lines line) 0 Marker)) PortFull)
 
 -- The answer to a call that is refused for this reason, where there is one. A call that isn't may still want memory.
 abbrev pub IsAnswer : {A : Type 0} → Option Refusal → Result A Refusal → Type 0

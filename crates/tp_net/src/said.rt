@@ -5,13 +5,12 @@ ghost use Rattle.std.specs.Option.{option_map};
 ghost use Rattle.tp_model.specs.TopologyText.{after_ends, after_node, after_port, after_wire, are_ports, end_named, has_wire, is_known, joined, node_named, port_named, same_end, nothing_said};
 ghost use Rattle.tp_net.specs.Steps.{IsStep};
 
+use crate::words::{EndName, end_in, name_in, pages_in};
 use indexmap::{IndexMap, IndexSet};
 use std::alloc::Global;
 use std::marker::Model;
 use tp_model::limits::{MAX_NODES, MAX_PORTS};
 use tp_model::{NetFault, WireEnd};
-
-use crate::words::{EndName, end_in, name_in, pages_in};
 
 /// What has been said: each node with its pages, and each port, by their names and in the order in which they were
 /// declared; and each wire's ends.
@@ -95,7 +94,12 @@ impl<'a> Said<'a> {
     }
 
     /// A line declares a node.
-    pub(crate) fn add_node(&mut self, number: u64, name: &'a [u8], pages: &[u8]) -> Result<(), NetFault>
+    pub(crate) fn add_node(
+        &mut self,
+        number: u64,
+        name: &'a [u8],
+        pages: &[u8],
+    ) -> Result<(), NetFault>
         ensures { IsStep (after_node self.old number name.now pages.now) self.new result }
     {
         let (Some(name), Some(pages)) = (name_in(name), pages_in(pages)) else {
@@ -151,7 +155,12 @@ impl<'a> Said<'a> {
     }
 
     /// A line declares a wire between two ends.
-    pub(crate) fn add_wire(&mut self, number: u64, first: &[u8], second: &[u8]) -> Result<(), NetFault>
+    pub(crate) fn add_wire(
+        &mut self,
+        number: u64,
+        first: &[u8],
+        second: &[u8],
+    ) -> Result<(), NetFault>
         ensures { IsStep (after_wire self.old number first.now second.now) self.new result }
     {
         let (Some(first), Some(second)) = (end_in(first), end_in(second)) else {
