@@ -1,17 +1,21 @@
 //! A node: its image, the tokens that come in, and how it is frozen.
 
-ghost use Rattle.std.specs.Prelude.{◌≡◌, ◌*◌, ◌<◌, Some, None, length, IsSome, IsNone, IfSome, is_some};
+ghost use Rattle.std.specs.Prelude.{◌≡◌, ◌*◌, ◌<◌, [], Some, None, length, IsSome, IsNone, IfSome, is_some};
 ghost use Rattle.tp_model.specs.Image.{image_head, node_of};
-ghost use Rattle.tp_model.specs.Node.{took};
+ghost use Rattle.tp_model.specs.Network.{steps};
+ghost use Rattle.tp_model.specs.Node.{took, t414};
 ghost use Rattle.tp_mem.specs.Contents.{page_of};
 ghost use Rattle.tp_node.specs.FromImage.{ReadsImage};
+ghost use Rattle.tp_node.specs.RunEnd.{IsWhy};
 ghost use Rattle.tp_node.specs.Takes.{Takes};
 
 use crate::fault::{ImageFault, NoFrame};
 use crate::head::Head;
 use crate::image::read_image;
 use crate::memory::{Memory, reserve};
+use crate::run::{Ran, run};
 use crate::take::{take_ack, take_data};
+use arrayvec::ArrayVec;
 use std::alloc::Global;
 use std::marker::Model;
 use tp_mem::Freeze;
@@ -126,5 +130,16 @@ impl Node {
             Token::Ack => take_ack(&mut self.head, &mut self.memory, link as usize),
             Token::Marker => unreachable!(),
         }
+    }
+
+    /// Makes at most so many steps. What leaves goes into `out`, each token with its link.
+    pub fn run(&mut self, max: u16, out: &mut ArrayVec<(u8, Token), 8>) -> Ran
+        requires { out.old.items ≡ [] }
+        ensures asked { result.max ≡ max }
+        ensures steps { steps t414 result.count self.old.live ≡ Some (self.new.live, out.new.items) }
+        ensures why { IsWhy result.why max result.count (IsSome self.old.frozen) self.new.live }
+        ensures kept { self.new.frozen ≡ self.old.frozen }
+    {
+        run(&mut self.head, &mut self.memory, max, out)
     }
 }

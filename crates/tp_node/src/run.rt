@@ -1,10 +1,8 @@
 //! Runs of a node.
 
-ghost use Rattle.std.specs.Prelude.{◌≡◌, ◌≤◌, ◌+◌, ℕ, [], ◌++◌, Some, None, length, option_to_list};
-ghost use Rattle.arrayvec.specs.ArrayVec.{array_vec_len};
+ghost use Rattle.std.specs.Prelude.{◌≡◌, ◌≤◌, ◌+◌, [], ◌++◌, Some, IsSome, is_some, if◌then◌else◌, length, option_to_list};
 ghost use Rattle.tp_model.specs.Network.{steps};
 ghost use Rattle.tp_model.specs.Node.{t414};
-ghost use Rattle.tp_node.specs.NodeContents.{NodeContents};
 ghost use Rattle.tp_node.specs.RunEnd.{IsWhy};
 ghost use Rattle.tp_node.specs.StateWith.{state_with};
 
@@ -13,7 +11,7 @@ use crate::step::{Made, make_step};
 use arrayvec::ArrayVec;
 use std::marker::Model;
 use tp_mem::Mem;
-use tp_model::Token;
+use tp_model::{Fault, Token};
 
 /// Why a run ended.
 #[derive(Clone, Copy, Debug, PartialEq, Eq)]
@@ -63,5 +61,58 @@ impl Ran {
         ensures { result ≡ self.now.why }
     {
         self.why
+    }
+}
+
+/// What leaves goes behind what left before.
+fn push(sent: &mut ArrayVec<(u8, Token), 8>, token: Option<(u8, Token)>)
+    requires { length sent.old.items + length (option_to_list token) ≤ 8 }
+    ensures { sent.new.items ≡ sent.old.items ++ option_to_list token }
+{
+    if let Some(token) = token {
+        sent.push(token);
+    }
+}
+
+/// Why a node has no step.
+fn why_none(halt: Option<Fault>) -> Why
+    ensures { result ≡ (if is_some halt then Why.Halted else Why.Idle) }
+{
+    match halt {
+        None => Why::Idle,
+        Some(_) => Why::Halted,
+    }
+}
+
+/// Makes at most so many steps.
+pub(crate) fn run<M: Mem>(
+    head: &mut Head,
+    mem: &mut M,
+    max: u16,
+    sent: &mut ArrayVec<(u8, Token), 8>,
+) -> Ran
+    requires { sent.old.items ≡ [] }
+    ensures asked { result.max ≡ max }
+    ensures steps { steps t414 result.count (state_with head.old (M.bytes mem.old)) ≡ Some (state_with head.new (M.bytes mem.new), sent.new.items) }
+    ensures why { IsWhy result.why max result.count (IsSome (M.frozen mem.old)) (state_with head.new (M.bytes mem.new)) }
+    ensures kept { M.frozen mem.new ≡ M.frozen mem.old }
+{
+    for count in 0..max {
+        match make_step(head, mem) {
+            Made::Step(token) => push(sent, token),
+            Made::Idle => {
+                let why = why_none(head.cpu.halt);
+                return Ran { max, count, why };
+            }
+            Made::NoFrame => {
+                let why = Why::NoFrame;
+                return Ran { max, count, why };
+            }
+        }
+    }
+    Ran {
+        max,
+        count: max,
+        why: Why::Full,
     }
 }
