@@ -18,7 +18,6 @@ made : (o : Option (NodeState × List (ℕ × Token))) (cause : Type 0) (before 
 made None cause before now token makes = absurd makes
 made (Some (after, sent)) cause before now token makes = rw (makes.0, makes.1) refl
 
-
 pub loop-count-init : goal.loop-count-init
 unfolding steps
 loop-count-init g c =
