@@ -2,6 +2,7 @@
 #![tactic(auto)]
 
 mod args;
+mod shown;
 
 use args::{Asked, read_args};
 use std::env;
