@@ -28,8 +28,8 @@ fn main(rt: HostRuntime) -> ExitCode {
         }
     };
     match asked {
-        Asked::Try { .. } => {
-            let _ = write!(&mut err, "tpnet: try is not built yet\n");
+        _ => {
+            let _ = write!(&mut err, "tpnet: this is not built yet\n");
             ExitCode::from(1)
         }
     }
