@@ -1,6 +1,10 @@
+pub mod AreaReads
+pub mod Chosen
+pub mod Contents
 pub mod Cuts
 pub mod Faults
 pub mod Fronts
 pub mod Heads
 pub mod Listings
+pub mod Opens
 pub mod Replays
