@@ -206,3 +206,16 @@ module _ (M : Machine NodeState) (E : Ends NodeState) (bytes : List ℕ) (o : Op
         opening_from M E left o.head (not o.second) k (head_stays head)
         (chosen_later area left o.second (own_open same) opened (omega (arith, own_age same, mine, theirs, new_age)))
         (ap (area_in M E o.head (not o.second)) new ∙ read)
+
+-- ## A device that opens
+
+pub record Found (M : Machine NodeState) (E : Ends NodeState) (bytes : List ℕ) (h : Held NodeState) : Type 0 where
+  pub opened : Opened
+  pub is : opening M E bytes ≡ Ok opened
+  pub holds : held_of opened ≡ h
+  pub reads : Reads M E bytes opened
+
+pub found_in : (M : Machine NodeState) (E : Ends NodeState) (bytes : List ℕ) (h : Held NodeState) → held_in (opening M E bytes) ≡ Some h → Found M E bytes h
+found_in M E bytes h is =
+    let o = held_opened (opening M E bytes) h is in
+    record { opened = o.0; is = o.1; holds = o.2; reads = reads_of M E bytes o.0 o.1 }
