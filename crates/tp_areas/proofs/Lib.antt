@@ -1,0 +1,14 @@
+pub mod AreaReads
+pub mod Chosen
+pub mod Contents
+pub mod Cuts
+pub mod Faults
+pub mod Fronts
+pub mod Groups
+pub mod Heads
+pub mod Holds
+pub mod Listings
+pub mod Opens
+pub mod Replays
+pub mod Spare
+pub mod Switches
