@@ -1,11 +1,11 @@
 //! What the lines of a topology's text have said.
 
-ghost use Rattle.std.specs.Prelude.{◌≡◌, ◌<◌, ◌≤◌, [], ◌∷◌, ◌++◌, false, IfSome, IfErr, OnOk, length};
+ghost use Rattle.std.specs.Prelude.{◌≡◌, ◌<◌, ◌≤◌, [], ◌∷◌, ◌++◌, false, IfSome, IfErr, OnOk, length, map};
 ghost use Rattle.std.specs.Option.{option_map};
-ghost use Rattle.tp_model.specs.TopologyText.{after_ends, after_node, after_port, after_wire, are_ports, end_named, has_wire, is_known, joined, node_named, port_named, same_end, nothing_said};
+ghost use Rattle.tp_model.specs.TopologyText.{after_ends, after_line, after_node, after_port, after_wire, after_words, are_ports, end_named, has_wire, is_known, joined, node_named, port_named, same_end, nothing_said};
 ghost use Rattle.tp_net.specs.Steps.{IsStep};
 
-use crate::words::{EndName, end_in, name_in, pages_in};
+use crate::words::{EndName, end_in, has_space_around, is_skipped, name_in, pages_in, words};
 use indexmap::{IndexMap, IndexSet};
 use std::alloc::Global;
 use std::marker::Model;
@@ -91,6 +91,66 @@ impl<'a> Said<'a> {
         self.wires
             .iter()
             .any(|wire| same_end(end, wire.0) || same_end(end, wire.1))
+    }
+
+    /// One more line, whose number is counted from 1.
+    pub(crate) fn add_line(
+        &mut self,
+        alloc: Global,
+        number: u64,
+        line: &'a [u8],
+    ) -> Result<(), NetFault>
+        ensures { IsStep (after_line self.old number line.now) self.new result }
+    {
+        if is_skipped(line) {
+            return Ok(());
+        }
+        if has_space_around(line) {
+            return Err(NetFault::Syntax(number));
+        }
+        let Ok(words) = words(alloc, line) else {
+            return Err(NetFault::Memory);
+        };
+        self.add_words(number, words.as_slice())
+    }
+
+    /// A line declares what its words say.
+    fn add_words(&mut self, number: u64, words: &[&'a [u8]]) -> Result<(), NetFault>
+        ensures { IsStep (after_words self.old number (map (λ word. word.now) words.now)) self.new result }
+    {
+        match words {
+            [kind, name] => self.add_pair(number, kind, name),
+            [kind, first, second] => self.add_triple(number, kind, first, second),
+            _ => Err(NetFault::Syntax(number)),
+        }
+    }
+
+    fn add_pair(&mut self, number: u64, kind: &[u8], name: &'a [u8]) -> Result<(), NetFault>
+        ensures { IsStep (after_words self.old number (kind.now ∷ name.now ∷ [])) self.new result }
+    {
+        if kind == b"port".as_slice() {
+            self.add_port(number, name)
+        } else {
+            Err(NetFault::Syntax(number))
+        }
+    }
+
+    fn add_triple(
+        &mut self,
+        number: u64,
+        kind: &[u8],
+        first: &'a [u8],
+        second: &[u8],
+    ) -> Result<(), NetFault>
+        ensures { IsStep (after_words self.old number (kind.now ∷ first.now ∷ second.now ∷ [])) self.new result }
+    {
+        if kind == b"node".as_slice() {
+            self.add_node(number, first, second)
+        } else if kind == b"wire".as_slice() {
+            self.add_wire(number, first, second)
+        } else {
+            Err(NetFault::Syntax(number))
+        }
     }
 
     /// A line declares a node.
