@@ -1,12 +1,18 @@
 -- What a line says by its words, and what lines say one after another.
-use Rattle.std.proofs.Common.{◌≡◌, ℕ, ◌+◌, true, false, cond, List, [], ◌∷◌, length, map, refl, ap, ◌∙◌, Ok, Err}
+use Rattle.std.proofs.Common.{◌≡◌, ℕ, ◌+◌, true, false, cond, List, [], ◌∷◌, ◌++◌, length, map, refl, sym, ap, subst, ◌∙◌, arith, Option, Result, Ok, Err}
 use Rattle.std.specs.Borrow.{Bor}
+use Rattle.std.specs.List.{range_with_len}
+use Rattle.std.specs.Str.Lines.{lines}
 use Rattle.std.proofs.lemmas.Bool.{cond-true, cond-false}
+use Rattle.std.proofs.lemmas.List.FromFn.{map-range_with_len_more}
 use Rattle.tp_model.specs.Results.{◌>>=◌}
 use Rattle.tp_model.specs.declared.topology.NetFault.{NetFault}
 use Rattle.tp_model.specs.declared.topology.NetFault.TheVariants.{Syntax}
+use Rattle.tp_model.specs.declared.wire.WireEnd.{WireEnd}
+use Rattle.tp_model.specs.Topology.{end_of}
 use Rattle.tp_model.specs.TopologyWords.{words, has_space_around, is_skipped}
-use Rattle.tp_model.specs.TopologyText.{Said, after_words, after_line, read_lines}
+use Rattle.tp_model.specs.TopologyText.{Said, after_words, after_line, read_lines, nothing_said, read_text, finished, other_end}
+use Rattle.tp_net.specs.Steps.{IsRead}
 
 -- a line of any other number of words is malformed
 pub after_words-else : (said : Said) (number : ℕ) (words : List (Bor (List ℕ))) → (length words ≡ 2 → ⊥) → (length words ≡ 3 → ⊥)
@@ -58,3 +64,27 @@ pub read_lines-more : (said : Said) (number : ℕ) (lines : List (List ℕ)) (li
 unfolding read_lines
 read_lines-more said number lines line rest after e h =
     ap (read_lines said number) e ∙ ap (λ r. r >>= (λ next. read_lines next (number + 1) rest)) h
+
+-- ## A text
+
+pub read_text-fault : (text : List ℕ) (fault : NetFault) → read_lines nothing_said 1 (lines text) ≡ Err fault → read_text text ≡ Err fault
+unfolding read_text
+read_text-fault text fault h = ap (λ r. r >>= finished) h
+
+pub read_text-said : (text : List ℕ) (said : Said) → read_lines nothing_said 1 (lines text) ≡ Ok said → read_text text ≡ finished said
+unfolding read_text
+read_text-said text said h = ap (λ r. r >>= finished) h
+
+-- ## The receivers of lines, one after another
+
+pub receivers_more : (nodes line : ℕ) (wires : List (WireEnd × WireEnd)) (end : Option WireEnd) (ends after : List (Option WireEnd)) → ends ≡ map (λ l. other_end (end_of nodes l) wires) (range_with_len 0 line)
+    → end ≡ other_end (end_of nodes line) wires → after ≡ ends ++ end ∷ []
+    → after ≡ map (λ l. other_end (end_of nodes l) wires) (range_with_len 0 (line + 1))
+receivers_more nodes line wires end ends after so_far is pushed =
+    pushed ∙ ap (λ e. ends ++ e ∷ []) is ∙ ap (λ es. es ++ other_end (end_of nodes line) wires ∷ []) so_far
+    ∙ sym (map-range_with_len_more (λ l. other_end (end_of nodes l) wires) 0 line line (omega arith))
+
+-- ## What is read
+
+pub IsRead-fault : {T : Type 0} (want r : Result T NetFault) (fault : NetFault) → r ≡ Err fault → IsRead want (Err fault) → IsRead want r
+IsRead-fault want r fault e h = subst (IsRead want) (sym e) h

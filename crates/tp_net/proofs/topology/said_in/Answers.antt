@@ -1,27 +1,22 @@
-use Rattle.std.proofs.Common.{◌≡◌, ◌+◌, length, Result, Err, sym, subst, ◌∙◌, inl, inr, arith, rules}
+use Rattle.std.proofs.Common.{sym, ◌∙◌, inl, inr, arith, rules}
 use Rattle.std.specs.Str.Lines.{lines}
-use Rattle.tp_model.specs.declared.topology.NetFault.{NetFault}
-use Rattle.tp_net.specs.Steps.{IsRead}
-use Rattle.tp_net.proofs.Reading.{read_lines-end, read_lines-fault, read_lines-more}
+use Rattle.tp_net.proofs.Reading.{IsRead-fault, read_lines-end, read_lines-fault, read_lines-more}
 use Rattle.tp_net.proofs.topology.said_in.Goals as goal
-
-fault_read : {T : Type 0} (want r : Result T NetFault) (fault : NetFault) → r ≡ Err fault → IsRead want (Err fault) → IsRead want r
-fault_read want r fault e h = subst (IsRead want) (sym e) h
 
 pub returns-in_err-add_line : goal.returns-in_err-add_line
 returns-in_err-add_line c =
-    fault_read _ c.from_residual.result c.in_err-add_line.field-0.0 (search rules)
+    IsRead-fault _ c.from_residual.result c.in_err-add_line.field-0.0 (search rules)
     (elim c.in_err-add_line.ensures [
       | inl memory ↦ inl memory
       | inr fault ↦ inr (sym c.loop-line.invariant.left
-        ∙ read_lines-fault c.loop-line.said c.loop-line.number (lines c.loop-line.rest.now) c.in-Some.line.now (lines c.in-Some.behind.now) c.in_err-add_line.field-0.0 c.in-Some.ensures.0 fault)
+          ∙ read_lines-fault c.loop-line.said c.loop-line.number (lines c.loop-line.rest.now) c.in-Some.line.now (lines c.in-Some.behind.now) c.in_err-add_line.field-0.0 c.in-Some.ensures.0 fault)
     ])
 
 pub loop-line-preserved : goal.loop-line-preserved
 loop-line-preserved c = record {
   count = omega (arith, c.in-Some.ensures.1);
   left = sym (read_lines-more c.loop-line.said c.loop-line.number (lines c.loop-line.rest.now) c.in-Some.line.now (lines c.in-Some.behind.now) c.add_line.new.self c.in-Some.ensures.0 c.in_ok-add_line.ensures)
-    ∙ c.loop-line.invariant.left;
+      ∙ c.loop-line.invariant.left;
 }
 
 pub returns : goal.returns
