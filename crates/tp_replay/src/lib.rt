@@ -1,0 +1,2 @@
+//! A network in one thread, whose entries are replayed.
+#![tactic(auto)]
