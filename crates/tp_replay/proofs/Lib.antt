@@ -1,3 +1,5 @@
+pub mod Flat
 pub mod Length
 pub mod LinkMessages
 pub mod Messages
+pub mod Steps
