@@ -1,4 +1,6 @@
 pub mod Flat
+pub mod Fronts
+pub mod Impossible
 pub mod Length
 pub mod LinkMessages
 pub mod Messages

@@ -34,7 +34,7 @@ port_after s lines p port tokens =
     record s { ports = set s.ports p port; lines = sent (has_wire s.wires) lines (on_port (4 * length s.nodes + p) tokens) }
 
 -- a node that is there is no host
-own_there : (s : Network NodeState) (i : ℕ) (n : NodeState) → slice_get s.nodes i ≡ Some n → own s i ≡ Some (OfNode n)
+pub own_there : (s : Network NodeState) (i : ℕ) (n : NodeState) → slice_get s.nodes i ≡ Some n → own s i ≡ Some (OfNode n)
 own_there s i n at =
     let below : i < length s.nodes = slice_get_within s.nodes i n at in
     own-node s i (λ same. omega arith) ∙ ap (option_map OfNode) at
