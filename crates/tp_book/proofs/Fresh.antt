@@ -1,10 +1,10 @@
 -- A book at its start keeps what every book keeps.
-use Rattle.std.proofs.Common.{◌≡◌, ℕ, zero, suc, ◌+◌, ◌*◌, ◌<◌, ◌≤◌, false, cond, List, [], ◌∷◌, length, map, replicate, refl, sym, ap, subst, ◌∙◌, arith, Some, None, slice_get}
-use Rattle.std.specs.Prelude.{vec_len, vec_capacity, count_by}
+use Rattle.std.proofs.Common.{◌≡◌, ℕ, zero, suc, ◌+◌, ◌≤◌, false, cond, List, [], ◌∷◌, length, map, replicate, refl, sym, ap, subst, ◌∙◌, arith, Some, None, slice_get}
+use Rattle.std.specs.Prelude.{vec_len, count_by}
 use Rattle.std.proofs.lemmas.List.{length-map, length-replicate}
 use Rattle.std.proofs.lemmas.List.Sums.{sum_by-cons}
 use Rattle.tp_model.specs.NodeState.{NodeState}
-use Rattle.tp_model.specs.Node.{t414, t414_ends}
+use Rattle.tp_model.specs.Node.{t414_ends}
 use Rattle.tp_model.specs.declared.link.Token.{Token}
 use Rattle.tp_model.specs.Image.{node_at}
 use Rattle.tp_model.specs.Network.{Network, Port, on_line}
@@ -12,12 +12,11 @@ use Rattle.tp_model.specs.Numbers.{AreNumbered}
 use Rattle.tp_model.specs.Order.{after}
 use Rattle.tp_model.specs.Sound.{Sound}
 use Rattle.tp_model.specs.Markers.{plain, markers, plain_network}
-use Rattle.tp_model.specs.Halves.{BookState, live}
 use Rattle.tp_book.specs.Book.{agreed}
-use Rattle.tp_book.specs.Kept.{Keeps, IsShaped, IsCounted}
+use Rattle.tp_book.specs.Kept.{Keeps, IsCounted}
 use Rattle.tp_book.specs.declared.book.Book.TheInside.{Inside}
 use Rattle.tp_book.specs.Parts.{network_of, port_of}
-use Rattle.tp_book.specs.Inside.{state_of, value_of, in_hand, IsBook}
+use Rattle.tp_book.specs.Inside.{state_of, value_of, IsBook}
 use Rattle.tp_book.specs.Start.{IsFresh, IsNetwork, fresh_port, first_book}
 
 pub map-replicate : {A B : Type 0} (f : A → B) (n : ℕ) (x : A) → map f (replicate n x) ≡ replicate n (f x)
