@@ -15,4 +15,5 @@ mod take;
 pub use book::Book;
 pub use note::{Note, Numbered};
 pub use parts::{NetParts, PortParts};
+pub use port::HostPort;
 pub use refusal::Refusal;
