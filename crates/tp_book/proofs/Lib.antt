@@ -10,3 +10,4 @@ pub mod Fresh
 pub mod PortEnds
 pub mod HostTaken
 pub mod HostRefused
+pub mod Opened
