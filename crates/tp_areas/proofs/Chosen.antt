@@ -1,8 +1,7 @@
 -- Which area is taken.
-use Rattle.std.proofs.Common.{◌≡◌, ℕ, ◌<◌, ◌≤◌, Bool, true, false, not, cond, List, refl, sym, ap, ◌∙◌, arith, Result, Ok, Err}
+use Rattle.std.proofs.Common.{◌≡◌, ℕ, ◌<◌, Bool, true, false, not, cond, List, refl, ◌∙◌, arith, Ok, Err}
 use Rattle.std.specs.Prelude.{nat_lt}
-use Rattle.std.proofs.lemmas.Bool.{cases_Bool, lt-ltb, le-ltb}
-use Rattle.tp_model.specs.declared.opening.OpenFault.{OpenFault}
+use Rattle.std.proofs.lemmas.Bool.{lt-ltb, le-ltb}
 use Rattle.tp_model.specs.declared.opening.OpenFault.TheVariants.{Damaged}
 use Rattle.tp_model.specs.Device.{area_start, gate_of, content_of, is_open, generation_of}
 use Rattle.tp_model.specs.Opening.{choice, chosen_area}
@@ -43,11 +42,11 @@ unfolding chosen_area
 chosen_later area bytes false own other later =
     (λ i. choice (area_start area true) (own i) (other i) (age_in area bytes false) (age_in area bytes true))
     ∙ (λ i. cond (le-ltb (age_in area bytes true) (age_in area bytes false) (omega arith) i) (Ok false)
-        (cond (lt-ltb (age_in area bytes false) (age_in area bytes true) later i) (Ok true) (Err (Damaged (area_start area true)))))
+    (cond (lt-ltb (age_in area bytes false) (age_in area bytes true) later i) (Ok true) (Err (Damaged (area_start area true)))))
 chosen_later area bytes true own other later =
     (λ i. choice (area_start area true) (other i) (own i) (age_in area bytes false) (age_in area bytes true))
     ∙ (λ i. cond (lt-ltb (age_in area bytes true) (age_in area bytes false) later i) (Ok false)
-        (cond (nat_lt (age_in area bytes false) (age_in area bytes true)) (Ok true) (Err (Damaged (area_start area true)))))
+    (cond (nat_lt (age_in area bytes false) (age_in area bytes true)) (Ok true) (Err (Damaged (area_start area true)))))
 
 -- the same gates and generations
 pub chosen_same : (area : ℕ) (bytes left : List ℕ) (second : Bool)

@@ -52,6 +52,6 @@ drop_there xs front at room each =
     let same : take (length front) rest ≡ front =
     same_number_lists (take (length front) rest) front (omega (arith, length-take (length front) rest))
     (λ k lt.
-        let low : k < length front = omega (arith, length-take (length front) rest) in
-        get_or-take (length front) rest k 0 low ∙ get_or-drop at xs k 0 ∙ each k low) in
+    let low : k < length front = omega (arith, length-take (length front) rest) in
+    get_or-take (length front) rest k 0 low ∙ get_or-drop at xs k 0 ∙ each k low) in
     sym (take-append-drop (length front) rest) ∙ ap (λ first. first ++ drop (length front) rest) same

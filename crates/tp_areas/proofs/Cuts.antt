@@ -1,18 +1,15 @@
 -- A cut image is read of its own bytes alone.
-use Rattle.std.proofs.Common.{◌≡◌, ℕ, zero, suc, ◌+◌, ◌-◌, ◌*◌, ◌^◌, ◌<◌, ◌≤◌, Bool, true, false, cond, List, [], ◌∷◌, length, take, drop, refl, sym, ap, subst, ◌∙◌, arith, Option, Some, None, Result, Ok, Err}
+use Rattle.std.proofs.Common.{◌≡◌, ℕ, zero, suc, ◌+◌, ◌*◌, ◌^◌, ◌<◌, Bool, true, false, List, [], ◌∷◌, length, take, drop, refl, sym, ap, ◌∙◌, arith, Option, Some, Ok}
 use Rattle.std.specs.Prelude.{◌==◌, ◌&&◌, nat_le, bytes_eq, sum_by}
-use Rattle.std.proofs.lemmas.Bool.{and_parts, and_from, leb-true, cond-true}
-use Rattle.std.proofs.lemmas.List.{take-take, length-take}
+use Rattle.std.proofs.lemmas.Bool.{and_parts, leb-true}
+use Rattle.std.proofs.lemmas.List.{take-take}
 use Rattle.std.proofs.lemmas.List.Sums.{sum_by-cons}
 use Rattle.std.proofs.lemmas.Nat.{from_le_bytes-to_le_bytes_2}
-use Rattle.std.proofs.lemmas.Option.{cond_some}
 use Rattle.std.proofs.lemmas.Slice.Eq.{bytes_eq-Decides}
-use Rattle.tp_model.specs.declared.link.Token.{Token}
 use Rattle.tp_model.specs.declared.wire.WireEnd.{WireEnd}
-use Rattle.tp_model.specs.declared.opening.OpenFault.{OpenFault}
-use Rattle.tp_model.specs.declared.limits.TheConstants.{MAX_HELD, LINE_BYTES, PORT_BYTES}
+use Rattle.tp_model.specs.declared.limits.TheConstants.{MAX_HELD}
 use Rattle.tp_model.specs.Results.{◌>>=◌}
-use Rattle.tp_model.specs.Bytes.{u8_at, u16_at, u64_at}
+use Rattle.tp_model.specs.Bytes.{u16_at}
 use Rattle.tp_model.specs.NodeState.{NodeState}
 use Rattle.tp_model.specs.Image.{page_count, node_of}
 use Rattle.tp_model.specs.Network.{Port, Network}
@@ -20,10 +17,10 @@ use Rattle.tp_model.specs.Sound.{Ends}
 use Rattle.tp_model.specs.Topology.{Topology, line_count}
 use Rattle.tp_model.specs.Journal.{image_length}
 use Rattle.tp_model.specs.Flight.{flights_in}
-use Rattle.tp_model.specs.CutImage.{only_if, node_with, tokens_of, tokens_at, is_record, is_line_of, line_with, port_at, port_bytes, is_port_of, port_with, or_damaged, nodes_in, lines_in, ports_in}
+use Rattle.tp_model.specs.CutImage.{only_if, tokens_of, is_record, is_line_of, line_with, port_at, port_bytes, is_port_of, port_with, or_damaged, nodes_in, lines_in, ports_in}
 use Rattle.tp_model.specs.Opening.{base_of, nodes_place, lines_place, ports_place, groups_place, network_of, cut_in}
 use Rattle.tp_areas.proofs.Faults.{bind_ok, or_damaged_ok}
-use Rattle.tp_areas.proofs.Fronts.{SameFront, front_shorter, front_behind, front_part, front_get, u16_front, u64_front}
+use Rattle.tp_areas.proofs.Fronts.{SameFront, front_shorter, front_part, front_get, u16_front, u64_front}
 
 -- ## Nodes
 

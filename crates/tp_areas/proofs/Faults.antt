@@ -1,8 +1,6 @@
 -- Answers that are a value or a fault, taken apart.
 use Rattle.std.proofs.Common.{◌≡◌, Bool, true, false, cond, refl, Option, Some, None, Result, Ok, Err}
-use Rattle.std.specs.Option.{option_map}
 use Rattle.std.specs.Result.{result_ok}
-use Rattle.tp_model.specs.declared.opening.OpenFault.{OpenFault}
 use Rattle.tp_model.specs.Results.{◌>>=◌}
 use Rattle.tp_model.specs.CutImage.{or_damaged}
 use Rattle.std.specs.Prelude.{ℕ}

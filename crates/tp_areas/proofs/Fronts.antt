@@ -3,7 +3,7 @@ use Rattle.std.proofs.Common.{◌≡◌, ℕ, zero, suc, ◌+◌, ◌-◌, ◌<�
 use Rattle.std.specs.Int.{Width, w16, w32, w64, byte_len, byte_worth, sum_through, from_le_bytes}
 use Rattle.std.proofs.lemmas.List.{take-take, drop-take, get_or-take, get_or-drop}
 use Rattle.std.proofs.lemmas.Grind.{same_number_lists}
-use Rattle.tp_model.specs.Bytes.{u8_at, u16_at, u32_at, u64_at}
+use Rattle.tp_model.specs.Bytes.{u16_at, u32_at, u64_at}
 
 -- the first n elements are the same
 pub record SameFront (n : ℕ) (xs ys : List ℕ) : Type 0 where
@@ -26,7 +26,7 @@ front_get n xs ys h i lt = sym (get_or-take n xs i 0 lt) ∙ ap (λ zs. get_or z
 pub front_from : (n : ℕ) (xs ys : List ℕ) → length xs ≡ length ys → ((i : ℕ) → i < n → get_or xs i 0 ≡ get_or ys i 0) → SameFront n xs ys
 front_from n xs ys len each = record {
   same = same_number_lists (take n xs) (take n ys) (omega (arith, length-take n xs, length-take n ys))
-  (λ i lt.
+      (λ i lt.
       let below : i < n = omega (arith, length-take n xs) in
       get_or-take n xs i 0 below ∙ each i below ∙ sym (get_or-take n ys i 0 below));
 }

@@ -1,27 +1,24 @@
 -- A group that is written behind its closed gate, and then its gate is opened.
-use Rattle.std.proofs.Common.{◌≡◌, ℕ, zero, ◌+◌, ◌-◌, ◌<◌, ◌≤◌, ◌⊎◌, inl, inr, Bool, true, false, not, List, [], ◌∷◌, ◌++◌, length, get_or, refl, sym, ap, subst, ◌∙◌, arith, le_refl, Option, Some, Ok}
-use Rattle.std.specs.Prelude.{map}
+use Rattle.std.proofs.Common.{◌≡◌, ℕ, ◌+◌, ◌<◌, ◌≤◌, ◌⊎◌, inl, inr, true, false, not, List, [], ◌∷◌, length, get_or, refl, sym, ap, subst, ◌∙◌, arith, le_refl, Some, Ok}
 use Rattle.std.proofs.lemmas.Bool.{cases_Bool, eqb-true}
 use Rattle.std.proofs.lemmas.Option.{cond_some}
 use Rattle.tp_model.specs.declared.entry.Entry.{Entry}
 use Rattle.tp_model.specs.declared.limits.TheConstants.{GATE_OPEN}
 use Rattle.tp_model.specs.NodeState.{NodeState}
-use Rattle.tp_model.specs.Network.{Machine, Network}
-use Rattle.tp_model.specs.Order.{after}
+use Rattle.tp_model.specs.Network.{Machine}
 use Rattle.tp_model.specs.Sound.{Ends}
 use Rattle.tp_model.specs.Areas.{Held, with_more, ArePossible, gate_open}
 use Rattle.tp_model.specs.Device.{area_start, is_open}
 use Rattle.tp_model.specs.Disk.{MayBe, written}
-use Rattle.tp_model.specs.Group.{rows_of, group_length, group_body}
+use Rattle.tp_model.specs.Group.{rows_of, group_body}
 use Rattle.tp_model.specs.Opening.{Opened, next_of, held_of, opening}
 use Rattle.tp_model.specs.DeviceAreas.{numbered, can_add, spare_of, group_of}
 use Rattle.tp_recover.proofs.Moments.{length-written, get_or-written_outside, get_or-written_inside}
 use Rattle.tp_recover.proofs.SmallHolds.{IsOut}
-use Rattle.tp_areas.proofs.Chosen.{open_in}
 use Rattle.tp_areas.proofs.Contents.{places, age_same}
 use Rattle.tp_areas.proofs.Listings.{length-group_body}
 use Rattle.tp_areas.proofs.AreaReads.{group_can}
-use Rattle.tp_areas.proofs.Opens.{Reads, held_in, held_from, layout, end_within, end_low, HeadStays, OwnStays, OtherStays, keeps, adds, Found, found_in}
+use Rattle.tp_areas.proofs.Opens.{Reads, held_in, held_from, layout, end_within, end_low, HeadStays, OwnStays, OtherStays, keeps, adds, found_in}
 use Rattle.tp_areas.proofs.Spare.{loose_keeps}
 
 -- what goes behind the gate

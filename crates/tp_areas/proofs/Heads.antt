@@ -1,16 +1,14 @@
 -- The device's head is read of its own bytes and of the device's length.
-use Rattle.std.proofs.Common.{◌≡◌, ℕ, zero, suc, ◌+◌, ◌*◌, ◌<◌, ◌≤◌, Bool, true, false, cond, List, [], ◌∷◌, length, take, drop, refl, sym, ap, subst, ◌∙◌, arith, Option, Result, Ok, Err}
+use Rattle.std.proofs.Common.{◌≡◌, ℕ, zero, suc, ◌+◌, ◌*◌, ◌≤◌, true, cond, List, ◌∷◌, length, take, drop, refl, sym, ap, subst, ◌∙◌, arith, Ok, Err}
 use Rattle.std.specs.Prelude.{not, ◌==◌, ◌&&◌, nat_le, bytes_eq, map}
 use Rattle.std.specs.List.{list_all}
 use Rattle.std.proofs.lemmas.Bool.{and_parts, and_from, leb-true, le-leb, eqb-true, eq-eqb, not-false}
 use Rattle.std.proofs.lemmas.Slice.Eq.{bytes_eq-Decides}
-use Rattle.tp_model.specs.declared.opening.OpenFault.{OpenFault}
 use Rattle.tp_model.specs.declared.opening.OpenFault.TheVariants.{NotFormatted, BadVersion, Damaged}
-use Rattle.tp_model.specs.declared.wire.WireEnd.{WireEnd}
-use Rattle.tp_model.specs.declared.limits.TheConstants.{MAX_NODES, MAX_PORTS, HEAD_BYTES}
-use Rattle.tp_model.specs.Bytes.{u8_at, u16_at, u64_at}
-use Rattle.tp_model.specs.Topology.{Topology, node_count, line_count, is_page_count, all_lead_back, is_topology}
-use Rattle.tp_model.specs.Journal.{is_roomy, cut_length}
+use Rattle.tp_model.specs.declared.limits.TheConstants.{MAX_NODES, MAX_PORTS}
+use Rattle.tp_model.specs.Bytes.{u8_at, u64_at}
+use Rattle.tp_model.specs.Topology.{Topology, node_count, line_count, is_page_count, is_topology}
+use Rattle.tp_model.specs.Journal.{is_roomy}
 use Rattle.tp_model.specs.Device.{fits}
 use Rattle.tp_model.specs.Head.{Head, magic, end_of_byte, head_bytes, all_wires, u16s_at, head_at, is_head, head_of}
 use Rattle.tp_areas.proofs.Faults.{fault_or, or_fault}
@@ -79,7 +77,7 @@ head_parts bytes head is =
     }
 
 -- the head that bytes of the same front say, where it has no more than 16 nodes
-head_at_same : (xs ys : List ℕ) → SameFront 512 xs ys → u8_at xs 8 ≤ 16 → head_at ys ≡ head_at xs
+pub head_at_same : (xs ys : List ℕ) → SameFront 512 xs ys → u8_at xs 8 ≤ 16 → head_at ys ≡ head_at xs
 unfolding head_at
 head_at_same xs ys h few =
     let N = u8_at xs 8 in

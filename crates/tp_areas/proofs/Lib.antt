@@ -2,6 +2,9 @@ pub mod AreaReads
 pub mod Chosen
 pub mod Contents
 pub mod Cuts
+pub mod Formatted
+pub mod FreshCuts
+pub mod FreshHeads
 pub mod Faults
 pub mod Fronts
 pub mod Groups
@@ -12,3 +15,4 @@ pub mod Opens
 pub mod Replays
 pub mod Spare
 pub mod Switches
+pub mod Wires

@@ -1,5 +1,5 @@
 -- What opening answers of bytes that are the same as others where it reads them.
-use Rattle.std.proofs.Common.{◌≡◌, ℕ, zero, suc, ◌+◌, ◌-◌, ◌<◌, ◌≤◌, ◌⊎◌, inl, inr, Bool, true, false, not, List, [], ◌∷◌, ◌++◌, length, drop, get_or, refl, sym, ap, subst, ◌∙◌, arith, le_refl, Option, Some, Result, Ok, Err, length-drop}
+use Rattle.std.proofs.Common.{◌≡◌, ℕ, zero, suc, ◌+◌, ◌-◌, ◌<◌, ◌≤◌, inl, inr, Bool, true, false, not, List, ◌∷◌, ◌++◌, length, drop, get_or, sym, ap, subst, ◌∙◌, arith, le_refl, Option, Some, Result, Ok}
 use Rattle.std.specs.Prelude.{◌==◌, map}
 use Rattle.std.specs.Option.{option_map}
 use Rattle.std.specs.Result.{result_ok}
@@ -24,7 +24,7 @@ use Rattle.tp_order.proofs.Partial.{map_some}
 use Rattle.tp_areas.proofs.Faults.{bind_ok, result_ok_some}
 use Rattle.tp_areas.proofs.Fronts.{SameFront, front_from}
 use Rattle.tp_areas.proofs.Heads.{HeadParts, head_parts, head_same, wires_count, Layout, layout_of}
-use Rattle.tp_areas.proofs.Listings.{EndsAt, length-group_body}
+use Rattle.tp_areas.proofs.Listings.{length-group_body}
 use Rattle.tp_areas.proofs.AreaReads.{AreaParts, area_parts, ends, before, end_is, before_within, area_keeps, area_adds, group_can}
 use Rattle.tp_areas.proofs.Chosen.{open_in, age_in, chosen_open, chosen_alone, chosen_later, chosen_same}
 use Rattle.tp_areas.proofs.Contents.{places, length-content_of, get_or-content_of, content_front, content_same, age_same, drop_there}

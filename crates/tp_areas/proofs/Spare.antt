@@ -11,7 +11,7 @@ use Rattle.tp_model.specs.DeviceAreas.{spare_of}
 use Rattle.tp_recover.proofs.SmallHolds.{IsOut}
 use Rattle.tp_areas.proofs.Chosen.{open_in}
 use Rattle.tp_areas.proofs.Contents.{places, age_same}
-use Rattle.tp_areas.proofs.Opens.{Reads, held_in, held_from, layout, end_within, end_low, end_shut, HeadStays, OwnStays, OtherStays, keeps, Found, found_in}
+use Rattle.tp_areas.proofs.Opens.{Reads, held_in, held_from, layout, end_within, end_low, end_shut, HeadStays, OwnStays, OtherStays, keeps, found_in}
 
 -- the range, by whether the other area is open
 abbrev pub range_of : Opened → Bool → ℕ × ℕ

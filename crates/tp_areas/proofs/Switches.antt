@@ -1,5 +1,5 @@
 -- The other area's gate is written closed, and open.
-use Rattle.std.proofs.Common.{◌≡◌, ℕ, ◌+◌, ◌-◌, ◌<◌, ◌≤◌, ◌⊎◌, inl, inr, Bool, true, false, not, cond, List, [], ◌∷◌, length, get_or, refl, sym, ap, subst, ◌∙◌, arith, Option, Some, None, Result, Ok, Err}
+use Rattle.std.proofs.Common.{◌≡◌, ℕ, ◌+◌, ◌<◌, ◌≤◌, ◌⊎◌, inl, inr, Bool, true, false, not, cond, List, [], ◌∷◌, length, get_or, refl, sym, ap, subst, ◌∙◌, arith, Option, Some, None, Result, Ok, Err}
 use Rattle.std.specs.Prelude.{nat_lt}
 use Rattle.std.proofs.lemmas.Bool.{cases_Bool, both_ways, ltb-true}
 use Rattle.std.proofs.lemmas.Option.{cond_some}
@@ -17,7 +17,7 @@ use Rattle.tp_recover.proofs.Moments.{length-written, get_or-written_outside, ge
 use Rattle.tp_recover.proofs.SmallHolds.{IsOut}
 use Rattle.tp_areas.proofs.Chosen.{open_in}
 use Rattle.tp_areas.proofs.Contents.{places, age_same}
-use Rattle.tp_areas.proofs.Opens.{Reads, held_in, held_from, layout, end_within, end_low, end_shut, HeadStays, OwnStays, keeps, switches, Found, found_in}
+use Rattle.tp_areas.proofs.Opens.{Reads, held_in, held_from, layout, end_within, end_low, end_shut, HeadStays, OwnStays, keeps, switches, found_in}
 use Rattle.tp_areas.proofs.Spare.{spare_none}
 
 -- ## Bytes that differ at the other area's gate
