@@ -12,7 +12,7 @@ use Rattle.tp_model.specs.NodeState.{NodeState}
 use Rattle.tp_model.specs.Node.{t414}
 use Rattle.tp_model.specs.Network.{◌>>=◌, Port, Network, has_wire, sent}
 use Rattle.tp_model.specs.Entries.{next}
-use Rattle.tp_order.proofs.Local.{Step, next_from}
+use Rattle.tp_order.proofs.Local.{next_from}
 use Rattle.tp_order.proofs.Partial.{map_some, slice_get-set_same, slice_get-set_other}
 use Rattle.tp_node.specs.NodeContents.{NodeContents}
 use Rattle.tp_book.specs.Ports.{PortValue}
@@ -24,7 +24,7 @@ use Rattle.tp_replay.specs.Answers.{Applies}
 use Rattle.tp_replay.specs.Flat.{IsFlat, AreThawed}
 use Rattle.tp_replay.specs.Inside.{state_of, IsInside}
 use Rattle.tp_replay.proofs.Flat.{flat_step, room_step}
-use Rattle.tp_replay.proofs.Steps.{on_port, node_after, port_after}
+use Rattle.tp_replay.proofs.Steps.{Made, on_port, node_after, port_after}
 
 -- ## Answers
 
@@ -81,13 +81,12 @@ module _ (n : Inside) (I : IsInside n) where
   pub line_there : (p line : ℕ) → p < length n.ports.items → line ≡ 4 * length (state_of n).nodes + p → line < length n.lines
   line_there p line below same = omega (arith, I.flat.shaped.lines, port_count, below, same)
 
-  -- what a port sends finds room
-  pub port_room : (e : Entry) (out : List (List Token)) (p : ℕ) (port : Port) (tokens : List Token) (S : Step t414 (state_of n) e (port_after (state_of n) out p port tokens)) → S.out ≡ out → S.sends ≡ on_port (4 * length (state_of n).nodes + p) tokens → (line : ℕ) → line ≡ 4 * length (state_of n).nodes + p → HasRoom (has_wire n.wires.items) out (on_port line tokens)
-  port_room e out p port tokens S is_out is_sends line same =
-      rw (same, ← is_out, ← is_sends) (room_step (state_of n) I.flat e (port_after (state_of n) out p port tokens) S)
+  -- what is sent finds room
+  pub room : (e : Entry) (out : List (List Token)) (sends : List (ℕ × Token)) (t : Network NodeState) → Made (state_of n) e out sends t → HasRoom (has_wire n.wires.items) out sends
+  room e out sends t M = rw (← M.is_out, ← M.is_sends) (room_step (state_of n) I.flat e t M.step)
 
   -- behind a port's change
-  module _ (e : Entry) (out : List (List Token)) (p : ℕ) (port : PortValue) (tokens : List Token) (S : Step t414 (state_of n) e (port_after (state_of n) out p port.port tokens))
+  module _ (e : Entry) (out : List (List Token)) (p : ℕ) (port : PortValue) (tokens : List Token) (M : Made (state_of n) e out (on_port (4 * length (state_of n).nodes + p) tokens) (port_after (state_of n) out p port.port tokens))
       (lines : List (List Token)) (on : lines ≡ sent (has_wire n.wires.items) out (on_port (4 * length (state_of n).nodes + p) tokens)) where
     pub port_state : state_of (record n { ports = with_item n.ports p port; lines = lines }) ≡ port_after (state_of n) out p port.port tokens
     port_state =
@@ -95,14 +94,14 @@ module _ (n : Inside) (I : IsInside n) where
         ∙ ap (λ given. record (state_of n) { ports = set (state_of n).ports p port.port; lines = given }) on
 
     pub port_inside : IsInside (record n { ports = with_item n.ports p port; lines = lines })
-    port_inside = record { flat = subst IsFlat (sym port_state) (flat_step (state_of n) I.flat e (port_after (state_of n) out p port.port tokens) S); thawed = I.thawed }
+    port_inside = record { flat = subst IsFlat (sym port_state) (flat_step (state_of n) I.flat e (port_after (state_of n) out p port.port tokens) M.step); thawed = I.thawed }
 
     pub port_next : next t414 (state_of n) e ≡ Some (state_of (record n { ports = with_item n.ports p port; lines = lines }))
-    port_next = next_from t414 (state_of n) e (port_after (state_of n) out p port.port tokens) S ∙ ap Some (sym port_state)
+    port_next = next_from t414 (state_of n) e (port_after (state_of n) out p port.port tokens) M.step ∙ ap Some (sym port_state)
 
   -- behind a node's
   module _ (e : Entry) (out : List (List Token)) (i : ℕ) (old node : NodeContents) (there : slice_get n.nodes.items i ≡ Some old) (thawed : node.frozen ≡ old.frozen) (tokens : List (ℕ × Token))
-      (S : Step t414 (state_of n) e (node_after (state_of n) out i node.live tokens))
+      (M : Made (state_of n) e out (on_lines i tokens) (node_after (state_of n) out i node.live tokens))
       (lines : List (List Token)) (on : lines ≡ sent (has_wire n.wires.items) out (on_lines i tokens)) where
     pub node_state : state_of (record n { nodes = with_item n.nodes i node; lines = lines }) ≡ node_after (state_of n) out i node.live tokens
     node_state =
@@ -118,7 +117,7 @@ module _ (n : Inside) (I : IsInside n) where
     ]
 
     pub node_inside : IsInside (record n { nodes = with_item n.nodes i node; lines = lines })
-    node_inside = record { flat = subst IsFlat (sym node_state) (flat_step (state_of n) I.flat e (node_after (state_of n) out i node.live tokens) S); thawed = still_thawed }
+    node_inside = record { flat = subst IsFlat (sym node_state) (flat_step (state_of n) I.flat e (node_after (state_of n) out i node.live tokens) M.step); thawed = still_thawed }
 
     pub node_next : next t414 (state_of n) e ≡ Some (state_of (record n { nodes = with_item n.nodes i node; lines = lines }))
-    node_next = next_from t414 (state_of n) e (node_after (state_of n) out i node.live tokens) S ∙ ap Some (sym node_state)
+    node_next = next_from t414 (state_of n) e (node_after (state_of n) out i node.live tokens) M.step ∙ ap Some (sym node_state)

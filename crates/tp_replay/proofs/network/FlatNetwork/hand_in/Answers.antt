@@ -4,7 +4,7 @@ use Rattle.tp_model.specs.declared.entry.Entry.TheVariants.{HostIn}
 use Rattle.tp_model.specs.Entries.{handed_in}
 use Rattle.tp_model.specs.Network.{sent}
 use Rattle.tp_replay.specs.Inside.{state_of}
-use Rattle.tp_replay.proofs.Applied.{refused, applied, nowhere, cannot, port_count, port_at, line_known, line_there, same_item, port_room, port_inside, port_next}
+use Rattle.tp_replay.proofs.Applied.{refused, applied, nowhere, cannot, port_count, port_at, line_known, line_there, same_item, room, port_inside, port_next}
 use Rattle.tp_replay.proofs.Impossible.{hand_in_none}
 use Rattle.tp_replay.proofs.Steps.{hand_in_step}
 use Rattle.tp_replay.proofs.network.FlatNetwork.hand_in.Goals as goal
@@ -38,7 +38,7 @@ send_some-requires c =
     record {
       known = rw c.deref.ensures.value (line_known n c.self.invariant c.args.port _ below line);
       there = line_there n c.self.invariant c.args.port _ below line;
-      room = rw c.deref.ensures.value (port_room n c.self.invariant (HostIn c.args.port c.args.byte) n.lines c.args.port c.hand_in-token.new.self.port (option_to_list c.hand_in-token.result) S refl refl _ line);
+      room = rw (c.deref.ensures.value, line) (room n c.self.invariant (HostIn c.args.port c.args.byte) n.lines _ _ S);
     }
 
 pub invariant_of-self : goal.invariant_of-self
