@@ -1,3 +1,4 @@
+pub mod Applied
 pub mod Flat
 pub mod Fronts
 pub mod Impossible

@@ -33,6 +33,15 @@ abbrev pub port_after : Network NodeState → List (List Token) → ℕ → Port
 port_after s lines p port tokens =
     record s { ports = set s.ports p port; lines = sent (has_wire s.wires) lines (on_port (4 * length s.nodes + p) tokens) }
 
+-- the step that an entry is: what it leaves of the lines that it takes from, and what it sends
+pub record Made (s : Network NodeState) (e : Entry) (out : List (List Token)) (sends : List (ℕ × Token)) (t : Network NodeState) : Type 0 where
+  pub step : Step t414 s e t
+  pub is_out : step.out ≡ out
+  pub is_sends : step.sends ≡ sends
+
+made : (s : Network NodeState) (e : Entry) (t : Network NodeState) (S : Step t414 s e t) → Made s e S.out S.sends t
+made s e t S = record { step = S; is_out = refl; is_sends = refl }
+
 -- a node that is there is no host
 pub own_there : (s : Network NodeState) (i : ℕ) (n : NodeState) → slice_get s.nodes i ≡ Some n → own s i ≡ Some (OfNode n)
 own_there s i n at =
@@ -47,9 +56,9 @@ front_taken s line token front = cons_taken s.lines (line, token) [] front
 
 pub run_step : (s : Network NodeState) (i count : ℕ) (n after : NodeState) (tokens : List (ℕ × Token)) → slice_get s.nodes i ≡ Some n
     → 0 < count → count ≤ MAX_STEPS → steps t414 count n ≡ Some (after, tokens)
-    → Step t414 s (Run i count) (node_after s s.lines i after tokens)
+    → Made s (Run i count) s.lines (on_lines i tokens) (node_after s s.lines i after tokens)
 unfolding taken takes process does put
-run_step s i count n after tokens at some few ran = record {
+run_step s i count n after tokens at some few ran = made s (Run i count) _ (record {
   out = s.lines;
   takes_out = refl;
   was = OfNode n;
@@ -61,15 +70,15 @@ run_step s i count n after tokens at some few ran = record {
       ∙ ap (λ c. cond c (option_map (of_node i) (steps t414 count n)) None) (le-leb count MAX_STEPS few)
       ∙ ap (option_map (of_node i)) ran;
   makes = refl;
-}
+})
 
 pub node_takes : (s : Network NodeState) (line i k : ℕ) (token : Token) (n after : NodeState) (tokens : List (ℕ × Token))
     → receiver s.wires line ≡ Some (Link i k) → is_first (on_line s.lines line) token ≡ true → slice_get s.nodes i ≡ Some n
     → took n k token ≡ Some (after, tokens)
-    → Step t414 s (Take line token) (node_after s (without_front s.lines line) i after tokens)
+    → Made s (Take line token) (without_front s.lines line) (on_lines i tokens) (node_after s (without_front s.lines line) i after tokens)
 unfolding takes process does receives put
 node_takes s line i k token n after tokens to front at did =
-    record {
+    made s (Take line token) _ (record {
       out = without_front s.lines line;
       takes_out = front_taken s line token front;
       was = OfNode n;
@@ -78,7 +87,7 @@ node_takes s line i k token n after tokens to front at did =
       sends = on_lines i tokens;
       change = ap (λ end. receives t414 (length s.nodes) end token (OfNode n)) to ∙ ap (option_map (of_node i)) did;
       makes = ap (λ p. put (record s { lines = sent (has_wire s.wires) (without_front s.lines line) (on_lines i tokens) }) p (OfNode after)) mine;
-    }
+    })
   where
     mine : process_at (length s.nodes) (receiver s.wires line) ≡ i
     mine = ap (process_at (length s.nodes)) to
@@ -92,10 +101,10 @@ of_port_is N p ports change port after tokens at did = rw (at, did) refl
 pub port_takes : (s : Network NodeState) (line p : ℕ) (token : Token) (port after : Port) (tokens : List Token)
     → receiver s.wires line ≡ Some (AtPort p) → is_first (on_line s.lines line) token ≡ true → slice_get s.ports p ≡ Some port
     → port_took token port ≡ Some (after, tokens)
-    → Step t414 s (Take line token) (port_after s (without_front s.lines line) p after tokens)
+    → Made s (Take line token) (without_front s.lines line) (on_port (4 * length s.nodes + p) tokens) (port_after s (without_front s.lines line) p after tokens)
 unfolding takes process does receives put
 port_takes s line p token port after tokens to front at did =
-    record {
+    made s (Take line token) _ (record {
       out = without_front s.lines line;
       takes_out = front_taken s line token front;
       was = OfHost s.ports;
@@ -104,15 +113,15 @@ port_takes s line p token port after tokens to front at did =
       sends = on_port (4 * length s.nodes + p) tokens;
       change = ap (λ end. receives t414 (length s.nodes) end token (OfHost s.ports)) to ∙ of_port_is (length s.nodes) p s.ports (port_took token) port after tokens at did;
       makes = refl;
-    }
+    })
   where
     mine : process_at (length s.nodes) (receiver s.wires line) ≡ length s.nodes
     mine = ap (process_at (length s.nodes)) to
 
 pub hand_in_step : (s : Network NodeState) (p byte : ℕ) (port after : Port) (tokens : List Token) → slice_get s.ports p ≡ Some port → handed_in byte port ≡ Some (after, tokens)
-    → Step t414 s (HostIn p byte) (port_after s s.lines p after tokens)
+    → Made s (HostIn p byte) s.lines (on_port (4 * length s.nodes + p) tokens) (port_after s s.lines p after tokens)
 unfolding taken takes process does put
-hand_in_step s p byte port after tokens at did = record {
+hand_in_step s p byte port after tokens at did = made s (HostIn p byte) _ (record {
   out = s.lines;
   takes_out = refl;
   was = OfHost s.ports;
@@ -121,12 +130,12 @@ hand_in_step s p byte port after tokens at did = record {
   sends = on_port (4 * length s.nodes + p) tokens;
   change = of_port_is (length s.nodes) p s.ports (handed_in byte) port after tokens at did;
   makes = refl;
-}
+})
 
 pub confirm_step : (s : Network NodeState) (p upto : ℕ) (port after : Port) (tokens : List Token) → slice_get s.ports p ≡ Some port → confirmed upto port ≡ Some (after, tokens)
-    → Step t414 s (Confirm p upto) (port_after s s.lines p after tokens)
+    → Made s (Confirm p upto) s.lines (on_port (4 * length s.nodes + p) tokens) (port_after s s.lines p after tokens)
 unfolding taken takes process does put
-confirm_step s p upto port after tokens at did = record {
+confirm_step s p upto port after tokens at did = made s (Confirm p upto) _ (record {
   out = s.lines;
   takes_out = refl;
   was = OfHost s.ports;
@@ -135,4 +144,4 @@ confirm_step s p upto port after tokens at did = record {
   sends = on_port (4 * length s.nodes + p) tokens;
   change = of_port_is (length s.nodes) p s.ports (confirmed upto) port after tokens at did;
   makes = refl;
-}
+})

@@ -2,5 +2,10 @@
 #![tactic(auto)]
 
 mod fault;
+mod front;
+mod host;
+mod network;
+mod send;
 
 pub use fault::NotPossible;
+pub use network::FlatNetwork;
