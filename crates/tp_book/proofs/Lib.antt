@@ -11,3 +11,4 @@ pub mod PortEnds
 pub mod HostTaken
 pub mod HostRefused
 pub mod Opened
+pub mod HandedIn
