@@ -3,6 +3,7 @@
 
 mod book;
 mod full;
+mod law;
 mod note;
 mod parts;
 mod port;
