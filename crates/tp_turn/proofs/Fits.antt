@@ -1,6 +1,7 @@
 -- A node keeps its messages inside its memory.
 use Rattle.std.proofs.Common.{◌≡◌, ◌≢◌, ℕ, zero, suc, ◌+◌, ◌%◌, ◌^◌, ◌<◌, ◌≤◌, Bool, true, false, cond, inl, inr, List, [], ◌∷◌, ◌++◌, length, set, refl, sym, ap, subst, ◌∙◌, arith, Option, Some, None, slice_get, length-set}
-use Rattle.std.specs.Prelude.{◌==◌, nat_lt, is_some, ◌||◌, ◌&&◌}
+use Rattle.std.specs.Prelude.{◌==◌, nat_lt, nat_le, is_some, ◌||◌}
+use Rattle.std.specs.Option.{option_map}
 use Rattle.std.proofs.lemmas.Bool.{cond_both, cases_eq, ltb-true, leb-true, eqb-false, true≢false}
 use Rattle.tp_model.specs.Word.{wrap, most_neg}
 use Rattle.tp_model.specs.Memory.{offset, byte_at, word_at, byte_stored, stored, is_inside}
@@ -58,7 +59,7 @@ out_acked_fits size next NoOutput r small F e = cc
 out_acked_fits size next (Waits t) r small F e = go (has_more t) refl next e
   where
     go : (b : Bool) → has_more t ≡ b → (next : Option ℕ)
-        → cond b (Rattle.std.specs.Option.option_map (λ byte. (Waits (advanced t), record { token = Some (Data byte); place = None; news = Nobody })) next) (Some (NoOutput, record { token = None; place = None; news = Process t.process })) ≡ Some r
+        → cond b (option_map (λ byte. (Waits (advanced t), record { token = Some (Data byte); place = None; news = Nobody })) next) (Some (NoOutput, record { token = None; place = None; news = Process t.process })) ≡ Some r
         → OutFits size r.0
     go true more None e = cc
     go true more (Some byte) e = subst (λ o. OutFits size o) (let same : Waits (advanced t) ≡ r.0 = cc in same) (advanced_within size t small F more)
@@ -113,7 +114,7 @@ byte_long size (Some byte) address memory after L e = byte_stored_long size memo
 -- the message of a process lies inside memory
 message_within : (size pointer count : ℕ) (cpu : Cpu) (memory : List ℕ) → Long size memory → (count == 0) ≡ false → is_inside memory pointer count ≡ true → IsWithin size (message pointer count cpu)
 message_within size pointer count cpu memory L some inside =
-    let within : offset pointer + count ≤ length memory = leb-true (offset pointer + count) (length memory) (ap (λ b. b || Rattle.std.specs.Prelude.nat_le (offset pointer + count) (length memory)) (sym some) ∙ inside) in
+    let within : offset pointer + count ≤ length memory = leb-true (offset pointer + count) (length memory) (ap (λ b. b || nat_le (offset pointer + count) (length memory)) (sym some) ∙ inside) in
     record { some = omega (arith, eqb-false count 0 some); inside = omega (arith, within, L.many) }
 
 output_fits : (size : ℕ) (request : OutRequest) (end : OutEnd) (cpu : Cpu) (memory : List ℕ) → Long size memory → OutFits size end → LinkFits (OutFits size) size (begin_output request end cpu memory)

@@ -1,2 +1,4 @@
 pub mod Long
 pub mod Fits
+pub mod Possible
+pub mod Leads
