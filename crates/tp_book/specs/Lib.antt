@@ -7,3 +7,4 @@ pub mod Inside
 pub mod Calls
 pub mod Start
 pub mod Refusals
+pub mod Opened

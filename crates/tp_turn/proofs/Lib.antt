@@ -2,3 +2,4 @@ pub mod Long
 pub mod Fits
 pub mod Possible
 pub mod Leads
+pub mod Grown

@@ -3,6 +3,7 @@
 
 mod back;
 mod law;
+mod run;
 mod take;
 mod trial;
 
