@@ -1,5 +1,7 @@
 -- Books that grow by one act after another.
-use Rattle.std.proofs.Common.{◌≡◌, ℕ, zero, suc, ◌+◌, ◌*◌, ◌<◌, ◌≤◌, List, [], ◌∷◌, ◌++◌, length, map, refl, sym, ap, subst, ◌∙◌, arith, add-one, Option, Some, None, append_assoc, length-append}
+use Rattle.std.proofs.Common.{◌≡◌, Bool, true, false, ℕ, zero, suc, ◌+◌, ◌*◌, ◌<◌, ◌≤◌, List, [], ◌∷◌, ◌++◌, length, map, refl, sym, ap, subst, ◌∙◌, arith, add-one, Option, Some, None, append_assoc, length-append}
+use Rattle.std.proofs.lemmas.List.{append-nil, map-append, length-map}
+use Rattle.std.specs.Prelude.{Result, Ok, Err}
 use Rattle.tp_model.specs.declared.link.Token.{Token}
 use Rattle.tp_model.specs.declared.entry.Entry.{Entry}
 use Rattle.tp_model.specs.declared.entry.Entry.TheVariants.{Run, Take}
@@ -11,20 +13,9 @@ use Rattle.tp_order.proofs.Reorder.{after_front}
 use Rattle.tp_book.specs.Book.{BookValue}
 use Rattle.tp_book.specs.declared.refusal.Refusal.{Refusal}
 use Rattle.tp_turn.specs.declared.take.TheConstants.{TAKES}
-use Rattle.tp_turn.specs.Turns.{Then, InOrder, IsLeft, TookSo, TookAll}
-use Rattle.tp_turn.specs.Books.{network_of, Grew, Did, IsRefused, Stopped}
-
-pub append-nil : {A : Type 0} (xs : List A) → xs ++ [] ≡ xs
-append-nil [] = refl
-append-nil (x ∷ xs) = ap (λ ys. x ∷ ys) (append-nil xs)
-
-pub map-append : {A B : Type 0} (f : A → B) (xs ys : List A) → map f (xs ++ ys) ≡ map f xs ++ map f ys
-map-append f [] ys = refl
-map-append f (x ∷ xs) ys = ap (λ zs. f x ∷ zs) (map-append f xs ys)
-
-length-mapped : {A B : Type 0} (f : A → B) (xs : List A) → length (map f xs) ≡ length xs
-length-mapped f [] = refl
-length-mapped f (x ∷ xs) = ap suc (length-mapped f xs)
+use Rattle.tp_model.specs.Network.{back}
+use Rattle.tp_turn.specs.Turns.{Then, InOrder, IsLeft, TookSo, TookAll, TookBack, TookIn}
+use Rattle.tp_turn.specs.Books.{network_of, Grew, Did, IsRefused, Stopped, DidOrStopped, TookOne}
 
 pub grew_none : (b : BookValue) → Grew [] b b
 grew_none b = record { start = refl; entries_are = sym (append-nil b.state.entries); base = refl; runs = refl; ready = refl; broken = refl; room = refl }
@@ -32,7 +23,7 @@ grew_none b = record { start = refl; entries_are = sym (append-nil b.state.entri
 pub grew_more : (es fs : List Entry) (a b c : BookValue) → Grew es a b → Grew fs b c → Grew (es ++ fs) a c
 grew_more es fs a b c G H = record {
   start = H.start ∙ G.start;
-  entries_are = H.entries_are ∙ ap (λ xs. xs ++ fs) G.entries_are ∙ append_assoc;
+  entries_are = H.entries_are ∙ ap (λ xs. xs ++ fs) G.entries_are ∙ append_assoc a.state.entries es fs;
   base = H.base ∙ G.base;
   runs = H.runs ∙ G.runs;
   ready = H.ready ∙ G.ready;
@@ -62,7 +53,7 @@ pub took_all : (a b : BookValue) (line n : ℕ) → Did (TookSo line n) a b → 
 took_all a b line n G few all = record { entries = G.entries; grew = G.grew; did = record { count = n; few = few; took = G.did; all = all } }
 
 pub took_length : (line n : ℕ) (s t : Network NodeState) (es : List Entry) → TookSo line n s es t → length es ≡ n
-took_length line n s t es T = ap length T.are ∙ length-mapped (λ token. Take line token) T.tokens ∙ T.many
+took_length line n s t es T = ap length T.are ∙ length-map T.tokens (λ token. Take line token) ∙ T.many
 
 pub took_stopped : (a b : BookValue) (line n most : ℕ) (e : Refusal) → Did (TookSo line n) a b → n ≤ most → IsRefused b e → Stopped most a b e
 took_stopped a b line n most e G few why = record {
@@ -119,3 +110,27 @@ then_stopped one few more most a b c e D short S enough = record {
 -- a bound that is higher
 pub stopped_more : (few most : ℕ) (a b : BookValue) (e : Refusal) → Stopped few a b e → few ≤ most → Stopped most a b e
 stopped_more few most a b e S enough = record { entries = S.entries; few = omega (arith, S.few, enough); grew = S.grew; why = S.why }
+
+-- ## Takes on a wire
+
+-- a token that was taken
+pub took_true : (a b : BookValue) (line : ℕ) (yes : Bool) → yes ≡ true → TookOne line a b (Ok yes) → Did (TookSo line 1) a b
+took_true a b line true e D = D
+took_true a b line false e D = cc
+
+pub did_in : (a b : BookValue) (out line most : ℕ) (r : Result (Unit {0}) Refusal) → back (network_of a) out ≡ Some line → DidOrStopped (TookAll line) most a b r → DidOrStopped (TookIn out) most a b r
+did_in a b out line most (Ok x) to D = record { entries = D.entries; grew = D.grew; did = subst (λ o. TookBack o (network_of a) D.entries (network_of b)) (sym to) D.did }
+did_in a b out line most (Err e) to S = S
+
+took_back_few : (o : Option ℕ) (s t : Network NodeState) (es : List Entry) → TookBack o s es t → length es ≤ TAKES
+took_back_few None s t es D = omega (arith, ap length D.0)
+took_back_few (Some line) s t es D = omega (arith, D.few, took_length line D.count s t es D.took)
+
+pub took_in_few : (out : ℕ) (s t : Network NodeState) (es : List Entry) → TookIn out s es t → length es ≤ TAKES
+took_in_few out s t es D = took_back_few (back s out) s t es D
+
+-- takes on so many wires in order, and one more that was broken off
+pub order_stopped : (first n most : ℕ) (a b c : BookValue) (e : Refusal) → Did (InOrder (λ k. TookIn (first + k)) n) a b → Stopped TAKES b c e → TAKES * (n + 1) ≤ most → Stopped most a c e
+order_stopped first n most a b c e D S enough =
+    then_stopped (InOrder (λ k. TookIn (first + k)) n) (TAKES * n) TAKES most a b c e D
+    (order_few (λ k. TookIn (first + k)) TAKES (λ k s t es. took_in_few (first + k) s t es) n (network_of a) (network_of b) D.entries D.did) S (omega (arith, enough))

@@ -3,3 +3,4 @@ pub mod Fits
 pub mod Possible
 pub mod Leads
 pub mod Grown
+pub mod Ran

@@ -23,7 +23,8 @@ use Rattle.tp_model.specs.declared.link.OutEnd.TheVariants.{Waits, Idle as NoOut
 use Rattle.tp_model.specs.declared.link.InEnd.{InEnd}
 use Rattle.tp_model.specs.declared.link.InEnd.TheVariants.{Inputs, Enabled, Idle}
 use Rattle.tp_model.specs.declared.wire.WireEnd.{WireEnd}
-use Rattle.tp_model.specs.declared.wire.WireEnd.TheVariants.{Link}
+use Rattle.tp_model.specs.declared.wire.WireEnd.TheVariants.{Link, Port as AtPort}
+use Rattle.tp_laws.proofs.Partial.{map_some}
 use Rattle.tp_order.proofs.Local.{own-node, owner_of_link}
 use Rattle.tp_order.proofs.Flight.{owner_node}
 use Rattle.tp_order.proofs.Room.{on_line-plain, datas-plain, acks-plain, own-plain}
@@ -146,3 +147,19 @@ module _ (b : BookState NodeState) (K : Keeps b) (line number link : ℕ) (node 
       let some : 1 ≤ bit (end_waits t414_ends s (4 * number + link)) = omega (arith, flight, one) in
       can_ack size node link F inside.1 (sym waits_is ∙ bit_some (end_waits t414_ends s (4 * number + link)) some)
   can_take size Marker rest F front plainly = cc
+
+-- the line that comes back to a link leads to it
+pub comes_in : (b : BookState NodeState) (K : Keeps b) (number link line : ℕ) → number < length (agreed b) → link < 4
+    → option_map (line_of (length (agreed b))) (receiver b.start.wires (4 * number + link)) ≡ Some line → receiver b.start.wires line ≡ Some (Link number link)
+comes_in b K number link line below four to =
+    let again = K.sound.wires.both_ways (4 * number + link) line to in
+    let found = map_some (line_of (length (agreed b))) (receiver b.start.wires line) (4 * number + link) again in
+    found.1 ∙ ap Some (same found.0 found.1 found.2)
+  where
+    same : (e : WireEnd) → receiver b.start.wires line ≡ Some e → line_of (length (agreed b)) e ≡ 4 * number + link → e ≡ Link number link
+    same (Link i k) at is =
+        let inside = K.sound.wires.links line i k at in
+        let first : i ≡ number = omega (arith, inside.1, four, is) in
+        let second : k ≡ link = omega (arith, inside.1, four, is) in
+        rw (first, second) refl
+    same (AtPort p) at is = absurd (omega (arith, below, four, is))
