@@ -4,3 +4,4 @@ pub mod Possible
 pub mod Leads
 pub mod Grown
 pub mod Ran
+pub mod HostTook

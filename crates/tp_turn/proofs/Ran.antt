@@ -33,10 +33,10 @@ halted_rests node halted = ap (λ b. ended (cond b Rests (in_state node.cpu.stat
 
 -- a run that made fewer steps ended because there was none
 pub fewer_none : (why : Why) (most count : ℕ) (cause : Type 0) (now : NodeState) → IsWhy why most count cause now → (cause → ⊥) → count < most → node_step now ≡ None
-fewer_none Full most count cause now w no less = absurd (omega (arith, w, less))
-fewer_none Idle most count cause now w no less = w.1
-fewer_none NoFrame most count cause now w no less = absurd (no w.2)
-fewer_none Halted most count cause now w no less = halted_rests now w.1
+fewer_none Full most count cause now w never less = absurd (omega (arith, w, less))
+fewer_none Idle most count cause now w never less = w.1
+fewer_none NoFrame most count cause now w never less = absurd (never w.2)
+fewer_none Halted most count cause now w never less = halted_rests now w.1
 
 pub why_few : (why : Why) (most count : ℕ) (cause : Type 0) (now : NodeState) → IsWhy why most count cause now → count ≤ most
 why_few Full most count cause now w = omega (arith, w)
@@ -49,23 +49,25 @@ set_twice [] i x y e = cc
 set_twice (z ∷ xs) zero x y e = let same : z ≡ x = cc in ap (λ w. w ∷ xs) (sym same)
 set_twice (z ∷ xs) (suc i) x y e = ap (λ ws. z ∷ ws) (set_twice xs i x y e)
 
+pub has_run : (b r : BookValue) (number count quantum : ℕ) (before now : NodeState) (tokens : List (ℕ × Token)) → r ≡ with_run b number → slice_get (agreed b.state) number ≡ Some before
+    → count ≤ quantum → quantum ≤ MAX_STEPS → steps t414 count before ≡ Some (now, tokens) → HasRun r number count tokens
+has_run b r number count quantum before now tokens is_reserved there few bound made =
+    subst (λ x. HasRun x number count tokens) (sym is_reserved) (record { before = before; after = now; there = there; few = omega (arith, few, bound); made = made })
+
+pub run_agrees : (b r new : BookValue) (number count : ℕ) (before now : NodeState) (tokens : List (ℕ × Token)) → r ≡ with_run b number → slice_get (agreed b.state) number ≡ Some before
+    → steps t414 count before ≡ Some (now, tokens) → RunIsAgreed r new number count tokens → slice_get (agreed new.state) number ≡ Some now
+run_agrees b r new number count before now tokens is_reserved there made A =
+    let same : slice_get (agreed r.state) number ≡ Some before = subst (λ x. slice_get (agreed x.state) number ≡ Some before) (sym is_reserved) there in
+    ap (λ ns. slice_get ns number) (A before now same made) ∙ slice_get-set_same (agreed r.state) number now before same
+
 module _ (b r new : BookValue) (number count quantum : ℕ) (before now : NodeState) (tokens : List (ℕ × Token)) (K : Keeps b.state) (is_reserved : r ≡ with_run b number) (is_new : new ≡ after_run r number count tokens)
     (free : slice_get b.runs number ≡ Some false) (there : slice_get (agreed b.state) number ≡ Some before) (few : count ≤ quantum) (bound : quantum ≤ MAX_STEPS)
     (made : steps t414 count before ≡ Some (now, tokens)) where
-  pub has_run : HasRun r number count tokens
-  has_run = subst (λ x. HasRun x number count tokens) (sym is_reserved) (record { before = before; after = now; there = there; few = omega (arith, few, bound); made = made })
-
   is_after : new ≡ after_run (with_run b number) number count tokens
   is_after = is_new ∙ ap (λ x. after_run x number count tokens) is_reserved
 
   runs_back : set (set b.runs number true) number false ≡ b.runs
   runs_back = set_twice b.runs number false true free
-
-  pub run_agrees : RunIsAgreed r new number count tokens → slice_get (agreed new.state) number ≡ Some now
-  run_agrees A =
-      let nodes : agreed new.state ≡ set (agreed r.state) number now = A before now (subst (λ x. slice_get (agreed x.state) number ≡ Some before) (sym is_reserved) there) made in
-      ap (λ ns. slice_get ns number) nodes
-      ∙ slice_get-set_same (agreed r.state) number now before (subst (λ x. slice_get (agreed x.state) number ≡ Some before) (sym is_reserved) there)
 
   module _ (all : count < quantum → node_step now ≡ None) (stands : slice_get (agreed new.state) number ≡ Some now) where
     without : count ≡ 0 → Did (RanOn quantum number) b new

@@ -2,6 +2,7 @@
 #![tactic(auto)]
 
 mod back;
+mod host;
 mod law;
 mod run;
 mod take;
