@@ -1,0 +1,42 @@
+-- What is read of the fronts of areas.
+use Rattle.std.proofs.Common.{◌≡◌, ℕ, ◌+◌, ◌-◌, ◌≤◌, List, take, drop, refl, sym, ap, ◌∙◌, arith, true, false, cond}
+use Rattle.std.specs.Prelude.{Bool, Ok, Err, Result}
+use Rattle.tp_model.specs.declared.opening.OpenFault.{OpenFault}
+use Rattle.tp_model.specs.Disk.{Moment}
+use Rattle.tp_model.specs.Bytes.{u8_at, u64_at}
+use Rattle.tp_model.specs.Device.{area_start, content_of, gate_of, generation_of, is_open}
+use Rattle.tp_model.specs.Opening.{choice, chosen_area}
+use Rattle.tp_open.specs.declared.choice.AreaFront.{AreaFront}
+use Rattle.tp_open.specs.Fronts.{area_front}
+use Rattle.tp_open.specs.Reading.{found}
+use Rattle.tp_open.proofs.Parts.{u8_at-take, u64_at-take, u8_at-drop, u64_at-drop}
+
+-- the front of the bytes that begin there
+pub area_front-part : (start : ℕ) (xs : List ℕ) → area_front 0 (take 9 (drop start xs)) ≡ area_front start xs
+area_front-part start xs =
+    let gate : u8_at (take 9 (drop start xs)) 0 ≡ u8_at xs start = u8_at-take 9 0 (drop start xs) (omega arith) ∙ u8_at-drop start 0 start xs (omega arith) in
+    let number : u64_at (take 9 (drop start xs)) 1 ≡ u64_at xs (start + 1) = u64_at-take 9 1 (drop start xs) (omega arith) ∙ u64_at-drop start 1 (start + 1) xs refl in
+    rw (gate, number)
+
+pub generation_of-content : (area : ℕ) (second : Bool) (bytes : List ℕ) → 9 ≤ area
+    → generation_of (content_of area second bytes) ≡ u64_at bytes (area_start area second + 1)
+generation_of-content area second bytes le =
+    u64_at-take (area - 1) 0 (drop (area_start area second + 1) bytes) (omega arith) ∙ u64_at-drop (area_start area second + 1) 0 (area_start area second + 1) bytes (omega arith)
+
+-- the choice by the fronts of both areas
+pub chosen_area-fronts : (area : ℕ) (bytes : List ℕ) (first second : AreaFront) → 9 ≤ area
+    → first ≡ area_front (area_start area false) bytes → second ≡ area_front (area_start area true) bytes
+    → chosen_area area bytes ≡ choice (area_start area true) first.is_open second.is_open first.generation second.generation
+unfolding chosen_area
+chosen_area-fronts area bytes first second le is then_is =
+    rw (is, then_is, generation_of-content area false bytes le, generation_of-content area true bytes le)
+
+-- the same by what was read of both, one behind the other
+pub chosen_area-read : (area here start : ℕ) (old new : Moment) (first second : AreaFront) → 9 ≤ area
+    → here ≡ area_start area false → found (area_front here old.bytes) ≡ Ok first → new ≡ old
+    → start ≡ area_start area true → found (area_front start new.bytes) ≡ Ok second
+    → chosen_area area old.bytes ≡ choice start first.is_open second.is_open first.generation second.generation
+chosen_area-read area here start old new first second le before is kept at then_is =
+    let one : first ≡ area_front (area_start area false) old.bytes = cc in
+    let other : second ≡ area_front (area_start area true) old.bytes = cc in
+    chosen_area-fronts area old.bytes first second le one other ∙ ap (λ s. choice s first.is_open second.is_open first.generation second.generation) (sym at)

@@ -1,0 +1,3 @@
+pub mod Areas
+pub mod Parts
+pub mod Passing
