@@ -8,8 +8,8 @@ ghost use Rattle.tp_open.specs.Reading.{has_read, found, Answers, IsKept};
 ghost use Rattle.tp_open.specs.Fronts.{area_front};
 
 use crate::device::read_array;
+use crate::number::u64_at;
 use crate::unopened::Unopened;
-use byteorder::{ByteOrder, LittleEndian};
 use tp_disk::Disk;
 use tp_model::OpenFault;
 use tp_model::limits::{GATE_OPEN, HEAD_BYTES};
@@ -50,7 +50,7 @@ fn area_front(bytes: &[u8]) -> AreaFront
 {
     AreaFront {
         is_open: bytes[0] == GATE_OPEN,
-        generation: LittleEndian::read_u64(&bytes[1..]),
+        generation: u64_at(bytes, 1),
     }
 }
 

@@ -3,7 +3,12 @@
 
 mod choice;
 mod device;
+mod head;
+mod head_bytes;
+mod number;
+mod topology;
 mod unopened;
 
 pub use choice::read_choice;
+pub use topology::{MAX_LINES, Topology};
 pub use unopened::Unopened;
