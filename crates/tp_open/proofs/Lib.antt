@@ -1,7 +1,8 @@
 pub mod Areas
+pub mod HeadBytes
+pub mod Heads
+pub mod Numbers
 pub mod Parts
 pub mod Passing
-pub mod Wires
-pub mod Numbers
-pub mod HeadBytes
 pub mod Topologies
+pub mod Wires

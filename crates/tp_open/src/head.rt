@@ -1,16 +1,69 @@
 //! The head of a device.
 
-ghost use Rattle.std.specs.Prelude.{◌≡◌, ◌+◌, ◌*◌, ◌≤◌, ◌<◌, ◌++◌, map, drop, take, length, position, IfSome};
+ghost use Rattle.std.specs.Prelude.{◌≡◌, ◌+◌, ◌*◌, ◌≤◌, ◌<◌, ◌^◌, ◌++◌, bytes_eq, true, map, drop, take, length, position, IfOk, IfSome};
 ghost use Rattle.std.specs.List.{range_with_len};
 ghost use Rattle.arrayvec.specs.ArrayVec.{array_vec_len};
-ghost use Rattle.tp_model.specs.Head.{all_wires, end_of_byte, is_port, port_wire, u16s_at};
-ghost use Rattle.tp_model.specs.Topology.{end_of};
+ghost use Rattle.tp_model.specs.Head.{all_wires, end_of_byte, head_bytes, head_of, is_port, port_wire, u16s_at};
+ghost use Rattle.tp_model.specs.Device.{fits};
+ghost use Rattle.tp_model.specs.Journal.{is_roomy, reserve};
+ghost use Rattle.tp_model.specs.Topology.{end_of, is_topology};
+ghost use Rattle.tp_model.specs.DiskHistory.{Counts};
+ghost use Rattle.tp_open.specs.Reading.{has_read, Answers, IsKept};
+ghost use Rattle.tp_open.specs.Heads.{fields_in, head_in, is_whole};
 
-use crate::number::u16_at;
+use crate::device::read_array;
+use crate::spelling::{MAGIC, head_bytes};
+use crate::number::{u16_at, u64_at};
 use crate::topology::{MAX_LINES, Topology};
+use crate::unopened::Unopened;
 use arrayvec::ArrayVec;
-use tp_model::WireEnd;
-use tp_model::limits::{HEAD_NODES, MAX_NODES, MAX_PORTS};
+use std::marker::Model;
+use tp_disk::Disk;
+use tp_model::limits::{
+    AREA_HEAD_BYTES, ENTRY_BYTES, GROUP_HEAD_BYTES, HEAD_BYTES, HEAD_NODES, HEAD_VERSION,
+    MAX_NODES, MAX_PORTS, RESERVED,
+};
+use tp_model::{OpenFault, WireEnd};
+
+/// What a device's head says: the topology, and how many bytes an area has.
+#[derive(Drop)]
+pub struct Head {
+    topology: Topology,
+    area: u64,
+}
+
+impl Model for Head {
+    ghost use Rattle.std.specs.Prelude.{◌≡◌, ◌+◌, ◌*◌, ◌^◌, ◌<◌, true};
+    ghost use Rattle.tp_model.specs.declared.limits.TheConstants.{HEAD_BYTES};
+    ghost use Rattle.tp_model.specs.Head.{Head as Said};
+    ghost use Rattle.tp_model.specs.Journal.{is_roomy};
+    ghost use Rattle.tp_model.specs.Topology.{is_topology};
+
+    ghost Value = { Said };
+
+    ghost view = { λ head. record { topology = head.topology; area = head.area } };
+
+    ghost invariant = { λ head. (is_topology head.topology ≡ true) × (is_roomy head.topology head.area ≡ true) × (HEAD_BYTES + 2 * head.area < 2 ^ 64) };
+}
+
+impl Head {
+    /// The topology, which keeps its rules.
+    pub fn topology(&self) -> &Topology
+        ensures value { result.now ≡ self.now.topology }
+        ensures valid { is_topology self.now.topology ≡ true }
+    {
+        &self.topology
+    }
+
+    /// How many bytes an area has: enough for an entry.
+    pub fn area(&self) -> u64
+        ensures value { result ≡ self.now.area }
+        ensures roomy { is_roomy self.now.topology self.now.area ≡ true }
+        ensures bound { HEAD_BYTES + 2 * result < 2 ^ 64 }
+    {
+        self.area
+    }
+}
 
 /// The number of pages of so many nodes.
 fn pages_in(count: usize, bytes: &[u8]) -> ArrayVec<u16, MAX_NODES>
@@ -130,5 +183,104 @@ fn topology_in(nodes: u8, ports: u8, fields: &[u8]) -> Topology
         pages: pages_in(count, fields),
         ports,
         wires,
+    }
+}
+
+/// How many bytes are kept for a running snapshot, with so many lines.
+fn reserve(lines: usize) -> u64
+    requires { lines < 512 }
+    ensures { result ≡ reserve lines }
+{
+    (RESERVED * (GROUP_HEAD_BYTES + ENTRY_BYTES) * lines) as u64
+}
+
+/// Whether an entry may be made in an area of so many bytes.
+fn is_roomy(topology: &Topology, area: u64) -> bool
+    ensures { result ≡ is_roomy topology.now area }
+{
+    let room = area
+        .saturating_sub(topology.cut_length())
+        .saturating_sub(AREA_HEAD_BYTES as u64 + 1);
+    reserve(topology.line_count()) + (GROUP_HEAD_BYTES + ENTRY_BYTES) as u64 <= room
+}
+
+/// Whether a device of so many bytes has room for both areas, and each of them for what it has to hold.
+fn fits(len: u64, topology: &Topology, area: u64) -> bool
+    requires { HEAD_BYTES ≤ len }
+    ensures { result ≡ fits len topology.now area }
+{
+    area <= (len - HEAD_BYTES as u64) / 2 && is_roomy(topology, area)
+}
+
+/// Whether the bytes are those of a head.
+fn spells(bytes: &[u8], topology: &Topology, area: u64) -> bool
+    requires { is_topology topology.now ≡ true }
+    ensures { result ≡ bytes_eq bytes.now (head_bytes topology.now area) }
+{
+    bytes == head_bytes(topology, area).as_slice()
+}
+
+/// Whether the bytes are those of a head, and a device of so many bytes has room for what it says.
+fn is_whole(len: u64, bytes: &[u8], topology: &Topology, area: u64) -> bool
+    requires { HEAD_BYTES ≤ len }
+    ensures { result ≡ is_whole len bytes.now (record { topology = topology.now; area = area }) }
+{
+    topology.is_valid() && spells(bytes, topology, area) && fits(len, topology, area)
+}
+
+/// The head that these bytes are, if they are one and a device of so many bytes has room for what it says.
+fn fields_in(bytes: &[u8], len: u64) -> Option<Head>
+    requires whole { length bytes.now ≡ HEAD_BYTES }
+    requires long { HEAD_BYTES ≤ len }
+    ensures value { result ≡ fields_in len bytes.now }
+    ensures inside { IfSome result (λ head. HEAD_BYTES + 2 * head.area ≤ len) }
+{
+    let (nodes, ports) = (bytes[8], bytes[9]);
+    if usize::from(nodes) > MAX_NODES || usize::from(ports) > MAX_PORTS {
+        return None;
+    }
+    let topology = topology_in(nodes, ports, &bytes[24..]);
+    let area = u64_at(bytes, 16);
+    if is_whole(len, bytes, &topology, area) {
+        Some(Head { topology, area })
+    } else {
+        None
+    }
+}
+
+/// The head of a device of so many bytes, which begins with these.
+pub fn head_in(bytes: &[u8], len: u64) -> Result<Head, OpenFault>
+    requires whole { length bytes.now ≡ HEAD_BYTES }
+    requires long { HEAD_BYTES ≤ len }
+    ensures value { result ≡ head_in len bytes.now }
+    ensures inside { IfOk result (λ head. HEAD_BYTES + 2 * head.area ≤ len) }
+{
+    if bytes[..7] != MAGIC[..] {
+        return Err(OpenFault::NotFormatted);
+    }
+    if bytes[7] != HEAD_VERSION {
+        return Err(OpenFault::BadVersion);
+    }
+    match fields_in(bytes, len) {
+        Some(head) => Ok(head),
+        None => Err(OpenFault::Damaged(0)),
+    }
+}
+
+/// Reads the head of a device.
+pub fn read_head<D: Disk>(disk: &mut D) -> Result<Head, Unopened>
+    ensures counts { Counts (has_read result) (D.size_of disk.old) (D.size_of disk.new) (D.failures_of disk.old) (D.failures_of disk.new) }
+    ensures kept { D.keeps → IsKept result (D.state disk.old).now (D.state disk.new).now }
+    ensures inside { IfOk result (λ head. HEAD_BYTES + 2 * head.area ≤ D.size_of disk.old) }
+    ensures is { D.keeps → Answers (λ head. head) (head_of (D.state disk.old).now.bytes) result }
+{
+    let len = disk.size();
+    if len < HEAD_BYTES as u64 {
+        return Err(Unopened::Fault(OpenFault::NotFormatted));
+    }
+    let bytes: [u8; HEAD_BYTES] = read_array(disk, 0)?;
+    match head_in(&bytes, len) {
+        Ok(head) => Ok(head),
+        Err(fault) => Err(Unopened::Fault(fault)),
     }
 }

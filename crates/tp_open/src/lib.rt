@@ -4,11 +4,13 @@
 mod choice;
 mod device;
 mod head;
-mod head_bytes;
 mod number;
+mod spelling;
 mod topology;
 mod unopened;
 
 pub use choice::read_choice;
+pub use head::{Head, head_in, read_head};
+pub use spelling::head_bytes;
 pub use topology::{MAX_LINES, Topology};
 pub use unopened::Unopened;

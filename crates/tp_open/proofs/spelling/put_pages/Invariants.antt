@@ -1,7 +1,7 @@
 use Rattle.std.proofs.Common.{◌≡◌, ◌+◌, ◌*◌, ◌++◌, length, take}
 use Rattle.std.specs.List.{flat_map}
 use Rattle.tp_model.specs.Bytes.{u16_bytes}
-use Rattle.tp_open.proofs.head_bytes.put_pages.Given as goal
+use Rattle.tp_open.proofs.spelling.put_pages.Given as goal
 
 abbrev pub invariant-loop-count : goal.invariant-loop-count
 invariant-loop-count l = record {

@@ -6,7 +6,7 @@ use Rattle.tp_model.specs.Bytes.{u16_bytes}
 use Rattle.tp_model.specs.Topology.{node_count}
 use Rattle.tp_open.proofs.Topologies.{has_shape, end_byte-bound}
 use Rattle.tp_open.proofs.HeadBytes.{head_bytes-put}
-use Rattle.tp_open.proofs.head_bytes.head_bytes.Goals as goal
+use Rattle.tp_open.proofs.spelling.head_bytes.Goals as goal
 
 pub slice_bounds-links-end : goal.slice_bounds-links-end
 slice_bounds-links-end c =

@@ -1,6 +1,6 @@
 use Rattle.std.proofs.Common.{◌≡◌, ◌+◌, ◌++◌, length, take, map}
 use Rattle.tp_model.specs.Head.{end_byte}
-use Rattle.tp_open.proofs.head_bytes.put_ends.Given as goal
+use Rattle.tp_open.proofs.spelling.put_ends.Given as goal
 
 abbrev pub invariant-loop-end : goal.invariant-loop-end
 invariant-loop-end l = record {
