@@ -6,10 +6,11 @@ use Rattle.tp_model.specs.Disk.{Moment}
 use Rattle.tp_model.specs.Bytes.{u8_at, u64_at}
 use Rattle.tp_model.specs.Device.{area_start, content_of, gate_of, generation_of, is_open}
 use Rattle.tp_model.specs.Opening.{choice, chosen_area}
+use Rattle.tp_model.specs.Topology.{Topology}
 use Rattle.tp_open.specs.declared.choice.AreaFront.{AreaFront}
-use Rattle.tp_open.specs.Fronts.{area_front}
+use Rattle.tp_open.specs.Fronts.{area_front, front_given}
 use Rattle.tp_open.specs.Reading.{found}
-use Rattle.tp_open.proofs.Parts.{u8_at-take, u64_at-take, u8_at-drop, u64_at-drop}
+use Rattle.tp_open.proofs.Parts.{u8_at-take, u32_at-take, u64_at-take, u8_at-drop, u64_at-drop}
 
 -- the front of the bytes that begin there
 pub area_front-part : (start : ℕ) (xs : List ℕ) → area_front 0 (take 9 (drop start xs)) ≡ area_front start xs
@@ -40,3 +41,17 @@ chosen_area-read area here start old new first second le before is kept at then_
     let one : first ≡ area_front (area_start area false) old.bytes = cc in
     let other : second ≡ area_front (area_start area true) old.bytes = cc in
     chosen_area-fronts area old.bytes first second le one other ∙ ap (λ s. choice s first.is_open second.is_open first.generation second.generation) (sym at)
+
+-- ## The fields in front of the images
+
+front_given-take : (t : Topology) (at m : ℕ) (xs : List ℕ) → 20 ≤ m → front_given t at (take m xs) ≡ front_given t at xs
+front_given-take t at m xs le = rw (u64_at-take m 0 xs (omega arith), u32_at-take m 8 xs (omega arith), u64_at-take m 12 xs (omega arith)) refl
+
+-- what was read of a content says the same
+pub front_given-read : (t : Topology) (at area : ℕ) (second : Bool) (start : ℕ) (xs bytes : List ℕ) → 21 ≤ area
+    → start ≡ area_start area second → bytes ≡ take 20 (drop (start + 1) xs) → front_given t at (content_of area second xs) ≡ front_given t at bytes
+front_given-read t at area second start xs bytes le here read =
+    front_given-take t at (area - 1) (drop (area_start area second + 1) xs) (omega arith)
+    ∙ sym (front_given-take t at 20 (drop (area_start area second + 1) xs) (omega arith))
+    ∙ ap (λ s. front_given t at (take 20 (drop (s + 1) xs))) (sym here)
+    ∙ ap (front_given t at) (sym read)

@@ -4,5 +4,6 @@ pub mod Heads
 pub mod Numbers
 pub mod Parts
 pub mod Passing
+pub mod Room
 pub mod Topologies
 pub mod Wires

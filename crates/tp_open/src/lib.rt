@@ -3,6 +3,7 @@
 
 mod choice;
 mod device;
+mod front;
 mod head;
 mod number;
 mod spelling;
@@ -10,6 +11,7 @@ mod topology;
 mod unopened;
 
 pub use choice::read_choice;
+pub use front::{CutFront, read_front};
 pub use head::{Head, head_in, read_head};
 pub use spelling::head_bytes;
 pub use topology::{MAX_LINES, Topology};
