@@ -28,25 +28,32 @@ fn is_idle_in(image: &[u8], at: usize) -> bool
     byte_at(image, at) == 0 && byte_at(image, at + 1) == 0
 }
 
+/// Whether the four output ends are idle.
 fn are_idle_outs(image: &[u8]) -> bool
     ensures { result ≡ list_all is_idle_out (ends_at out_end_at 4 (drop 44 image.now)) }
 {
-    is_idle_out(image, 44)
-        && is_idle_out(image, 60)
-        && is_idle_out(image, 76)
-        && is_idle_out(image, 92)
+    for link in 0..4 {
+        if !is_idle_out(image, 44 + 16 * link) {
+            return false;
+        }
+    }
+    true
 }
 
+/// Whether the four input ends are idle and hold no byte.
 fn are_idle_ins(image: &[u8]) -> bool
     ensures { result ≡ list_all is_idle_in (ends_at in_end_at 4 (drop 108 image.now)) }
 {
-    is_idle_in(image, 108)
-        && is_idle_in(image, 124)
-        && is_idle_in(image, 140)
-        && is_idle_in(image, 156)
+    for link in 0..4 {
+        if !is_idle_in(image, 108 + 16 * link) {
+            return false;
+        }
+    }
+    true
 }
 
 /// Whether no link of an image has a message under way, holds a byte, or waits for one.
+#[tactic(auto, unfolding(tp_model::specs::Image::node_at))]
 pub(crate) fn has_idle_links(image: &[u8]) -> bool
     ensures { result ≡ has_idle_links (node_at image.now) }
 {

@@ -88,6 +88,7 @@ pub(crate) fn lone_turns(
     requires agrees { Agrees book.old 0 node.old }
     ensures turned { MatchResult result (λ done. Did (AreTurns quantum turns) book.old book.new) (λ refusal. refusal ≡ Memory) }
 {
+    book.known();
     for number in 0..turns {
         book.known();
         lone_turn(book, node, wires, number, quantum)?;
