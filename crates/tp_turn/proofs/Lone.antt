@@ -1,31 +1,37 @@
 -- The network of one node and one port: it is sound before its first entry, and a book of it begins there.
-use Rattle.std.proofs.Common.{◌≡◌, ℕ, zero, suc, ◌+◌, ◌*◌, ◌/◌, ◌%◌, ◌^◌, ◌<◌, ◌≤◌, Bool, true, false, cond, List, [], ◌∷◌, length, replicate, refl, sym, ap, subst, ◌∙◌, arith, Option, Some, None, slice_get}
-use Rattle.std.specs.Prelude.{◌==◌, ◌&&◌, nat_le}
-use Rattle.std.specs.Option.{option_map}
+use Rattle.std.proofs.Common.{◌≡◌, ℕ, zero, suc, ◌*◌, ◌%◌, ◌<◌, ◌≤◌, Bool, true, false, cond, List, [], ◌∷◌, ◌++◌, length, refl, sym, ap, subst, ◌∙◌, arith, Option, Some, None, slice_get}
+use Rattle.std.specs.Prelude.{◌==◌, ◌&&◌, nat_le, is_some, IsSome, Ok, Err}
 use Rattle.std.specs.List.{list_all}
 use Rattle.std.proofs.lemmas.Bool.{and_parts, eqb-true, leb-true}
-use Rattle.tp_model.specs.declared.link.Token.{Token}
 use Rattle.tp_model.specs.declared.link.OutEnd.{OutEnd}
 use Rattle.tp_model.specs.declared.link.OutEnd.TheVariants.{Waits, Idle as NoOutput}
 use Rattle.tp_model.specs.declared.link.InEnd.{InEnd}
 use Rattle.tp_model.specs.declared.link.InEnd.TheVariants.{Inputs, Enabled, Idle}
-use Rattle.tp_model.specs.declared.wire.WireEnd.{WireEnd}
-use Rattle.tp_model.specs.declared.wire.WireEnd.TheVariants.{Link, Port as AtPort}
-use Rattle.tp_model.specs.declared.limits.TheConstants.{IMAGE_HEAD_BYTES, PAGE_BYTES, MAX_PAGES}
+use Rattle.tp_model.specs.declared.wire.WireEnd.TheVariants.{Link}
+use Rattle.tp_model.specs.declared.limits.TheConstants.{PAGE_BYTES, MIN_PAGES, MAX_PAGES}
 use Rattle.tp_model.specs.LinkEnd.{is_waiting, is_holding}
-use Rattle.tp_model.specs.EndBytes.{is_idle_out, is_idle_in, ends_at, in_end_at}
+use Rattle.tp_model.specs.EndBytes.{is_idle_out, is_idle_in, ends_at}
 use Rattle.tp_model.specs.Image.{page_count, is_memory, is_node, node_at, node_of, has_idle_links}
 use Rattle.tp_model.specs.NodeState.{NodeState}
-use Rattle.tp_model.specs.Node.{waits, waits_there, holds, holds_there, t414_ends}
+use Rattle.tp_model.specs.Node.{waits_there, holds_there, t414_ends}
 use Rattle.tp_model.specs.Network.{Network, Port, Own, OfNode, OfHost, own, receiver, has_wire, back, on_line}
 use Rattle.tp_model.specs.Order.{after}
-use Rattle.tp_model.specs.Sound.{owner, is_pending, own_waits, own_holds, waits_at, holds_at, end_waits, end_holds, Wired, Sound}
+use Rattle.tp_model.specs.Sound.{owner, is_pending, waits_at, holds_at, end_waits, end_holds}
 use Rattle.tp_model.specs.Format.{fresh_port}
 use Rattle.tp_order.proofs.Local.{own_node, own_host}
-use Rattle.tp_book.specs.Book.{BookValue, agreed}
+use Rattle.tp_book.specs.Book.{BookValue, agreed, outputs_of}
 use Rattle.tp_book.specs.Start.{IsFresh, IsNetwork, first_book}
-use Rattle.tp_turn.specs.Books.{network_of}
-use Rattle.tp_turn.specs.Tried.{one_wire, lone_network}
+use Rattle.tp_turn.specs.Books.{network_of, Did}
+use Rattle.tp_turn.specs.Turns.{AreTurns}
+use Rattle.tp_turn.specs.Nodes.{Agrees}
+use Rattle.tp_turn.specs.declared.trial.Tried.{Tried}
+use Rattle.tp_turn.proofs.Turned.{turns_lead}
+use Rattle.tp_model.specs.CutImage.{only_if}
+use Rattle.tp_laws.proofs.Partial.{cond_some, map_some}
+use Rattle.tp_node.specs.NodeContents.{NodeContents}
+use Rattle.tp_node.specs.FromImage.{ReadsImage}
+use Rattle.tp_node.specs.declared.fault.ImageFault.TheVariants.{Memory as NoMemory}
+use Rattle.tp_turn.specs.Tried.{fresh_image, lone_network, IsTried}
 use Rattle.tp_turn.specs.Fits.{OutFits, InFits, Fits}
 
 -- ## Idle links
@@ -85,6 +91,37 @@ node_of_is bytes n e = go (is_node (node_at bytes)) refl _ e
     go true is false e = cc
     go false is same e = cc
 
+-- an image that is read, and has idle links
+pub fresh_is : (bytes : List ℕ) (n : NodeState) → fresh_image bytes ≡ Some n → (node_of bytes ≡ Some n) × (has_idle_links n ≡ true)
+fresh_is bytes n e = go (node_of bytes) e
+  where
+    go : (o : Option NodeState) → only_if has_idle_links o ≡ Some n → (o ≡ Some n) × (has_idle_links n ≡ true)
+    go None e = cc
+    go (Some m) e =
+        let test = cond_some (has_idle_links m) (Some m) n e in
+        let same : m ≡ n = cc in
+        (test.1, ap has_idle_links (sym same) ∙ test.0)
+
+pub fresh_some : (bytes : List ℕ) (n : NodeState) → node_of bytes ≡ Some n → has_idle_links (node_at bytes) ≡ true → fresh_image bytes ≡ Some n
+fresh_some bytes n e idle =
+    let is = node_of_is bytes n e in
+    ap (only_if has_idle_links) e ∙ ap (λ b. cond b (Some n) None) (ap has_idle_links (sym is.0) ∙ idle)
+
+pub fresh_none : (bytes : List ℕ) → has_idle_links (node_at bytes) ≡ false → fresh_image bytes ≡ None
+fresh_none bytes busy = go (node_of bytes) refl
+  where
+    go : (o : Option NodeState) → node_of bytes ≡ o → only_if has_idle_links o ≡ None
+    go None e = refl
+    go (Some n) e = ap (λ b. cond b (Some n) None) (ap has_idle_links (sym (node_of_is bytes n e).0) ∙ busy)
+
+pub reads_ok : (o : Option NodeState) (node : NodeContents) → ReadsImage o (Ok node) → (o ≡ Some node.live) × (node.frozen ≡ None)
+reads_ok None node h = absurd h
+reads_ok (Some state) node h = (ap Some (ap (λ (n : NodeContents). n.live) (sym h)), ap (λ (n : NodeContents). n.frozen) h)
+
+pub reads_memory : (bytes : List ℕ) (o : Option NodeState) → node_of bytes ≡ o → ReadsImage o (Err NoMemory) → has_idle_links (node_at bytes) ≡ true → IsSome (fresh_image bytes)
+reads_memory bytes None e h idle = absurd h
+reads_memory bytes (Some n) e h idle = ap is_some (fresh_some bytes n e idle)
+
 four_inputs : (bytes : List ℕ) → length (node_at bytes).inputs ≡ 4
 unfolding node_at ends_at
 four_inputs bytes = refl
@@ -95,8 +132,8 @@ node_fits bytes n e idle =
     let is = node_of_is bytes n e in
     let rule = and_parts (is_memory n.memory) _ is.1 in
     let whole = and_parts (length n.memory == PAGE_BYTES * page_count n.memory) _ rule.0 in
-    let many : length n.memory ≡ PAGE_BYTES * page_count n.memory = eqb-true _ _ whole.0 in
-    let most : page_count n.memory ≤ MAX_PAGES = leb-true _ _ (and_parts _ _ whole.1).1 in
+    let many : length n.memory ≡ PAGE_BYTES * page_count n.memory = eqb-true (length n.memory) (PAGE_BYTES * page_count n.memory) whole.0 in
+    let most : page_count n.memory ≤ MAX_PAGES = leb-true (page_count n.memory) MAX_PAGES (and_parts (nat_le MIN_PAGES (page_count n.memory)) (nat_le (page_count n.memory) MAX_PAGES) whole.1).1 in
     let ends = and_parts (list_all is_idle_out n.outputs) (list_all is_idle_in n.inputs) idle in
     record {
       small = omega (arith, many, most);
@@ -191,3 +228,40 @@ module _ (n : NodeState) (idle : has_idle_links n ≡ true) where
 pub first_agreed : (s : Network NodeState) → agreed (first_book s None).state ≡ s.nodes
 unfolding agreed after
 first_agreed s = refl
+
+-- ## A trial
+
+pub lone_agrees : (image : List ℕ) (node : NodeContents) (b : BookValue) → fresh_image image ≡ Some node.live → node.frozen ≡ None → b ≡ first_book (lone_network (node_at image)) None → Agrees b 0 node
+lone_agrees image node b fresh thawed is =
+    let F = fresh_is image node.live fresh in
+    let same = (node_of_is image node.live F.0).0 in
+    record {
+      there = ap (λ (x : BookValue). slice_get (agreed x.state) 0) is ∙ ap (λ ns. slice_get ns 0) (first_agreed (lone_network (node_at image))) ∙ ap Some same;
+      size = length node.live.memory;
+      fits = node_fits image node.live F.0 F.1;
+      thawed = thawed;
+    }
+
+pub lone_begins : (image : List ℕ) (n : NodeState) (s : Network NodeState) → fresh_image image ≡ Some n → s ≡ lone_network (node_at image) → IsFresh s
+lone_begins image n s fresh is =
+    let F = fresh_is image n fresh in
+    subst IsFresh (sym (is ∙ ap lone_network (node_of_is image n F.0).0)) (lone_fresh n F.1)
+
+pub lone_tried : (image : List ℕ) (n : NodeState) (s : Network NodeState) (a b : BookValue) (turns quantum : ℕ) (tried : Tried) → fresh_image image ≡ Some n → s ≡ lone_network (node_at image) → a ≡ first_book s None
+    → Did (AreTurns quantum turns) a b → tried.entries.items ≡ b.state.entries → Some tried.output.items ≡ outputs_of b 0 → IsTried n turns quantum tried
+lone_tried image n s a b turns quantum tried fresh is first D entries output =
+    let F = fresh_is image n fresh in
+    let start : network_of a ≡ lone_network n =
+        ap network_of first ∙ ap (λ nodes. record s { nodes = nodes }) (first_agreed s) ∙ is ∙ ap lone_network (node_of_is image n F.0).0 in
+    let all : tried.entries.items ≡ D.entries = entries ∙ D.grew.entries_are ∙ ap (λ (x : BookValue). x.state.entries ++ D.entries) first in
+    let turned : AreTurns quantum turns (lone_network n) tried.entries.items (network_of b) =
+        subst (λ es. AreTurns quantum turns (lone_network n) es (network_of b)) (sym all) (subst (λ from. AreTurns quantum turns from D.entries (network_of b)) start D.did) in
+    let port = map_some (λ (p : Port). p.outputs) (slice_get b.state.ports 0) tried.output.items (sym output) in
+    record {
+      end = network_of b;
+      leads = turns_lead quantum turns (lone_network n) (network_of b) tried.entries.items turned;
+      turned = turned;
+      port = port.0;
+      there = port.1;
+      output = sym port.2;
+    }

@@ -1,9 +1,8 @@
 -- Turns: how many entries they make, and that these are possible.
-use Rattle.std.proofs.Common.{◌≡◌, ℕ, zero, suc, ◌+◌, ◌*◌, ◌<◌, ◌≤◌, Bool, true, false, cond, inl, inr, List, [], ◌∷◌, ◌++◌, length, refl, sym, ap, subst, ◌∙◌, arith, Option, Some, None, length-append, eq-eqb, ne_eqb}
-use Rattle.std.specs.Prelude.{◌==◌, ◌%◌, ◌-◌, ◌||◌, nat_lt, Result, Ok, Err}
+use Rattle.std.proofs.Common.{◌≡◌, ℕ, zero, suc, ◌+◌, ◌*◌, ◌<◌, ◌≤◌, Bool, true, false, inl, inr, List, length, sym, ap, ◌∙◌, arith, Option, Some, None, length-append, eq-eqb, ne_eqb}
+use Rattle.std.specs.Prelude.{◌==◌, ◌%◌, ◌-◌, nat_lt, Result, Ok, Err}
 use Rattle.std.proofs.lemmas.Bool.{cases_eq, le-ltb}
 use Rattle.tp_model.specs.declared.entry.Entry.{Entry}
-use Rattle.tp_model.specs.declared.entry.Entry.TheVariants.{Run, Take}
 use Rattle.tp_model.specs.declared.limits.TheConstants.{NUMBER_LIMIT}
 use Rattle.tp_model.specs.NodeState.{NodeState}
 use Rattle.tp_model.specs.Node.{t414}
@@ -11,14 +10,14 @@ use Rattle.tp_model.specs.Network.{Network, back}
 use Rattle.tp_model.specs.Order.{after}
 use Rattle.tp_model.specs.Journal.{is_full}
 use Rattle.tp_order.proofs.Reorder.{after_front}
-use Rattle.tp_book.specs.Book.{BookValue, agreed, next_number, reserved}
+use Rattle.tp_book.specs.Book.{BookValue, next_number, reserved}
 use Rattle.tp_book.specs.Refusals.{else_if, entry_refusal, is_journal_full, reserve_refusal}
 use Rattle.tp_book.specs.declared.refusal.Refusal.{Refusal}
 use Rattle.tp_book.specs.declared.refusal.Refusal.TheVariants.{Memory, JournalFull, StoreBroken}
 use Rattle.tp_turn.specs.declared.take.TheConstants.{TAKES}
 use Rattle.tp_turn.specs.declared.turn.TheConstants.{TURN_ENTRIES}
-use Rattle.tp_turn.specs.Turns.{Then, InOrder, TookAll, TookBack, TookIn, run_entries, RanOn, IsNodeTurn, IsHostTurn, IsTurnOf, AreTurns}
-use Rattle.tp_turn.specs.Books.{network_of, Grew, Did, IsRefused, Stopped, DidOrStopped}
+use Rattle.tp_turn.specs.Turns.{Then, InOrder, TookBack, TookIn, run_entries, RanOn, IsNodeTurn, IsTurnOf, AreTurns}
+use Rattle.tp_turn.specs.Books.{network_of, Did, IsRefused, DidOrStopped}
 use Rattle.tp_turn.proofs.Grown.{order_few, took_in_few, then_did, then_stopped, stopped_more}
 
 -- ## How many entries

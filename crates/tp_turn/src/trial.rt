@@ -1,6 +1,6 @@
 //! One node tried without a device, its link 0 wired to port 0.
 
-ghost use Rattle.std.specs.Prelude.{◌≡◌, ◌<◌, ◌≤◌, Some, length, IfOk};
+ghost use Rattle.std.specs.Prelude.{◌≡◌, ◌<◌, ◌≤◌, Some, length, map, IfOk};
 ghost use Rattle.tp_model.specs.Image.{node_at};
 ghost use Rattle.tp_book.specs.Book.{outputs_of};
 ghost use Rattle.tp_book.specs.Parts.{network_of};
@@ -9,7 +9,7 @@ ghost use Rattle.tp_turn.specs.Tried.{fresh_image, lone_network, ReadsFresh, Tri
 use crate::image::has_idle_links;
 use crate::turn::lone_turns;
 use std::alloc::{AllocError, Global};
-use tp_book::{Book, NetParts, PortParts, Refusal};
+use tp_book::{Book, NetParts, Numbered, PortParts, Refusal};
 use tp_model::limits::MAX_STEPS;
 use tp_model::{Entry, WireEnd};
 use tp_node::{ImageFault, Node};
@@ -78,13 +78,20 @@ fn lone_parts(alloc: Global, image: &[u8]) -> Result<NetParts, AllocError>
     })
 }
 
+/// Entries without their numbers.
+fn plain(alloc: Global, numbered: &[Numbered]) -> Result<Vec<Entry>, AllocError>
+    ensures { IfOk result (λ entries. entries.items ≡ map (λ n. n.entry) numbered.now) }
+{
+    numbered.iter().map(|n| n.entry).collect(alloc)
+}
+
 /// What a book holds after a trial.
 fn tried_in(alloc: Global, book: &Book) -> Result<Tried, AllocError>
     requires { 0 < length book.now.state.ports }
     ensures entries { IfOk result (λ tried. tried.entries.items ≡ book.now.state.entries) }
     ensures output { IfOk result (λ tried. Some tried.output.items ≡ outputs_of book.now 0) }
 {
-    let entries = book.entries().iter().map(|n| n.entry).collect(alloc)?;
+    let entries = plain(alloc, book.entries())?;
     let output = Vec::from_slice(alloc, book.outputs(0))?;
     Ok(Tried { entries, output })
 }
@@ -108,7 +115,10 @@ pub fn try_turns(
         return Err(TryFault::Memory);
     };
     match lone_turns(&mut book, &mut node, &net.wires, turns, quantum) {
-        Ok(()) => tried_in(alloc, &book).map_err(|_| TryFault::Memory),
+        Ok(()) => match tried_in(alloc, &book) {
+            Ok(tried) => Ok(tried),
+            Err(_) => Err(TryFault::Memory),
+        },
         Err(Refusal::Memory) => Err(TryFault::Memory),
         Err(_) => unreachable!(),
     }

@@ -1,4 +1,4 @@
-use Rattle.std.proofs.Common.{◌≡◌, ◌+◌, ◌*◌, ℕ, sym, ap, ◌∙◌, arith, length}
+use Rattle.std.proofs.Common.{ap, arith, length}
 use Rattle.std.specs.Prelude.{◌==◌, ◌%◌}
 use Rattle.tp_turn.specs.Turns.{IsTurnOf}
 use Rattle.tp_turn.proofs.Grown.{order_none, order_more}

@@ -1,4 +1,4 @@
-use Rattle.std.proofs.Common.{◌≡◌, ◌+◌, ◌*◌, ◌≤◌, length}
+use Rattle.std.proofs.Common.{◌+◌, ◌*◌, ◌≤◌}
 use Rattle.tp_book.specs.Book.{next_number}
 use Rattle.tp_turn.specs.declared.turn.TheConstants.{TURN_ENTRIES}
 use Rattle.tp_turn.specs.Turns.{AreTurns}
