@@ -1,21 +1,21 @@
 -- A node keeps its messages inside its memory.
-use Rattle.std.proofs.Common.{◌≡◌, ◌≢◌, ℕ, zero, suc, ◌+◌, ◌%◌, ◌^◌, ◌<◌, ◌≤◌, Bool, true, false, cond, inl, inr, List, [], ◌∷◌, ◌++◌, length, set, refl, sym, ap, subst, ◌∙◌, arith, Option, Some, None, slice_get, length-set}
+use Rattle.std.proofs.Common.{◌≡◌, ℕ, zero, suc, ◌+◌, ◌^◌, ◌<◌, ◌≤◌, Bool, true, false, cond, inl, inr, List, [], ◌∷◌, ◌++◌, length, set, refl, sym, ap, subst, ◌∙◌, arith, Option, Some, None, slice_get, length-set}
 use Rattle.std.specs.Prelude.{◌==◌, nat_lt, nat_le, is_some, ◌||◌}
 use Rattle.std.specs.Option.{option_map}
-use Rattle.std.proofs.lemmas.Bool.{cond_both, cases_eq, ltb-true, leb-true, eqb-false, true≢false}
-use Rattle.tp_model.specs.Word.{wrap, most_neg}
-use Rattle.tp_model.specs.Memory.{offset, byte_at, word_at, byte_stored, stored, is_inside}
+use Rattle.std.proofs.lemmas.Bool.{cond_both, cases_eq, ltb-true, leb-true, eqb-false}
+use Rattle.tp_model.specs.Word.{wrap}
+use Rattle.tp_model.specs.Memory.{offset, byte_at, word_at, stored, is_inside}
 use Rattle.tp_model.specs.Outcome.{Outcome, Next, Halts, Rests, Sends, Receives}
-use Rattle.tp_model.specs.Processor.{workspace, state_at, descriptor_of, without_b, save_writes, stopped, queue_writes, queued, past}
-use Rattle.tp_model.specs.Alternative.{waiting, ready, ready_writes, choice_writes, chosen, passed_over}
-use Rattle.tp_model.specs.LinkEnd.{advanced, has_more, is_waiting, out_begun, next_pointer, out_acked, filled, in_started, in_arrived, in_enabled, in_disabled}
+use Rattle.tp_model.specs.Processor.{workspace, state_at, descriptor_of, save_writes, queue_writes, queued, past}
+use Rattle.tp_model.specs.Alternative.{waiting, ready, ready_writes, choice_writes}
+use Rattle.tp_model.specs.LinkEnd.{advanced, has_more, is_waiting, next_pointer, out_acked, filled, in_started, in_arrived, in_enabled, in_disabled}
 use Rattle.tp_model.specs.LinkStep.{LinkOutcome, Did, Fails, message, with_word, with_byte, begin_output, take_up, enabled, disabled, begin_input}
 use Rattle.tp_model.specs.Step.{step_of}
 use Rattle.tp_model.specs.NodeState.{NodeState}
-use Rattle.tp_model.specs.Node.{halted, on_link, after_output, after_input, asks_output, asks_input, ended, node_step, bad_address, with_memory, wake, make_ready, signal_state, tell, placed, took_token, took, t414}
+use Rattle.tp_model.specs.Node.{halted, on_link, after_output, after_input, ended, node_step, bad_address, with_memory, wake, make_ready, signal_state, tell, placed, took_token, took, t414}
 use Rattle.tp_model.specs.Network.{◌>>=◌, steps}
 use Rattle.tp_model.specs.declared.processor.Cpu.{Cpu}
-use Rattle.tp_model.specs.declared.processor.Fault.TheVariants.{BadAddress, LinkBusy}
+use Rattle.tp_model.specs.declared.processor.Fault.TheVariants.{BadAddress}
 use Rattle.tp_model.specs.declared.link.Token.{Token}
 use Rattle.tp_model.specs.declared.link.Token.TheVariants.{Data, Ack, Marker}
 use Rattle.tp_model.specs.declared.link.Transfer.{Transfer}
@@ -32,7 +32,7 @@ use Rattle.tp_model.specs.declared.request.Wish.{Wish}
 use Rattle.tp_model.specs.declared.request.Wish.TheVariants.{Message, Enable, Disable}
 use Rattle.tp_laws.proofs.Partial.{bind_some, slice_get-set_same, slice_get-set_other}
 use Rattle.tp_turn.specs.Fits.{Long, IsWithin, OutFits, InFits, Fits}
-use Rattle.tp_turn.proofs.Long.{LeavesLong, IsLong, step_long, stored_long, byte_stored_long}
+use Rattle.tp_turn.proofs.Long.{LeavesLong, step_long, stored_long, byte_stored_long}
 
 -- ## Messages
 

@@ -1,9 +1,8 @@
 -- A port's take that a book journals.
-use Rattle.std.proofs.Common.{◌≡◌, ℕ, ◌+◌, ◌*◌, ◌<◌, Bool, true, false, List, [], ◌∷◌, ◌++◌, length, map, set, get_or, refl, sym, ap, subst, ◌∙◌, arith, Option, Some, None, slice_get}
+use Rattle.std.proofs.Common.{◌≡◌, ℕ, ◌+◌, ◌*◌, true, List, [], ◌∷◌, length, map, set, get_or, refl, sym, ap, subst, ◌∙◌, arith, Some, None}
 use Rattle.std.specs.Option.{option_map}
-use Rattle.std.specs.Prelude.{Result, Ok, Err}
 use Rattle.tp_model.specs.declared.link.Token.{Token}
-use Rattle.tp_model.specs.declared.link.Token.TheVariants.{Data, Ack, Marker}
+use Rattle.tp_model.specs.declared.link.Token.TheVariants.{Marker}
 use Rattle.tp_model.specs.declared.wire.WireEnd.{WireEnd}
 use Rattle.tp_model.specs.declared.wire.WireEnd.TheVariants.{Link, Port as AtPort}
 use Rattle.tp_model.specs.declared.entry.Entry.TheVariants.{Take}
@@ -17,8 +16,8 @@ use Rattle.tp_order.proofs.Reorder.{after_one}
 use Rattle.tp_laws.proofs.Partial.{map_some}
 use Rattle.tp_book.specs.Book.{BookValue, agreed, node_count}
 use Rattle.tp_book.specs.Kept.{Keeps, IsShaped}
-use Rattle.tp_book.specs.Calls.{front_of, with_journalled, HostTook}
-use Rattle.tp_book.proofs.Commit.{Change, length-agreed}
+use Rattle.tp_book.specs.Calls.{front_of, HostTook}
+use Rattle.tp_book.proofs.Commit.{Change}
 use Rattle.tp_book.proofs.Changes.{host_change}
 use Rattle.tp_turn.specs.Turns.{TookSo}
 use Rattle.tp_turn.specs.Books.{network_of, Grew, Did}

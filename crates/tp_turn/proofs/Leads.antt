@@ -1,19 +1,18 @@
 -- An entry that a book journals is possible in the network that the book and its agreed nodes are, Markers and all.
-use Rattle.std.proofs.Common.{◌≡◌, ℕ, ◌+◌, ◌*◌, ◌<◌, ◌≤◌, Bool, true, false, cond, List, [], ◌∷◌, ◌++◌, length, map, set, get_or, refl, sym, ap, subst, ◌∙◌, arith, Option, Some, None, slice_get}
-use Rattle.std.specs.Prelude.{is_none, Result, Ok, Err}
+use Rattle.std.proofs.Common.{◌≡◌, ℕ, ◌+◌, ◌*◌, Bool, true, false, List, [], ◌∷◌, length, set, get_or, refl, sym, ap, subst, ◌∙◌, Option, Some, None, slice_get}
+use Rattle.std.specs.Prelude.{is_none, Ok}
 use Rattle.tp_model.specs.declared.link.Token.{Token}
 use Rattle.tp_model.specs.declared.link.Token.TheVariants.{Data, Ack, Marker}
-use Rattle.tp_model.specs.declared.wire.WireEnd.{WireEnd}
 use Rattle.tp_model.specs.declared.wire.WireEnd.TheVariants.{Link}
 use Rattle.tp_model.specs.declared.entry.Entry.{Entry}
-use Rattle.tp_model.specs.declared.entry.Entry.TheVariants.{Run, Take}
+use Rattle.tp_model.specs.declared.entry.Entry.TheVariants.{Take}
 use Rattle.tp_model.specs.NodeState.{NodeState}
 use Rattle.tp_model.specs.Node.{t414, took, on_link}
 use Rattle.tp_model.specs.Network.{Port, Network, Own, OfNode, OfHost, own, put, receiver, has_wire, on_line, is_first, taken, sent}
 use Rattle.tp_model.specs.Entries.{process, takes, does, next}
 use Rattle.tp_model.specs.Order.{after}
 use Rattle.tp_model.specs.Markers.{is_marker}
-use Rattle.tp_model.specs.Halves.{BookState, live, without, with_entry}
+use Rattle.tp_model.specs.Halves.{BookState, live, with_entry}
 use Rattle.tp_order.proofs.Lines.{same_token-self}
 use Rattle.tp_order.proofs.Local.{Step, next_from, process_same, takes_same}
 use Rattle.tp_order.proofs.Reorder.{after_one}
@@ -22,7 +21,6 @@ use Rattle.tp_book.specs.Book.{BookValue, agreed}
 use Rattle.tp_book.specs.Kept.{Keeps}
 use Rattle.tp_book.specs.Calls.{on_lines, sends_on, answer_from, front_of, with_ready, after_take, TakeIsAgreed, HasTaken}
 use Rattle.tp_book.specs.Refusals.{takeable_of, else_if, entry_refusal, ready_refusal, IsAnswer}
-use Rattle.tp_book.specs.declared.refusal.Refusal.{Refusal}
 use Rattle.tp_book.specs.declared.refusal.Refusal.TheVariants.{NothingToTake, StoreBroken}
 use Rattle.tp_book.proofs.Commit.{Change, agreed_after, length-agreed, without_taken}
 use Rattle.tp_book.proofs.Changes.{take_change}

@@ -5,3 +5,6 @@ pub mod Leads
 pub mod Grown
 pub mod Ran
 pub mod HostTook
+pub mod Idle
+pub mod Turned
+pub mod Lone

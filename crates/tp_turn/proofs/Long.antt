@@ -1,7 +1,6 @@
 -- A step of the processor leaves memory as long as it was.
-use Rattle.std.proofs.Common.{◌≡◌, ℕ, ◌-◌, ◌/◌, ◌%◌, ◌<◌, ◌∙◌, ap, sym, subst, refl, Bool, true, false, inl, inr, List, [], ◌∷◌, length, arith, Option, Some, None}
-use Rattle.std.proofs.lemmas.Bool.{cases_Bool, ltb-true}
-use Rattle.std.specs.Prelude.{◌==◌, nat_lt, if◌then◌else◌, drop, is_some, Result, Ok, Err}
+use Rattle.std.proofs.Common.{◌≡◌, ℕ, ◌%◌, ◌∙◌, sym, subst, refl, Bool, true, false, List, [], ◌∷◌, length, Option, Some, None}
+use Rattle.std.specs.Prelude.{◌==◌, if◌then◌else◌, drop, is_some, Result, Ok, Err}
 use Rattle.tp_model.specs.declared.instruction.Fun.{Fun}
 use Rattle.tp_model.specs.declared.instruction.Fun.TheVariants.{J, Ldlp, Ldnl, Ldl, Call, Cj, Ajw, Stl, Stnl, Opr}
 use Rattle.tp_model.specs.declared.instruction.Op.{Op}
@@ -20,13 +19,13 @@ use Rattle.tp_turn.specs.Fits.{Long}
 use Rattle.tp_model.specs.declared.request.ChannelWord.{ChannelWord}
 use Rattle.tp_model.specs.declared.request.ChannelWord.TheVariants.{Output, Input, Internal}
 use Rattle.tp_model.specs.Word.{not_process}
-use Rattle.tp_model.specs.Memory.{offset, word_offset, byte_stored, stored, copied, changed}
+use Rattle.tp_model.specs.Memory.{offset, byte_stored, stored, copied, changed}
 use Rattle.tp_mem.proofs.Writes.{length-stored, length-byte_stored, length-copied, length-changed}
 use Rattle.tp_model.specs.Coding.{operand_of, op_of, decoded}
 use Rattle.tp_model.specs.Registers.{op_row, fun_row}
 use Rattle.tp_model.specs.Outcome.{Outcome, Next, Halts, Rests, Sends, Receives, ◌>>=◌, leaves}
 use Rattle.tp_model.specs.Processor.{interrupt}
-use Rattle.tp_model.specs.Channel.{channel_at, input, output, input_at, output_at, output_word_at, enable, enable_at, disable, disable_at}
+use Rattle.tp_model.specs.Channel.{input, output, input_at, output_at, output_word_at, enable, enable_at, disable, disable_at}
 use Rattle.tp_model.specs.Step.{by_row, operate, operation, effect, executed, instruction, in_state, step_of}
 
 -- the memory that an outcome leaves has so many bytes

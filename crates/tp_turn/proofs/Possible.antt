@@ -1,17 +1,17 @@
 -- In a sound network a node can take what stands in front of a line that leads to it.
-use Rattle.std.proofs.Common.{◌≡◌, ◌≢◌, ℕ, ◌+◌, ◌*◌, ◌%◌, ◌^◌, ◌<◌, ◌≤◌, Bool, true, false, cond, List, [], ◌∷◌, length, map, set, get_or, refl, sym, ap, subst, ◌∙◌, arith, Option, Some, None, slice_get}
-use Rattle.std.specs.Prelude.{nat_lt, is_some, is_none, IsSome, Result, Ok, Err}
+use Rattle.std.proofs.Common.{◌≡◌, ℕ, ◌+◌, ◌*◌, ◌%◌, ◌^◌, ◌<◌, ◌≤◌, Bool, true, false, cond, List, ◌∷◌, length, set, get_or, refl, sym, ap, ◌∙◌, arith, Option, Some, None, slice_get}
+use Rattle.std.specs.Prelude.{IsSome}
 use Rattle.std.specs.Option.{option_map}
-use Rattle.std.proofs.lemmas.Bool.{cond_both, lt-ltb, ltb-true}
+use Rattle.std.proofs.lemmas.Bool.{lt-ltb}
 use Rattle.std.proofs.lemmas.Option.{slice_get-get_or}
-use Rattle.tp_model.specs.Word.{wrap, bit}
+use Rattle.tp_model.specs.Word.{bit}
 use Rattle.tp_model.specs.Memory.{offset, byte_at, byte_stored, set_byte}
-use Rattle.tp_model.specs.LinkEnd.{advanced, has_more, is_waiting, is_holding, next_pointer, out_acked, in_arrived, filled}
+use Rattle.tp_model.specs.LinkEnd.{advanced, has_more, is_waiting, is_holding, next_pointer, out_acked, in_arrived}
 use Rattle.tp_model.specs.NodeState.{NodeState}
-use Rattle.tp_model.specs.Node.{on_link, tell, placed, took_token, took, waits, waits_there, holds, t414, t414_ends}
+use Rattle.tp_model.specs.Node.{on_link, tell, placed, took, waits, waits_there, holds, t414_ends}
 use Rattle.tp_model.specs.Network.{◌>>=◌, Network, OfNode, own, receiver, back, line_of, on_line}
-use Rattle.tp_model.specs.Sound.{owner, datas, acks, end_waits, end_holds, Sound}
-use Rattle.tp_model.specs.Markers.{is_marker, plain, plain_network}
+use Rattle.tp_model.specs.Sound.{owner, datas, acks, end_waits, end_holds}
+use Rattle.tp_model.specs.Markers.{is_marker, plain_network}
 use Rattle.tp_model.specs.Halves.{BookState, live}
 use Rattle.tp_model.specs.declared.link.Token.{Token}
 use Rattle.tp_model.specs.declared.link.Token.TheVariants.{Data, Ack, Marker}
@@ -27,12 +27,12 @@ use Rattle.tp_model.specs.declared.wire.WireEnd.TheVariants.{Link, Port as AtPor
 use Rattle.tp_laws.proofs.Partial.{map_some}
 use Rattle.tp_order.proofs.Local.{own-node, owner_of_link}
 use Rattle.tp_order.proofs.Flight.{owner_node}
-use Rattle.tp_order.proofs.Room.{on_line-plain, datas-plain, acks-plain, own-plain}
+use Rattle.tp_order.proofs.Room.{on_line-plain, datas-plain, acks-plain}
 use Rattle.tp_order.proofs.Sound.{end_waits_is, end_holds_is}
-use Rattle.tp_book.specs.Book.{BookValue, agreed}
+use Rattle.tp_book.specs.Book.{agreed}
 use Rattle.tp_book.specs.Kept.{Keeps}
-use Rattle.tp_turn.specs.Fits.{Long, IsWithin, OutFits, InFits, Fits}
-use Rattle.tp_turn.proofs.Fits.{offset_next, advanced_within}
+use Rattle.tp_turn.specs.Fits.{Long, OutFits, InFits, Fits}
+use Rattle.tp_turn.proofs.Fits.{advanced_within}
 
 -- ## At one end
 

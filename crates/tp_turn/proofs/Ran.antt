@@ -1,6 +1,6 @@
 -- A run that a book journals.
-use Rattle.std.proofs.Common.{◌≡◌, ℕ, zero, suc, ◌+◌, ◌<◌, ◌≤◌, Bool, true, false, cond, inl, inr, List, [], ◌∷◌, ◌++◌, length, set, refl, sym, ap, subst, ◌∙◌, arith, Option, Some, None, slice_get, eq-eqb, ne_eqb}
-use Rattle.std.specs.Prelude.{◌==◌, is_some, IsSome}
+use Rattle.std.proofs.Common.{◌≡◌, ℕ, zero, suc, ◌<◌, ◌≤◌, true, false, cond, inl, inr, List, [], ◌∷◌, set, refl, sym, ap, subst, ◌∙◌, arith, Some, None, slice_get, eq-eqb, ne_eqb}
+use Rattle.std.specs.Prelude.{is_some}
 use Rattle.std.proofs.lemmas.Bool.{cases_eq}
 use Rattle.std.proofs.lemmas.List.{append-nil}
 use Rattle.tp_model.specs.declared.link.Token.{Token}
@@ -10,8 +10,7 @@ use Rattle.tp_model.specs.NodeState.{NodeState}
 use Rattle.tp_model.specs.Outcome.{Rests}
 use Rattle.tp_model.specs.Step.{step_of, in_state}
 use Rattle.tp_model.specs.Node.{t414, node_step, ended}
-use Rattle.tp_model.specs.Network.{Network, steps}
-use Rattle.tp_model.specs.Entries.{next}
+use Rattle.tp_model.specs.Network.{steps}
 use Rattle.tp_model.specs.Order.{after}
 use Rattle.tp_order.proofs.Reorder.{after_one}
 use Rattle.tp_laws.proofs.Partial.{slice_get-set_same}
@@ -22,7 +21,7 @@ use Rattle.tp_book.proofs.Changes.{run_change}
 use Rattle.tp_node.specs.RunEnd.{IsWhy}
 use Rattle.tp_node.specs.declared.run.Why.{Why}
 use Rattle.tp_node.specs.declared.run.Why.TheVariants.{Full, Idle, NoFrame, Halted}
-use Rattle.tp_turn.specs.Turns.{RanOn, run_entries}
+use Rattle.tp_turn.specs.Turns.{RanOn}
 use Rattle.tp_turn.specs.Books.{network_of, Grew, Did}
 use Rattle.tp_turn.proofs.Leads.{change_leads}
 

@@ -9,6 +9,7 @@ use Rattle.tp_model.specs.CutImage.{only_if}
 use Rattle.tp_model.specs.Network.{Network, Port}
 use Rattle.tp_model.specs.Order.{after}
 use Rattle.tp_model.specs.Format.{fresh_port}
+use Rattle.tp_node.specs.NodeContents.{NodeContents}
 use Rattle.tp_turn.specs.declared.trial.Tried.{Tried}
 use Rattle.tp_turn.specs.declared.trial.TryFault.{TryFault}
 use Rattle.tp_turn.specs.declared.trial.TryFault.TheVariants.{BadImage, Memory}
@@ -17,6 +18,13 @@ use Rattle.tp_turn.specs.Turns.{AreTurns}
 -- The node of an image whose links are idle, as of one that a device may be formatted with.
 abbrev pub fresh_image : List ℕ → Option NodeState
 fresh_image image = only_if has_idle_links (node_of image)
+
+-- What reading an image answers whose links have to be idle: the node, not frozen, or a fault. Memory is wanting only where
+-- the image is one.
+abbrev pub ReadsFresh : List ℕ → Result NodeContents TryFault → Type 0
+ReadsFresh image (Ok node) = (fresh_image image ≡ Some node.live) × (node.frozen ≡ None)
+ReadsFresh image (Err BadImage) = fresh_image image ≡ None
+ReadsFresh image (Err Memory) = IsSome (fresh_image image)
 
 -- line 0 leads to the port, line 4 to the link, and links 1 to 3 have no wire
 abbrev pub one_wire : List (Option WireEnd)

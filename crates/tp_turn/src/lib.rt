@@ -3,10 +3,15 @@
 
 mod back;
 mod host;
+mod image;
 mod law;
 mod run;
 mod take;
 mod trial;
+mod turn;
 
-pub use trial::{Tried, TryFault};
-
+pub use host::host_turn;
+pub use law::messages_stay_inside;
+pub use take::TAKES;
+pub use trial::{Tried, TryFault, try_turns};
+pub use turn::{TURN_ENTRIES, node_turn};

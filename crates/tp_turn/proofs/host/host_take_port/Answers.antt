@@ -1,7 +1,6 @@
-use Rattle.std.proofs.Common.{◌≡◌, ◌+◌, ◌*◌, ℕ, sym, ap, ◌∙◌, Some, length}
+use Rattle.std.proofs.Common.{◌+◌, ◌*◌, ℕ, sym, ap, ◌∙◌}
 use Rattle.std.specs.Option.{option_map}
 use Rattle.tp_model.specs.Network.{line_of, receiver}
-use Rattle.tp_book.specs.Book.{agreed}
 use Rattle.tp_book.proofs.Commit.{length-agreed}
 use Rattle.tp_turn.proofs.HostTook.{comes_to}
 use Rattle.tp_turn.proofs.Grown.{did_in}

@@ -1,4 +1,3 @@
-use Rattle.std.proofs.Common.{◌≡◌, ◌≤◌}
 use Rattle.tp_turn.specs.Turns.{TookSo}
 use Rattle.tp_turn.specs.Books.{Did}
 use Rattle.tp_turn.specs.Nodes.{Agrees}

@@ -1,4 +1,4 @@
-use Rattle.std.proofs.Common.{◌≡◌, ◌+◌, ◌*◌}
+use Rattle.std.proofs.Common.{◌+◌, ◌*◌}
 use Rattle.tp_turn.specs.Turns.{InOrder, TookIn}
 use Rattle.tp_turn.specs.Books.{Did}
 use Rattle.tp_turn.specs.Nodes.{Agrees}

@@ -1,9 +1,7 @@
-use Rattle.std.proofs.Common.{◌≡◌, sym, ap, ◌∙◌, false, Some}
-use Rattle.std.specs.Prelude.{is_none}
+use Rattle.std.proofs.Common.{◌∙◌}
 use Rattle.tp_model.specs.Network.{on_line}
-use Rattle.tp_model.specs.Node.{took, on_link}
+use Rattle.tp_model.specs.Node.{on_link}
 use Rattle.tp_book.specs.Calls.{front_of}
-use Rattle.tp_book.specs.Refusals.{takeable_of}
 use Rattle.tp_turn.proofs.Fits.{took_fits}
 use Rattle.tp_turn.proofs.Possible.{can_take}
 use Rattle.tp_turn.proofs.Leads.{takeable_front, ready_some, takes_did, has_taken, take_done, take_agrees}
