@@ -14,5 +14,7 @@ pub mod Listings
 pub mod Opens
 pub mod Replays
 pub mod Spare
+pub mod SpeltAreas
+pub mod SpeltCuts
 pub mod Switches
 pub mod Wires
