@@ -14,6 +14,7 @@ pub mod Listings
 pub mod Opens
 pub mod Replays
 pub mod Spare
+pub mod Stand
 pub mod SpeltAreas
 pub mod SpeltCuts
 pub mod Switches
