@@ -12,6 +12,7 @@ pub mod Heads
 pub mod Holds
 pub mod Listings
 pub mod Opens
+pub mod ReadCuts
 pub mod Replays
 pub mod Spare
 pub mod Stand
