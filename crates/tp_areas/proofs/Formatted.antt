@@ -18,7 +18,7 @@ use Rattle.tp_model.specs.Device.{content_of, is_open}
 use Rattle.tp_model.specs.Head.{Head}
 use Rattle.tp_model.specs.Spelling.{groups_bytes}
 use Rattle.tp_model.specs.Opening.{Opened, network_of, opening, verdict, StandsFor}
-use Rattle.tp_model.specs.Format.{fresh_nodes, fresh_port}
+use Rattle.tp_model.specs.Format.{start_of, fresh_nodes, fresh_port}
 use Rattle.tp_model.specs.Runs.{fresh, IsFormatted}
 use Rattle.tp_model.specs.DeviceAreas.{areas_of}
 use Rattle.tp_order.proofs.Partial.{map_some}
@@ -36,12 +36,9 @@ wired_within [] line is = absurd (false≢true is)
 wired_within (wire ∷ wires) zero is = omega arith
 wired_within (wire ∷ wires) (suc line) is = let below = wired_within wires line is in omega arith
 
--- ## The device
+-- ## The network of images
 
-module _ (M : Machine NodeState) (t : Topology) (area : ℕ) (given : List (List ℕ)) (s : Network NodeState) (bytes : List ℕ) (W : WasFormatted t area given s bytes) where
-  abbrev pub head : Head
-  head = record { topology = t; area = area }
-
+module _ (t : Topology) (given : List (List ℕ)) (s : Network NodeState) (start : start_of t given ≡ Some s) where
   -- which nodes it has
   pub record Begins : Type 0 where
     pub nodes : List NodeState
@@ -50,8 +47,25 @@ module _ (M : Machine NodeState) (t : Topology) (area : ℕ) (given : List (List
 
   pub begins : Begins
   begins =
-      let found = map_some (λ ns. network_of t ns (no_lines (line_count t)) (replicate t.ports fresh_port)) (fresh_nodes t.pages given) s W.network in
+      let found = map_some (λ ns. network_of t ns (no_lines (line_count t)) (replicate t.ports fresh_port)) (fresh_nodes t.pages given) s start in
       record { nodes = found.0; fresh_are = fresh_nodes_are t.pages given found.0 found.1; is = found.2 }
+
+  pub start_reads_back : Limits t → ReadsBack t414_ends t 0 s
+  start_reads_back L =
+      let B = begins in
+      let F = B.fresh_are in
+      let is = sym B.is in
+      fresh_reads_back t B.nodes F.idle s (ap (λ (n : Network NodeState). n.nodes) is) (ap (λ (n : Network NodeState). n.lines) is) (ap (λ (n : Network NodeState). n.ports) is)
+      (ap (λ (n : Network NodeState). n.wires) is) F.back F.pages_are L.lines
+
+-- ## The device
+
+module _ (M : Machine NodeState) (t : Topology) (area : ℕ) (given : List (List ℕ)) (s : Network NodeState) (bytes : List ℕ) (W : WasFormatted t area given s bytes) where
+  abbrev pub head : Head
+  head = record { topology = t; area = area }
+
+  abbrev first : Begins t given s W.network
+  first = begins t given s W.network
 
   limits : Limits t
   limits = limits_of t W.topology
@@ -59,14 +73,6 @@ module _ (M : Machine NodeState) (t : Topology) (area : ℕ) (given : List (List
   -- what opening answers of it
   abbrev pub found : Opened
   found = record { head = head; second = false; generation = 1; base = 0; cut = s; kept = []; now = s; end = end_of_groups head false [] }
-
-  cut_back : ReadsBack t414_ends t 0 s
-  cut_back =
-      let B = begins in
-      let F = B.fresh_are in
-      let is = sym B.is in
-      fresh_reads_back t B.nodes F.idle s (ap (λ (n : Network NodeState). n.nodes) is) (ap (λ (n : Network NodeState). n.lines) is) (ap (λ (n : Network NodeState). n.ports) is)
-      (ap (λ (n : Network NodeState). n.wires) is) F.back F.pages_are limits.lines
 
   area_is : SpeltArea M t414_ends t (content_of area false bytes) 1 0 s [] s
   unfolding groups_bytes after
@@ -76,7 +82,7 @@ module _ (M : Machine NodeState) (t : Topology) (area : ℕ) (given : List (List
     shut = refl;
     spelled = W.format.content;
     generation_fits = omega arith;
-    cut = cut_back;
+    cut = start_reads_back t given s W.network limits;
     each = tt;
     numbers = tt;
     last = omega arith;
@@ -98,7 +104,7 @@ module _ (M : Machine NodeState) (t : Topology) (area : ℕ) (given : List (List
   -- ## A book with no entry
 
   lines_of_s : s.lines ≡ no_lines (line_count t)
-  lines_of_s = ap (λ (n : Network NodeState). n.lines) (sym begins.is)
+  lines_of_s = ap (λ (n : Network NodeState). n.lines) (sym first.is)
 
   plain_none : (count : ℕ) → map plain (no_lines count) ≡ no_lines count
   plain_none zero = refl
@@ -116,12 +122,12 @@ module _ (M : Machine NodeState) (t : Topology) (area : ℕ) (given : List (List
         λ i. Some (record s { lines = same i }));
     unmarked = λ line. ap markers (no_tokens line);
     lines =
-        let B = begins in
+        let B = first in
         let nodes_are : length s.nodes ≡ node_count t = ap (λ (n : Network NodeState). length n.nodes) (sym B.is) ∙ (sym (length-map B.nodes (λ n. page_count n.memory)) ∙ ap length B.fresh_are.pages_are) in
         let ports_are : length s.ports ≡ t.ports = ap (λ (n : Network NodeState). length n.ports) (sym B.is) ∙ length-replicate t.ports fresh_port in
         ap length lines_of_s ∙ length-replicate {A = List Token} (line_count t) [] ∙ omega arith;
     wired = λ line is.
-        let wires_are : s.wires ≡ t.wires = ap (λ (n : Network NodeState). n.wires) (sym begins.is) in
+        let wires_are : s.wires ≡ t.wires = ap (λ (n : Network NodeState). n.wires) (sym first.is) in
         let within = wired_within t.wires line (ap (λ wires. has_wire wires line) (sym wires_are) ∙ is) in
         let count = limits.lines in
         let size : length s.lines ≡ line_count t = ap length lines_of_s ∙ length-replicate {A = List Token} (line_count t) [] in

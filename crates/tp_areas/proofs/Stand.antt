@@ -1,5 +1,5 @@
 -- A device that is spelt so opens so.
-use Rattle.std.proofs.Common.{◌≡◌, ℕ, ◌+◌, ◌<◌, ◌≤◌, ◌⊎◌, inl, inr, Bool, true, false, not, List, [], ◌∷◌, length, refl, sym, ap, subst, ◌∙◌, arith, Result, Ok}
+use Rattle.std.proofs.Common.{◌≡◌, ℕ, inl, inr, not, List, [], ◌∷◌, sym, ◌∙◌, arith, Ok}
 use Rattle.std.specs.List.{AllByRecursion}
 use Rattle.std.proofs.lemmas.Bool.{cases_Bool}
 use Rattle.tp_model.specs.NodeState.{NodeState}
@@ -8,14 +8,17 @@ use Rattle.tp_model.specs.Network.{Machine, Network}
 use Rattle.tp_model.specs.Sound.{Ends}
 use Rattle.tp_model.specs.Topology.{Topology}
 use Rattle.tp_model.specs.Device.{content_of}
-use Rattle.tp_model.specs.Spelling.{IsCut, Spells, Stands}
-use Rattle.tp_model.specs.Opening.{Opened, chosen_area, opening}
+use Rattle.tp_model.specs.Spelling.{IsCut, Stands}
+use Rattle.tp_model.specs.Opening.{Opened, chosen_area, opening, verdict}
+use Rattle.tp_model.specs.Node.{t414, t414_ends}
 use Rattle.tp_laws.proofs.Images.{node_of-image}
+use Rattle.tp_laws.proofs.Numbers.{AreBytes}
+use Rattle.tp_areas.proofs.ReadAreas.{opens_stand}
 use Rattle.tp_areas.proofs.Wires.{limits_of}
 use Rattle.tp_areas.proofs.FreshHeads.{head_of-head_bytes}
 use Rattle.tp_areas.proofs.Chosen.{open_in, age_in, chosen_alone, chosen_higher}
 use Rattle.tp_areas.proofs.SpeltCuts.{IsReadBack, ReadsBack, front_generation}
-use Rattle.tp_areas.proofs.SpeltAreas.{SpeltArea, end_of_groups, area_spelt}
+use Rattle.tp_areas.proofs.SpeltAreas.{SpeltArea, area_spelt}
 use Rattle.tp_areas.proofs.Opens.{opening_from}
 
 nodes_back : (nodes : List NodeState) → AllByRecursion IsNode nodes → AllByRecursion IsReadBack nodes
@@ -65,3 +68,11 @@ stands_opens M E bytes o S =
     opening_from M E bytes o.head o.second o (head_of-head_bytes t area bytes S.topology S.room S.area_fits S.head) chosen
     (area_spelt M E o.head o.second L content o.generation o.base o.cut S.groups o.now A
     ∙ (λ i. Ok (record { head = o.head; second = o.second; generation = o.generation; base = o.base; cut = o.cut; kept = kept i; now = o.now; end = end i })))
+
+pub stands_for_verdict : (bytes : List ℕ) (o : Opened) → Stands t414 t414_ends bytes o → verdict bytes ≡ Ok o
+unfolding verdict
+stands_for_verdict bytes o S = stands_opens t414 t414_ends bytes o S
+
+pub verdict_stands : (bytes : List ℕ) (o : Opened) → AreBytes bytes → verdict bytes ≡ Ok o → Stands t414 t414_ends bytes o
+unfolding verdict
+verdict_stands bytes o h is = opens_stand t414 t414_ends bytes o h is
