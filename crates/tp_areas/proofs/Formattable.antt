@@ -86,19 +86,22 @@ module _ (t : Topology) (area : ℕ) (given : List (List ℕ)) (s : Network Node
       ap (λ xs. get_or xs (512 + area) 0) (sym (append_assoc head (GATE_OPEN ∷ content) second)) ∙ get_or_at front_part GATE_CLOSED (zeros (area - 1)) 0 (512 + area) size
 
   pub formattable_with : (bytes : List ℕ) × WasFormatted t area given s bytes
-  formattable_with = (device, record {
-    topology = topology;
-    room = and_from (nat_le (512 + 2 * area) (length device)) (is_roomy t area) (le-leb (512 + 2 * area) (length device) (omega (arith, size_device))) roomy;
-    area_fits = low;
-    network = start;
-    format = record {
-      head = take_at head (GATE_OPEN ∷ (content ++ second)) 512 size_head;
-      open_gate = get_or_at head GATE_OPEN (content ++ second) 0 512 size_head;
-      closed_gate = second_gate;
-      rest = behind;
-      content = first_content;
-    };
-  })
+  formattable_with = (
+    device,
+    record {
+      topology = topology;
+      room = and_from (nat_le (512 + 2 * area) (length device)) (is_roomy t area) (le-leb (512 + 2 * area) (length device) (omega (arith, size_device))) roomy;
+      area_fits = low;
+      network = start;
+      format = record {
+        head = take_at head (GATE_OPEN ∷ (content ++ second)) 512 size_head;
+        open_gate = get_or_at head GATE_OPEN (content ++ second) 0 512 size_head;
+        closed_gate = second_gate;
+        rest = behind;
+        content = first_content;
+      };
+    },
+  )
 
 pub formattable : (t : Topology) (area : ℕ) (given : List (List ℕ)) (s : Network NodeState) → is_topology t ≡ true → is_roomy t area ≡ true → area < 2 ^ 64
     → start_of t given ≡ Some s → (bytes : List ℕ) × WasFormatted t area given s bytes

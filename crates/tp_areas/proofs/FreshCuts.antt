@@ -5,7 +5,6 @@ use Rattle.std.specs.List.{list_all, AllByRecursion}
 use Rattle.std.specs.Option.{option_map}
 use Rattle.std.proofs.lemmas.Bool.{and_parts, eqb-true, not_from_false}
 use Rattle.std.proofs.lemmas.List.{length-replicate}
-use Rattle.std.proofs.lemmas.Option.{cond_some}
 use Rattle.tp_model.specs.declared.link.Token.{Token}
 use Rattle.tp_model.specs.declared.link.OutEnd.{OutEnd}
 use Rattle.tp_model.specs.declared.link.OutEnd.TheVariants.{Idle as OutIdle, Waits}
@@ -22,12 +21,13 @@ use Rattle.tp_model.specs.LinkEnd.{is_waiting, is_holding}
 use Rattle.tp_model.specs.Node.{waits_there, holds_there, t414_ends}
 use Rattle.tp_model.specs.Topology.{Topology, line_count}
 use Rattle.tp_model.specs.Flight.{is_in_one_place}
-use Rattle.tp_model.specs.CutImage.{only_if, is_port_of}
+use Rattle.tp_model.specs.CutImage.{is_port_of}
 use Rattle.tp_model.specs.Format.{fresh_node, fresh_nodes, fresh_port}
 use Rattle.tp_laws.proofs.Images.{image-node_of}
 use Rattle.tp_order.proofs.Partial.{bind_some}
 use Rattle.tp_model.specs.Spelling.{are_lines}
 use Rattle.tp_areas.proofs.SpeltCuts.{IsReadBack, pages_of, ReadsBack}
+use Rattle.tp_areas.proofs.Faults.{tested}
 
 -- ## Nodes
 
@@ -36,12 +36,6 @@ pub record IsFresh (pages : ℕ) (n : NodeState) : Type 0 where
   pub back : IsReadBack n
   pub pages_are : page_count n.memory ≡ pages
   pub idle : has_idle_links n ≡ true
-
-tested : {A : Type 0} (test : A → Bool) (given : Option A) (x : A) → only_if test given ≡ Some x → (given ≡ Some x) × (test x ≡ true)
-tested test None x is = cc
-tested test (Some y) x is =
-    let found = cond_some (test y) y x is in
-    (ap (λ z. Some z) found.1, ap test (sym found.1) ∙ found.0)
 
 fresh_is : (pages : ℕ) (bytes : List ℕ) (n : NodeState) → fresh_node pages bytes ≡ Some n → IsFresh pages n
 fresh_is pages bytes n is =

@@ -1,12 +1,11 @@
 -- What is read as a cut is spelt so.
-use Rattle.std.proofs.Common.{◌≡◌, ℕ, zero, suc, ◌+◌, ◌*◌, ◌^◌, ◌<◌, ◌≤◌, inl, inr, Bool, true, false, cond, List, [], ◌∷◌, ◌++◌, length, take, drop, get_or, refl, sym, ap, subst, ◌∙◌, arith, append_assoc, length-drop, length-take, Option, Some, None, Ok}
+use Rattle.std.proofs.Common.{◌≡◌, ℕ, zero, suc, ◌+◌, ◌*◌, ◌^◌, ◌<◌, ◌≤◌, inl, inr, Bool, true, false, cond, List, [], ◌∷◌, ◌++◌, length, take, drop, get_or, refl, sym, ap, subst, ◌∙◌, arith, append_assoc, length-drop, length-take, Option, Some, Ok}
 use Rattle.std.specs.Prelude.{◌==◌, ◌&&◌, nat_lt, flat_map, sum_by, bytes_eq}
 use Rattle.std.specs.List.{AllByRecursion}
 use Rattle.std.proofs.lemmas.Bool.{and_parts, and_from, eqb-true, ltb-true, cases_lt}
-use Rattle.std.proofs.lemmas.List.{take-append-drop, take-take, drop-drop, get_or-take, get_or_past}
+use Rattle.std.proofs.lemmas.List.{take-append-drop, drop-drop, get_or-take, get_or_past}
 use Rattle.std.proofs.lemmas.List.Sums.{sum_by-cons}
 use Rattle.std.proofs.lemmas.Nat.{le_bytes_4, le_bytes_8}
-use Rattle.std.proofs.lemmas.Option.{cond_some}
 use Rattle.std.proofs.lemmas.Slice.Eq.{bytes_eq-Decides}
 use Rattle.tp_model.specs.declared.link.Token.{Token}
 use Rattle.tp_model.specs.declared.link.Token.TheVariants.{Data, Ack}
@@ -22,13 +21,13 @@ use Rattle.tp_model.specs.Topology.{Topology, line_count}
 use Rattle.tp_model.specs.Journal.{image_length, images_length, cut_length}
 use Rattle.tp_model.specs.Device.{generation_of}
 use Rattle.tp_model.specs.Flight.{is_in_one_place, flights_in}
-use Rattle.tp_model.specs.CutImage.{line_bytes, port_bytes, only_if, node_with, tokens_of, tokens_at, is_record, line_with, is_line_of, port_at, is_port_of, port_with, or_damaged, nodes_in, lines_in, ports_in, cut_bytes}
+use Rattle.tp_model.specs.CutImage.{line_bytes, port_bytes, node_with, tokens_of, tokens_at, is_record, line_with, is_line_of, port_at, is_port_of, port_with, or_damaged, nodes_in, lines_in, ports_in, cut_bytes}
 use Rattle.tp_model.specs.Spelling.{has_record, are_lines, IsCut, front_bytes}
 use Rattle.tp_model.specs.Opening.{base_of, has_front, nodes_place, lines_place, ports_place, groups_place, network_of, cut_in}
 use Rattle.tp_laws.proofs.Numbers.{AreBytes, are_bytes, byte_below, are_bytes-drop}
 use Rattle.tp_laws.proofs.Images.{image-node_of, is_node-node_of}
-use Rattle.tp_areas.proofs.Faults.{bind_ok, or_damaged_ok, or_fault}
-use Rattle.tp_areas.proofs.Fronts.{SameFront, u32_front, u64_front}
+use Rattle.tp_areas.proofs.Faults.{bind_ok, or_damaged_ok, or_fault, tested}
+use Rattle.tp_areas.proofs.Fronts.{u32_front, u64_front, whole_front}
 use Rattle.tp_areas.proofs.SpeltCuts.{pages_of}
 
 -- ## Bytes of a part
@@ -41,9 +40,6 @@ part_below n xs h i = elim (cases_lt i n) [
 
 pub are_bytes-take : (n : ℕ) (xs : List ℕ) → AreBytes xs → AreBytes (take n xs)
 are_bytes-take n xs h = are_bytes (take n xs) (part_below n xs h)
-
-whole_front : (n : ℕ) (xs : List ℕ) → SameFront n xs (take n xs)
-whole_front n xs = record { same = sym (take-take n n xs (omega arith)) }
 
 -- a number's bytes are those of which it is read
 pub u64_bytes-u64_at : (xs : List ℕ) (at : ℕ) → AreBytes xs → at + 8 ≤ length xs → u64_bytes (u64_at xs at) ≡ take 8 (drop at xs)
@@ -68,12 +64,6 @@ parts_join : (front more xs : List ℕ) (n m : ℕ) → take n xs ≡ front → 
 parts_join front more xs n m first rest =
     sym (take-append-drop n xs) ∙ ap (λ zs. zs ++ drop n xs) first ∙ ap (λ zs. front ++ zs) (rest ∙ ap (λ zs. more ++ zs) (drop-drop m n xs))
     ∙ sym (append_assoc front more (drop (n + m) xs))
-
-tested : {A : Type 0} (test : A → Bool) (given : Option A) (x : A) → only_if test given ≡ Some x → (given ≡ Some x) × (test x ≡ true)
-tested test None x is = cc
-tested test (Some y) x is =
-    let found = cond_some (test y) y x is in
-    (ap (λ z. Some z) found.1, ap test (sym found.1) ∙ found.0)
 
 -- ## Nodes
 

@@ -1,7 +1,7 @@
 -- What is read as groups is spelt so.
 use Rattle.std.proofs.Common.{◌≡◌, ℕ, zero, suc, ◌+◌, ◌-◌, ◌*◌, ◌<◌, ◌≤◌, Bool, true, false, cond, List, [], ◌∷◌, ◌++◌, length, take, drop, refl, sym, ap, subst, ◌∙◌, arith, append_assoc, append-nil, length-append, length-drop, Option, Some, None, Ok}
 use Rattle.std.specs.Prelude.{◌==◌, ◌&&◌, nat_le, nat_lt, map, flat_map}
-use Rattle.std.specs.Option.{option_map, option_and_then}
+use Rattle.std.specs.Option.{option_map}
 use Rattle.std.specs.List.{AllByRecursion, concat}
 use Rattle.std.proofs.lemmas.Bool.{and_parts, leb-true, ltb-true, false≢true}
 use Rattle.std.proofs.lemmas.List.{take_at, drop_at, take-append-drop, map-append, length-map, take-map, drop-map}
@@ -16,13 +16,13 @@ use Rattle.tp_model.specs.EntryBytes.{IsSpelt, entry_bytes, entry_at}
 use Rattle.tp_model.specs.Group.{rows_of, rows_behind, header, group_length, group_bytes, or_bad}
 use Rattle.tp_model.specs.CutImage.{or_damaged}
 use Rattle.tp_model.specs.Spelling.{groups_bytes, entries_in, IsGroup}
-use Rattle.tp_model.specs.Replay.{Listing, Replay, placed, at_open_gate, listing, with_entry, is_number, after_entry, after_row, after_rows}
+use Rattle.tp_model.specs.Replay.{Listing, Replay, placed, at_open_gate, listing, with_entry, is_number, after_row, after_rows}
 use Rattle.tp_entry.proofs.EntryLaws.{entry_at-bytes}
 use Rattle.tp_entry.proofs.GroupLaws.{group_at-are}
 use Rattle.tp_order.proofs.Partial.{map_some, cond_some}
 use Rattle.tp_order.proofs.Reorder.{after_first}
 use Rattle.tp_areas.proofs.Faults.{bind_ok, or_damaged_ok}
-use Rattle.tp_areas.proofs.Replays.{bytes_of_rows}
+use Rattle.tp_areas.proofs.Replays.{bytes_of_rows, entry_found}
 use Rattle.tp_areas.proofs.SpeltAreas.{placed_rows}
 
 -- ## Groups, as their rows
@@ -118,11 +118,6 @@ pub record EntriesRead {Node : Type 0} (M : Machine Node) (r v : Replay Node) (r
   pub numbers : AreNumbered r.least r.next (map (λ e. e.1) entries)
   pub leads : after M r.now (map (λ e. e.0) entries) ≡ Some v.now
   pub last : r.next ≤ NUMBER_LIMIT - 1 → r.next + length entries ≤ NUMBER_LIMIT - 1
-
-entry_found : {Node : Type 0} (M : Machine Node) (r v : Replay Node) (read : Option (Entry × ℕ)) → option_and_then (after_entry M r) read ≡ Some v
-    → (entry : Entry × ℕ) × (read ≡ Some entry) × (after_entry M r entry ≡ Some v)
-entry_found M r v None e = cc
-entry_found M r v (Some entry) e = (entry, refl, e)
 
 -- one of them
 record EntryRead {Node : Type 0} (M : Machine Node) (r v : Replay Node) (row : List ℕ) : Type 0 where

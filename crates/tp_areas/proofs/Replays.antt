@@ -46,16 +46,16 @@ replays_first : {Node : Type 0} (M : Machine Node) (s : Network Node) (base : �
 unfolding after
 replays_first M s base = record { least = omega arith; next = omega arith; leads = refl }
 
-entry_found : {Node : Type 0} (M : Machine Node) (r v : Replay Node) (read : Option (Entry × ℕ)) → option_and_then (after_entry M r) read ≡ Some v
-    → (entry : Entry × ℕ) × (after_entry M r entry ≡ Some v)
+pub entry_found : {Node : Type 0} (M : Machine Node) (r v : Replay Node) (read : Option (Entry × ℕ)) → option_and_then (after_entry M r) read ≡ Some v
+    → (entry : Entry × ℕ) × (read ≡ Some entry) × (after_entry M r entry ≡ Some v)
 entry_found M r v None e = cc
-entry_found M r v (Some entry) e = (entry, e)
+entry_found M r v (Some entry) e = (entry, refl, e)
 
 replays_row : {Node : Type 0} (M : Machine Node) (s : Network Node) (base : ℕ) (r v : Replay Node) (row : List ℕ) → Replays M s base r → after_row M r row ≡ Some v → Replays M s base v
 replays_row M s base r v row R is =
     let found = entry_found M r v (entry_at row) is in
     let entry = found.0 in
-    let tested = cond_some (is_number r entry.1) (option_map (with_entry r entry) (next M r.now entry.0)) v found.1 in
+    let tested = cond_some (is_number r entry.1) (option_map (with_entry r entry) (next M r.now entry.0)) v found.2 in
     let stepped = map_some (with_entry r entry) (next M r.now entry.0) v tested.1 in
     let low = and_parts (nat_le r.least entry.1) (nat_le entry.1 r.next && nat_lt r.next (NUMBER_LIMIT - 1)) tested.0 in
     let most = leb-true entry.1 r.next (and_parts (nat_le entry.1 r.next) (nat_lt r.next (NUMBER_LIMIT - 1)) low.1).0 in
