@@ -48,6 +48,12 @@ chosen_later area bytes true own other later =
     ∙ (λ i. cond (lt-ltb (age_in area bytes true) (age_in area bytes false) later i) (Ok false)
     (cond (nat_lt (age_in area bytes false) (age_in area bytes true)) (Ok true) (Err (Damaged (area_start area true)))))
 
+-- so is the one that the other is no later than
+pub chosen_higher : (area : ℕ) (bytes : List ℕ) (second : Bool) → open_in area bytes second ≡ true → open_in area bytes (not second) ≡ true
+    → age_in area bytes (not second) < age_in area bytes second → chosen_area area bytes ≡ Ok second
+chosen_higher area bytes false own other lower = chosen_later area bytes true other own lower
+chosen_higher area bytes true own other lower = chosen_later area bytes false other own lower
+
 -- the same gates and generations
 pub chosen_same : (area : ℕ) (bytes left : List ℕ) (second : Bool)
     → open_in area left second ≡ open_in area bytes second → open_in area left (not second) ≡ open_in area bytes (not second)

@@ -2,7 +2,6 @@
 use Rattle.std.proofs.Common.{◌≡◌, ℕ, zero, suc, ◌+◌, ◌*◌, ◌^◌, ◌<◌, Bool, true, false, List, [], ◌∷◌, length, take, drop, refl, sym, ap, ◌∙◌, arith, Option, Some, Ok}
 use Rattle.std.specs.Prelude.{◌==◌, ◌&&◌, nat_le, bytes_eq, sum_by}
 use Rattle.std.proofs.lemmas.Bool.{and_parts, leb-true}
-use Rattle.std.proofs.lemmas.List.{take-take}
 use Rattle.std.proofs.lemmas.List.Sums.{sum_by-cons}
 use Rattle.std.proofs.lemmas.Nat.{from_le_bytes-to_le_bytes_2}
 use Rattle.std.proofs.lemmas.Slice.Eq.{bytes_eq-Decides}
@@ -20,7 +19,7 @@ use Rattle.tp_model.specs.Flight.{flights_in}
 use Rattle.tp_model.specs.CutImage.{only_if, tokens_of, is_record, is_line_of, line_with, port_at, port_bytes, is_port_of, port_with, or_damaged, nodes_in, lines_in, ports_in}
 use Rattle.tp_model.specs.Opening.{base_of, nodes_place, lines_place, ports_place, groups_place, network_of, cut_in}
 use Rattle.tp_areas.proofs.Faults.{bind_ok, or_damaged_ok}
-use Rattle.tp_areas.proofs.Fronts.{SameFront, front_shorter, front_part, front_get, u16_front, u64_front}
+use Rattle.tp_areas.proofs.Fronts.{SameFront, front_shorter, front_part, front_get, u16_front, u64_front, whole_front}
 
 -- ## Nodes
 
@@ -64,10 +63,6 @@ outputs_count p fits = from_le_bytes-to_le_bytes_2 (length p.outputs) fits
 -- what is read of a port's record, by its fields
 abbrev port_of : ℕ → List ℕ → ℕ → List ℕ → Port
 port_of in_base pending out_base outputs = record { pending = pending; in_base = in_base; outputs = outputs; out_base = out_base }
-
--- a record is as long as its front
-whole_front : (n : ℕ) (xs : List ℕ) → SameFront n xs (take n xs)
-whole_front n xs = record { same = sym (take-take n n xs (omega arith)) }
 
 -- a port that has its record in front is read alike of the same record
 port_read_same : (base : ℕ) (xs ys : List ℕ) → SameFront 8212 xs ys → take 8212 xs ≡ port_bytes (port_at xs) → is_port_of base (port_at xs) ≡ true → port_at ys ≡ port_at xs

@@ -1,179 +1,99 @@
 -- The cut of a network before its first entry is read back.
-use Rattle.std.proofs.Common.{◌≡◌, ℕ, zero, suc, ◌+◌, ◌-◌, ◌*◌, ◌%◌, Bool, true, false, cond, List, [], ◌∷◌, ◌++◌, length, take, drop, refl, sym, ap, subst, ◌∙◌, arith, append_assoc, length-append, length-drop, Option, Some, None, Ok, Err, slice_get}
-use Rattle.std.specs.Prelude.{◌==◌, ◌&&◌, nat_le, replicate, flat_map, sum_by, bytes_eq}
-use Rattle.std.specs.List.{list_all}
+use Rattle.std.proofs.Common.{◌≡◌, ℕ, zero, suc, ◌+◌, ◌-◌, ◌*◌, ◌%◌, Bool, true, false, cond, List, [], ◌∷◌, length, refl, sym, ap, subst, ◌∙◌, arith, Option, Some, None, slice_get}
+use Rattle.std.specs.Prelude.{◌==◌, ◌&&◌, replicate}
+use Rattle.std.specs.List.{list_all, AllByRecursion}
 use Rattle.std.specs.Option.{option_map}
-use Rattle.std.proofs.lemmas.Bool.{and_parts, leb-true, eqb-true, eq-eqb, not_from_false, cond-true}
-use Rattle.std.proofs.lemmas.List.{take_at, drop_at, length-replicate}
-use Rattle.std.proofs.lemmas.List.Sums.{sum_by-cons}
-use Rattle.std.proofs.lemmas.Option.{cond_some}
-use Rattle.std.proofs.lemmas.Slice.Eq.{bytes_eq-Decides}
+use Rattle.std.proofs.lemmas.Bool.{and_parts, eqb-true, not_from_false}
+use Rattle.std.proofs.lemmas.List.{length-replicate}
 use Rattle.tp_model.specs.declared.link.Token.{Token}
 use Rattle.tp_model.specs.declared.link.OutEnd.{OutEnd}
 use Rattle.tp_model.specs.declared.link.OutEnd.TheVariants.{Idle as OutIdle, Waits}
 use Rattle.tp_model.specs.declared.link.InEnd.{InEnd}
 use Rattle.tp_model.specs.declared.link.InEnd.TheVariants.{Idle as InIdle, Inputs, Enabled}
 use Rattle.tp_model.specs.declared.wire.WireEnd.{WireEnd}
-use Rattle.tp_model.specs.declared.opening.OpenFault.TheVariants.{Damaged}
 use Rattle.tp_model.specs.Word.{bit}
-use Rattle.tp_model.specs.declared.limits.TheConstants.{MIN_PAGES, MAX_PAGES}
-use Rattle.tp_model.specs.Results.{◌>>=◌}
-use Rattle.tp_model.specs.Bytes.{zeros}
 use Rattle.tp_model.specs.NodeState.{NodeState}
 use Rattle.tp_model.specs.EndBytes.{is_idle_out, is_idle_in}
-use Rattle.tp_model.specs.Image.{page_count, image_head, image, node_at, is_memory, is_node, node_of, has_idle_links}
+use Rattle.tp_model.specs.Image.{page_count, node_of, has_idle_links}
 use Rattle.tp_model.specs.Network.{Network, Own, OfNode, OfHost, own, back, on_line}
 use Rattle.tp_model.specs.Sound.{datas, acks, owner, is_pending, waits_at, holds_at, end_holds}
 use Rattle.tp_model.specs.LinkEnd.{is_waiting, is_holding}
 use Rattle.tp_model.specs.Node.{waits_there, holds_there, t414_ends}
 use Rattle.tp_model.specs.Topology.{Topology, line_count}
-use Rattle.tp_model.specs.Journal.{image_length}
-use Rattle.tp_model.specs.Flight.{is_in_one_place, flights_in}
-use Rattle.tp_model.specs.CutImage.{line_bytes, port_bytes, only_if, node_with, line_with, port_with, or_damaged, nodes_in, lines_in, ports_in}
+use Rattle.tp_model.specs.Flight.{is_in_one_place}
+use Rattle.tp_model.specs.CutImage.{is_port_of}
 use Rattle.tp_model.specs.Format.{fresh_node, fresh_nodes, fresh_port}
 use Rattle.tp_laws.proofs.Images.{image-node_of}
 use Rattle.tp_order.proofs.Partial.{bind_some}
+use Rattle.tp_model.specs.Spelling.{are_lines}
+use Rattle.tp_areas.proofs.SpeltCuts.{IsReadBack, pages_of, ReadsBack}
+use Rattle.tp_areas.proofs.Faults.{tested}
 
 -- ## Nodes
 
 -- a node that an image gives
-pub record IsFresh (pages : ℕ) (bytes : List ℕ) (n : NodeState) : Type 0 where
-  pub is : node_of bytes ≡ Some n
+pub record IsFresh (pages : ℕ) (n : NodeState) : Type 0 where
+  pub back : IsReadBack n
   pub pages_are : page_count n.memory ≡ pages
   pub idle : has_idle_links n ≡ true
-  pub size : length bytes ≡ image_length pages
 
-tested : {A : Type 0} (test : A → Bool) (given : Option A) (x : A) → only_if test given ≡ Some x → (given ≡ Some x) × (test x ≡ true)
-tested test None x is = cc
-tested test (Some y) x is =
-    let found = cond_some (test y) y x is in
-    (ap (λ z. Some z) found.1, ap test (sym found.1) ∙ found.0)
-
--- an image has the bytes of its head and those of its memory
-image_size : (bytes : List ℕ) (n : NodeState) → node_of bytes ≡ Some n → length bytes ≡ image_length (page_count n.memory)
-unfolding node_of is_node node_at
-image_size bytes n is =
-    let found = cond_some (is_node (node_at bytes) && bytes_eq (take 172 bytes) (image_head (node_at bytes))) (node_at bytes) n is in
-    let keeps = and_parts (is_node (node_at bytes)) _ found.0 in
-    let memory = and_parts (is_memory (drop 172 bytes)) _ keeps.0 in
-    let whole = and_parts (length (drop 172 bytes) == 1024 * page_count (drop 172 bytes)) _ memory.0 in
-    let long = eqb-true (length (drop 172 bytes)) (1024 * page_count (drop 172 bytes)) whole.0 in
-    let least = leb-true MIN_PAGES (page_count (drop 172 bytes)) (and_parts (nat_le MIN_PAGES (page_count (drop 172 bytes))) (nat_le (page_count (drop 172 bytes)) MAX_PAGES) whole.1).0 in
-    let size : length bytes ≡ 172 + 1024 * page_count (drop 172 bytes) = omega (arith, length-drop 172 bytes) in
-    size ∙ ap (λ (m : NodeState). image_length (page_count m.memory)) found.1
-
-fresh_is : (pages : ℕ) (bytes : List ℕ) (n : NodeState) → fresh_node pages bytes ≡ Some n → IsFresh pages bytes n
+fresh_is : (pages : ℕ) (bytes : List ℕ) (n : NodeState) → fresh_node pages bytes ≡ Some n → IsFresh pages n
 fresh_is pages bytes n is =
     let found = tested (λ m. page_count m.memory == pages && has_idle_links m) (node_of bytes) n is in
     let both = and_parts (page_count n.memory == pages) (has_idle_links n) found.1 in
-    let count = eqb-true (page_count n.memory) pages both.0 in
-    record { is = found.0; pages_are = count; idle = both.1; size = image_size bytes n found.0 ∙ ap image_length count }
+    record {
+      back = ap node_of (image-node_of bytes n found.0) ∙ found.0;
+      pages_are = eqb-true (page_count n.memory) pages both.0;
+      idle = both.1;
+    }
 
 -- what is so of the nodes of images
 pub record AreFresh (pages : List ℕ) (nodes : List NodeState) : Type 0 where
-  pub count : length nodes ≡ length pages
-  pub size : length (flat_map image nodes) ≡ sum_by image_length pages
+  pub back : AllByRecursion IsReadBack nodes
+  pub pages_are : pages_of nodes ≡ pages
   pub idle : (i : ℕ) (n : NodeState) → slice_get nodes i ≡ Some n → has_idle_links n ≡ true
-  pub read : (at : ℕ) (rest : List ℕ) → nodes_in at pages (flat_map image nodes ++ rest) ≡ Ok nodes
 
-node_read : (pages : ℕ) (bytes rest : List ℕ) (n : NodeState) → IsFresh pages bytes n → node_with pages (image n ++ rest) ≡ Some n
-node_read pages bytes rest n F =
-    let same : image n ≡ bytes = image-node_of bytes n F.is in
-    let front : take (image_length pages) (image n ++ rest) ≡ bytes = take_at (image n) rest (image_length pages) (ap length same ∙ F.size) ∙ same in
-    ap (λ xs. only_if (λ m. page_count m.memory == pages) (node_of xs)) front
-    ∙ ap (only_if (λ m. page_count m.memory == pages)) F.is
-    ∙ cond-true (page_count n.memory == pages) (Some n) None (eq-eqb (page_count n.memory) pages F.pages_are)
-
-fresh_more : (pages : ℕ) (bytes : List ℕ) (n : NodeState) (more : List ℕ) (nodes : List NodeState) → IsFresh pages bytes n → AreFresh more nodes → AreFresh (pages ∷ more) (n ∷ nodes)
-unfolding nodes_in
-fresh_more pages bytes n more nodes F A =
-    let same : image n ≡ bytes = image-node_of bytes n F.is in
-    let long : length (image n) ≡ image_length pages = ap length same ∙ F.size in
-    record {
-      count = ap suc A.count;
-      size = omega (arith, length-append (image n) (flat_map image nodes), A.size, sum_by-cons image_length pages more);
-      idle = one_more;
-      read = λ at rest.
-          let all : (image n ++ flat_map image nodes) ++ rest ≡ image n ++ (flat_map image nodes ++ rest) = append_assoc (image n) (flat_map image nodes) rest in
-          let first = node_read pages bytes (flat_map image nodes ++ rest) n F in
-          let behind : drop (image_length pages) (image n ++ (flat_map image nodes ++ rest)) ≡ flat_map image nodes ++ rest = drop_at (image n) (flat_map image nodes ++ rest) (image_length pages) long in
-          let others = ap (nodes_in (at + image_length pages) more) behind ∙ A.read (at + image_length pages) rest in
-          ap (nodes_in at (pages ∷ more)) all
-          ∙ (λ i. or_damaged at (first i) >>= λ node. others i >>= λ nodes. Ok (node ∷ nodes));
-    }
+fresh_more : (pages : ℕ) (n : NodeState) (more : List ℕ) (nodes : List NodeState) → IsFresh pages n → AreFresh more nodes → AreFresh (pages ∷ more) (n ∷ nodes)
+fresh_more pages n more nodes F A =
+    let first = F.pages_are in
+    let rest = A.pages_are in
+    record { back = (F.back, A.back); pages_are = λ i. first i ∷ rest i; idle = one_more }
   where
     one_more : (i : ℕ) (m : NodeState) → slice_get (n ∷ nodes) i ≡ Some m → has_idle_links m ≡ true
     one_more zero m is = let same : m ≡ n = cc in ap has_idle_links same ∙ F.idle
     one_more (suc i) m is = A.idle i m is
 
+no_node : (i : ℕ) (n : NodeState) → ◌≡◌ {A = Option NodeState} (slice_get [] i) (Some n) → has_idle_links n ≡ true
+no_node i n is = cc
+
 pub fresh_nodes_are : (pages : List ℕ) (images : List (List ℕ)) (nodes : List NodeState) → fresh_nodes pages images ≡ Some nodes → AreFresh pages nodes
-unfolding fresh_nodes nodes_in
-fresh_nodes_are [] [] nodes is = subst (AreFresh []) (let same = is in cc) (record { count = refl; size = refl; idle = λ i n found. cc; read = λ at rest. refl })
+unfolding fresh_nodes
+fresh_nodes_are [] [] nodes is = let same : [] ≡ nodes = cc in subst (AreFresh []) same (record { back = tt; pages_are = refl; idle = no_node })
 fresh_nodes_are (pages ∷ more) [] nodes is = cc
 fresh_nodes_are [] (bytes ∷ images) nodes is = cc
 fresh_nodes_are (pages ∷ more) (bytes ∷ images) nodes is =
     let first = bind_some (fresh_node pages bytes) _ nodes is in
     let rest = bind_some (fresh_nodes more images) _ nodes first.2 in
-    subst (AreFresh (pages ∷ more)) (let same = rest.2 in cc) (fresh_more pages bytes first.0 more rest.0 (fresh_is pages bytes first.0 first.1) (fresh_nodes_are more images rest.0 rest.1))
+    subst (AreFresh (pages ∷ more)) (let same = rest.2 in cc) (fresh_more pages first.0 more rest.0 (fresh_is pages bytes first.0 first.1) (fresh_nodes_are more images rest.0 rest.1))
 
--- ## Lines
+-- ## Lines and ports
 
 abbrev pub no_lines : ℕ → List (List Token)
 no_lines count = replicate count []
-
-pub length-no_lines : (count : ℕ) → length (flat_map line_bytes (no_lines count)) ≡ 4 * count
-length-no_lines zero = refl
-length-no_lines (suc count) = omega (arith, length-no_lines count)
 
 pub no_line : (count line : ℕ) → on_line (no_lines count) line ≡ []
 no_line zero line = refl
 no_line (suc count) zero = refl
 no_line (suc count) (suc line) = no_line count line
 
-line_read : (wire : Option WireEnd) (rest : List ℕ) → line_with wire (0 ∷ 0 ∷ 0 ∷ 0 ∷ rest) ≡ Some []
-line_read None rest = refl
-line_read (Some end) rest = refl
+empty_lines : (wires : List (Option WireEnd)) → are_lines wires (no_lines (length wires)) ≡ true
+empty_lines [] = refl
+empty_lines (None ∷ wires) = empty_lines wires
+empty_lines (Some end ∷ wires) = empty_lines wires
 
-pub lines_read : (at : ℕ) (wires : List (Option WireEnd)) (rest : List ℕ) → lines_in at wires (flat_map line_bytes (no_lines (length wires)) ++ rest) ≡ Ok (no_lines (length wires))
-unfolding lines_in
-lines_read at [] rest = refl
-lines_read at (wire ∷ wires) rest =
-    let first = line_read wire (flat_map line_bytes (no_lines (length wires)) ++ rest) in
-    let others = lines_read (at + 4) wires rest in
-    λ i. or_damaged at (first i) >>= λ line. others i >>= λ lines. Ok (line ∷ lines)
-
--- ## Ports
-
--- a port's record, filled up by so many 00
-abbrev empty_record : ℕ → List ℕ
-empty_record fill = zeros 20 ++ (zeros fill ++ zeros fill)
-
-length-empty : (fill : ℕ) → length (empty_record fill) ≡ 20 + 2 * fill
-length-empty fill = omega (arith, length-append (zeros fill) (zeros fill), length-replicate {A = ℕ} fill 0)
-
-pub length-fresh_port : length (port_bytes fresh_port) ≡ 8212
-length-fresh_port = length-empty 4096
-
-port_read : (rest : List ℕ) → port_with 0 (port_bytes fresh_port ++ rest) ≡ Some fresh_port
-port_read rest =
-    let front : take 8212 (port_bytes fresh_port ++ rest) ≡ port_bytes fresh_port = take_at (port_bytes fresh_port) rest 8212 length-fresh_port in
-    let same : bytes_eq (take 8212 (port_bytes fresh_port ++ rest)) (port_bytes fresh_port) ≡ true = (bytes_eq-Decides (take 8212 (port_bytes fresh_port ++ rest)) (port_bytes fresh_port)).1 front in
-    λ i. cond (same i && true) (Some fresh_port) None
-
-pub length-fresh_ports : (count : ℕ) → length (flat_map port_bytes (replicate count fresh_port)) ≡ 8212 * count
-length-fresh_ports zero = refl
-length-fresh_ports (suc count) = omega (arith, length-append (port_bytes fresh_port) (flat_map port_bytes (replicate count fresh_port)), length-fresh_port, length-fresh_ports count)
-
-pub ports_read : (at count : ℕ) (rest : List ℕ) → ports_in 0 at count (flat_map port_bytes (replicate count fresh_port) ++ rest) ≡ Ok (replicate count fresh_port)
-unfolding ports_in
-ports_read at zero rest = refl
-ports_read at (suc count) rest =
-    let more = flat_map port_bytes (replicate count fresh_port) in
-    let first = port_read (more ++ rest) in
-    let behind : drop 8212 (port_bytes fresh_port ++ (more ++ rest)) ≡ more ++ rest = drop_at (port_bytes fresh_port) (more ++ rest) 8212 length-fresh_port in
-    let others = ap (ports_in 0 (at + 8212) count) behind ∙ ports_read (at + 8212) count rest in
-    ap (ports_in 0 at (suc count)) (append_assoc (port_bytes fresh_port) more rest)
-    ∙ (λ i. or_damaged at (first i) >>= λ port. others i >>= λ ports. Ok (port ∷ ports))
+empty_ports : (count : ℕ) → AllByRecursion (λ port. is_port_of 0 port ≡ true) (replicate count fresh_port)
+empty_ports zero = tt
+empty_ports (suc count) = (refl, empty_ports count)
 
 -- ## Flights
 
@@ -242,9 +162,15 @@ module _ (t : Topology) (nodes : List NodeState) (idle : (i : ℕ) (n : NodeStat
       let there : on_line s.lines other ≡ [] = ap (λ ls. on_line ls other) lines_are ∙ no_line (line_count t) other in
       λ i. bit (waits i) == datas (here i) + acks (there i) + bit (holds i)
 
-  pub flights_read : (at line count : ℕ) → flights_in t414_ends s at line count ≡ Ok tt
-  unfolding flights_in
-  flights_read at line zero = refl
-  flights_read at line (suc count) =
-      let here = one_place line (back s line) in
-      (λ i. cond (here i) (flights_in t414_ends s (at + 4) (line + 1) count) (Err (Damaged at))) ∙ flights_read (at + 4) (line + 1) count
+  -- such a network is read back, as that of a cut of no entries
+  pub fresh_reads_back : s.wires ≡ t.wires → AllByRecursion IsReadBack nodes → pages_of nodes ≡ t.pages → length t.wires ≡ line_count t → ReadsBack t414_ends t 0 s
+  fresh_reads_back wires_are back_all pages_are count = record {
+    wires = wires_are;
+    nodes = subst (AllByRecursion IsReadBack) (sym nodes_are) back_all;
+    pages = ap pages_of nodes_are ∙ pages_are;
+    lines = ap (are_lines t.wires) (lines_are ∙ ap no_lines (sym count)) ∙ empty_lines t.wires;
+    count = ap length ports_are ∙ length-replicate t.ports fresh_port;
+    ports = subst (AllByRecursion (λ port. is_port_of 0 port ≡ true)) (sym ports_are) (empty_ports t.ports);
+    flights = λ line low. one_place line (back s line);
+    base_fits = omega arith;
+  }

@@ -46,6 +46,13 @@ module _ (t : Topology) (L : Limits t) (area : ℕ) where
   length-fields : length fields ≡ 32
   length-fields = omega (arith, length-append (flat_map u16_bytes t.pages) (zeros (32 - length (flat_map u16_bytes t.pages))), length-pages t.pages, length-replicate {A = ℕ} (32 - length (flat_map u16_bytes t.pages)) 0, L.nodes)
 
+  pub length-head_bytes : length (head_bytes t area) ≡ 512
+  unfolding head_bytes
+  length-head_bytes =
+      let size : length first ≡ 56 + 4 * node_count t =
+      omega (arith, length-append fields ends, length-fields, length-map (take (4 * node_count t) t.wires) end_byte, length-links t L) in
+      omega (arith, length-append first (zeros (512 - length first)), length-replicate {A = ℕ} (512 - length first) 0, size, L.nodes)
+
   behind_area : drop 24 (head_bytes t area) ≡ (fields ++ ends) ++ zeros (512 - length first)
   unfolding head_bytes
   behind_area = refl

@@ -22,6 +22,10 @@ front_part k n m xs ys le h = front_behind k n xs ys (front_shorter (k + n) m xs
 pub front_get : (n : ℕ) (xs ys : List ℕ) → SameFront n xs ys → (i : ℕ) → i < n → get_or xs i 0 ≡ get_or ys i 0
 front_get n xs ys h i lt = sym (get_or-take n xs i 0 lt) ∙ ap (λ zs. get_or zs i 0) h.same ∙ get_or-take n ys i 0 lt
 
+-- a list and its front
+pub whole_front : (n : ℕ) (xs : List ℕ) → SameFront n xs (take n xs)
+whole_front n xs = record { same = sym (take-take n n xs (omega arith)) }
+
 -- lists with the same length whose first elements are the same, one by one
 pub front_from : (n : ℕ) (xs ys : List ℕ) → length xs ≡ length ys → ((i : ℕ) → i < n → get_or xs i 0 ≡ get_or ys i 0) → SameFront n xs ys
 front_from n xs ys len each = record {

@@ -1,18 +1,17 @@
 -- The device's head is read of its own bytes and of the device's length.
 use Rattle.std.proofs.Common.{◌≡◌, ℕ, zero, suc, ◌+◌, ◌*◌, ◌≤◌, true, cond, List, ◌∷◌, length, take, drop, refl, sym, ap, subst, ◌∙◌, arith, Ok, Err}
 use Rattle.std.specs.Prelude.{not, ◌==◌, ◌&&◌, nat_le, bytes_eq, map}
-use Rattle.std.specs.List.{list_all}
 use Rattle.std.proofs.lemmas.Bool.{and_parts, and_from, leb-true, le-leb, eqb-true, eq-eqb, not-false}
 use Rattle.std.proofs.lemmas.Slice.Eq.{bytes_eq-Decides}
 use Rattle.tp_model.specs.declared.opening.OpenFault.TheVariants.{NotFormatted, BadVersion, Damaged}
-use Rattle.tp_model.specs.declared.limits.TheConstants.{MAX_NODES, MAX_PORTS}
 use Rattle.tp_model.specs.Bytes.{u8_at, u64_at}
-use Rattle.tp_model.specs.Topology.{Topology, node_count, line_count, is_page_count, is_topology}
+use Rattle.tp_model.specs.Topology.{Topology, node_count, line_count, is_topology}
 use Rattle.tp_model.specs.Journal.{is_roomy}
 use Rattle.tp_model.specs.Device.{fits}
 use Rattle.tp_model.specs.Head.{Head, magic, end_of_byte, head_bytes, all_wires, u16s_at, head_at, is_head, head_of}
 use Rattle.tp_areas.proofs.Faults.{fault_or, or_fault}
 use Rattle.tp_areas.proofs.Fronts.{SameFront, front_shorter, front_part, front_get, u16_front, u64_front}
+use Rattle.tp_areas.proofs.Wires.{limits_of}
 
 length-u16s_at : (count : ℕ) (bytes : List ℕ) → length (u16s_at count bytes) ≡ count
 unfolding u16s_at
@@ -30,19 +29,10 @@ u16s_same (suc count) xs ys h =
 -- ## What a topology has
 
 pub wires_count : (t : Topology) → is_topology t ≡ true → length t.wires ≡ line_count t
-unfolding is_topology
-wires_count t h =
-    let a = and_parts (nat_le 1 (node_count t) && nat_le (node_count t) MAX_NODES) _ h in
-    let b = and_parts (nat_le 1 t.ports && nat_le t.ports MAX_PORTS) _ a.1 in
-    let c = and_parts (list_all is_page_count t.pages) _ b.1 in
-    let d = and_parts (length t.wires == line_count t) _ c.1 in
-    eqb-true (length t.wires) (line_count t) d.0
+wires_count t h = let L = limits_of t h in L.lines
 
-pub few_nodes : (t : Topology) → is_topology t ≡ true → node_count t ≤ 16
-unfolding is_topology
-few_nodes t h =
-    let a = and_parts (nat_le 1 (node_count t) && nat_le (node_count t) MAX_NODES) _ h in
-    leb-true (node_count t) MAX_NODES (and_parts (nat_le 1 (node_count t)) (nat_le (node_count t) MAX_NODES) a.0).1
+few_nodes : (t : Topology) → is_topology t ≡ true → node_count t ≤ 16
+few_nodes t h = let L = limits_of t h in L.nodes
 
 -- ## The head
 

@@ -6,14 +6,18 @@ ghost use Rattle.std.specs.Prelude.{◌≡◌, ◌≤◌, ◌<◌, ◌+◌, ◌^
 ghost use Rattle.tp_model.specs.declared.entry.Entry.{Entry};
 ghost use Rattle.tp_model.specs.declared.limits.TheConstants.{HEAD_BYTES};
 ghost use Rattle.tp_model.specs.NodeState.{NodeState};
-ghost use Rattle.tp_model.specs.Node.{t414};
+ghost use Rattle.std.specs.List.{AllByRecursion};
+ghost use Rattle.tp_model.specs.Node.{t414, t414_ends};
 ghost use Rattle.tp_model.specs.Network.{Machine, Network};
 ghost use Rattle.tp_model.specs.Entries.{next};
 ghost use Rattle.tp_model.specs.Order.{AreIndependent};
 ghost use Rattle.tp_model.specs.Topology.{Topology, is_topology};
 ghost use Rattle.tp_model.specs.Device.{fits};
 ghost use Rattle.tp_model.specs.Head.{head_bytes, head_of};
-ghost use Rattle.tp_model.specs.Opening.{StandsFor};
+ghost use Rattle.tp_model.specs.Format.{start_of};
+ghost use Rattle.tp_model.specs.Journal.{is_roomy};
+ghost use Rattle.tp_model.specs.Opening.{Opened, StandsFor, verdict};
+ghost use Rattle.tp_model.specs.Spelling.{Stands};
 ghost use Rattle.tp_areas.specs.FormattedWorld.{formatted_world, WasFormatted};
 ghost use Rattle.tp_model.specs.Sound.{Ends};
 ghost use Rattle.tp_model.specs.Snapshot.{MarkedNetwork};
@@ -90,4 +94,17 @@ pub fn formatted_starts()
     ensures recovers { (t : Topology) (area : ℕ) (images : List (List ℕ)) (start : Network NodeState) (bytes : List ℕ) → WasFormatted t area images start bytes
         → (events : List (Event NodeState)) (last : World NodeState) → Run t414 device_areas (formatted_world start bytes) events last
         → (left : List ℕ) → MayBe last.disk left → Recovers t414 device_areas start last left }
+{}
+
+/// There is such a device for each topology, each area with room for it, and each network of images.
+pub fn devices_can_be_formatted()
+    ensures { (t : Topology) (area : ℕ) (images : List (List ℕ)) (start : Network NodeState) → is_topology t ≡ true → is_roomy t area ≡ true → area < 2 ^ 64
+        → start_of t images ≡ Some start → (bytes : List ℕ) × WasFormatted t area images start bytes }
+{}
+
+/// Opening answers exactly what is spelt: a device that has a head, an open area of highest generation, a cut and groups with
+/// a closed gate behind them opens as those, and a device that opens so is spelt so.
+pub fn opening_is_exact()
+    ensures spelt { (bytes : List ℕ) (o : Opened) → Stands t414 t414_ends bytes o → verdict bytes ≡ Ok o }
+    ensures read { (bytes : List ℕ) (o : Opened) → AllByRecursion (λ byte. byte < 256) bytes → verdict bytes ≡ Ok o → Stands t414 t414_ends bytes o }
 {}
