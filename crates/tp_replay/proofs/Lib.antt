@@ -5,4 +5,5 @@ pub mod Impossible
 pub mod Length
 pub mod LinkMessages
 pub mod Messages
+pub mod Ran
 pub mod Steps
