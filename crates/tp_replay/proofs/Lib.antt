@@ -1,4 +1,5 @@
 pub mod Applied
+pub mod Counted
 pub mod Flat
 pub mod Fronts
 pub mod Impossible
@@ -6,4 +7,5 @@ pub mod Length
 pub mod LinkMessages
 pub mod Messages
 pub mod Ran
+pub mod Rows
 pub mod Steps

@@ -6,9 +6,11 @@ mod fault;
 mod front;
 mod host;
 mod network;
+mod replaying;
 mod run;
 mod send;
 mod take;
 
-pub use fault::NotPossible;
+pub use fault::{NotPossible, ReplayFault, RowFault};
 pub use network::FlatNetwork;
+pub use replaying::Replay;
