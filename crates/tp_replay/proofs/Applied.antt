@@ -99,6 +99,15 @@ module _ (n : Inside) (I : IsInside n) where
     pub port_next : next t414 (state_of n) e ≡ Some (state_of (record n { ports = with_item n.ports p port; lines = lines }))
     port_next = next_from t414 (state_of n) e (port_after (state_of n) out p port.port tokens) M.step ∙ ap Some (sym port_state)
 
+  -- a node that is no more frozen than it was
+  pub still_thawed : (i : ℕ) (old node : NodeContents) → slice_get n.nodes.items i ≡ Some old → node.frozen ≡ old.frozen → AreThawed (set n.nodes.items i node)
+  still_thawed i old node there thawed j c at = elim (cases_eq j i) [
+    | inl same ↦
+        let is : node ≡ c = cc (slice_get-set_same n.nodes.items i node old there, ap (slice_get (set n.nodes.items i node)) same) in
+        ap (λ x. x.frozen) (sym is) ∙ thawed ∙ I.thawed i old there
+    | inr other ↦ I.thawed j c (sym (slice_get-set_other n.nodes.items i j node other) ∙ at)
+  ]
+
   -- behind a node's
   module _ (e : Entry) (out : List (List Token)) (i : ℕ) (old node : NodeContents) (there : slice_get n.nodes.items i ≡ Some old) (thawed : node.frozen ≡ old.frozen) (tokens : List (ℕ × Token))
       (M : Made (state_of n) e out (on_lines i tokens) (node_after (state_of n) out i node.live tokens))
@@ -108,16 +117,8 @@ module _ (n : Inside) (I : IsInside n) where
         ap (λ nodes. record (state_of n) { nodes = nodes; lines = lines }) (map-set (λ node. node.live) n.nodes.items i node)
         ∙ ap (λ given. record (state_of n) { nodes = set (state_of n).nodes i node.live; lines = given }) on
 
-    still_thawed : AreThawed (set n.nodes.items i node)
-    still_thawed j c at = elim (cases_eq j i) [
-      | inl same ↦
-          let is : node ≡ c = cc (slice_get-set_same n.nodes.items i node old there, ap (slice_get (set n.nodes.items i node)) same) in
-          ap (λ x. x.frozen) (sym is) ∙ thawed ∙ I.thawed i old there
-      | inr other ↦ I.thawed j c (sym (slice_get-set_other n.nodes.items i j node other) ∙ at)
-    ]
-
     pub node_inside : IsInside (record n { nodes = with_item n.nodes i node; lines = lines })
-    node_inside = record { flat = subst IsFlat (sym node_state) (flat_step (state_of n) I.flat e (node_after (state_of n) out i node.live tokens) M.step); thawed = still_thawed }
+    node_inside = record { flat = subst IsFlat (sym node_state) (flat_step (state_of n) I.flat e (node_after (state_of n) out i node.live tokens) M.step); thawed = still_thawed i old node there thawed }
 
     pub node_next : next t414 (state_of n) e ≡ Some (state_of (record n { nodes = with_item n.nodes i node; lines = lines }))
     node_next = next_from t414 (state_of n) e (node_after (state_of n) out i node.live tokens) M.step ∙ ap Some (sym node_state)

@@ -1,8 +1,11 @@
 pub mod Applied
+pub mod Counted
 pub mod Flat
 pub mod Fronts
 pub mod Impossible
 pub mod Length
 pub mod LinkMessages
 pub mod Messages
+pub mod Ran
+pub mod Rows
 pub mod Steps

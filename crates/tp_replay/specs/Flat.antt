@@ -1,5 +1,5 @@
 -- What every network in one thread keeps.
-use Rattle.std.specs.Prelude.{◌≡◌, ◌≤◌, ◌<◌, ℕ, ◌+◌, ◌*◌, ◌^◌, List, length, map, Some, None, slice_get}
+use Rattle.std.specs.Prelude.{◌≡◌, ◌≤◌, ◌<◌, ℕ, ◌+◌, ◌*◌, ◌^◌, List, length, map, Option, Some, None, slice_get}
 use Rattle.tp_model.specs.declared.link.Token.{Token}
 use Rattle.tp_model.specs.declared.wire.WireEnd.{WireEnd}
 use Rattle.tp_model.specs.NodeState.{NodeState}
@@ -9,6 +9,7 @@ use Rattle.tp_model.specs.Sound.{Sound}
 use Rattle.tp_model.specs.Markers.{markers}
 use Rattle.tp_model.specs.declared.limits.TheConstants.{MAX_NODES, MAX_PORTS}
 use Rattle.tp_node.specs.NodeContents.{NodeContents}
+use Rattle.tp_book.specs.Ports.{PortValue}
 use Rattle.tp_replay.specs.Messages.{MessagesInside}
 
 -- A line for each link and each port, and no more nodes and ports than a network may have.
@@ -24,6 +25,15 @@ pub record IsFlat (s : Network NodeState) : Type 0 where
   pub shaped : IsShaped s
   pub marked : (line : ℕ) → markers (on_line s.lines line) ≤ 1
   pub inside : (i : ℕ) (node : NodeState) → slice_get s.nodes i ≡ Some node → MessagesInside node
+
+-- the network of these nodes and ports, with these wires and lines
+abbrev pub network_of : List (Option WireEnd) → List NodeContents → List (List Token) → List PortValue → Network NodeState
+network_of wires nodes lines ports = record {
+  wires = wires;
+  nodes = map (λ node. node.live) nodes;
+  ports = map (λ port. port.port) ports;
+  lines = lines;
+}
 
 -- no node is frozen
 abbrev pub AreThawed : List NodeContents → Type 0

@@ -2,3 +2,5 @@ pub mod Answers
 pub mod Flat
 pub mod Inside
 pub mod Messages
+pub mod Replaying
+pub mod Rows

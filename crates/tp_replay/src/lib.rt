@@ -1,11 +1,16 @@
 //! A network in one thread, whose entries are replayed.
 #![tactic(auto)]
 
+mod apply;
 mod fault;
 mod front;
 mod host;
 mod network;
+mod replaying;
+mod run;
 mod send;
+mod take;
 
-pub use fault::NotPossible;
+pub use fault::{NotPossible, ReplayFault, RowFault};
 pub use network::FlatNetwork;
+pub use replaying::Replay;

@@ -1,6 +1,7 @@
 //! A network in one thread.
 
 ghost use Rattle.std.specs.Prelude.{◌≡◌, ◌≤◌, ◌+◌, ◌*◌, length};
+ghost use Rattle.tp_replay.specs.Flat.{IsFlat, AreThawed, network_of};
 
 use std::marker::Model;
 use tp_book::HostPort;
@@ -31,6 +32,32 @@ impl Model for FlatNetwork {
 }
 
 impl FlatNetwork {
+    /// The network of its parts, which has to be sound and shaped.
+    pub fn new(
+        wires: Vec<Option<WireEnd>>,
+        nodes: Vec<Node>,
+        lines: Lines,
+        ports: Vec<HostPort>,
+    ) -> FlatNetwork
+        requires flat { IsFlat (network_of wires.items nodes.items lines ports.items) }
+        requires thawed { AreThawed nodes.items }
+        ensures { result ≡ network_of wires.items nodes.items lines ports.items }
+    {
+        FlatNetwork {
+            wires,
+            nodes,
+            lines,
+            ports,
+        }
+    }
+
+    /// What is known of every flat network.
+    pub fn is_flat(&self)
+        ensures { IsFlat self.now }
+    {
+        let _lines = &self.lines;
+    }
+
     /// The line that a port sends.
     pub(crate) fn port_line(&self, port: usize) -> usize
         requires { port ≤ 1024 }
