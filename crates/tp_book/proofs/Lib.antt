@@ -12,3 +12,4 @@ pub mod HostTaken
 pub mod HostRefused
 pub mod Opened
 pub mod HandedIn
+pub mod Confirming

@@ -2,6 +2,7 @@
 #![tactic(auto)]
 
 mod book;
+mod confirm;
 mod fill;
 mod full;
 mod host;
