@@ -28,6 +28,8 @@ use Rattle.tp_book.proofs.Commit.{Change, agreed_after}
 use Rattle.tp_book.proofs.Changes.{of_port-is, own_host_agreed}
 use Rattle.tp_book.proofs.Journalled.{state_after, numbers_after, fields_after}
 use Rattle.tp_book.proofs.HostTaken.{counted_set}
+use Rattle.tp_book.specs.Kept.{AreRising}
+use Rattle.tp_book.proofs.Rising.{rising_to, rising_drop, rising_set}
 
 -- what confirming leaves of a port
 confirmed_is : (upto : ℕ) (port after : Port) → confirmed upto port ≡ Some (after, []) → after ≡ confirmed_port port upto
@@ -93,6 +95,10 @@ module _ (b : Inside) (B : IsBook b) (p upto : ℕ) (was after : PortValue) (at 
       (subst (AreCounted (b.base + vec_len entries)) (sym these_ports)
       (subst (λ n. AreCounted n (set (state_of b).ports p after.port)) (omega (arith, len))
       (counted_set (b.base + vec_len b.entries) (b.base + vec_len b.entries + 1) (state_of b).ports p after.port B.counted counts (omega arith))))
+      (subst (AreRising (b.base + vec_len entries)) (sym (ap (map (λ q. q.marks)) put_in ∙ map-set (λ q. q.marks) b.ports.items p after ∙ ap (set (map (λ q. q.marks) b.ports.items) p) marks))
+      (rising_set (b.base + vec_len b.entries) (b.base + vec_len entries) (map (λ q. q.marks) b.ports.items) p _ B.rising
+      (rising_drop (upto - was.port.out_base) 0 (b.base + vec_len entries) was.marks
+      (rising_to 0 (b.base + vec_len b.entries) (b.base + vec_len entries) was.marks (B.rising p was.marks (slice_get-map (λ q. q.marks) b.ports.items p ∙ ap (option_map (λ q. q.marks)) at)) (omega (arith, len)))) (omega (arith, len))))
 
   pub confirm_value : value_of fields ≡ after_confirm (value_of b) p upto
   confirm_value =

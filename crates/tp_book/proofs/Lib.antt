@@ -13,3 +13,5 @@ pub mod HostRefused
 pub mod Opened
 pub mod HandedIn
 pub mod Confirming
+pub mod Rising
+pub mod ShownOutputs

@@ -15,6 +15,7 @@ mod receipt;
 mod refusal;
 mod run;
 mod send;
+mod shown;
 mod state;
 mod take;
 
