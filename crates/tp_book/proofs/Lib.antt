@@ -9,7 +9,7 @@ pub mod Took
 pub mod Fresh
 pub mod PortEnds
 pub mod HostTaken
-pub mod HostRefused
+pub mod TakeRefused
 pub mod Opened
 pub mod HandedIn
 pub mod Confirming
