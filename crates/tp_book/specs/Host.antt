@@ -1,5 +1,5 @@
 -- What the host does to a book: bytes that it hands in, outputs that it confirms, and what it is shown.
-use Rattle.std.specs.Prelude.{ℕ, ◌+◌, ◌-◌, ◌*◌, ◌==◌, nat_lt, nat_le, if◌then◌else◌, List, [], ◌∷◌, ◌++◌, length, map, set, drop, get_or, Option, Some, None}
+use Rattle.std.specs.Prelude.{◌≡◌, ◌<◌, ◌≤◌, ℕ, ◌+◌, ◌-◌, ◌*◌, ◌==◌, nat_lt, nat_le, if◌then◌else◌, List, [], ◌∷◌, ◌++◌, length, map, set, drop, take, get_or, Option, Some, None, count_by}
 use Rattle.std.specs.List.{range_with_len}
 use Rattle.tp_model.specs.declared.link.Token.{Token}
 use Rattle.tp_model.specs.declared.link.Token.TheVariants.{Data}
@@ -82,3 +82,25 @@ after_confirm b p upto = if nat_le upto (port_in b p).out_base then b else with_
 abbrev pub confirm_refusal : BookValue → ℕ → ℕ → Option Refusal
 confirm_refusal b p upto =
     if nat_le upto (port_in b p).out_base then None else entry_refusal b 1 (else_if None b.broken StoreBroken)
+
+-- ## Outputs shown
+
+-- how many of a port's outputs a mark shows: those whose own marks it is no less than
+abbrev pub shown_of : BookValue → ℕ → ℕ → ℕ
+shown_of b p mark = count_by (λ least. nat_le least mark) (marks_of b p)
+
+-- up to which position a mark shows a port's outputs
+abbrev pub shown_upto_of : BookValue → ℕ → ℕ → ℕ
+shown_upto_of b p mark = (port_in b p).out_base + shown_of b p mark
+
+-- the outputs from a position on that a mark shows
+abbrev pub shown_from : BookValue → ℕ → ℕ → ℕ → List ℕ
+shown_from b p mark from = drop (from - (port_in b p).out_base) (take (shown_of b p mark) (port_in b p).outputs)
+
+-- A mark shows exactly the outputs in front of a position: there is a mark for each output, and it is no less than those of
+-- the outputs in front of it, and less than those of the others.
+pub record ShowsUpto (b : BookValue) (p mark upto : ℕ) : Type 0 where
+  pub each : length (marks_of b p) ≡ length (port_in b p).outputs
+  pub within : upto ≤ (port_in b p).out_base + length (port_in b p).outputs
+  pub shown : (k : ℕ) → (port_in b p).out_base + k < upto → get_or (marks_of b p) k 0 ≤ mark
+  pub hidden : (k : ℕ) → k < length (port_in b p).outputs → upto ≤ (port_in b p).out_base + k → mark < get_or (marks_of b p) k 0

@@ -2,6 +2,7 @@
 #![tactic(auto)]
 
 mod book;
+mod confirm;
 mod fill;
 mod full;
 mod host;
@@ -15,6 +16,7 @@ mod receipt;
 mod refusal;
 mod run;
 mod send;
+mod shown;
 mod state;
 mod take;
 
