@@ -1,9 +1,8 @@
 //! A network's shape.
 
-ghost use Rattle.std.specs.Prelude.{◌≡◌, ◌<◌, ◌≤◌, length, slice_get};
+ghost use Rattle.std.specs.Prelude.{◌≡◌, true};
 ghost use Rattle.std.specs.Str.Lines.{lines};
-ghost use Rattle.tp_model.specs.Network.{receiver};
-ghost use Rattle.tp_model.specs.Topology.{line_count, node_count};
+ghost use Rattle.tp_model.specs.Topology.{is_topology};
 ghost use Rattle.tp_model.specs.TopologyText.{nothing_said, read_lines, read_text};
 ghost use Rattle.tp_net.specs.Steps.{IsRead};
 
@@ -22,15 +21,19 @@ pub struct Topology {
 }
 
 impl Model for Topology {
-    ghost use Rattle.tp_model.specs.Topology.{Topology as Shape};
+    ghost use Rattle.std.specs.Prelude.{◌≡◌, true};
+    ghost use Rattle.tp_model.specs.Topology.{Topology as Shape, is_topology};
 
     ghost Value = { Shape };
 
     ghost view = { λ topology. record { pages = topology.pages.items; ports = topology.ports; wires = topology.wires.items } };
+
+    ghost invariant = { λ topology. is_topology (record { pages = topology.pages.items; ports = topology.ports; wires = topology.wires.items }) ≡ true };
 }
 
 impl Topology {
     pub(crate) fn new(pages: Vec<u16>, ports: usize, wires: Vec<Option<WireEnd>>) -> Topology
+        requires { is_topology (record { pages = pages.items; ports = ports; wires = wires.items }) ≡ true }
         ensures { result ≡ record { pages = pages.items; ports = ports; wires = wires.items } }
     {
         Topology {
@@ -50,21 +53,24 @@ impl Topology {
 
     /// The pages of each node.
     pub fn pages(&self) -> &[u16]
-        ensures { result.now ≡ self.now.pages }
+        ensures value { result.now ≡ self.now.pages }
+        ensures rules { is_topology self.now ≡ true }
     {
         self.pages.as_slice()
     }
 
     /// How many host ports there are.
     pub fn port_count(&self) -> usize
-        ensures { result ≡ self.now.ports }
+        ensures value { result ≡ self.now.ports }
+        ensures rules { is_topology self.now ≡ true }
     {
         self.ports
     }
 
     /// The end that receives each line, those of the links before those of the ports.
     pub fn wires(&self) -> &[Option<WireEnd>]
-        ensures { result.now ≡ self.now.wires }
+        ensures value { result.now ≡ self.now.wires }
+        ensures rules { is_topology self.now ≡ true }
     {
         self.wires.as_slice()
     }
