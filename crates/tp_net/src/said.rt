@@ -267,6 +267,13 @@ impl<'a> Said<'a> {
         self.nodes.values().copied().collect(alloc)
     }
 
+    /// The name of each node.
+    pub(crate) fn names(&self, alloc: Global) -> Result<Vec<&'a str>, AllocError>
+        ensures { IfOk result (λ names. map (λ name. name.now) names.items ≡ map (λ node. node.0) self.now.nodes) }
+    {
+        self.nodes.keys().copied().collect(alloc)
+    }
+
     /// The end that receives each line.
     fn receivers(&self, alloc: Global) -> Result<Vec<Option<WireEnd>>, AllocError>
         ensures { IfOk result (λ ends. ends.items ≡ (topology_of self.now).wires) }

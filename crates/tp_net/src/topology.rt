@@ -1,10 +1,11 @@
 //! A network's shape.
 
-ghost use Rattle.std.specs.Prelude.{◌≡◌, true};
+ghost use Rattle.std.specs.Prelude.{◌≡◌, true, Ok, IfOk, MatchResult, map};
 ghost use Rattle.std.specs.Str.Lines.{lines};
 ghost use Rattle.tp_model.specs.Topology.{is_topology};
 ghost use Rattle.tp_model.specs.TopologyText.{nothing_said, read_lines, read_text};
-ghost use Rattle.tp_net.specs.Steps.{IsRead};
+ghost use Rattle.tp_net.specs.NodeNames.{node_names};
+ghost use Rattle.tp_net.specs.Steps.{IsFaultOf, IsRead};
 
 use crate::said::Said;
 use crate::words::next_line;
@@ -51,6 +52,19 @@ impl Topology {
         said_in(alloc, text)?.finish(alloc)
     }
 
+    /// Reads a text as `read` does, and keeps its nodes' names.
+    pub fn read_named(alloc: Global, text: &[u8]) -> Result<Named<'_>, NetFault>
+        ensures topology { MatchResult result (λ found. read_text text.now ≡ Ok found.topology) (λ fault. IsFaultOf (read_text text.now) fault) }
+        ensures names { IfOk result (λ found. map (λ name. name.now) found.names.items ≡ node_names text.now) }
+    {
+        let said = said_in(alloc, text)?;
+        let topology = said.finish(alloc)?;
+        let Ok(names) = said.names(alloc) else {
+            return Err(NetFault::Memory);
+        };
+        Ok(Named { topology, names })
+    }
+
     /// The pages of each node.
     pub fn pages(&self) -> &[u16]
         ensures value { result.now ≡ self.now.pages }
@@ -74,6 +88,13 @@ impl Topology {
     {
         self.wires.as_slice()
     }
+}
+
+/// A topology, and the name that its text gives each node.
+#[derive(Drop)]
+pub struct Named<'a> {
+    pub topology: Topology,
+    pub names: Vec<&'a str>,
 }
 
 /// What all lines of a text have said.
