@@ -3,3 +3,5 @@ pub mod Names
 pub mod Cuts
 pub mod Kept
 pub mod Reading
+pub mod Wired
+pub mod Shapes

@@ -12,6 +12,7 @@ use Rattle.tp_model.specs.declared.wire.WireEnd.{WireEnd}
 use Rattle.tp_model.specs.Topology.{end_of}
 use Rattle.tp_model.specs.TopologyWords.{words, has_space_around, is_skipped}
 use Rattle.tp_model.specs.TopologyText.{Said, after_words, after_line, read_lines, nothing_said, read_text, finished, other_end}
+use Rattle.tp_net.specs.NodeNames.{names_said, node_names}
 use Rattle.tp_net.specs.Steps.{IsRead}
 
 -- a line of any other number of words is malformed
@@ -88,3 +89,9 @@ receivers_more nodes line wires end ends after so_far is pushed =
 
 pub IsRead-fault : {T : Type 0} (want r : Result T NetFault) (fault : NetFault) → r ≡ Err fault → IsRead want (Err fault) → IsRead want r
 IsRead-fault want r fault e h = subst (IsRead want) (sym e) h
+
+-- ## Names
+
+pub node_names-said : (text : List ℕ) (said : Said) → read_lines nothing_said 1 (lines text) ≡ Ok said → node_names text ≡ map (λ node. node.0) said.nodes
+unfolding node_names
+node_names-said text said h = ap names_said h

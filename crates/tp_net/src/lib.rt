@@ -7,4 +7,4 @@ mod topology;
 mod words;
 
 pub use line::{LINE_TOKENS, Lines};
-pub use topology::Topology;
+pub use topology::{Named, Topology};

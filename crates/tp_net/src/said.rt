@@ -1,9 +1,9 @@
 //! What the lines of a topology's text have said.
 
-ghost use Rattle.std.specs.Prelude.{◌≡◌, ◌<◌, ◌≤◌, ◌+◌, ◌*◌, [], ◌∷◌, ◌++◌, false, IfSome, IfErr, IfOk, OnOk, length, map};
+ghost use Rattle.std.specs.Prelude.{◌≡◌, ◌<◌, ◌≤◌, ◌+◌, ◌*◌, [], ◌∷◌, ◌++◌, false, true, IfSome, IfErr, IfOk, OnOk, length, map};
 ghost use Rattle.std.specs.Option.{option_map};
 ghost use Rattle.tp_model.specs.TopologyText.{after_ends, after_line, after_node, after_port, after_wire, after_words, are_ports, end_named, finished, has_wire, is_known, joined, node_named, other_end, port_named, same_end, nothing_said, topology_of};
-ghost use Rattle.tp_model.specs.Topology.{end_of};
+ghost use Rattle.tp_model.specs.Topology.{end_of, is_topology};
 ghost use Rattle.tp_net.specs.Steps.{IsRead, IsStep};
 
 use crate::topology::Topology;
@@ -267,6 +267,13 @@ impl<'a> Said<'a> {
         self.nodes.values().copied().collect(alloc)
     }
 
+    /// The name of each node.
+    pub(crate) fn names(&self, alloc: Global) -> Result<Vec<&'a str>, AllocError>
+        ensures { IfOk result (λ names. map (λ name. name.now) names.items ≡ map (λ node. node.0) self.now.nodes) }
+    {
+        self.nodes.keys().copied().collect(alloc)
+    }
+
     /// The end that receives each line.
     fn receivers(&self, alloc: Global) -> Result<Vec<Option<WireEnd>>, AllocError>
         ensures { IfOk result (λ ends. ends.items ≡ (topology_of self.now).wires) }
@@ -282,6 +289,7 @@ impl<'a> Said<'a> {
 
     /// What was said as a whole.
     pub(crate) fn finish(&self, alloc: Global) -> Result<Topology, NetFault>
+        requires { IfOk (finished self.now) (λ t. is_topology t ≡ true) }
         ensures { IsRead (finished self.now) result }
     {
         if self.nodes.is_empty() || self.ports.is_empty() {

@@ -1,11 +1,11 @@
 //! A network's shape.
 
-ghost use Rattle.std.specs.Prelude.{◌≡◌, ◌<◌, ◌≤◌, length, slice_get};
+ghost use Rattle.std.specs.Prelude.{◌≡◌, true, Ok, IfOk, MatchResult, map};
 ghost use Rattle.std.specs.Str.Lines.{lines};
-ghost use Rattle.tp_model.specs.Network.{receiver};
-ghost use Rattle.tp_model.specs.Topology.{line_count, node_count};
+ghost use Rattle.tp_model.specs.Topology.{is_topology};
 ghost use Rattle.tp_model.specs.TopologyText.{nothing_said, read_lines, read_text};
-ghost use Rattle.tp_net.specs.Steps.{IsRead};
+ghost use Rattle.tp_net.specs.NodeNames.{node_names};
+ghost use Rattle.tp_net.specs.Steps.{IsFaultOf, IsRead};
 
 use crate::said::Said;
 use crate::words::next_line;
@@ -22,15 +22,19 @@ pub struct Topology {
 }
 
 impl Model for Topology {
-    ghost use Rattle.tp_model.specs.Topology.{Topology as Shape};
+    ghost use Rattle.std.specs.Prelude.{◌≡◌, true};
+    ghost use Rattle.tp_model.specs.Topology.{Topology as Shape, is_topology};
 
     ghost Value = { Shape };
 
     ghost view = { λ topology. record { pages = topology.pages.items; ports = topology.ports; wires = topology.wires.items } };
+
+    ghost invariant = { λ topology. is_topology (record { pages = topology.pages.items; ports = topology.ports; wires = topology.wires.items }) ≡ true };
 }
 
 impl Topology {
     pub(crate) fn new(pages: Vec<u16>, ports: usize, wires: Vec<Option<WireEnd>>) -> Topology
+        requires { is_topology (record { pages = pages.items; ports = ports; wires = wires.items }) ≡ true }
         ensures { result ≡ record { pages = pages.items; ports = ports; wires = wires.items } }
     {
         Topology {
@@ -48,26 +52,49 @@ impl Topology {
         said_in(alloc, text)?.finish(alloc)
     }
 
+    /// Reads a text as `read` does, and keeps its nodes' names.
+    pub fn read_named(alloc: Global, text: &[u8]) -> Result<Named<'_>, NetFault>
+        ensures topology { MatchResult result (λ found. read_text text.now ≡ Ok found.topology) (λ fault. IsFaultOf (read_text text.now) fault) }
+        ensures names { IfOk result (λ found. map (λ name. name.now) found.names.items ≡ node_names text.now) }
+    {
+        let said = said_in(alloc, text)?;
+        let topology = said.finish(alloc)?;
+        let Ok(names) = said.names(alloc) else {
+            return Err(NetFault::Memory);
+        };
+        Ok(Named { topology, names })
+    }
+
     /// The pages of each node.
     pub fn pages(&self) -> &[u16]
-        ensures { result.now ≡ self.now.pages }
+        ensures value { result.now ≡ self.now.pages }
+        ensures rules { is_topology self.now ≡ true }
     {
         self.pages.as_slice()
     }
 
     /// How many host ports there are.
     pub fn port_count(&self) -> usize
-        ensures { result ≡ self.now.ports }
+        ensures value { result ≡ self.now.ports }
+        ensures rules { is_topology self.now ≡ true }
     {
         self.ports
     }
 
     /// The end that receives each line, those of the links before those of the ports.
     pub fn wires(&self) -> &[Option<WireEnd>]
-        ensures { result.now ≡ self.now.wires }
+        ensures value { result.now ≡ self.now.wires }
+        ensures rules { is_topology self.now ≡ true }
     {
         self.wires.as_slice()
     }
+}
+
+/// A topology, and the name that its text gives each node.
+#[derive(Drop)]
+pub struct Named<'a> {
+    pub topology: Topology,
+    pub names: Vec<&'a str>,
 }
 
 /// What all lines of a text have said.

@@ -211,3 +211,11 @@ fn names_and_wires_are_refused(rt: HostRuntime) -> Result<(), Fail> {
     refuses(&rt, &too_many())?;
     refuses(&rt, &first_of_several())
 }
+
+#[test]
+fn bytes_need_not_be_text(rt: HostRuntime) {
+    let skipped = Topology::read(rt.alloc(), b"#\xff\nnode a 4\nport h\n");
+    assert_eq!(rt; skipped.err(), None);
+    let name = Topology::read(rt.alloc(), b"node a 4\nnode b\xff 4\n");
+    assert_eq!(rt; name.err(), Some(Syntax(2)));
+}
