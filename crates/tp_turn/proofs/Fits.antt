@@ -169,9 +169,9 @@ set_at : {A : Type 0} (P : A → Type 0) (xs : List A) (i : ℕ) (x y : A) → s
     → (k : ℕ) (z : A) → slice_get (set xs i y) k ≡ Some z → P z
 set_at P xs i x y at all here k z is = elim (cases_eq k i) [
   | inl same ↦
-    let found : slice_get (set xs i y) k ≡ Some y = ap (slice_get (set xs i y)) same ∙ slice_get-set_same xs i y x at in
-    let one : y ≡ z = cc in
-    subst P one here
+      let found : slice_get (set xs i y) k ≡ Some y = ap (slice_get (set xs i y)) same ∙ slice_get-set_same xs i y x at in
+      let one : y ≡ z = cc in
+      subst P one here
   | inr other ↦ all k z (sym (slice_get-set_other xs i k y other) ∙ is)
 ]
 

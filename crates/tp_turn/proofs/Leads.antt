@@ -131,8 +131,8 @@ module _ (b r new : BookValue) (line number link : ℕ) (before now : NodeState)
   pub take_agrees : TakeIsAgreed r new line answer → slice_get (agreed new.state) number ≡ Some now
   take_agrees A =
       let nodes : agreed new.state ≡ set (agreed r.state) number now = A number link before now
-          (subst (λ x. receiver x.state.start.wires line ≡ Some (Link number link)) (sym is_ready) goes)
-          (subst (λ x. slice_get (agreed x.state) number ≡ Some before) (sym is_ready) there)
-          (subst (λ x. took before link (front_of x line) ≡ Some (now, on_link link answer)) (sym is_ready) did) in
+      (subst (λ x. receiver x.state.start.wires line ≡ Some (Link number link)) (sym is_ready) goes)
+      (subst (λ x. slice_get (agreed x.state) number ≡ Some before) (sym is_ready) there)
+      (subst (λ x. took before link (front_of x line) ≡ Some (now, on_link link answer)) (sym is_ready) did) in
       ap (λ ns. slice_get ns number) nodes
       ∙ slice_get-set_same (agreed r.state) number now before (subst (λ x. slice_get (agreed x.state) number ≡ Some before) (sym is_ready) there)

@@ -162,6 +162,7 @@ module _ (n : NodeState) (idle : has_idle_links n ≡ true) where
       none : (p : ℕ) → is_pending (slice_get (fresh_port ∷ []) p) ≡ false
       none zero = refl
       none (suc p) = refl
+
       go : (o : Option (Own NodeState)) → own s (owner 1 x) ≡ o → waits_at t414_ends 1 o x ≡ false
       go None is = refl
       go (Some (OfNode m)) is = rw (only (owner 1 x) m (own_node s (owner 1 x) m is).1) (idle_out n.outputs (x % 4) ends.0)
@@ -252,10 +253,10 @@ pub lone_tried : (image : List ℕ) (n : NodeState) (s : Network NodeState) (a b
 lone_tried image n s a b turns quantum tried fresh is first D entries output =
     let F = fresh_is image n fresh in
     let start : network_of a ≡ lone_network n =
-        ap network_of first ∙ ap (λ nodes. record s { nodes = nodes }) (first_agreed s) ∙ is ∙ ap lone_network (node_of_is image n F.0).0 in
+    ap network_of first ∙ ap (λ nodes. record s { nodes = nodes }) (first_agreed s) ∙ is ∙ ap lone_network (node_of_is image n F.0).0 in
     let all : tried.entries.items ≡ D.entries = entries ∙ D.grew.entries_are ∙ ap (λ (x : BookValue). x.state.entries ++ D.entries) first in
     let turned : AreTurns quantum turns (lone_network n) tried.entries.items (network_of b) =
-        subst (λ es. AreTurns quantum turns (lone_network n) es (network_of b)) (sym all) (subst (λ from. AreTurns quantum turns from D.entries (network_of b)) start D.did) in
+    subst (λ es. AreTurns quantum turns (lone_network n) es (network_of b)) (sym all) (subst (λ from. AreTurns quantum turns from D.entries (network_of b)) start D.did) in
     let port = map_some (λ (p : Port). p.outputs) (slice_get b.state.ports 0) tried.output.items (sym output) in
     record {
       end = network_of b;

@@ -73,7 +73,7 @@ module _ (b r new : BookValue) (number count quantum : ℕ) (before now : NodeSt
     unfolding after
     without none =
         let is : new ≡ without_run (with_run b number) number =
-            is_after ∙ ap (λ test. cond test (without_run (with_run b number) number) (with_journalled (without_run (with_run b number) number) (Run number count) b.state.ports (on_lines number tokens))) (eq-eqb count 0 none) in
+        is_after ∙ ap (λ test. cond test (without_run (with_run b number) number) (with_journalled (without_run (with_run b number) number) (Run number count) b.state.ports (on_lines number tokens))) (eq-eqb count 0 none) in
         record {
           entries = [];
           grew = subst (Grew [] b) (sym is) (record { start = refl; entries_are = sym (append-nil b.state.entries); base = refl; runs = runs_back; ready = refl; broken = refl; room = refl });
@@ -91,7 +91,7 @@ module _ (b r new : BookValue) (number count quantum : ℕ) (before now : NodeSt
     with_some : 0 < count → Did (RanOn quantum number) b new
     with_some some =
         let is : new ≡ with_journalled (without_run (with_run b number) number) (Run number count) b.state.ports (on_lines number tokens) =
-            is_after ∙ ap (λ test. cond test (without_run (with_run b number) number) (with_journalled (without_run (with_run b number) number) (Run number count) b.state.ports (on_lines number tokens))) (ne_eqb count 0 (λ zero. omega (arith, some, zero))) in
+        is_after ∙ ap (λ test. cond test (without_run (with_run b number) number) (with_journalled (without_run (with_run b number) number) (Run number count) b.state.ports (on_lines number tokens))) (ne_eqb count 0 (λ zero. omega (arith, some, zero))) in
         let C = run_change b.state number count before now tokens there some (omega (arith, few, bound)) made in
         record {
           entries = Run number count ∷ [];

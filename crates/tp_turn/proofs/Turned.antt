@@ -66,9 +66,9 @@ memory_alone b e whole room none left (inl memory) = memory
 memory_alone b e whole room none left (inr why) =
     let numbers : nat_lt (NUMBER_LIMIT - 1) (next_number b + reserved b + 1) ≡ false = le-ltb (NUMBER_LIMIT - 1) (next_number b + reserved b + 1) (omega (arith, left, none)) in
     let free : is_journal_full b 1 ≡ false =
-        ap (λ r. is_full r (length b.state.lines) (length b.state.entries) (reserved b) (next_number b) 1) room ∙ numbers in
+    ap (λ r. is_full r (length b.state.lines) (length b.state.entries) (reserved b) (next_number b) 1) room ∙ numbers in
     let nothing : reserve_refusal b ≡ None =
-        ap (λ broken. entry_refusal b 1 (else_if None broken StoreBroken)) whole ∙ ap (λ full. else_if None full JournalFull) free in
+    ap (λ broken. entry_refusal b 1 (else_if None broken StoreBroken)) whole ∙ ap (λ full. else_if None full JournalFull) free in
     cc
 
 -- ## All that is done leads from one network to the other

@@ -98,12 +98,7 @@ fn tried_in(alloc: Global, book: &Book) -> Result<Tried, AllocError>
 
 /// Runs the node of an image without a device for so many turns: node, host, node, host .. A run has at most `quantum`
 /// steps. The images that are refused are those with which no device may be formatted.
-pub fn try_turns(
-    alloc: Global,
-    image: &[u8],
-    turns: u32,
-    quantum: u16,
-) -> Result<Tried, TryFault>
+pub fn try_turns(alloc: Global, image: &[u8], turns: u32, quantum: u16) -> Result<Tried, TryFault>
     requires { quantum ≤ MAX_STEPS }
     ensures { TriedAs (fresh_image image.now) turns quantum result }
 {

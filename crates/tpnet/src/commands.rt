@@ -30,12 +30,7 @@ fn put<O: Write>(out: &mut O, bytes: &[u8]) -> Result<(), Refusal>
 }
 
 /// Runs the node of an image for so many turns, its own and the host's in turns, and shows what its port puts out.
-fn attempt<O: Write>(
-    alloc: Global,
-    image: &[u8],
-    turns: u32,
-    out: &mut O,
-) -> Result<(), Refusal>
+fn attempt<O: Write>(alloc: Global, image: &[u8], turns: u32, out: &mut O) -> Result<(), Refusal>
     ensures { Answers image.now turns (O.contents out.old) (O.contents out.new) result }
 {
     match try_turns(alloc, image, turns, TRY_QUANTUM) {

@@ -4,16 +4,17 @@
 mod args;
 mod commands;
 mod refusal;
+#[cfg(test)]
+mod tests;
 
 use args::{Asked, read_args};
 use commands::{refuse, try_on};
 use refusal::Refusal;
-use std::env;
-use std::fs;
 use std::fs::Files;
 use std::io::Write;
 use std::process::ExitCode;
 use std::rt::Env;
+use std::{env, fs};
 
 fn words_of<R: Env + AllocGlobal>(rt: &R) -> Option<Vec<String>> {
     let words = env::args(rt).ok()?;
@@ -48,9 +49,7 @@ fn main(rt: HostRuntime) -> ExitCode {
         }
     };
     let status = match &asked {
-        Asked::Try { image, turns } => {
-            try_file(&rt, image.as_str(), *turns, &mut out, &mut err)
-        }
+        Asked::Try { image, turns } => { try_file(&rt, image.as_str(), *turns, &mut out, &mut err) }
     };
     ExitCode::from(status)
 }
