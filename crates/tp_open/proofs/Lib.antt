@@ -7,3 +7,4 @@ pub mod Passing
 pub mod Room
 pub mod Topologies
 pub mod Wires
+mod LineEnds

@@ -1,3 +1,4 @@
 pub mod Fronts
 pub mod Heads
 pub mod Reading
+pub mod Parts
