@@ -10,3 +10,5 @@ pub mod OpenedPlace
 pub mod Appends
 pub mod PutLaws
 pub mod FreshImages
+pub mod Topologies
+pub mod HeadBytes

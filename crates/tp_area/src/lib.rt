@@ -4,6 +4,7 @@
 mod body;
 mod fault;
 mod group;
+mod head;
 mod images;
 mod laws;
 mod place;
