@@ -8,3 +8,7 @@ pub mod Frames
 pub mod Behind
 pub mod OpenedPlace
 pub mod Appends
+pub mod PutLaws
+pub mod FreshImages
+pub mod Topologies
+pub mod HeadBytes

@@ -4,11 +4,15 @@
 mod body;
 mod fault;
 mod group;
+mod head;
+mod images;
 mod laws;
 mod place;
+mod puts;
+mod room;
 mod store;
 
-pub use fault::StoreFault;
+pub use fault::{FormatFault, StoreFault};
 pub use laws::open_devices_say_their_place;
 pub use place::Place;
 pub use store::Store;
