@@ -4,6 +4,7 @@ pub mod Heads
 pub mod Numbers
 pub mod Parts
 pub mod Passing
+pub mod Records
 pub mod Room
 pub mod Topologies
 pub mod Wires
