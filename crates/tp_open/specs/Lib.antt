@@ -1,4 +1,5 @@
 pub mod Fronts
 pub mod Heads
 pub mod Lines
+pub mod Ports
 pub mod Reading
