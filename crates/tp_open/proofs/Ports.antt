@@ -1,5 +1,5 @@
 -- Records of ports.
-use Rattle.std.proofs.Common.{◌≡◌, ℕ, zero, suc, ◌+◌, ◌-◌, ◌*◌, ◌^◌, ◌<◌, ◌≤◌, List, [], ◌∷◌, ◌++◌, length, take, drop, get_or, refl, sym, ap, ◌∙◌, arith, append_assoc, append-nil, Bool, true, false, cond, subst, inl, inr}
+use Rattle.std.proofs.Common.{◌≡◌, ℕ, zero, suc, ◌+◌, ◌-◌, ◌*◌, ◌^◌, ◌<◌, ◌≤◌, List, [], ◌∷◌, ◌++◌, length, take, drop, get_or, refl, sym, ap, ◌∙◌, arith, append_assoc, append-nil, Bool, true, false, cond, subst, inl, inr, Fits, w8}
 use Rattle.std.specs.Prelude.{◌&&◌, ◌⊎◌, nat_le, bytes_eq, Option, Some, None}
 use Rattle.std.specs.List.{list_all}
 use Rattle.std.specs.Int.{from_le_bytes, to_le_bytes, w16, w64}
@@ -17,7 +17,7 @@ use Rattle.tp_open.proofs.SameBytes.{and_assoc, piece_same, piece_compared, all_
 
 -- the bytes are bytes
 pub record AreBytes (bytes : List ℕ) : Type 0 where
-  pub each : (i : ℕ) → get_or bytes i 0 < 256
+  pub each : (i : ℕ) → Fits w8 (get_or bytes i 0)
 
 -- the numbers of bytes that a record says
 held_said : (port : Port) → length port.pending < 2 ^ 16 → u16_at (port_bytes port) 16 ≡ length port.pending
@@ -53,7 +53,7 @@ said_many base bytes many = elim (cases_Bool (is_port_at base bytes)) [
 -- a part of bytes is bytes
 part_bytes : (n place : ℕ) (bytes : List ℕ) → AreBytes bytes → (i : ℕ) → get_or (take n (drop place bytes)) i 0 < 256
 part_bytes n place bytes are i = elim (cases_lt i n) [
-    | inl inside ↦ rw (get_or-take n (drop place bytes) i 0 inside, get_or-drop place bytes i 0) (are.each (place + i))
+    | inl inside ↦ rw (get_or-take n (drop place bytes) i 0 inside, get_or-drop place bytes i 0) (omega (arith, are.each (place + i)))
     | inr past ↦
         let short : length (take n (drop place bytes)) ≤ i = omega (arith, length-take n (drop place bytes)) in
         rw (get_or_past (take n (drop place bytes)) i 0 short) (omega arith)
@@ -124,3 +124,50 @@ is_port_at-rules base held shown bytes are len held_is shown_is few few_shown =
     ap (λ k. keeps_rules base k shown bytes) held_is ∙ ap (λ k. keeps_rules base h k bytes) shown_is
     ∙ sym (and_assoc fillers last (nat_le (u64_at bytes 0) base && nat_le (u64_at bytes 8 + n) base))
     ∙ sym (ap (λ t. t && is_port_of base (port_at bytes)) (record_compared bytes are len few_said few_shown_said) ∙ ap (λ t. (fillers && last) && t) (rules_of base bytes len few_said few_shown_said))
+
+-- what is copied of a record is the port that it spells
+pub port_with-copied : (base held shown : ℕ) (bytes : List ℕ) (port : Port) → is_port_at base bytes ≡ true
+    → held ≡ u16_at bytes 16 → shown ≡ u16_at bytes 18
+    → port ≡ record { pending = take held (drop 20 bytes); in_base = u64_at bytes 0; outputs = take shown (drop (20 + MAX_HELD) bytes); out_base = u64_at bytes 8 }
+    → Some port ≡ port_with base bytes
+port_with-copied base held shown bytes port is held_is shown_is copied = rw (copied, held_is, shown_is, is) refl
+
+pub port_with-none : (base : ℕ) (bytes : List ℕ) → is_port_at base bytes ≡ false → None ≡ port_with base bytes
+port_with-none base bytes not_so = rw not_so refl
+
+pub held_few : (base held : ℕ) (bytes : List ℕ) → is_port_at base bytes ≡ true → held ≡ u16_at bytes 16 → held ≤ MAX_HELD
+held_few base held bytes is held_is = omega (arith, (said_few base bytes is).0)
+
+pub shown_few : (base shown : ℕ) (bytes : List ℕ) → is_port_at base bytes ≡ true → shown ≡ u16_at bytes 18 → shown ≤ MAX_HELD
+shown_few base shown bytes is shown_is = omega (arith, (said_few base bytes is).1)
+
+-- ## A record in longer bytes
+
+same_port : (bytes : List ℕ) → u16_at bytes 16 ≤ MAX_HELD → u16_at bytes 18 ≤ MAX_HELD → port_at (take PORT_BYTES bytes) ≡ port_at bytes
+same_port bytes few few_shown =
+    rw (u16_at-take PORT_BYTES 16 bytes (omega arith), u16_at-take PORT_BYTES 18 bytes (omega arith), u64_at-take PORT_BYTES 0 bytes (omega arith), u64_at-take PORT_BYTES 8 bytes (omega arith),
+        part_of_part (u16_at bytes 16) 20 PORT_BYTES 0 20 bytes (omega arith) refl, part_of_part (u16_at bytes 18) (20 + MAX_HELD) PORT_BYTES 0 (20 + MAX_HELD) bytes (omega arith) refl)
+    refl
+
+test_same : (base : ℕ) (bytes : List ℕ) → u16_at bytes 16 ≤ MAX_HELD → u16_at bytes 18 ≤ MAX_HELD → is_port_at base (take PORT_BYTES bytes) ≡ is_port_at base bytes
+test_same base bytes few few_shown =
+    ap (λ p. bytes_eq (take PORT_BYTES (take PORT_BYTES bytes)) (port_bytes p) && is_port_of base p) (same_port bytes few few_shown)
+    ∙ ap (λ xs. bytes_eq xs (port_bytes (port_at bytes)) && is_port_of base (port_at bytes)) (take-take PORT_BYTES PORT_BYTES bytes (omega arith))
+
+many_none : (base : ℕ) (bytes : List ℕ) → (MAX_HELD < u16_at bytes 16) ⊎ (MAX_HELD < u16_at bytes 18) → port_with base bytes ≡ None
+many_none base bytes many = sym (port_with-none base bytes (sym (said_many base bytes many)))
+
+pub port_with-take : (base : ℕ) (bytes : List ℕ) → port_with base (take PORT_BYTES bytes) ≡ port_with base bytes
+port_with-take base bytes =
+    let front = take PORT_BYTES bytes in
+    let held : u16_at front 16 ≡ u16_at bytes 16 = u16_at-take PORT_BYTES 16 bytes (omega arith) in
+    let shown : u16_at front 18 ≡ u16_at bytes 18 = u16_at-take PORT_BYTES 18 bytes (omega arith) in
+    elim (cases_lt MAX_HELD (u16_at bytes 16)) [
+      | inl many ↦ many_none base front (inl (omega arith)) ∙ sym (many_none base bytes (inl many))
+      | inr few ↦ elim (cases_lt MAX_HELD (u16_at bytes 18)) [
+          | inl many ↦ many_none base front (inr (omega arith)) ∙ sym (many_none base bytes (inr many))
+          | inr few_shown ↦
+              ap (λ t. cond t (Some (port_at front)) None) (test_same base bytes few few_shown)
+              ∙ ap (λ p. cond (is_port_at base bytes) (Some p) None) (same_port bytes few few_shown)
+          ]
+      ]
