@@ -105,7 +105,7 @@ fn can_take(bytes: &[u8], link: u8, token: Token) -> bool
 }
 
 /// The node of an image, if it can take a token on a link.
-#[tactic(auto, using(crate::proofs::Links::node_hears))]
+#[tactic(auto, using(crate::proofs::Taking::node_hears))]
 pub fn hearer(alloc: Global, bytes: &[u8], link: u8, token: Token) -> Option<Node>
     ensures { IfSome result (λ node. IsSome (took node.live link token)) }
 {

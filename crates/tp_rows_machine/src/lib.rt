@@ -20,3 +20,7 @@ mod instructions;
 mod links;
 #[cfg(test)]
 mod runs;
+#[cfg(test)]
+mod story;
+#[cfg(test)]
+mod tales;

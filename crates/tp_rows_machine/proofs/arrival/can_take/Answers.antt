@@ -2,7 +2,7 @@ use Rattle.std.proofs.Common.{◌≡◌, ℕ, ◌+◌, ◌*◌, Some, refl, sym,
 use Rattle.std.proofs.lemmas.List.{take_rest}
 use Rattle.tp_model.specs.EndBytes.{out_end_at, in_end_at}
 use Rattle.tp_model.specs.declared.limits.TheConstants.{IMAGE_HEAD_BYTES}
-use Rattle.tp_rows_machine.proofs.Links.{ack_can_come, data_can_come}
+use Rattle.tp_rows_machine.proofs.Taking.{ack_can_come, data_can_come}
 use Rattle.tp_rows_machine.proofs.arrival.can_take.Goals as goal
 
 pub returns-in-Data : goal.returns-in-Data
