@@ -7,3 +7,8 @@ pub mod Journalled
 pub mod Ran
 pub mod Took
 pub mod Fresh
+pub mod PortEnds
+pub mod HostTaken
+pub mod HostRefused
+pub mod Opened
+pub mod HandedIn

@@ -2,3 +2,4 @@ pub mod Numerals
 pub mod Names
 pub mod Cuts
 pub mod Kept
+pub mod Reading

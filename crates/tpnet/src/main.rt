@@ -2,9 +2,15 @@
 #![tactic(auto)]
 
 mod args;
+mod commands;
+mod refusal;
 
 use args::{Asked, read_args};
+use commands::{refuse, try_on};
+use refusal::Refusal;
 use std::env;
+use std::fs;
+use std::fs::Files;
 use std::io::Write;
 use std::process::ExitCode;
 use std::rt::Env;
@@ -14,7 +20,22 @@ fn words_of<R: Env + AllocGlobal>(rt: &R) -> Option<Vec<String>> {
     words.collect(rt.alloc()).ok()
 }
 
+/// `tpnet try`, on the image's file.
+fn try_file<R: Files + AllocGlobal, O: Write, E: Write>(
+    rt: &R,
+    image: &str,
+    turns: u32,
+    out: &mut O,
+    err: &mut E,
+) -> u8 {
+    match fs::read(rt, image) {
+        Ok(bytes) => try_on(rt.alloc(), bytes.as_slice(), turns, out, err),
+        Err(_) => refuse(err, Refusal::ReadFailed),
+    }
+}
+
 fn main(rt: HostRuntime) -> ExitCode {
+    let mut out = rt.stdout();
     let mut err = rt.stderr();
     let Some(words) = words_of(&rt) else {
         return ExitCode::from(2);
@@ -26,10 +47,10 @@ fn main(rt: HostRuntime) -> ExitCode {
             return ExitCode::from(2);
         }
     };
-    match asked {
-        Asked::Try { .. } => {
-            let _ = write!(&mut err, "tpnet: try is not built yet\n");
-            ExitCode::from(1)
+    let status = match &asked {
+        Asked::Try { image, turns } => {
+            try_file(&rt, image.as_str(), *turns, &mut out, &mut err)
         }
-    }
+    };
+    ExitCode::from(status)
 }

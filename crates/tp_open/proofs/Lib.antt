@@ -1,0 +1,9 @@
+pub mod Areas
+pub mod HeadBytes
+pub mod Heads
+pub mod Numbers
+pub mod Parts
+pub mod Passing
+pub mod Room
+pub mod Topologies
+pub mod Wires

@@ -1,0 +1,4 @@
+pub mod Answers
+pub mod Flat
+pub mod Inside
+pub mod Messages
