@@ -6,6 +6,7 @@ pub mod Impossible
 pub mod Length
 pub mod LinkMessages
 pub mod Messages
+pub mod Pages
 pub mod Ran
 pub mod Rows
 pub mod Steps
