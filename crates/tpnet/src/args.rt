@@ -12,17 +12,21 @@ use std::fmt;
 pub enum Asked {
     /// Turns of one node, from its image, without a device.
     Try { image: String, turns: u32 },
-    /// A new device from a topology and the images in a folder, with so many bytes an area.
-    Format {
-        device: String,
-        topology: String,
-        images: String,
-        area: u64,
-    },
+    /// A new device.
+    Format(Wanted),
     /// Opens a device and says what the next entry's number is.
     Recover { device: String },
     /// Opens a device and says what it holds.
     Show { device: String },
+}
+
+/// A device that is wanted: its file, the file of its topology, the folder of the images, and the bytes of an area.
+#[derive(Drop)]
+pub struct Wanted {
+    pub device: String,
+    pub topology: String,
+    pub images: String,
+    pub area: u64,
 }
 
 /// The most bytes that an area is made with.
@@ -179,12 +183,12 @@ fn text_of(alloc: Global, found: &ArgMatches, id: &str) -> Result<String, ArgFau
 fn asked_format(alloc: Global, found: &ArgMatches) -> Result<Asked, ArgFault>
     ensures { IfOk result IsInRange }
 {
-    Ok(Asked::Format {
+    Ok(Asked::Format(Wanted {
         device: text_of(alloc, found, "DEVICE")?,
         topology: text_of(alloc, found, "TOPOLOGY")?,
         images: text_of(alloc, found, "DIR")?,
         area: area_of(found)?,
-    })
+    }))
 }
 
 /// Reads the words of a command line, the program's name first. Each number is in its range.
