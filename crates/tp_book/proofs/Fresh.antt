@@ -18,6 +18,7 @@ use Rattle.tp_book.specs.declared.book.Book.TheInside.{Inside}
 use Rattle.tp_book.specs.Parts.{network_of, port_of}
 use Rattle.tp_book.specs.Inside.{state_of, value_of, IsBook}
 use Rattle.tp_book.specs.Start.{IsFresh, IsNetwork, fresh_port, first_book}
+use Rattle.tp_book.specs.Kept.{IsRising}
 
 pub map-replicate : {A B : Type 0} (f : A → B) (n : ℕ) (x : A) → map f (replicate n x) ≡ replicate n (f x)
 map-replicate f zero x = refl
@@ -50,6 +51,13 @@ fresh_counted next (suc n) zero port e =
     let same : fresh_port.port ≡ port = cc in
     subst (IsCounted next) same (record { inputs = omega arith; outputs = omega arith })
 fresh_counted next (suc n) (suc p) port e = fresh_counted next n p port e
+
+fresh_rising : (next n p : ℕ) (ns : List ℕ) → slice_get (replicate n fresh_port.marks) p ≡ Some ns → IsRising 0 next ns
+fresh_rising next zero p ns e = cc
+fresh_rising next (suc n) zero ns e =
+    let same : fresh_port.marks ≡ ns = cc in
+    subst (IsRising 0 next) same (omega arith)
+fresh_rising next (suc n) (suc p) ns e = fresh_rising next n p ns e
 
 module _ (b : Inside) (F : IsFresh (network_of b.start.value.value)) (N : IsNetwork (network_of b.start.value.value)) (wires : b.wires.items ≡ b.start.value.value.wires.items)
     (lines : b.lines ≡ replicate (vec_len b.start.value.value.wires) []) (ports : b.ports.items ≡ replicate (vec_len b.start.value.value.ports) fresh_port)
@@ -100,6 +108,7 @@ module _ (b : Inside) (F : IsFresh (network_of b.start.value.value)) (N : IsNetw
     numbers = omega (arith, no_entries);
     counted = λ p port at. fresh_counted (0 + vec_len b.entries) (length s.ports) p port (ap (λ given. slice_get given p) (sym (these_ports ∙ F.ports)) ∙ at);
     numbered = subst (λ given. AreNumbered 0 0 (map (λ n. n.number) given)) (sym entries) tt;
+    rising = λ p ns at. fresh_rising (0 + vec_len b.entries) (vec_len b.start.value.value.ports) p ns (ap (λ given. slice_get given p) (sym (ap (map (λ q. q.marks)) ports ∙ map-replicate (λ q. q.marks) (vec_len b.start.value.value.ports) fresh_port)) ∙ at);
   }
 
   pub first_value : value_of fields ≡ first_book s b.room

@@ -9,5 +9,9 @@ pub mod Took
 pub mod Fresh
 pub mod PortEnds
 pub mod HostTaken
-pub mod HostRefused
+pub mod TakeRefused
 pub mod Opened
+pub mod HandedIn
+pub mod Confirming
+pub mod Rising
+pub mod ShownOutputs

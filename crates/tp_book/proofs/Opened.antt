@@ -32,6 +32,10 @@ use Rattle.tp_book.specs.Ports.{opened_port}
 use Rattle.tp_book.specs.Inside.{state_of, value_of, IsBook}
 use Rattle.tp_book.specs.Opened.{cut_of, now_of, kept_of, numbers_of, IsOpened, opened_book}
 use Rattle.tp_book.proofs.Fresh.{none_reserved}
+use Rattle.tp_book.specs.Kept.{IsRising}
+use Rattle.tp_book.proofs.Rising.{rising_zeros}
+use Rattle.std.proofs.Common.{slice_get, zero, suc}
+use Rattle.tp_model.specs.Network.{Port}
 
 -- without Markers there is none
 markers-plain : (ts : List Token) → markers (plain ts) ≡ 0
@@ -85,6 +89,13 @@ opened_marks : (parts : List PortParts) → map (λ p. p.marks) (map (λ port. o
 opened_marks [] = refl
 opened_marks (p ∷ ps) = ap (λ more. (opened_port (port_of p)).marks ∷ more) (opened_marks ps)
 
+opened_rising : (next : ℕ) (ports : List Port) (p : ℕ) (ns : List ℕ) → slice_get (map (λ port. (opened_port port).marks) ports) p ≡ Some ns → IsRising 0 next ns
+opened_rising next [] p ns e = cc
+opened_rising next (q ∷ qs) zero ns e =
+    let same : (opened_port q).marks ≡ ns = cc in
+    subst (IsRising 0 next) same (rising_zeros (length q.outputs) next)
+opened_rising next (q ∷ qs) (suc p) ns e = opened_rising next qs p ns e
+
 module _ (b : Inside) (s : NetState) (O : IsOpened s) (cut : b.start.value ≡ s.cut) (wires : b.wires.items ≡ s.net.wires.items)
     (lines : b.lines ≡ map (λ line. line.items) s.net.lines.items) (ports : b.ports.items ≡ map (λ port. opened_port (port_of port)) s.net.ports.items)
     (runs : b.runs.items ≡ replicate (vec_len s.net.images) false) (entries : b.entries.items ≡ s.kept.items) (base : b.base ≡ s.base) where
@@ -135,6 +146,7 @@ module _ (b : Inside) (s : NetState) (O : IsOpened s) (cut : b.start.value ≡ s
     counted = subst (λ given. AreCounted (b.base + vec_len b.entries) given) (sym these_ports)
         (subst (λ n. AreCounted n (now_of s).ports) (omega (arith, entry_count, base, O.next)) O.counted);
     numbered = subst (λ given. AreNumbered 0 given (map (λ n. n.number) b.entries.items)) (sym base) (subst (λ given. AreNumbered 0 s.base (map (λ n. n.number) given)) (sym entries) O.numbered);
+    rising = λ p ns at. opened_rising (b.base + vec_len b.entries) (now_of s).ports p ns (ap (λ given. slice_get given p) (sym these_marks) ∙ at);
   }
 
   pub opened_value : value_of fields ≡ opened_book s b.room

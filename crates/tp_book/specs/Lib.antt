@@ -8,3 +8,5 @@ pub mod Calls
 pub mod Start
 pub mod Refusals
 pub mod Opened
+pub mod Host
+pub mod Inputs

@@ -144,6 +144,14 @@ impl HostPort {
         self.outputs.as_slice()
     }
 
+    /// For each of these outputs the least mark that shows it.
+    pub fn marks(&self) -> &[u64]
+        ensures value { result.now ≡ self.now.marks }
+        ensures len { length result.now ≡ length self.now.port.outputs }
+    {
+        self.marks.as_slice()
+    }
+
     /// How many outputs were confirmed.
     pub fn out_base(&self) -> u64
         ensures { result ≡ self.now.port.out_base }
