@@ -103,7 +103,7 @@ module _ (n : Inside) (I : IsInside n) where
   pub still_thawed : (i : ℕ) (old node : NodeContents) → slice_get n.nodes.items i ≡ Some old → node.frozen ≡ old.frozen → AreThawed (set n.nodes.items i node)
   still_thawed i old node there thawed j c at = elim (cases_eq j i) [
     | inl same ↦
-        let is : node ≡ c = cc (slice_get-set_same n.nodes.items i node old there, ap (slice_get (set n.nodes.items i node)) same) in
+        let is : node ≡ c = cc (slice_get-set_same n.nodes.items i node old there) in
         ap (λ x. x.frozen) (sym is) ∙ thawed ∙ I.thawed i old there
     | inr other ↦ I.thawed j c (sym (slice_get-set_other n.nodes.items i j node other) ∙ at)
   ]
