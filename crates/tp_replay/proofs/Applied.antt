@@ -1,5 +1,5 @@
 -- The fields of a flat network behind an entry.
-use Rattle.std.proofs.Common.{◌≡◌, ℕ, ◌+◌, ◌*◌, ◌<◌, ◌≤◌, Bool, true, false, inl, inr, List, [], ◌∷◌, length, map, set, get_or, refl, sym, ap, subst, ◌∙◌, arith, Option, Some, None, slice_get}
+use Rattle.std.proofs.Common.{◌≡◌, ℕ, ◌+◌, ◌*◌, ◌<◌, ◌≤◌, true, false, inl, inr, List, length, set, get_or, refl, sym, ap, subst, ◌∙◌, arith, Option, Some, None, slice_get}
 use Rattle.std.specs.Prelude.{is_some, Ok, Err}
 use Rattle.std.specs.Option.{option_map}
 use Rattle.std.specs.Vec.{with_item}
@@ -13,7 +13,7 @@ use Rattle.tp_model.specs.Node.{t414}
 use Rattle.tp_model.specs.Network.{◌>>=◌, Port, Network, has_wire, sent}
 use Rattle.tp_model.specs.Entries.{next}
 use Rattle.tp_order.proofs.Local.{next_from}
-use Rattle.tp_order.proofs.Partial.{map_some, slice_get-set_same, slice_get-set_other}
+use Rattle.tp_order.proofs.Partial.{slice_get-set_same, slice_get-set_other}
 use Rattle.tp_node.specs.NodeContents.{NodeContents}
 use Rattle.tp_book.specs.Ports.{PortValue}
 use Rattle.tp_book.specs.Calls.{on_lines}
