@@ -1,9 +1,9 @@
 -- A network read out as its parts.
-use Rattle.std.specs.Prelude.{◌≡◌, ℕ, map, Some, slice_get}
+use Rattle.std.specs.Prelude.{◌≡◌, map}
 use Rattle.tp_model.specs.NodeState.{NodeState}
-use Rattle.tp_model.specs.Image.{image, IsNode}
+use Rattle.tp_model.specs.Image.{image}
 use Rattle.tp_model.specs.Network.{Network}
-use Rattle.tp_book.specs.Parts.{port_of, network_of}
+use Rattle.tp_book.specs.Parts.{port_of}
 use Rattle.tp_book.specs.declared.parts.NetParts.{NetParts}
 
 -- The parts are the network's, each node as its image. So they are that network again, where each node has an image.

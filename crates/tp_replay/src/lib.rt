@@ -6,6 +6,7 @@ mod fault;
 mod front;
 mod host;
 mod image;
+mod laws;
 mod network;
 mod parts;
 mod replaying;
@@ -14,5 +15,6 @@ mod send;
 mod take;
 
 pub use fault::{NotPossible, ReplayFault, RowFault};
+pub use laws::{entries_keep_flat, messages_stay_inside};
 pub use network::FlatNetwork;
 pub use replaying::Replay;

@@ -1,6 +1,4 @@
-use Rattle.std.proofs.Common.{◌≡◌, List, map, sym, refl, ap, ◌∙◌}
-use Rattle.tp_model.specs.Image.{image}
-use Rattle.tp_node.specs.NodeContents.{NodeContents}
+use Rattle.std.proofs.Common.{map, ap, ◌∙◌}
 use Rattle.tp_replay.proofs.Pages.{images_live}
 use Rattle.tp_replay.proofs.network.FlatNetwork.parts.Goals as goal
 
