@@ -14,11 +14,19 @@ use std::fs::Files;
 use std::io::Write;
 use std::process::ExitCode;
 use std::rt::Env;
-use std::{env, fs};
+use std::{env, fs, io};
 
 fn words_of<R: Env + AllocGlobal>(rt: &R) -> Option<Vec<String>> {
     let words = env::args(rt).ok()?;
     words.collect(rt.alloc()).ok()
+}
+
+/// Why a file wasn't read.
+fn read_refusal(error: &io::Error) -> Refusal {
+    match error.kind() {
+        io::ErrorKind::OutOfMemory => Refusal::Memory,
+        _ => Refusal::ReadFailed,
+    }
 }
 
 /// `tpnet try`, on the image's file.
@@ -31,7 +39,7 @@ fn try_file<R: Files + AllocGlobal, O: Write, E: Write>(
 ) -> u8 {
     match fs::read(rt, image) {
         Ok(bytes) => try_on(rt.alloc(), bytes.as_slice(), turns, out, err),
-        Err(_) => refuse(err, Refusal::ReadFailed),
+        Err(error) => refuse(err, read_refusal(&error)),
     }
 }
 
