@@ -12,6 +12,7 @@ mod turn;
 
 pub use host::host_turn;
 pub use law::{messages_stay_inside, tried_images_are_formatted};
-pub use take::TAKES;
+pub use run::run_quantum;
+pub use take::{TAKES, take_links};
 pub use trial::{Tried, TryFault, try_turns};
 pub use turn::{TURN_ENTRIES, node_turn};

@@ -7,12 +7,20 @@ use crate::args::Wanted;
 use crate::commands::{refuse, try_on};
 use crate::formatting::format_on;
 use crate::refusal::Refusal;
-use std::fs;
 use std::fs::{File, Files};
 use std::io::Write;
+use std::{fs, io};
 use tp_disk::FileDisk;
 use tp_model::limits::HEAD_BYTES;
 use tp_net::{Named, Topology};
+
+/// Why a file wasn't read.
+fn read_refusal(error: &io::Error) -> Refusal {
+    match error.kind() {
+        io::ErrorKind::OutOfMemory => Refusal::Memory,
+        _ => Refusal::ReadFailed,
+    }
+}
 
 /// `tpnet try`, on the image's file.
 pub fn try_file<R: Files + AllocGlobal, O: Write, E: Write>(
@@ -24,13 +32,13 @@ pub fn try_file<R: Files + AllocGlobal, O: Write, E: Write>(
 ) -> u8 {
     match fs::read(rt, image) {
         Ok(bytes) => try_on(rt.alloc(), bytes.as_slice(), turns, out, err),
-        Err(_) => refuse(err, Refusal::ReadFailed),
+        Err(error) => refuse(err, read_refusal(&error)),
     }
 }
 
 /// Reads a whole file.
 fn read_file<R: Files + AllocGlobal>(rt: &R, path: &str) -> Result<Vec<u8>, Refusal> {
-    fs::read(rt, path).map_err(|_| Refusal::ReadFailed)
+    fs::read(rt, path).map_err(|error| read_refusal(&error))
 }
 
 /// Reads the image of each node, in their order.
