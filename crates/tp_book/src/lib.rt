@@ -7,6 +7,7 @@ mod fill;
 mod full;
 mod host;
 mod input;
+mod law;
 mod note;
 mod open;
 mod parts;

@@ -1,0 +1,13 @@
+pub mod Areas
+pub mod HeadBytes
+pub mod Heads
+pub mod Numbers
+pub mod Parts
+pub mod Passing
+pub mod Ports
+pub mod Records
+pub mod Room
+pub mod SameBytes
+pub mod Topologies
+pub mod Wires
+mod LineEnds

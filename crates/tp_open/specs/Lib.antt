@@ -1,0 +1,6 @@
+pub mod Fronts
+pub mod Heads
+pub mod Lines
+pub mod Ports
+pub mod Reading
+pub mod Parts

@@ -1,0 +1,23 @@
+//! Reading a device: its head, the choice of an area, the cut, and the groups behind it.
+#![tactic(auto)]
+
+mod choice;
+mod device;
+mod flights;
+mod front;
+mod head;
+mod line;
+mod number;
+mod port;
+mod spelling;
+mod topology;
+mod unopened;
+
+pub use choice::read_choice;
+pub use front::{CutFront, read_front};
+pub use head::{Head, head_in, read_head};
+pub use line::LineTokens;
+pub use port::CutPort;
+pub use spelling::head_bytes;
+pub use topology::{MAX_LINES, Topology};
+pub use unopened::Unopened;
