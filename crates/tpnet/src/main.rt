@@ -4,6 +4,8 @@
 mod args;
 mod commands;
 mod files;
+#[cfg(test)]
+mod format_tests;
 mod formatting;
 mod refusal;
 mod shown;
@@ -40,10 +42,6 @@ fn main(rt: HostRuntime) -> ExitCode {
             try_file(&rt, image.as_str(), *turns, &mut out, &mut err)
         }
         Asked::Format(wanted) => format_file(&rt, wanted, &mut out, &mut err),
-        Asked::Recover { .. } | Asked::Show { .. } => {
-            let _ = write!(&mut err, "tpnet: this is not built yet\n");
-            1
-        }
     };
     ExitCode::from(status)
 }

@@ -1,7 +1,7 @@
 //! What `tpnet try` writes and refuses, on the image that sends one letter.
 
 use crate::commands::{TRY_QUANTUM, try_on};
-use crate::try_file;
+use crate::files::try_file;
 use std::alloc::{AllocError, Global};
 use std::io;
 use std::io::Write;
@@ -24,7 +24,7 @@ impl Write for Shut {
 }
 
 /// Puts bytes at a place.
-fn place(image: &mut Vec<u8>, at: usize, bytes: &[u8]) {
+pub(crate) fn place(image: &mut Vec<u8>, at: usize, bytes: &[u8]) {
     for (i, byte) in bytes.iter().enumerate() {
         if at < image.len() && i < image.len() - at {
             image[at + i] = *byte;
@@ -33,7 +33,7 @@ fn place(image: &mut Vec<u8>, at: usize, bytes: &[u8]) {
 }
 
 /// The image of a node of four pages, in which a low process sends the letter A on link 0 and then goes round.
-fn letter(alloc: Global) -> Result<Vec<u8>, AllocError> {
+pub(crate) fn letter(alloc: Global) -> Result<Vec<u8>, AllocError> {
     let mut image = Vec::from_elem(alloc, 0u8, 172 + 4096)?;
     place(&mut image, 0, &[1, 0, 4, 0]);
     place(&mut image, 4, &[0x00, 0x01, 0x00, 0x80]);

@@ -1,0 +1,199 @@
+//! What `tpnet format` writes and refuses.
+
+ghost use Rattle.std.specs.Prelude.{◌≤◌, IfOk};
+ghost use Rattle.tpnet.specs.declared.args.TheConstants.{MAX_AREA};
+
+use crate::args::Wanted;
+use crate::files::format_file;
+use crate::formatting::format_on;
+use crate::tests::{letter, place};
+use std::alloc::Global;
+use std::fs;
+use std::fs::Files;
+use std::test::Fail;
+use tp_disk::{Fault, MemDisk};
+use tp_net::Topology;
+
+const AREA: u64 = 16_384;
+
+/// The least area for one node of four pages and one port.
+const LEAST: u64 = 13_034;
+
+const TEXT: &[u8] = b"node a 4\nport h\nwire a.0 h\n";
+
+/// What came of a format: the status, the device's bytes, and both outputs.
+#[derive(Drop)]
+struct Made {
+    status: u8,
+    bytes: Vec<u8>,
+    out: Vec<u8>,
+    err: Vec<u8>,
+}
+
+/// Formats a device in memory.
+fn format_in_memory(
+    alloc: Global,
+    disk: MemDisk,
+    images: &[Vec<u8>],
+    area: u64,
+) -> Result<Made, Fail> {
+    let Ok(topology) = Topology::read(alloc, TEXT) else {
+        return Err(Fail::new("the topology"));
+    };
+    let _rules = topology.pages();
+    let mut disk = disk;
+    let (mut out, mut err) = (Vec::new(alloc), Vec::new(alloc));
+    let status = format_on(
+        alloc, &mut disk, &topology, images, area, &mut out, &mut err,
+    );
+    Ok(Made {
+        status,
+        bytes: disk.crash(),
+        out,
+        err,
+    })
+}
+
+/// The bytes from a place on.
+fn part(bytes: &[u8], at: usize, count: usize) -> &[u8] {
+    match bytes.get(at..) {
+        Some(rest) => match rest.get(..count) {
+            Some(part) => part,
+            None => &[],
+        },
+        None => &[],
+    }
+}
+
+/// One image, in a list.
+fn images_of(alloc: Global, image: Vec<u8>) -> Result<Vec<Vec<u8>>, Fail> {
+    let mut images = Vec::new(alloc);
+    images.push(image)?;
+    Ok(images)
+}
+
+#[test]
+fn the_device_of_one_node(rt: HostRuntime) -> Result<(), Fail> {
+    let alloc = rt.alloc();
+    let image = letter(alloc)?;
+    let images = images_of(alloc, letter(alloc)?)?;
+    let disk = MemDisk::zeroed(alloc, 33_280)?;
+    let made = format_in_memory(alloc, disk, images.as_slice(), AREA)?;
+    assert_eq!(rt; made.status, 0);
+    assert_eq!(rt; made.out.as_slice(), b"formatted\n".as_slice());
+    assert!(rt; made.err.is_empty());
+    let bytes = made.bytes.as_slice();
+    assert_eq!(rt; part(bytes, 0, 16), b"TPNET\0\0\x01\x01\x01\0\0\0\0\0\0".as_slice());
+    assert_eq!(rt; part(bytes, 16, 10), [0, 0x40, 0, 0, 0, 0, 0, 0, 4, 0].as_slice());
+    assert_eq!(rt; part(bytes, 56, 4), [0x80, 0, 0, 0].as_slice());
+    let front = [0xA5, 1, 0, 0, 0, 0, 0, 0, 0, 0xDC, 0x30, 0, 0, 0, 0, 0, 0, 0, 0, 0, 0];
+    assert_eq!(rt; part(bytes, 512, 21), front.as_slice());
+    assert_eq!(rt; part(bytes, 533, 4268), image.as_slice());
+    assert_eq!(rt; part(bytes, 13_033, 1), [0].as_slice());
+    assert_eq!(rt; part(bytes, 16_896, 1), [0].as_slice());
+    Ok(())
+}
+
+/// What is answered where nothing is formatted.
+fn refused(alloc: Global, images: &[Vec<u8>], size: usize, area: u64) -> Result<Vec<u8>, Fail> {
+    let made = format_in_memory(alloc, MemDisk::zeroed(alloc, size)?, images, area)?;
+    if made.status != 1 || !made.out.is_empty() || made.bytes.iter().any(|byte| *byte != 0) {
+        return Err(Fail::new("not refused"));
+    }
+    Ok(made.err)
+}
+
+#[test]
+fn areas_that_are_too_small(rt: HostRuntime) -> Result<(), Fail> {
+    let alloc = rt.alloc();
+    let images = images_of(alloc, letter(alloc)?)?;
+    let full = b"tpnet: AreaFull\n".as_slice();
+    assert_eq!(rt; refused(alloc, images.as_slice(), 40_000, LEAST - 1)?.as_slice(), full);
+    assert_eq!(rt; refused(alloc, images.as_slice(), 26_579, LEAST)?.as_slice(), full);
+    assert_eq!(rt; refused(alloc, images.as_slice(), 511, 0)?.as_slice(), full);
+    let disk = MemDisk::zeroed(alloc, 26_580)?;
+    assert_eq!(rt; format_in_memory(alloc, disk, images.as_slice(), LEAST)?.status, 0);
+    Ok(())
+}
+
+#[test]
+fn images_that_do_not_fit(rt: HostRuntime) -> Result<(), Fail> {
+    let alloc = rt.alloc();
+    let bad = b"tpnet: BadImage\n".as_slice();
+    let mut busy = letter(alloc)?;
+    place(&mut busy, 109, &[1]);
+    let mut larger = letter(alloc)?;
+    place(&mut larger, 2, &[5]);
+    for image in [busy, larger, Vec::new(alloc)] {
+        let images = images_of(alloc, image)?;
+        assert_eq!(rt; refused(alloc, images.as_slice(), 33_280, AREA)?.as_slice(), bad);
+    }
+    let mut two = images_of(alloc, letter(alloc)?)?;
+    two.push(letter(alloc)?)?;
+    assert_eq!(rt; refused(alloc, two.as_slice(), 33_280, AREA)?.as_slice(), bad);
+    assert_eq!(rt; refused(alloc, &[], 33_280, AREA)?.as_slice(), bad);
+    Ok(())
+}
+
+#[test]
+fn each_call_of_the_device_may_fail(rt: HostRuntime) -> Result<(), Fail> {
+    let alloc = rt.alloc();
+    let images = images_of(alloc, letter(alloc)?)?;
+    for call in 0..100 {
+        let fault = Fault::Fails {
+            torn: Vec::new(alloc),
+        };
+        let disk = MemDisk::zeroed(alloc, 33_280)?.with_fault(call, fault);
+        let made = format_in_memory(alloc, disk, images.as_slice(), AREA)?;
+        if made.status == 0 {
+            assert!(rt; call >= 6);
+            return Ok(());
+        }
+        assert!(rt; made.out.is_empty());
+        assert_eq!(rt; made.err.as_slice(), b"tpnet: DeviceFailed\n".as_slice());
+    }
+    Err(Fail::new("a format makes so many calls"))
+}
+
+/// Writes a file.
+fn put_file<R: Files>(rt: &R, path: &str, bytes: Vec<u8>) -> Result<(), Fail> {
+    fs::write(rt, path, bytes)?;
+    Ok(())
+}
+
+/// The words of a format of these files.
+fn wanted(alloc: Global, topology: &str) -> Result<Wanted, Fail>
+    ensures { IfOk result (λ wanted. wanted.area ≤ MAX_AREA) }
+{
+    Ok(Wanted {
+        device: String::from_str(alloc, "formatted.device")?,
+        topology: String::from_str(alloc, topology)?,
+        images: String::from_str(alloc, ".")?,
+        area: AREA,
+    })
+}
+
+#[test]
+fn files_are_read_and_made(rt: HostRuntime) -> Result<(), Fail> {
+    let alloc = rt.alloc();
+    put_file(&rt, "one.txt", Vec::from_slice(alloc, TEXT)?)?;
+    put_file(&rt, "two.txt", Vec::from_slice(alloc, b"node a 4\nnode b 4\nport h\n")?)?;
+    put_file(&rt, "bad.txt", Vec::from_slice(alloc, b"node a 4\nport h\nwire a.4 h\n")?)?;
+    put_file(&rt, "a.img", letter(alloc)?)?;
+    let cases: [(&str, u8, &str); 4] = [
+        ("one.txt", 0, ""),
+        ("two.txt", 1, "tpnet: ReadFailed\n"),
+        ("bad.txt", 1, "tpnet: Syntax 3\n"),
+        ("none.txt", 1, "tpnet: ReadFailed\n"),
+    ];
+    for (topology, status, said) in cases {
+        let (mut out, mut err) = (Vec::new(alloc), Vec::new(alloc));
+        let wanted = wanted(alloc, topology)?;
+        assert_eq!(rt; format_file(&rt, &wanted, &mut out, &mut err), status);
+        assert_eq!(rt; err.as_slice(), said.as_bytes());
+    }
+    let device = fs::read(&rt, "formatted.device")?;
+    assert_eq!(rt; device.len(), 33_280);
+    assert_eq!(rt; part(device.as_slice(), 0, 5), b"TPNET".as_slice());
+    Ok(())
+}
