@@ -13,14 +13,28 @@ mod bench;
 #[cfg(test)]
 mod channels;
 #[cfg(test)]
+mod ends;
+#[cfg(test)]
 mod guards;
 #[cfg(test)]
 mod image;
 #[cfg(test)]
+mod images;
+#[cfg(test)]
 mod instructions;
+#[cfg(test)]
+mod isa;
 #[cfg(test)]
 mod links;
 #[cfg(test)]
+mod memory;
+#[cfg(test)]
+mod parts;
+#[cfg(test)]
+mod registers;
+#[cfg(test)]
 mod runs;
+#[cfg(test)]
+mod steps;
 #[cfg(test)]
 mod story;

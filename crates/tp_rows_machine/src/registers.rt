@@ -1,0 +1,279 @@
+//! Instructions that work on the registers alone.
+
+use crate::isa::OPERATIONS;
+use std::process::Abort;
+use tp_isa::{Fun, Instr, Op, Regs, fun_row, op_row, pop, push, register_row, registers, set_a};
+
+/// An operation, with A, B and C before and after it, and whether it sets Error.
+type Row = (Op, [u32; 3], [u32; 3], bool);
+
+fn regs(stack: [u32; 3], error: bool) -> Regs {
+    let [a, b, c] = stack;
+    Regs { a, b, c, error }
+}
+
+fn instr(fun: Fun, operand: i32) -> Instr {
+    Instr {
+        fun,
+        operand,
+        len: 2,
+    }
+}
+
+/// The instruction of an operation, by the table of numbers.
+fn operation(op: Op) -> Instr {
+    for row in OPERATIONS {
+        if row.1 == op {
+            return instr(Fun::Opr, row.0.cast_signed());
+        }
+    }
+    instr(Fun::Opr, 0)
+}
+
+/// Error comes where a row sets it, and it stays where it was set before.
+fn check(rt: &impl Abort, rows: &[Row]) {
+    for row in rows {
+        let (op, before, after, error) = *row;
+        for was_set in [false, true] {
+            let mut seen = regs(before, was_set);
+            assert!(rt; registers(&operation(op), &mut seen));
+            assert_eq!(rt; seen, regs(after, was_set || error), "{op:?} {before:?}");
+        }
+    }
+}
+
+const SUMS_CHECKED: &[Row] = &[
+    (Op::Add, [1, 0x7FFF_FFFF, 9], [0x8000_0000, 9, 9], true),
+    (Op::Add, [2, 3, 9], [5, 9, 9], false),
+    (Op::Add, [0xFFFF_FFFF, 0x8000_0000, 9], [0x7FFF_FFFF, 9, 9], true),
+    (Op::Add, [0xFFFF_FFFF, 1, 9], [0, 9, 9], false),
+    (Op::Sub, [1, 0x8000_0000, 9], [0x7FFF_FFFF, 9, 9], true),
+    (Op::Sub, [5, 3, 9], [0xFFFF_FFFE, 9, 9], false),
+    (Op::Sub, [0x8000_0000, 0, 9], [0x8000_0000, 9, 9], true),
+    (Op::Sub, [0x8000_0000, 0xFFFF_FFFF, 9], [0x7FFF_FFFF, 9, 9], false),
+];
+
+const SUMS_THAT_WRAP: &[Row] = &[
+    (Op::Sum, [1, 0x7FFF_FFFF, 9], [0x8000_0000, 9, 9], false),
+    (Op::Diff, [1, 0x8000_0000, 9], [0x7FFF_FFFF, 9, 9], false),
+    (Op::Diff, [5, 3, 9], [0xFFFF_FFFE, 9, 9], false),
+    (Op::Bsub, [0x8000_0100, 5, 7], [0x8000_0105, 7, 7], false),
+    (Op::Bsub, [0xFFFF_FFFF, 2, 7], [1, 7, 7], false),
+    (Op::Wsub, [0x8000_0100, 3, 7], [0x8000_010C, 7, 7], false),
+    (Op::Wsub, [4, 0x4000_0001, 7], [8, 7, 7], false),
+];
+
+const PRODUCTS: &[Row] = &[
+    (Op::Mul, [3, 0xFFFF_FFFE, 9], [0xFFFF_FFFA, 9, 9], false),
+    (Op::Mul, [0x1_0000, 0x1_0000, 9], [0, 9, 9], true),
+    (Op::Mul, [0xFFFF_FFFF, 0x8000_0000, 9], [0x8000_0000, 9, 9], true),
+    (Op::Mul, [0x8000, 0x1_0000, 9], [0x8000_0000, 9, 9], true),
+    (Op::Mul, [0xFFFF_8000, 0x1_0000, 9], [0x8000_0000, 9, 9], false),
+    (Op::Prod, [0x1_0000, 0x1_0000, 9], [0, 9, 9], false),
+    (Op::Prod, [0x1_0001, 0x1_0001, 9], [0x2_0001, 9, 9], false),
+];
+
+const QUOTIENTS: &[Row] = &[
+    (Op::Div, [2, 0xFFFF_FFF9, 9], [0xFFFF_FFFD, 9, 9], false),
+    (Op::Div, [0xFFFF_FFFE, 7, 9], [0xFFFF_FFFD, 9, 9], false),
+    (Op::Div, [0, 7, 9], [0, 9, 9], true),
+    (Op::Div, [0xFFFF_FFFF, 0x8000_0000, 9], [0, 9, 9], true),
+    (Op::Div, [0xFFFF_FFFF, 7, 9], [0xFFFF_FFF9, 9, 9], false),
+    (Op::Div, [1, 0x8000_0000, 9], [0x8000_0000, 9, 9], false),
+    (Op::Rem, [2, 0xFFFF_FFF9, 9], [0xFFFF_FFFF, 9, 9], false),
+    (Op::Rem, [0xFFFF_FFFE, 7, 9], [1, 9, 9], false),
+    (Op::Rem, [0, 7, 9], [0, 9, 9], true),
+    (Op::Rem, [0xFFFF_FFFF, 0x8000_0000, 9], [0, 9, 9], false),
+];
+
+const BITS: &[Row] = &[
+    (Op::And, [0xC, 0xA, 9], [0x8, 9, 9], false),
+    (Op::Or, [0xC, 0xA, 9], [0xE, 9, 9], false),
+    (Op::Xor, [0xC, 0xA, 9], [0x6, 9, 9], false),
+    (Op::Not, [0x0F0F_0F0F, 2, 3], [0xF0F0_F0F0, 2, 3], false),
+    (Op::Rev, [1, 2, 3], [2, 1, 3], false),
+    (Op::Mint, [1, 2, 3], [0x8000_0000, 1, 2], false),
+    (Op::Seterr, [1, 2, 3], [1, 2, 3], true),
+];
+
+const SHIFTS: &[Row] = &[
+    (Op::Shl, [4, 0xF000_0001, 9], [0x10, 9, 9], false),
+    (Op::Shl, [0, 5, 9], [5, 9, 9], false),
+    (Op::Shl, [31, 3, 9], [0x8000_0000, 9, 9], false),
+    (Op::Shl, [32, 1, 9], [0, 9, 9], false),
+    (Op::Shl, [33, 1, 9], [0, 9, 9], false),
+    (Op::Shr, [4, 0xF000_0001, 9], [0x0F00_0000, 9, 9], false),
+    (Op::Shr, [31, 0x8000_0000, 9], [1, 9, 9], false),
+    (Op::Shr, [32, 0x8000_0000, 9], [0, 9, 9], false),
+    (Op::Shr, [0xFFFF_FFFF, 0xFFFF_FFFF, 9], [0, 9, 9], false),
+];
+
+const COMPARISONS: &[Row] = &[
+    (Op::Gt, [1, 2, 9], [1, 9, 9], false),
+    (Op::Gt, [2, 1, 9], [0, 9, 9], false),
+    (Op::Gt, [2, 2, 9], [0, 9, 9], false),
+    (Op::Gt, [0x7FFF_FFFF, 0x8000_0000, 9], [0, 9, 9], false),
+    (Op::Gt, [0xFFFF_FFFF, 0, 9], [1, 9, 9], false),
+    (Op::Csub0, [5, 4, 3], [4, 3, 3], false),
+    (Op::Csub0, [4, 4, 3], [4, 3, 3], true),
+    (Op::Csub0, [1, 0xFFFF_FFFF, 3], [0xFFFF_FFFF, 3, 3], true),
+    (Op::Ccnt1, [4, 4, 3], [4, 3, 3], false),
+    (Op::Ccnt1, [4, 5, 3], [5, 3, 3], true),
+    (Op::Ccnt1, [4, 0, 3], [0, 3, 3], true),
+    (Op::Ccnt1, [0xFFFF_FFFF, 0x8000_0000, 3], [0x8000_0000, 3, 3], false),
+];
+
+const LONG_SUMS: &[Row] = &[
+    (Op::Ladd, [1, 2, 1], [4, 2, 1], false),
+    (Op::Ladd, [1, 2, 2], [3, 2, 2], false),
+    (Op::Ladd, [0, 0x7FFF_FFFF, 1], [0x8000_0000, 0x7FFF_FFFF, 1], true),
+    (Op::Ladd, [0xFFFF_FFFF, 0x8000_0000, 1], [0x8000_0000, 0x8000_0000, 1], false),
+    (Op::Lsub, [1, 5, 1], [3, 5, 1], false),
+    (Op::Lsub, [0, 0x8000_0000, 3], [0x7FFF_FFFF, 0x8000_0000, 3], true),
+    (Op::Lsum, [0xFFFF_FFFF, 1, 1], [1, 1, 1], false),
+    (Op::Lsum, [0xFFFF_FFFF, 0xFFFF_FFFF, 1], [0xFFFF_FFFF, 1, 1], false),
+    (Op::Lsum, [1, 2, 0], [3, 0, 0], false),
+    (Op::Ldiff, [1, 0, 0], [0xFFFF_FFFF, 1, 0], false),
+    (Op::Ldiff, [0xFFFF_FFFF, 0, 1], [0, 1, 1], false),
+    (Op::Ldiff, [1, 3, 1], [1, 0, 1], false),
+];
+
+const LONG_PRODUCTS: &[Row] = &[
+    (Op::Lmul, [0xFFFF_FFFF, 0xFFFF_FFFF, 0xFFFF_FFFF], [0, 0xFFFF_FFFF, 0xFFFF_FFFF], false),
+    (Op::Lmul, [2, 3, 4], [10, 0, 4], false),
+    (Op::Lmul, [0x1_0000, 0x1_0000, 0], [0, 1, 0], false),
+    (Op::Ldiv, [2, 0, 1], [0x8000_0000, 0, 1], false),
+    (Op::Ldiv, [2, 7, 2], [0, 7, 2], true),
+    (Op::Ldiv, [0, 7, 0], [0, 7, 0], true),
+    (Op::Ldiv, [2, 7, 0], [3, 1, 0], false),
+    (Op::Ldiv, [3, 0xFFFF_FFFF, 2], [0xFFFF_FFFF, 2, 2], false),
+];
+
+const COUNTS_OF_BYTES: &[Row] = &[
+    (Op::Bcnt, [3, 2, 1], [12, 2, 1], false),
+    (Op::Bcnt, [0x4000_0001, 2, 1], [4, 2, 1], false),
+    (Op::Wcnt, [0x8000_0007, 2, 1], [0xE000_0001, 3, 2], false),
+    (Op::Wcnt, [13, 2, 1], [3, 1, 2], false),
+];
+
+/// Every operation that works on the registers alone.
+#[test]
+fn operations(rt: HostRuntime) {
+    check(&rt, SUMS_CHECKED);
+    check(&rt, SUMS_THAT_WRAP);
+    check(&rt, PRODUCTS);
+    check(&rt, QUOTIENTS);
+    check(&rt, BITS);
+    check(&rt, SHIFTS);
+    check(&rt, COMPARISONS);
+    check(&rt, LONG_SUMS);
+    check(&rt, LONG_PRODUCTS);
+    check(&rt, COUNTS_OF_BYTES);
+}
+
+#[test]
+fn tests_of_error(rt: HostRuntime) {
+    for (was_set, answer) in [(false, 1), (true, 0)] {
+        let mut seen = regs([7, 2, 3], was_set);
+        assert!(rt; registers(&operation(Op::Testerr), &mut seen));
+        assert_eq!(rt; seen, regs([answer, 7, 2], false));
+    }
+}
+
+/// A function with its operand, with A, B and C before and after it, and whether it sets Error.
+const FUNCTIONS: &[(Fun, i32, [u32; 3], [u32; 3], bool)] = &[
+    (Fun::Ldc, 5, [1, 2, 3], [5, 1, 2], false),
+    (Fun::Ldc, -1, [1, 2, 3], [0xFFFF_FFFF, 1, 2], false),
+    (Fun::Adc, 2, [3, 2, 1], [5, 2, 1], false),
+    (Fun::Adc, 1, [0x7FFF_FFFF, 2, 1], [0x8000_0000, 2, 1], true),
+    (Fun::Adc, -1, [0x8000_0000, 2, 1], [0x7FFF_FFFF, 2, 1], true),
+    (Fun::Ldnlp, 3, [0x8000_0100, 2, 1], [0x8000_010C, 2, 1], false),
+    (Fun::Ldnlp, -1, [0x8000_0100, 2, 1], [0x8000_00FC, 2, 1], false),
+    (Fun::Eqc, 5, [5, 2, 1], [1, 2, 1], false),
+    (Fun::Eqc, 5, [6, 2, 1], [0, 2, 1], false),
+    (Fun::Eqc, -1, [0xFFFF_FFFF, 2, 1], [1, 2, 1], false),
+];
+
+#[test]
+fn functions(rt: HostRuntime) {
+    for row in FUNCTIONS {
+        let (fun, operand, before, after, error) = *row;
+        let mut seen = regs(before, false);
+        assert!(rt; registers(&instr(fun, operand), &mut seen));
+        assert_eq!(rt; seen, regs(after, error), "{fun:?} {operand}");
+    }
+}
+
+const OTHERS: &[Op] = &[
+    Op::Lb,
+    Op::Endp,
+    Op::Gcall,
+    Op::In,
+    Op::Out,
+    Op::Startp,
+    Op::Outbyte,
+    Op::Outword,
+    Op::Stopp,
+    Op::Ldpi,
+    Op::Ldpri,
+    Op::Ret,
+    Op::Lend,
+    Op::Disc,
+    Op::Diss,
+    Op::Runp,
+    Op::Sb,
+    Op::Gajw,
+    Op::Alt,
+    Op::Altwt,
+    Op::Altend,
+    Op::Enbc,
+    Op::Enbs,
+    Op::Move,
+    Op::Stoperr,
+];
+
+/// Instructions that need more than the registers leave them alone.
+#[test]
+fn others(rt: HostRuntime) {
+    let before = regs([1, 2, 3], false);
+    for op in OTHERS {
+        let mut seen = before;
+        assert!(rt; !registers(&operation(*op), &mut seen), "{op:?}");
+        assert_eq!(rt; seen, before);
+        assert_eq!(rt; op_row(*op, before), None);
+    }
+    let rows = OPERATIONS.iter().filter(|row| op_row(row.1, before).is_some());
+    assert_eq!(rt; rows.count(), 31);
+}
+
+const OTHER_FUNCTIONS: &[Fun] = &[
+    Fun::J,
+    Fun::Ldlp,
+    Fun::Ldnl,
+    Fun::Ldl,
+    Fun::Call,
+    Fun::Cj,
+    Fun::Ajw,
+    Fun::Stl,
+    Fun::Stnl,
+];
+
+#[test]
+fn other_functions(rt: HostRuntime) {
+    let before = regs([1, 2, 3], false);
+    for fun in OTHER_FUNCTIONS {
+        let mut seen = before;
+        assert!(rt; !registers(&instr(*fun, 5), &mut seen), "{fun:?}");
+        assert_eq!(rt; seen, before);
+        assert_eq!(rt; fun_row(*fun, 5, before), None);
+    }
+    assert_eq!(rt; register_row(&instr(Fun::Opr, 0x22), before), None);
+}
+
+#[test]
+fn the_stack(rt: HostRuntime) {
+    let before = regs([1, 2, 3], true);
+    assert_eq!(rt; push(before, 7), regs([7, 1, 2], true));
+    assert_eq!(rt; pop(before), regs([2, 3, 3], true));
+    assert_eq!(rt; set_a(before, 7), regs([7, 2, 3], true));
+}
