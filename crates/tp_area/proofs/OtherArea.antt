@@ -164,8 +164,7 @@ gate_then gate true old new is inside called =
     let now : new.now.bytes ≡ written old.now.bytes gate gate_closed = ap (λ (m : Moment). m.bytes) called.now in
     let first : drop gate (written old.now.bytes gate gate_closed) ≡ GATE_CLOSED ∷ drop (gate + 1) old.now.bytes = drop_written old.now.bytes gate gate_closed (omega arith) in
     let byte : u8_at (written old.now.bytes gate gate_closed) gate ≡ 0 =
-    ap (λ n. get_or (written old.now.bytes gate gate_closed) n 0) (sym (add-zero gate)) ∙ sym (get_or-drop gate (written old.now.bytes gate gate_closed) 0 0) ∙ ap (λ xs. get_or xs 0 0) first in
-    (
+    ap (λ n. get_or (written old.now.bytes gate gate_closed) n 0) (sym (add-zero gate)) ∙ sym (get_or-drop gate (written old.now.bytes gate gate_closed) 0 0) ∙ ap (λ xs. get_or xs 0 0) first in (
       ap (λ bytes. is_open (u8_at bytes gate)) now ∙ ap is_open byte,
       subst (SameOutside gate 1 old.now.bytes) (sym now) (written_same_outside old.now.bytes gate gate_closed (omega arith)),
     )
