@@ -14,3 +14,4 @@ pub mod Topologies
 pub mod HeadBytes
 pub mod FormatBytes
 pub mod FormatCalls
+pub mod OtherArea

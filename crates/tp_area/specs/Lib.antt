@@ -2,3 +2,4 @@ pub mod Places
 pub mod Appended
 pub mod Puts
 pub mod Formatting
+pub mod Other

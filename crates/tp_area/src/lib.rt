@@ -4,10 +4,12 @@
 mod body;
 mod fault;
 mod formatting;
+mod gate;
 mod group;
 mod head;
 mod images;
 mod laws;
+mod other;
 mod place;
 mod puts;
 mod room;

@@ -1,0 +1,226 @@
+-- The area that isn't open may hold anything, as long as its gate is closed.
+use Rattle.std.proofs.Common.{◌≡◌, ℕ, ◌+◌, ◌-◌, ◌*◌, ◌<◌, ◌≤◌, inl, inr, Bool, true, false, List, [], ◌∷◌, ◌++◌, length, take, drop, get_or, refl, sym, ap, subst, ◌∙◌, arith, add-zero, Option, Some, None, Result, Ok, Err}
+use Rattle.std.specs.Prelude.{not, if◌then◌else◌}
+use Rattle.std.proofs.lemmas.Bool.{cond-false, ne_eqb, eq-eqb}
+use Rattle.std.proofs.lemmas.List.{drop_more, get_or-drop}
+use Rattle.tp_model.specs.declared.opening.OpenFault.{OpenFault}
+use Rattle.tp_model.specs.declared.limits.TheConstants.{GATE_CLOSED}
+use Rattle.tp_model.specs.Bytes.{u8_at}
+use Rattle.tp_model.specs.Node.{t414, t414_ends}
+use Rattle.tp_model.specs.Device.{area_start, gate_of, content_of, is_open, generation_of}
+use Rattle.tp_model.specs.Disk.{Moment, Write, Sync, Read, SameOutside, IsWithin, written, done}
+use Rattle.tp_model.specs.DiskHistory.{State, Goes, Fails}
+use Rattle.tp_model.specs.StoreCalls.{Called, BrokeIn, clear_calls, put_calls}
+use Rattle.tp_model.specs.Areas.{gate_closed}
+use Rattle.tp_model.specs.Opening.{Opened, chosen_area, choice, opening, verdict, base_of}
+use Rattle.tp_model.specs.DeviceAreas.{device_areas, open_other_of, spare_of, other_is_open, other_start}
+use Rattle.tp_disk.proofs.Moments.{written_same_outside}
+use Rattle.tp_disk.proofs.Agree.{same_apart}
+use Rattle.tp_disk.proofs.Calls.{called_one, called_then, broke_one, broke_first, broke_later}
+use Rattle.tp_area.specs.declared.place.Place.{Place}
+use Rattle.tp_area.specs.Places.{area_field, cut_field, listed, place_in, place_at}
+use Rattle.tp_area.specs.Other.{other_gate, if_open, OtherIsClosed, Cleared, PutBehind}
+use Rattle.tp_area.proofs.SameFront.{SameFront, front_of_range, u64_same}
+use Rattle.tp_area.proofs.Frames.{drop_written}
+use Rattle.tp_area.proofs.Placed.{IsPlaced, content_at, found_at, is_placed, place_is}
+use Rattle.tp_area.proofs.OpenedPlace.{opening_place}
+
+-- ## The choice
+
+own_is_open : (at : ℕ) (a b second : Bool) (first other : ℕ) → choice at a b first other ≡ Ok second → (if second then b else a) ≡ true
+own_is_open at true true false first other h = refl
+own_is_open at true true true first other h = refl
+own_is_open at true false false first other h = refl
+own_is_open at true false true first other h = cc
+own_is_open at false true true first other h = refl
+own_is_open at false true false first other h = cc
+own_is_open at false false second first other h = cc
+
+-- the own gate is open and the other one is closed
+alone : (at : ℕ) (a b second : Bool) (first other : ℕ) → (if second then b else a) ≡ true → (if second then a else b) ≡ false → choice at a b first other ≡ Ok second
+alone at true false false first other own shut = refl
+alone at false true true first other own shut = refl
+alone at true true false first other own shut = cc
+alone at true true true first other own shut = cc
+alone at true false true first other own shut = cc
+alone at false true false first other own shut = cc
+alone at false false false first other own shut = cc
+alone at false false true first other own shut = cc
+
+-- ## What may change
+
+-- a range in the other area
+pub record InOther (place : Place) (at count : ℕ) : Type 0 where
+  pub from : other_gate place ≤ at
+  pub upto : at + count ≤ other_gate place + place.area
+
+own_gate_same : (area : ℕ) (second : Bool) (at count : ℕ) (old new : List ℕ) → 1 ≤ area → area_start area (not second) ≤ at → at + count ≤ area_start area (not second) + area
+    → SameOutside at count old new → gate_of area second new ≡ gate_of area second old
+own_gate_same area false at count old new some low high same = same.same 512 (inl (omega arith))
+own_gate_same area true at count old new some low high same = same.same (512 + area) (inr (omega arith))
+
+own_content_stays : (area : ℕ) (second : Bool) (at count : ℕ) (old new : List ℕ) → 1 ≤ area → area_start area (not second) ≤ at → at + count ≤ area_start area (not second) + area
+    → SameOutside at count old new → content_of area second new ≡ content_of area second old
+own_content_stays area false at count old new some low high same = same_apart at count old new (512 + 1) (area - 1) same (inl (omega arith))
+own_content_stays area true at count old new some low high same = same_apart at count old new (512 + area + 1) (area - 1) same (inr (omega arith))
+
+own_open : (area : ℕ) (second : Bool) (bytes : List ℕ) → chosen_area area bytes ≡ Ok second → is_open (gate_of area second bytes) ≡ true
+unfolding chosen_area
+own_open area false bytes h = own_is_open (area_start area true) (is_open (gate_of area false bytes)) (is_open (gate_of area true bytes)) false _ _ h
+own_open area true bytes h = own_is_open (area_start area true) (is_open (gate_of area false bytes)) (is_open (gate_of area true bytes)) true _ _ h
+
+chosen_alone : (area : ℕ) (second : Bool) (bytes : List ℕ) → is_open (gate_of area second bytes) ≡ true → is_open (gate_of area (not second) bytes) ≡ false → chosen_area area bytes ≡ Ok second
+unfolding chosen_area
+chosen_alone area false bytes own shut = alone (area_start area true) (is_open (gate_of area false bytes)) (is_open (gate_of area true bytes)) false _ _ own shut
+chosen_alone area true bytes own shut = alone (area_start area true) (is_open (gate_of area false bytes)) (is_open (gate_of area true bytes)) true _ _ own shut
+
+gates_behind_head : (area : ℕ) (second : Bool) → 512 ≤ area_start area second
+gates_behind_head area false = omega arith
+gates_behind_head area true = omega arith
+
+-- the place stays, whatever is written there, while that gate is closed
+pub place_stays : (place : Place) (bytes new : List ℕ) (at count : ℕ) → 1 ≤ place.area → place_in bytes ≡ Some place → InOther place at count → SameOutside at count bytes new
+    → is_open (gate_of place.area (not place.second) new) ≡ false → place_in new ≡ Some place
+place_stays place bytes new at count some said lies same shut =
+    let is = is_placed bytes place said in
+    let low = lies.from in
+    let start = gates_behind_head place.area (not place.second) in
+    let content = own_content_stays place.area place.second at count bytes new some lies.from lies.upto same in
+    let gate = own_gate_same place.area place.second at count bytes new some lies.from lies.upto same in
+    let found : found_at place new ≡ found_at place bytes = ap (listed (area_start place.area place.second + 1)) content in
+    place_is place new (record {
+      area = u64_same 16 at bytes new (omega arith) (front_of_range at count bytes new same) ∙ is.area;
+      room = subst (λ n. 512 + (place.area + place.area) ≤ n) (sym same.same_length) is.room;
+      second = chosen_alone place.area place.second new (ap is_open gate ∙ own_open place.area place.second bytes is.second) shut;
+      closed = ap (λ l. l.is_closed) found ∙ is.closed;
+      cut = subst (λ xs. 8 ≤ cut_field xs) (sym content) is.cut;
+      generation = ap generation_of content ∙ is.generation;
+      end = ap (λ l. l.end) found ∙ is.end;
+      next = ap (λ xs. base_of xs + length (found_at place new).rows) content ∙ ap (λ l. base_of (content_at place bytes) + length l.rows) found ∙ is.next;
+    })
+
+-- ## Inside the device
+
+areas_fit : (area size : ℕ) (second : Bool) → 512 + 2 * area ≤ size → area_start area second + area ≤ size
+areas_fit area size false room = omega arith
+areas_fit area size true room = omega arith
+
+pub some_area : (area end : ℕ) (second : Bool) → area_start area second + 13 ≤ end → end < area_start area second + area → 1 ≤ area
+some_area area end second low high = omega arith
+
+pub gate_inside : (area size gate end : ℕ) (second : Bool) → gate ≡ area_start area (not second) → 512 + 2 * area ≤ size → area_start area second + 13 ≤ end → end < area_start area second + area
+    → gate + 1 ≤ size
+gate_inside area size gate end second is room low high =
+    let some = some_area area end second low high in
+    let fit = areas_fit area size (not second) room in
+    omega arith
+
+pub piece_inside : (place : Place) (size at count : ℕ) → 512 + 2 * place.area ≤ size → at + count < place.area → other_gate place + 1 + at + count ≤ size
+piece_inside place size at count room small = let fit = areas_fit place.area size (not place.second) room in omega arith
+
+-- ## Closing the gate
+
+-- what a look at the gate gave
+pub looked_closed : (gate : ℕ) (found : List ℕ) (s t : State) → gate < length s.now.bytes → found ≡ take 1 (drop gate s.now.bytes) → (get_or found 0 0 ≡ 165 → ⊥)
+    → t.now ≡ done Read s.now → Goes s t → Called (clear_calls (if_open gate s.now.bytes)) s t
+looked_closed gate found s t inside was other now goes =
+    let byte : get_or found 0 0 ≡ u8_at s.now.bytes gate = ap (λ xs. get_or xs 0 0) (was ∙ ap (take 1) (drop_more s.now.bytes gate 0 inside)) in
+    let shut : is_open (u8_at s.now.bytes gate) ≡ false = ap is_open (sym byte) ∙ ne_eqb (get_or found 0 0) 165 other in
+    subst (λ b. Called (clear_calls (if b then Some gate else None)) s t) (sym shut) (called_one Read s t now goes)
+
+opened_gate : (gate : ℕ) (found bytes : List ℕ) → gate < length bytes → found ≡ take 1 (drop gate bytes) → get_or found 0 0 ≡ 165 → is_open (u8_at bytes gate) ≡ true
+opened_gate gate found bytes inside was same =
+    let byte : get_or found 0 0 ≡ u8_at bytes gate = ap (λ xs. get_or xs 0 0) (was ∙ ap (take 1) (drop_more bytes gate 0 inside)) in
+    ap is_open (sym byte) ∙ eq-eqb (get_or found 0 0) 165 same
+
+pub looked_open : (gate : ℕ) (found : List ℕ) (s t u : State) → gate < length s.now.bytes → found ≡ take 1 (drop gate s.now.bytes) → get_or found 0 0 ≡ 165
+    → t.now ≡ done Read s.now → Goes s t → Called (Write gate gate_closed ∷ Sync ∷ []) t u → Called (clear_calls (if_open gate s.now.bytes)) s u
+looked_open gate found s t u inside was same now goes called =
+    subst (λ b. Called (clear_calls (if b then Some gate else None)) s u) (sym (opened_gate gate found s.now.bytes inside was same))
+    (called_then (Read ∷ []) (Write gate gate_closed ∷ Sync ∷ []) s t u (called_one Read s t now goes) called)
+
+pub look_broke : (gate : ℕ) (s t : State) → Fails Read s t → BrokeIn (clear_calls (if_open gate s.now.bytes)) s.now t.now
+look_broke gate s t failed = go (is_open (u8_at s.now.bytes gate))
+  where
+    go : (b : Bool) → BrokeIn (clear_calls (if b then Some gate else None)) s.now t.now
+    go true = broke_first (Read ∷ []) (Write gate gate_closed ∷ Sync ∷ []) s.now t.now (broke_one Read s t failed)
+    go false = broke_one Read s t failed
+
+pub close_broke : (gate : ℕ) (found : List ℕ) (s t u : State) → gate < length s.now.bytes → found ≡ take 1 (drop gate s.now.bytes) → get_or found 0 0 ≡ 165
+    → t.now ≡ done Read s.now → Goes s t → BrokeIn (Write gate gate_closed ∷ Sync ∷ []) t.now u.now → BrokeIn (clear_calls (if_open gate s.now.bytes)) s.now u.now
+close_broke gate found s t u inside was same now goes broke =
+    subst (λ b. BrokeIn (clear_calls (if b then Some gate else None)) s.now u.now) (sym (opened_gate gate found s.now.bytes inside was same))
+    (broke_later (Read ∷ []) (Write gate gate_closed ∷ Sync ∷ []) s t u.now (called_one Read s t now goes) broke)
+
+-- ## After a call
+
+-- the gate after it was looked at, and closed where it was open
+gate_then : (gate : ℕ) (b : Bool) (old new : State) → is_open (u8_at old.now.bytes gate) ≡ b → gate < length old.now.bytes → Called (clear_calls (if b then Some gate else None)) old new
+    → (is_open (u8_at new.now.bytes gate) ≡ false) × SameOutside gate 1 old.now.bytes new.now.bytes
+gate_then gate false old new is inside called =
+    let same : new.now.bytes ≡ old.now.bytes = ap (λ (m : Moment). m.bytes) called.now in
+    (ap (λ bytes. is_open (u8_at bytes gate)) same ∙ is, record { same_length = ap length same; same = λ place out. ap (λ bytes. get_or bytes place 0) same })
+gate_then gate true old new is inside called =
+    let now : new.now.bytes ≡ written old.now.bytes gate gate_closed = ap (λ (m : Moment). m.bytes) called.now in
+    let first : drop gate (written old.now.bytes gate gate_closed) ≡ GATE_CLOSED ∷ drop (gate + 1) old.now.bytes = drop_written old.now.bytes gate gate_closed (omega arith) in
+    let byte : u8_at (written old.now.bytes gate gate_closed) gate ≡ 0 =
+    ap (λ n. get_or (written old.now.bytes gate gate_closed) n 0) (sym (add-zero gate)) ∙ sym (get_or-drop gate (written old.now.bytes gate gate_closed) 0 0) ∙ ap (λ xs. get_or xs 0 0) first in (
+      ap (λ bytes. is_open (u8_at bytes gate)) now ∙ ap is_open byte,
+      subst (SameOutside gate 1 old.now.bytes) (sym now) (written_same_outside old.now.bytes gate gate_closed (omega arith)),
+    )
+
+same_some : {A : Type 0} (x y : A) → Some x ≡ Some y → x ≡ y
+same_some x y h = cc
+
+pub cleared_by : (place : Place) (old new : State) → place_in old.now.bytes ≡ Some place → other_gate place < length old.now.bytes
+    → Called (clear_calls (if_open (other_gate place) old.now.bytes)) old new → Cleared place old new
+unfolding verdict open_other_of
+cleared_by place old new said inside called = record {
+  called = called;
+  asked = λ o is.
+      let here : place_at o ≡ place = same_some (place_at o) place (sym (opening_place t414 t414_ends old.now.bytes o is) ∙ said) in
+      ap (λ r. open_other_of r old.now.bytes) is ∙ ap (λ (p : Place). if_open (other_gate p) old.now.bytes) here;
+  closed = (gate_then (other_gate place) (is_open (u8_at old.now.bytes (other_gate place))) old new refl inside called).0;
+}
+
+pub cleared_place : (place : Place) (old new : State) → 1 ≤ place.area → place_in old.now.bytes ≡ Some place → other_gate place < length old.now.bytes
+    → Called (clear_calls (if_open (other_gate place) old.now.bytes)) old new → place_in new.now.bytes ≡ Some place
+cleared_place place old new some said inside called =
+    let t = gate_then (other_gate place) (is_open (u8_at old.now.bytes (other_gate place))) old new refl inside called in
+    place_stays place old.now.bytes new.now.bytes (other_gate place) 1 some said (record { from = omega arith; upto = omega arith }) t.1 t.0
+
+-- bytes behind the closed gate
+pub put_same : (place : Place) (at : ℕ) (bytes : List ℕ) (old new : State) → other_gate place + 1 + at + length bytes ≤ length old.now.bytes
+    → new.now ≡ done (Write (other_gate place + 1 + at) bytes) old.now → SameOutside (other_gate place + 1 + at) (length bytes) old.now.bytes new.now.bytes
+put_same place at bytes old new room was =
+    let now : new.now.bytes ≡ written old.now.bytes (other_gate place + 1 + at) bytes = ap (λ (m : Moment). m.bytes) was in
+    subst (SameOutside (other_gate place + 1 + at) (length bytes) old.now.bytes) (sym now) (written_same_outside old.now.bytes (other_gate place + 1 + at) bytes room)
+
+stays_closed : (place : Place) (at : ℕ) (bytes : List ℕ) (old new : State) → other_gate place + 1 + at + length bytes ≤ length old.now.bytes
+    → new.now ≡ done (Write (other_gate place + 1 + at) bytes) old.now → OtherIsClosed place old → OtherIsClosed place new
+stays_closed place at bytes old new room was shut =
+    let same = put_same place at bytes old new room was in
+    ap is_open (same.same (other_gate place) (inl (omega arith))) ∙ shut
+
+spare_is : (o : Opened) (bytes : List ℕ) → other_is_open o bytes ≡ false → spare_of (Ok o) bytes ≡ (other_start o + 1, o.head.area - 1)
+unfolding spare_of
+spare_is o bytes shut = cond-false (other_is_open o bytes) (0, 0) (other_start o + 1, o.head.area - 1) shut
+
+pub put_by : (place : Place) (at : ℕ) (bytes : List ℕ) (old new : State) → place_in old.now.bytes ≡ Some place → other_gate place + 1 + at + length bytes ≤ length old.now.bytes
+    → at + length bytes < place.area → OtherIsClosed place old → new.now ≡ done (Write (other_gate place + 1 + at) bytes) old.now → Goes old new → PutBehind place at bytes old new
+unfolding verdict
+put_by place at bytes old new said room inside shut was goes = record {
+  called = called_one (Write (other_gate place + 1 + at) bytes) old new was goes;
+  spare = λ o is.
+      let here : place_at o ≡ place = same_some (place_at o) place (sym (opening_place t414 t414_ends old.now.bytes o is) ∙ said) in
+      let P : Place → Type 0 = λ p. OtherIsClosed p old → at + length bytes < p.area → IsWithin (spare_of (Ok o) old.now.bytes) (other_gate p + 1 + at, length bytes) in
+      let own : P (place_at o) = λ closed small. subst (λ range. IsWithin range (other_gate (place_at o) + 1 + at, length bytes)) (sym (spare_is o old.now.bytes closed)) (omega arith, omega arith) in
+      subst (λ r. IsWithin (spare_of r old.now.bytes) (other_gate place + 1 + at, length bytes)) (sym is) (subst P here own shut inside);
+  closed = stays_closed place at bytes old new room was shut;
+}
+
+pub put_place : (place : Place) (at : ℕ) (bytes : List ℕ) (old new : State) → place_in old.now.bytes ≡ Some place → other_gate place + 1 + at + length bytes ≤ length old.now.bytes
+    → at + length bytes < place.area → OtherIsClosed place old → new.now ≡ done (Write (other_gate place + 1 + at) bytes) old.now → place_in new.now.bytes ≡ Some place
+put_place place at bytes old new said room inside shut was =
+    place_stays place old.now.bytes new.now.bytes (other_gate place + 1 + at) (length bytes) (omega arith) said (record { from = omega arith; upto = omega arith })
+    (put_same place at bytes old new room was) (stays_closed place at bytes old new room was shut)

@@ -1,0 +1,33 @@
+-- The area that isn't open, and what is done to it.
+use Rattle.std.specs.Prelude.{◌≡◌, ℕ, ◌+◌, Bool, true, false, not, if◌then◌else◌, List, [], ◌∷◌, length, Option, Some, None, Ok}
+use Rattle.tp_model.specs.Bytes.{u8_at}
+use Rattle.tp_model.specs.Device.{area_start, gate_of, is_open}
+use Rattle.tp_model.specs.Disk.{IsWithin}
+use Rattle.tp_model.specs.DiskHistory.{State}
+use Rattle.tp_model.specs.StoreCalls.{Called, clear_calls, put_calls}
+use Rattle.tp_model.specs.DeviceAreas.{device_areas}
+use Rattle.tp_model.specs.Opening.{Opened, verdict}
+use Rattle.tp_area.specs.declared.place.Place.{Place}
+
+-- where its gate stands
+abbrev pub other_gate : Place → ℕ
+other_gate place = area_start place.area (not place.second)
+
+-- a gate, where it is open
+abbrev pub if_open : ℕ → List ℕ → Option ℕ
+if_open gate bytes = if is_open (u8_at bytes gate) then Some gate else None
+
+abbrev pub OtherIsClosed : Place → State → Type 0
+OtherIsClosed place s = is_open (gate_of place.area (not place.second) s.now.bytes) ≡ false
+
+-- Its gate was looked at, and closed where it was open, which is where the areas of the device say that it is.
+pub record Cleared (place : Place) (old new : State) : Type 0 where
+  pub called : Called (clear_calls (if_open (other_gate place) old.now.bytes)) old new
+  pub asked : (o : Opened) → verdict old.now.bytes ≡ Ok o → device_areas.open_other old.now.bytes ≡ if_open (other_gate place) old.now.bytes
+  pub closed : OtherIsClosed place new
+
+-- Bytes were put behind its closed gate, which is where the areas of the device have room to spare. They aren't synced.
+pub record PutBehind (place : Place) (at : ℕ) (bytes : List ℕ) (old new : State) : Type 0 where
+  pub called : Called (put_calls ((other_gate place + 1 + at, bytes) ∷ [])) old new
+  pub spare : (o : Opened) → verdict old.now.bytes ≡ Ok o → IsWithin (device_areas.spare old.now.bytes) (other_gate place + 1 + at, length bytes)
+  pub closed : OtherIsClosed place new
