@@ -1,6 +1,6 @@
 //! Laws that the calls rest on. The functions do nothing; their contracts are the laws.
 
-ghost use Rattle.std.specs.Prelude.{◌≡◌, ◌<◌, ◌+◌, ℕ, List, false, true, Some, None, IsSome, slice_get};
+ghost use Rattle.std.specs.Prelude.{◌≡◌, ◌<◌, ◌+◌, ℕ, List, false, true, Some, None, Ok, IsSome, slice_get};
 ghost use Rattle.tp_model.specs.declared.entry.Entry.{Entry};
 ghost use Rattle.tp_model.specs.declared.link.Token.{Token};
 ghost use Rattle.tp_model.specs.declared.wire.WireEnd.TheVariants.{Link};
@@ -11,7 +11,9 @@ ghost use Rattle.tp_model.specs.Markers.{is_marker};
 ghost use Rattle.tp_model.specs.Network.{Network, steps, receiver, on_line, is_first};
 ghost use Rattle.tp_model.specs.Node.{t414, took};
 ghost use Rattle.tp_book.specs.Kept.{AreCounted};
+ghost use Rattle.tp_model.specs.Replay.{Replay, after_rows, replay_from};
 ghost use Rattle.tp_replay.specs.Flat.{IsFlat};
+ghost use Rattle.tp_replay.specs.History.{IsHistory};
 ghost use Rattle.tp_replay.specs.Messages.{MessagesInside};
 
 /// The messages under way at a node that has an image lie inside its memory, and they stay so in each run and with each
@@ -29,4 +31,10 @@ pub fn entries_keep_flat()
     ensures fronts { (s : Network NodeState) → IsFlat s → (line i k : ℕ) (node : NodeState) (token : Token) → receiver s.wires line ≡ Some (Link i k) → slice_get s.nodes i ≡ Some node
         → is_marker token ≡ false → is_first (on_line s.lines line) token ≡ true → IsSome (took node k token) }
     ensures counted { (n : ℕ) (s t : Network NodeState) (e : Entry) → AreCounted n s.ports → next t414 s e ≡ Some t → AreCounted (n + 1) t.ports }
+{}
+
+/// What is replayed behind a cut is a history: the kept entries lead from the cut's network to the one that is there, their
+/// numbers rise, and the next entry's number counts them.
+pub fn rows_are_history()
+    ensures { (start : Network NodeState) (base : ℕ) (rows : List (ℕ × List ℕ)) (last : Replay NodeState) → after_rows t414 (replay_from start base) rows ≡ Ok last → IsHistory t414 start base last }
 {}
