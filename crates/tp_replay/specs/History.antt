@@ -1,5 +1,5 @@
 -- What is replayed behind a cut.
-use Rattle.std.specs.Prelude.{◌≡◌, ℕ, ◌+◌, List, length, map, Some}
+use Rattle.std.specs.Prelude.{◌≡◌, ℕ, ◌+◌, length, map, Some}
 use Rattle.tp_model.specs.Network.{Machine, Network}
 use Rattle.tp_model.specs.Order.{after}
 use Rattle.tp_model.specs.Numbers.{AreNumbered}

@@ -7,7 +7,7 @@ ghost use Rattle.tp_model.specs.declared.wire.WireEnd.TheVariants.{Link};
 ghost use Rattle.tp_model.specs.NodeState.{NodeState};
 ghost use Rattle.tp_model.specs.Image.{IsNode};
 ghost use Rattle.tp_model.specs.Entries.{next};
-ghost use Rattle.tp_model.specs.Markers.{is_marker};
+ghost use Rattle.tp_model.specs.Markers.{is_marker, markers};
 ghost use Rattle.tp_model.specs.Network.{Network, steps, receiver, on_line, is_first};
 ghost use Rattle.tp_model.specs.Node.{t414, took};
 ghost use Rattle.tp_book.specs.Kept.{AreCounted};
@@ -24,10 +24,11 @@ pub fn messages_stay_inside()
     ensures takes { (node : NodeState) (k : ℕ) (token : Token) (after : NodeState × List (ℕ × Token)) → MessagesInside node → took node k token ≡ Some after → MessagesInside after.0 }
 {}
 
-/// Every entry keeps a flat network flat. There a node can take what stands in front of a line that goes to it, unless that is
+/// Every entry keeps a flat network flat, and takes and sends no Marker. There a node can take what stands in front of a line that goes to it, unless that is
 /// a Marker. What ports have counted stays no more than there are entries.
 pub fn entries_keep_flat()
     ensures kept { (s t : Network NodeState) (e : Entry) → IsFlat s → next t414 s e ≡ Some t → IsFlat t }
+    ensures marks { (s t : Network NodeState) (e : Entry) → IsFlat s → next t414 s e ≡ Some t → (line : ℕ) → markers (on_line t.lines line) ≡ markers (on_line s.lines line) }
     ensures fronts { (s : Network NodeState) → IsFlat s → (line i k : ℕ) (node : NodeState) (token : Token) → receiver s.wires line ≡ Some (Link i k) → slice_get s.nodes i ≡ Some node
         → is_marker token ≡ false → is_first (on_line s.lines line) token ≡ true → IsSome (took node k token) }
     ensures counted { (n : ℕ) (s t : Network NodeState) (e : Entry) → AreCounted n s.ports → next t414 s e ≡ Some t → AreCounted (n + 1) t.ports }
