@@ -96,6 +96,13 @@ module _ (s : Network NodeState) (F : IsFlat s) (e : Entry) (t : Network NodeSta
         | inr other ↦ F.inside i n (own_node s i n (sym (step_own_other t414 has_four_links s e t S i other) ∙ here)).1
       ]
 
+  -- it takes no Marker and sends none
+  markers_step : (line : ℕ) → markers (on_line t.lines line) ≡ markers (on_line s.lines line)
+  markers_step line =
+      ap (λ lines. markers (on_line lines line)) (step_lines t414 has_four_links s e t S)
+      ∙ markers-sent (has_wire s.wires) S.out S.sends (step_sends_unmarked t414 never_marks s e t S) line
+      ∙ markers-taken s.lines (takes s e) S.out (step_takes_unmarked t414 never_marks s e t S) S.takes_out line
+
   pub flat_step : IsFlat t
   flat_step = record {
     sound = sound_kept has_four_links keeps_flight s t e F.sound (next_from t414 s e t S);
@@ -105,12 +112,7 @@ module _ (s : Network NodeState) (F : IsFlat s) (e : Entry) (t : Network NodeSta
       few_nodes = omega (arith, shape.nodes, F.shaped.few_nodes);
       few_ports = omega (arith, shape.ports, F.shaped.few_ports);
     };
-    marked = λ line.
-        subst (λ n. n ≤ 1)
-        (sym (ap (λ lines. markers (on_line lines line)) (step_lines t414 has_four_links s e t S)
-        ∙ markers-sent (has_wire s.wires) S.out S.sends (step_sends_unmarked t414 never_marks s e t S) line
-        ∙ markers-taken s.lines (takes s e) S.out (step_takes_unmarked t414 never_marks s e t S) S.takes_out line))
-        (F.marked line);
+    marked = λ line. subst (λ n. n ≤ 1) (sym (markers_step line)) (F.marked line);
     inside = inside;
   }
 
@@ -124,3 +126,7 @@ module _ (s : Network NodeState) (F : IsFlat s) (e : Entry) (t : Network NodeSta
 -- Every entry keeps it.
 pub flat_next : (s : Network NodeState) (e : Entry) (t : Network NodeState) → IsFlat s → next t414 s e ≡ Some t → IsFlat t
 flat_next s e t F h = flat_step s F e t (step_of t414 s e t h)
+
+-- It takes no Marker and sends none.
+pub markers_next : (s : Network NodeState) (e : Entry) (t : Network NodeState) → IsFlat s → next t414 s e ≡ Some t → (line : ℕ) → markers (on_line t.lines line) ≡ markers (on_line s.lines line)
+markers_next s e t F h line = markers_step s F e t (step_of t414 s e t h) line

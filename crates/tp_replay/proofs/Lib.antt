@@ -2,6 +2,7 @@ pub mod Applied
 pub mod Counted
 pub mod Flat
 pub mod Fronts
+pub mod History
 pub mod Imaged
 pub mod Impossible
 pub mod Length

@@ -1,5 +1,6 @@
 pub mod Answers
 pub mod Flat
+pub mod History
 pub mod Inside
 pub mod Messages
 pub mod PartsOf
