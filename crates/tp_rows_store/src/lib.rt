@@ -4,8 +4,11 @@
 
 #[cfg(test)]
 mod entries;
+mod fixture;
 #[cfg(test)]
 mod groups;
+#[cfg(test)]
+mod host_calls;
 #[cfg(test)]
 mod topologies;
 #[cfg(test)]

@@ -1,6 +1,6 @@
 //! What a host hands in, confirms and is shown.
 
-ghost use Rattle.tp_rows_book.specs.Lone.{IsUsable};
+ghost use Rattle.tp_rows_store.specs.Lone.{IsUsable};
 
 use crate::fixture::book;
 use std::test::Fail;

@@ -5,7 +5,7 @@ use Rattle.tp_model.specs.Node.{t414_ends}
 use Rattle.tp_model.specs.Network.{own, receiver, is_wired, has_wire, line_of, back, on_line}
 use Rattle.tp_model.specs.Sound.{Sound, holds_at}
 use Rattle.std.proofs.lemmas.Bool.{le-ltb}
-use Rattle.tp_rows_book.specs.Lone.{lone_network, IsUsable}
+use Rattle.tp_rows_store.specs.Lone.{lone_network, IsUsable}
 use Rattle.std.specs.Prelude.{All, vec_len}
 use Rattle.tp_model.specs.declared.limits.TheConstants.{MAX_HELD}
 use Rattle.tp_model.specs.Node.{t414}

@@ -4,7 +4,7 @@ ghost use Rattle.std.specs.Prelude.{◌≡◌, ◌≤◌, IfOk, All, vec_len};
 ghost use Rattle.tp_model.specs.declared.limits.TheConstants.{MAX_HELD};
 ghost use Rattle.tp_book.specs.Parts.{network_of};
 ghost use Rattle.tp_book.specs.Opened.{IsOpened};
-ghost use Rattle.tp_rows_book.specs.Lone.{lone_network, IsUsable};
+ghost use Rattle.tp_rows_store.specs.Lone.{lone_network, IsUsable};
 
 use std::alloc::{AllocError, Global};
 use std::snapshot::Snapshot;
