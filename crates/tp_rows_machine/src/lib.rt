@@ -13,6 +13,8 @@ mod bench;
 #[cfg(test)]
 mod channels;
 #[cfg(test)]
+mod desk;
+#[cfg(test)]
 mod ends;
 #[cfg(test)]
 mod guards;

@@ -1,11 +1,12 @@
-//! The parts of steps on their own, each once, on a low process that runs with an instruction behind it.
+//! The parts of steps on their own.
 
-use crate::memory::four_pages;
-use std::alloc::{AllocError, Global};
-use std::process::Abort;
+use crate::desk::Desk;
+use crate::image::Fact;
+use crate::image::Fact::{A, Gone, High, Iptr, Low, Runs, Slice, Stack, State, Word, Wptr};
+use std::alloc::Global;
 use std::test::Fail;
-use tp_mem::{FlatMemory, Mem};
-use tp_model::{ChannelWord, Cpu, Fault, Queue, Regs, State, Wish};
+use tp_mem::FlatMemory;
+use tp_model::{ChannelWord, Cpu, Fault, InRequest, OutRequest, Wish};
 use tp_proc::{
     BAD_ADDRESS, ENABLING, KEPT_AT, NONE_CHOSEN, NOT_PROCESS, READY, Undone, WAITING, alt,
     alt_disable, alt_enable, altwt, chan_in, chan_out, chan_out_word, change, channel_at, choose,
@@ -15,301 +16,431 @@ use tp_proc::{
     startp, state_at, stop, store, store_all, workspace,
 };
 
-pub const NONE: Queue = Queue {
-    front: 0x8000_0000,
-    back: 0x8000_0000,
-};
-
-/// A queue of these two workspaces, of which the first links to the second.
-fn two(front: u32, back: u32) -> Queue {
-    Queue { front, back }
+/// A call that does a part of a step.
+#[derive(Clone, Copy)]
+enum Call {
+    Queue(u32),
+    Enqueue(u32),
+    DispatchHigh,
+    DispatchLow,
+    End,
+    Stop,
+    Slice(u32),
+    Pass(u32),
+    Jump(u32),
+    JumpLooping(u32),
+    Interrupt,
+    Restore,
+    Startp,
+    Runp,
+    Endp,
+    Out,
+    In,
+    OutWord,
+    Alt,
+    Enable,
+    Enbs,
+    Altwt,
+    Disable,
+    Diss,
+    Choose,
+    NoteChoice(u32),
+    PassOver,
+    DropB,
+    Store,
+    StoreAll,
+    Change,
 }
 
-/// The process 80000200 has A, B and C.
-pub fn process(a: u32, b: u32, c: u32) -> Cpu {
-    Cpu {
-        iptr: 0x8000_0102,
-        wptr: 0x8000_0200,
-        regs: Regs {
-            a,
-            b,
-            c,
-            error: false,
-        },
-        high: NONE,
-        low: NONE,
-        state: State::Low,
-        slice: 1,
-        halt: None,
+fn make_memory(call: Call, mem: &mut FlatMemory) -> Result<(), Undone> {
+    match call {
+        Call::Store => store(mem, 0x8000_0304, 8),
+        Call::StoreAll => store_all(mem, &[(0x8000_0304, 8), (0x8000_0308, 9)]),
+        Call::Change => change(mem, 0x8000_0310, 0x8000_0304, 8, &[(0x8000_0318, 1)]),
+        _ => Err(BAD_ADDRESS),
     }
 }
 
-/// Nothing runs, with these queues.
-pub fn idle(high: Queue, low: Queue) -> Cpu {
-    Cpu {
-        iptr: 0,
-        wptr: 0,
-        high,
-        low,
-        state: State::Idle,
-        ..process(0, 0, 0)
+fn make_registers(call: Call, cpu: &mut Cpu) {
+    match call {
+        Call::Queue(descriptor) => queue(descriptor, cpu),
+        Call::End => end(cpu),
+        Call::Pass(next) => pass(cpu, next),
+        Call::NoteChoice(word) => note_choice(word, cpu),
+        Call::PassOver => pass_over(cpu),
+        _ => drop_b(cpu),
     }
 }
 
-/// A memory with these words.
-fn memory(alloc: Global, words: &[(u32, u32)]) -> Result<FlatMemory, AllocError> {
-    let mut mem = four_pages(alloc)?;
-    for (address, word) in words {
-        let _ = mem.write_word(*address, *word);
+fn make_process(call: Call, cpu: &mut Cpu, mem: &mut FlatMemory) -> Result<(), Undone> {
+    match call {
+        Call::Enqueue(descriptor) => enqueue(cpu, mem, descriptor),
+        Call::DispatchHigh => dispatch_high(cpu, mem),
+        Call::DispatchLow => dispatch_low(cpu, mem),
+        Call::Stop => stop(cpu, mem),
+        Call::Slice(to) => slice(cpu, mem, to),
+        Call::Jump(to) => jump(cpu, mem, to),
+        Call::JumpLooping(to) => jump_looping(cpu, mem, to, (0x8000_0304, 1), (0x8000_0300, 6)),
+        Call::Interrupt => interrupt(cpu, mem),
+        Call::Restore => restore(cpu, mem, 0x8000_0201),
+        Call::Startp => startp(cpu, mem),
+        Call::Runp => runp(cpu, mem),
+        _ => endp(cpu, mem),
     }
-    Ok(mem)
 }
 
-/// These words are in memory.
-fn holds(rt: &impl Abort, mem: &FlatMemory, words: &[(u32, u32)]) {
-    for (address, word) in words {
-        assert_eq!(rt; mem.read_word(*address), Some(*word), "{address:X}");
+fn make_channel(call: Call, cpu: &mut Cpu, mem: &mut FlatMemory) -> Result<(), Undone> {
+    match call {
+        Call::Out => chan_out(cpu, mem),
+        Call::In => chan_in(cpu, mem),
+        Call::OutWord => chan_out_word(cpu, mem, 4),
+        Call::Alt => alt(cpu, mem),
+        Call::Enable => alt_enable(cpu, mem),
+        Call::Enbs => enbs(cpu, mem),
+        Call::Altwt => altwt(cpu, mem),
+        Call::Disable => alt_disable(cpu, mem),
+        Call::Diss => diss(cpu, mem),
+        _ => choose(cpu, mem),
+    }
+}
+
+fn make(call: Call, desk: &mut Desk) -> Result<(), Undone> {
+    match call {
+        Call::Queue(_)
+        | Call::End
+        | Call::Pass(_)
+        | Call::NoteChoice(_)
+        | Call::PassOver
+        | Call::DropB => {
+            make_registers(call, &mut desk.cpu);
+            Ok(())
+        }
+        Call::Store | Call::StoreAll | Call::Change => make_memory(call, &mut desk.mem),
+        Call::Out
+        | Call::In
+        | Call::OutWord
+        | Call::Alt
+        | Call::Enable
+        | Call::Enbs
+        | Call::Altwt
+        | Call::Disable
+        | Call::Diss
+        | Call::Choose => make_channel(call, &mut desk.cpu, &mut desk.mem),
+        _ => make_process(call, &mut desk.cpu, &mut desk.mem),
+    }
+}
+
+/// A call, what is given, and what then has changed.
+type Part<'a> = (Call, &'a [Fact<'a>], &'a [Fact<'a>]);
+
+fn is_part(alloc: Global, part: &Part<'_>) -> Result<bool, Fail> {
+    let (call, given, then) = *part;
+    let mut desk = Desk::new(alloc, given)?;
+    let mut wanted = Desk::new(alloc, given)?;
+    wanted.put_all(then);
+    let made = make(call, &mut desk).is_ok();
+    Ok(made && desk.is(&wanted))
+}
+
+const PARTS: &[Part<'static>] = &[
+    (Call::Store, &[], &[Word(0x8000_0304, 8)]),
+    (
+        Call::StoreAll,
+        &[],
+        &[Word(0x8000_0304, 8), Word(0x8000_0308, 9)],
+    ),
+    (
+        Call::Change,
+        &[Word(0x8000_0304, 8), Word(0x8000_0308, 9)],
+        &[
+            Word(0x8000_0310, 8),
+            Word(0x8000_0314, 9),
+            Word(0x8000_0318, 1),
+        ],
+    ),
+    // Queues: an empty one, one with a process, the other one; and without the link, which is in memory then.
+    (
+        Call::Enqueue(0x8000_0301),
+        &[],
+        &[Low(0x8000_0300, 0x8000_0300)],
+    ),
+    (
+        Call::Enqueue(0x8000_0401),
+        &[Low(0x8000_0280, 0x8000_0300)],
+        &[
+            Low(0x8000_0280, 0x8000_0400),
+            Word(0x8000_02F8, 0x8000_0400),
+        ],
+    ),
+    (
+        Call::Enqueue(0x8000_0402),
+        &[Low(0x8000_0280, 0x8000_0300)],
+        &[High(0x8000_0400, 0x8000_0400)],
+    ),
+    (
+        Call::Queue(0x8000_0401),
+        &[Low(0x8000_0280, 0x8000_0300)],
+        &[Low(0x8000_0280, 0x8000_0400)],
+    ),
+    (
+        Call::DispatchHigh,
+        &[
+            Gone,
+            High(0x8000_0280, 0x8000_0280),
+            Word(0x8000_027C, 0x8000_0190),
+        ],
+        &[
+            Runs(0x8000_0190, 0x8000_0280),
+            State(1),
+            High(0x8000_0000, 0x8000_0280),
+        ],
+    ),
+    (
+        Call::DispatchLow,
+        &[
+            Gone,
+            Low(0x8000_0300, 0x8000_0400),
+            Word(0x8000_02FC, 0x8000_0180),
+            Word(0x8000_02F8, 0x8000_0400),
+        ],
+        &[
+            Runs(0x8000_0180, 0x8000_0300),
+            Slice(0),
+            Low(0x8000_0400, 0x8000_0400),
+        ],
+    ),
+    (Call::End, &[Stack(1, 2, 3)], &[Gone]),
+    (
+        Call::Stop,
+        &[Stack(1, 2, 3)],
+        &[Gone, Word(0x8000_01FC, 0x8000_0102)],
+    ),
+    (
+        Call::Slice(0x8000_0110),
+        &[Stack(1, 2, 3)],
+        &[
+            Gone,
+            Word(0x8000_01FC, 0x8000_0110),
+            Low(0x8000_0200, 0x8000_0200),
+        ],
+    ),
+    (
+        Call::Pass(0x8000_0104),
+        &[],
+        &[Iptr(0x8000_0104), Slice(2)],
+    ),
+    (Call::Jump(0x8000_0110), &[], &[Iptr(0x8000_0110)]),
+    (
+        Call::JumpLooping(0x8000_0110),
+        &[],
+        &[
+            Iptr(0x8000_0110),
+            Word(0x8000_0304, 1),
+            Word(0x8000_0300, 6),
+        ],
+    ),
+    (
+        Call::Interrupt,
+        &[Stack(1, 2, 3)],
+        &[
+            State(0),
+            Word(0x8000_002C, 0x8000_0201),
+            Word(0x8000_0030, 0x8000_0102),
+            Word(0x8000_0034, 1),
+            Word(0x8000_0038, 2),
+            Word(0x8000_003C, 3),
+        ],
+    ),
+    (
+        Call::Restore,
+        &[
+            Gone,
+            Word(0x8000_002C, 0x8000_0201),
+            Word(0x8000_0030, 0x8000_0102),
+            Word(0x8000_0034, 1),
+            Word(0x8000_0038, 2),
+            Word(0x8000_003C, 3),
+        ],
+        &[
+            Runs(0x8000_0102, 0x8000_0200),
+            Stack(1, 2, 3),
+            Word(0x8000_002C, 0x8000_0000),
+        ],
+    ),
+    (
+        Call::Startp,
+        &[Stack(0x8000_0400, 0x20, 3)],
+        &[
+            Low(0x8000_0400, 0x8000_0400),
+            Word(0x8000_03FC, 0x8000_0122),
+        ],
+    ),
+    (
+        Call::Runp,
+        &[Stack(0x8000_0400, 2, 3)],
+        &[High(0x8000_0400, 0x8000_0400)],
+    ),
+    (
+        Call::Endp,
+        &[
+            Stack(0x8000_0300, 2, 3),
+            Word(0x8000_0300, 0x8000_0180),
+            Word(0x8000_0304, 1),
+        ],
+        &[Iptr(0x8000_0180), Wptr(0x8000_0300), Word(0x8000_0304, 0)],
+    ),
+    // The first at a channel waits there, and the second copies the message.
+    (
+        Call::Out,
+        &[
+            Stack(4, 0x8000_0300, 0x8000_0310),
+            Word(0x8000_0300, 0x8000_0000),
+        ],
+        &[
+            Gone,
+            Word(0x8000_0300, 0x8000_0201),
+            Word(0x8000_01F4, 0x8000_0310),
+            Word(0x8000_01FC, 0x8000_0102),
+        ],
+    ),
+    (
+        Call::In,
+        &[
+            Stack(4, 0x8000_0300, 0x8000_0320),
+            Word(0x8000_0300, 0x8000_0281),
+            Word(0x8000_0274, 0x8000_0310),
+            Word(0x8000_0310, 0x0403_0201),
+        ],
+        &[
+            Word(0x8000_0300, 0x8000_0000),
+            Word(0x8000_0320, 0x0403_0201),
+            Low(0x8000_0280, 0x8000_0280),
+        ],
+    ),
+    (
+        Call::OutWord,
+        &[Stack(0x77, 0x8000_0300, 3), Word(0x8000_0300, 0x8000_0000)],
+        &[
+            Gone,
+            Word(0x8000_0200, 0x77),
+            Word(0x8000_0300, 0x8000_0201),
+            Word(0x8000_01F4, 0x8000_0200),
+            Word(0x8000_01FC, 0x8000_0102),
+        ],
+    ),
+    (Call::Alt, &[], &[Word(0x8000_01F4, 0x8000_0001)]),
+    (
+        Call::Enable,
+        &[Stack(1, 0x8000_0300, 7), Word(0x8000_0300, 0x8000_0000)],
+        &[Stack(1, 7, 7), Word(0x8000_0300, 0x8000_0201)],
+    ),
+    (
+        Call::Enbs,
+        &[Stack(1, 2, 3)],
+        &[Word(0x8000_01F4, 0x8000_0003)],
+    ),
+    (
+        Call::Altwt,
+        &[Stack(1, 2, 3), Word(0x8000_01F4, 0x8000_0003)],
+        &[Word(0x8000_0200, 0xFFFF_FFFF)],
+    ),
+    (
+        Call::Disable,
+        &[Stack(5, 1, 0x8000_0300), Word(0x8000_0300, 0x8000_0201)],
+        &[A(0), Word(0x8000_0300, 0x8000_0000)],
+    ),
+    (
+        Call::Diss,
+        &[Stack(5, 1, 7), Word(0x8000_0200, 0xFFFF_FFFF)],
+        &[Stack(1, 7, 7), Word(0x8000_0200, 5)],
+    ),
+    (
+        Call::Choose,
+        &[Stack(6, 1, 7), Word(0x8000_0200, 5)],
+        &[A(0)],
+    ),
+    (Call::NoteChoice(0xFFFF_FFFF), &[], &[A(1)]),
+    (Call::PassOver, &[Stack(6, 1, 7)], &[A(0)]),
+    (Call::DropB, &[Stack(6, 1, 7)], &[Stack(6, 7, 7)]),
+];
+
+#[test]
+fn parts(rt: HostRuntime) -> Result<(), Fail> {
+    for (i, part) in PARTS.iter().enumerate() {
+        let told = is_part(rt.alloc(), part)?;
+        assert!(rt; told, "part {i}");
+    }
+    Ok(())
+}
+
+/// What a channel instruction asks of a link, which changes nothing.
+fn asked(desk: &mut Desk, call: Call) -> Option<(u8, u32)> {
+    match make(call, desk) {
+        Err(Undone::Asks(OutRequest { link, pointer, .. })) => Some((link, pointer)),
+        Err(Undone::Wants(InRequest {
+            link,
+            wish: Wish::Message { pointer, .. },
+            ..
+        })) => Some((link, pointer)),
+        _ => None,
     }
 }
 
 #[test]
-fn workspaces(rt: HostRuntime) {
-    assert_eq!(rt; (workspace(0x8000_0203), saved_at(0x200), link_at(0x200), state_at(0x200)), (0x8000_0200, 0x1FC, 0x1F8, 0x1F4));
-    assert_eq!(rt; (has_low_priority(0x8000_0201), has_low_priority(0x8000_0202)), (true, false));
-    let cpu = process(0, 0, 0);
-    assert_eq!(rt; (is_low(&cpu), descriptor_of(&cpu), must_slice(&cpu)), (true, 0x8000_0201, false));
-    let over = Cpu { slice: 1024, ..cpu };
-    assert!(rt; must_slice(&over));
-    assert!(rt; is_alternative(ENABLING) && is_alternative(WAITING) && is_alternative(READY));
-    assert!(rt; !is_alternative(0x8000_0000) && !is_alternative(0x8000_0004));
-    assert_eq!(rt; (KEPT_AT, NOT_PROCESS, NONE_CHOSEN), (0x8000_002C, 0x8000_0000, 0xFFFF_FFFF));
+fn requests(rt: HostRuntime) -> Result<(), Fail> {
+    let mut desk = Desk::new(rt.alloc(), &[Stack(4, 0x8000_0004, 0x8000_0310)])?;
+    assert_eq!(rt; asked(&mut desk, Call::Out), Some((1, 0x8000_0310)));
+    let mut desk = Desk::new(rt.alloc(), &[Stack(4, 0x8000_001C, 0x8000_0310)])?;
+    assert_eq!(rt; asked(&mut desk, Call::In), Some((3, 0x8000_0310)));
+    Ok(())
 }
+
+const CHANNELS: &[(u32, ChannelWord)] = &[
+    (0x8000_0000, ChannelWord::Output(0)),
+    (0x8000_000F, ChannelWord::Output(3)),
+    (0x8000_0010, ChannelWord::Input(0)),
+    (0x8000_001F, ChannelWord::Input(3)),
+    (0x8000_0020, ChannelWord::Internal),
+    (0x7FFF_FFFC, ChannelWord::Internal),
+    (0, ChannelWord::Internal),
+];
 
 #[test]
 fn channels(rt: HostRuntime) {
-    let rows = [
-        (0x8000_0000, ChannelWord::Output(0)),
-        (0x8000_000F, ChannelWord::Output(3)),
-        (0x8000_0010, ChannelWord::Input(0)),
-        (0x8000_001F, ChannelWord::Input(3)),
-        (0x8000_0020, ChannelWord::Internal),
-        (0x7FFF_FFFC, ChannelWord::Internal),
-        (0, ChannelWord::Internal),
-    ];
-    for (address, word) in rows {
-        assert_eq!(rt; channel_at(address), word, "{address:X}");
+    for row in CHANNELS {
+        assert_eq!(rt; channel_at(row.0), row.1);
     }
 }
 
-#[test]
-fn accesses(rt: HostRuntime) -> Result<(), Fail> {
-    let mut mem = memory(rt.alloc(), &[(0x8000_0300, 7)])?;
-    assert_eq!(rt; load(&mem, 0x8000_0300).ok(), Some(7));
-    assert!(rt; matches!(load(&mem, 0x8000_1000), Err(Undone::Faulty(Fault::BadAddress))));
-    assert!(rt; store(&mut mem, 0x8000_0304, 8).is_ok());
-    assert!(rt; store_all(&mut mem, &[(0x8000_0308, 9), (0x8000_030C, 10)]).is_ok());
-    assert!(rt; change(&mut mem, 0x8000_0310, 0x8000_0304, 8, &[(0x8000_0318, 1)]).is_ok());
-    holds(&rt, &mem, &[(0x8000_0310, 8), (0x8000_0314, 9), (0x8000_0318, 1)]);
-    assert!(rt; matches!(BAD_ADDRESS, Undone::Faulty(Fault::BadAddress)));
-    Ok(())
+/// Whether all of these are as they ought to be.
+fn are_workspaces(desk: &Desk) -> bool {
+    workspace(0x8000_0203) == 0x8000_0200
+        && saved_at(0x8000_0200) == 0x8000_01FC
+        && link_at(0x8000_0200) == 0x8000_01F8
+        && state_at(0x8000_0200) == 0x8000_01F4
+        && has_low_priority(0x8000_0201)
+        && !has_low_priority(0x8000_0202)
+        && is_low(&desk.cpu)
+        && descriptor_of(&desk.cpu) == 0x8000_0201
+        && !must_slice(&desk.cpu)
+        && queue_write(0x8000_0401, &desk.cpu).is_none()
+        && load(&desk.mem, 0x8000_002C).ok() == Some(0x8000_0000)
+        && matches!(load(&desk.mem, 0x8000_1000), Err(Undone::Faulty(Fault::BadAddress)))
+}
+
+fn are_constants() -> bool {
+    (ENABLING, WAITING, READY) == (0x8000_0001, 0x8000_0002, 0x8000_0003)
+        && (KEPT_AT, NOT_PROCESS, NONE_CHOSEN) == (0x8000_002C, 0x8000_0000, 0xFFFF_FFFF)
+        && is_alternative(0x8000_0001)
+        && is_alternative(0x8000_0003)
+        && !is_alternative(0x8000_0000)
+        && !is_alternative(0x8000_0004)
 }
 
 #[test]
-fn queues(rt: HostRuntime) -> Result<(), Fail> {
-    let mut mem = four_pages(rt.alloc())?;
-    let mut cpu = process(0, 0, 0);
-    assert!(rt; enqueue(&mut cpu, &mut mem, 0x8000_0301).is_ok());
-    assert!(rt; enqueue(&mut cpu, &mut mem, 0x8000_0401).is_ok());
-    assert!(rt; enqueue(&mut cpu, &mut mem, 0x8000_0280).is_ok());
-    assert_eq!(rt; cpu.low, two(0x8000_0300, 0x8000_0400));
-    assert_eq!(rt; cpu.high, two(0x8000_0280, 0x8000_0280));
-    holds(&rt, &mem, &[(0x8000_02F8, 0x8000_0400)]);
-    assert_eq!(rt; queue_write(0x8000_0501, &cpu), Some((0x8000_03F8, 0x8000_0500)));
-    queue(0x8000_0501, &mut cpu);
-    assert_eq!(rt; cpu.low, two(0x8000_0300, 0x8000_0500));
-    Ok(())
-}
-
-#[test]
-fn dispatches(rt: HostRuntime) -> Result<(), Fail> {
-    let words = [
-        (0x8000_02FC, 0x8000_0180),
-        (0x8000_02F8, 0x8000_0400),
-        (0x8000_027C, 0x8000_0190),
-    ];
-    let mem = memory(rt.alloc(), &words)?;
-    let high = two(0x8000_0280, 0x8000_0280);
-    let low = two(0x8000_0300, 0x8000_0400);
-    let mut cpu = idle(high, low);
-    assert!(rt; dispatch_high(&mut cpu, &mem).is_ok());
-    assert_eq!(rt; (cpu.iptr, cpu.wptr, cpu.state, cpu.slice), (0x8000_0190, 0x8000_0280, State::High, 1));
-    assert_eq!(rt; (cpu.high, cpu.low), (two(0x8000_0000, 0x8000_0280), low));
-    let mut cpu = idle(high, low);
-    assert!(rt; dispatch_low(&mut cpu, &mem).is_ok());
-    assert_eq!(rt; (cpu.iptr, cpu.wptr, cpu.state, cpu.slice), (0x8000_0180, 0x8000_0300, State::Low, 0));
-    assert_eq!(rt; (cpu.high, cpu.low), (high, two(0x8000_0400, 0x8000_0400)));
-    Ok(())
-}
-
-#[test]
-fn stops(rt: HostRuntime) -> Result<(), Fail> {
-    let mut mem = four_pages(rt.alloc())?;
-    let mut cpu = process(1, 2, 3);
-    end(&mut cpu);
-    assert_eq!(rt; cpu, idle(NONE, NONE));
-    let mut cpu = process(1, 2, 3);
-    assert!(rt; stop(&mut cpu, &mut mem).is_ok());
-    assert_eq!(rt; cpu, idle(NONE, NONE));
-    holds(&rt, &mem, &[(0x8000_01FC, 0x8000_0102)]);
-    let mut cpu = process(1, 2, 3);
-    assert!(rt; slice(&mut cpu, &mut mem, 0x8000_0110).is_ok());
-    assert_eq!(rt; cpu, idle(NONE, two(0x8000_0200, 0x8000_0200)));
-    holds(&rt, &mem, &[(0x8000_01FC, 0x8000_0110)]);
-    Ok(())
-}
-
-#[test]
-fn jumps(rt: HostRuntime) -> Result<(), Fail> {
-    let mut mem = four_pages(rt.alloc())?;
-    let mut cpu = process(1, 2, 3);
-    pass(&mut cpu, 0x8000_0104);
-    assert_eq!(rt; (cpu.iptr, cpu.slice), (0x8000_0104, 2));
-    assert!(rt; jump(&mut cpu, &mut mem, 0x8000_0120).is_ok());
-    assert_eq!(rt; (cpu.iptr, cpu.state), (0x8000_0120, State::Low));
-    let count = (0x8000_0304, 1);
-    let index = (0x8000_0300, 6);
-    assert!(rt; jump_looping(&mut cpu, &mut mem, 0x8000_0110, count, index).is_ok());
-    assert_eq!(rt; cpu.iptr, 0x8000_0110);
-    holds(&rt, &mem, &[count, index]);
-    Ok(())
-}
-
-#[test]
-fn interrupts(rt: HostRuntime) -> Result<(), Fail> {
-    let mut mem = four_pages(rt.alloc())?;
-    let mut cpu = process(1, 2, 3);
-    assert!(rt; interrupt(&mut cpu, &mut mem).is_ok());
-    let paused = Cpu {
-        state: State::Idle,
-        ..process(1, 2, 3)
-    };
-    assert_eq!(rt; cpu, paused);
-    let kept = [
-        (0x8000_0030, 0x8000_0102),
-        (0x8000_0034, 1),
-        (0x8000_0038, 2),
-        (0x8000_003C, 3),
-    ];
-    holds(&rt, &mem, &[(0x8000_002C, 0x8000_0201)]);
-    holds(&rt, &mem, &kept);
-    let mut cpu = idle(NONE, NONE);
-    assert!(rt; restore(&mut cpu, &mut mem, 0x8000_0201).is_ok());
-    assert_eq!(rt; cpu, process(1, 2, 3));
-    holds(&rt, &mem, &[(0x8000_002C, 0x8000_0000)]);
-    Ok(())
-}
-
-#[test]
-fn processes(rt: HostRuntime) -> Result<(), Fail> {
-    let mut mem = memory(rt.alloc(), &[(0x8000_0304, 1), (0x8000_0300, 0x8000_0180)])?;
-    let mut cpu = process(0x8000_0400, 0x20, 3);
-    assert!(rt; startp(&mut cpu, &mut mem).is_ok());
-    assert_eq!(rt; cpu.low, two(0x8000_0400, 0x8000_0400));
-    holds(&rt, &mem, &[(0x8000_03FC, 0x8000_0122)]);
-    assert!(rt; runp(&mut cpu, &mut mem).is_ok());
-    assert_eq!(rt; cpu.high, two(0x8000_0400, 0x8000_0400));
-    let mut cpu = process(0x8000_0300, 2, 3);
-    assert!(rt; endp(&mut cpu, &mut mem).is_ok());
-    assert_eq!(rt; (cpu.iptr, cpu.wptr), (0x8000_0180, 0x8000_0300));
-    holds(&rt, &mem, &[(0x8000_0304, 0)]);
-    Ok(())
-}
-
-/// The first at a channel waits there, and the second copies the message.
-#[test]
-fn meetings(rt: HostRuntime) -> Result<(), Fail> {
-    let empty = [(0x8000_0300, 0x8000_0000), (0x8000_0310, 0x0403_0201)];
-    let mut mem = memory(rt.alloc(), &empty)?;
-    let mut cpu = process(4, 0x8000_0300, 0x8000_0310);
-    assert!(rt; chan_out(&mut cpu, &mut mem).is_ok());
-    assert_eq!(rt; cpu, idle(NONE, NONE));
-    holds(&rt, &mem, &[(0x8000_0300, 0x8000_0201), (0x8000_01F4, 0x8000_0310)]);
-    let mut cpu = Cpu {
-        wptr: 0x8000_0280,
-        ..process(4, 0x8000_0300, 0x8000_0320)
-    };
-    assert!(rt; chan_in(&mut cpu, &mut mem).is_ok());
-    assert_eq!(rt; cpu.low, two(0x8000_0200, 0x8000_0200));
-    holds(&rt, &mem, &[(0x8000_0300, 0x8000_0000), (0x8000_0320, 0x0403_0201)]);
-    let mut cpu = process(0x77, 0x8000_0300, 0);
-    assert!(rt; chan_out_word(&mut cpu, &mut mem, 4).is_ok());
-    holds(&rt, &mem, &[(0x8000_0200, 0x77), (0x8000_01F4, 0x8000_0200)]);
-    Ok(())
-}
-
-/// What a channel instruction asks of a link changes nothing.
-#[test]
-fn requests(rt: HostRuntime) -> Result<(), Fail> {
-    let mut mem = four_pages(rt.alloc())?;
-    let before = process(4, 0x8000_0004, 0x8000_0310);
-    let mut cpu = before;
-    match chan_out(&mut cpu, &mut mem) {
-        Err(Undone::Asks(request)) => {
-            assert_eq!(rt; (request.link, request.pointer, request.count), (1, 0x8000_0310, 4));
-            assert_eq!(rt; (request.word, request.next), (None, 0x8000_0102));
-        }
-        _ => assert!(rt; false),
-    }
-    assert_eq!(rt; cpu, before);
-    let mut cpu = process(4, 0x8000_001C, 0x8000_0310);
-    match chan_in(&mut cpu, &mut mem) {
-        Err(Undone::Wants(request)) => {
-            let wish = Wish::Message {
-                pointer: 0x8000_0310,
-                count: 4,
-            };
-            assert_eq!(rt; (request.link, request.wish, request.next), (3, wish, 0x8000_0102));
-        }
-        _ => assert!(rt; false),
-    }
-    Ok(())
-}
-
-#[test]
-fn alternatives(rt: HostRuntime) -> Result<(), Fail> {
-    let mut mem = memory(rt.alloc(), &[(0x8000_0300, 0x8000_0000)])?;
-    let mut cpu = process(1, 0x8000_0300, 7);
-    assert!(rt; alt(&mut cpu, &mut mem).is_ok());
-    holds(&rt, &mem, &[(0x8000_01F4, 0x8000_0001)]);
-    assert!(rt; alt_enable(&mut cpu, &mut mem).is_ok());
-    assert_eq!(rt; cpu, process(1, 7, 7));
-    holds(&rt, &mem, &[(0x8000_0300, 0x8000_0201)]);
-    assert!(rt; enbs(&mut cpu, &mut mem).is_ok());
-    holds(&rt, &mem, &[(0x8000_01F4, 0x8000_0003)]);
-    assert!(rt; altwt(&mut cpu, &mut mem).is_ok());
-    assert_eq!(rt; cpu, process(1, 7, 7));
-    holds(&rt, &mem, &[(0x8000_0200, 0xFFFF_FFFF)]);
-    let mut cpu = process(5, 1, 0x8000_0300);
-    assert!(rt; alt_disable(&mut cpu, &mut mem).is_ok());
-    assert_eq!(rt; cpu.regs.a, 0);
-    holds(&rt, &mem, &[(0x8000_0300, 0x8000_0000)]);
-    Ok(())
-}
-
-#[test]
-fn choices(rt: HostRuntime) -> Result<(), Fail> {
-    let mut mem = memory(rt.alloc(), &[(0x8000_0200, 0xFFFF_FFFF)])?;
-    let mut cpu = process(5, 1, 7);
-    assert!(rt; diss(&mut cpu, &mut mem).is_ok());
-    assert_eq!(rt; cpu, process(1, 7, 7));
-    holds(&rt, &mem, &[(0x8000_0200, 5)]);
-    let mut cpu = process(6, 1, 7);
-    assert!(rt; choose(&mut cpu, &mut mem).is_ok());
-    assert_eq!(rt; cpu, process(0, 1, 7));
-    note_choice(0xFFFF_FFFF, &mut cpu);
-    assert_eq!(rt; cpu, process(1, 1, 7));
-    pass_over(&mut cpu);
-    drop_b(&mut cpu);
-    assert_eq!(rt; cpu, process(0, 7, 7));
+fn workspaces(rt: HostRuntime) -> Result<(), Fail> {
+    let desk = Desk::new(rt.alloc(), &[])?;
+    assert!(rt; are_workspaces(&desk));
+    assert!(rt; are_constants());
     Ok(())
 }
