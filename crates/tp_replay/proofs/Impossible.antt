@@ -75,7 +75,9 @@ steps_fewer {Node} M (suc made) (suc count) n now ran none fewer =
     let same : ◌≡◌ {A = Node × List (ℕ × Token)} (B.0.0, A.0.1 ++ B.0.1) now = cc in
     let last : M.step B.0.0 ≡ None = ap (λ r. M.step r.0) same ∙ none in
     let rest : steps M count A.0.0 ≡ None = steps_fewer M made count A.0.0 B.0 B.1 last (omega arith) in
-    ap (λ o. o >>= goes_on M count) A.1 ∙ ap (λ o. o >>= λ rest. Some (rest.0, A.0.1 ++ rest.1)) rest
+    let step : steps M (suc count) n ≡ goes_on M count A.0 = ap (λ o. o >>= goes_on M count) A.1 in
+    let none : goes_on M count A.0 ≡ None = ap (λ o. o >>= λ rest. Some (rest.0, A.0.1 ++ rest.1)) rest in
+    step ∙ none
 
 -- ## Takes
 

@@ -1,6 +1,6 @@
 //! Laws that the calls rest on. The functions do nothing; their contracts are the laws.
 
-ghost use Rattle.std.specs.Prelude.{◌≡◌, ◌<◌, ◌+◌, ℕ, List, false, true, Some, None, Ok, IsSome, slice_get};
+ghost use Rattle.std.specs.Prelude.{◌≡◌, ◌<◌, ◌+◌, ◌*◌, ℕ, List, [], length, false, true, Some, None, Ok, IsSome, slice_get};
 ghost use Rattle.tp_model.specs.declared.entry.Entry.{Entry};
 ghost use Rattle.tp_model.specs.declared.link.Token.{Token};
 ghost use Rattle.tp_model.specs.declared.wire.WireEnd.TheVariants.{Link};
@@ -8,8 +8,10 @@ ghost use Rattle.tp_model.specs.NodeState.{NodeState};
 ghost use Rattle.tp_model.specs.Image.{IsNode};
 ghost use Rattle.tp_model.specs.Entries.{next};
 ghost use Rattle.tp_model.specs.Markers.{is_marker, markers};
-ghost use Rattle.tp_model.specs.Network.{Network, steps, receiver, on_line, is_first};
-ghost use Rattle.tp_model.specs.Node.{t414, took};
+ghost use Rattle.tp_model.specs.Network.{Network, steps, receiver, has_wire, on_line, is_first};
+ghost use Rattle.tp_model.specs.Node.{t414, t414_ends, took};
+ghost use Rattle.tp_model.specs.Flight.{flights_in};
+ghost use Rattle.tp_model.specs.Sound.{Wired, Sound};
 ghost use Rattle.tp_book.specs.Kept.{AreCounted};
 ghost use Rattle.tp_model.specs.Replay.{Replay, after_rows, replay_from};
 ghost use Rattle.tp_replay.specs.Flat.{IsFlat};
@@ -38,4 +40,10 @@ pub fn entries_keep_flat()
 /// numbers rise, and the next entry's number counts them.
 pub fn rows_are_history()
     ensures { (start : Network NodeState) (base : ℕ) (rows : List (ℕ × List ℕ)) (last : Replay NodeState) → after_rows t414 (replay_from start base) rows ≡ Ok last → IsHistory t414 start base last }
+{}
+
+/// A cut that passes opening's test of each line is sound, where its wires are wires and a line without one is empty.
+pub fn cuts_are_sound()
+    ensures { (s : Network NodeState) (at : ℕ) → Wired s → length s.wires ≡ length s.lines → length s.lines ≡ 4 * length s.nodes + length s.ports
+        → ((line : ℕ) → has_wire s.wires line ≡ false → on_line s.lines line ≡ []) → flights_in t414_ends s at 0 (length s.lines) ≡ Ok tt → Sound t414_ends s }
 {}

@@ -51,8 +51,8 @@ impl FlatNetwork {
         }
     }
 
-    /// What is known of every flat network.
-    pub fn is_flat(&self)
+    /// What every flat network keeps. It does nothing.
+    pub fn known(&self)
         ensures { IsFlat self.now }
     {
         let _lines = &self.lines;
