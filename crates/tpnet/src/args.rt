@@ -97,11 +97,7 @@ fn try_command<'a>(alloc: Global) -> Result<Command<'a>, AllocError> {
         .about(
             "Runs one node without a device, its link 0 wired to port 0, and prints what port 0 puts out",
         )
-        .arg(word(
-            alloc,
-            "IMAGE",
-            "the node's image: 172 bytes and its memory",
-        ))?
+        .arg(word(alloc, "IMAGE", "the node's image: 172 bytes and its memory"))?
         .arg(turns)
 }
 

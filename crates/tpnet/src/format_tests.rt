@@ -83,10 +83,18 @@ fn the_device_of_one_node(rt: HostRuntime) -> Result<(), Fail> {
     assert_eq!(rt; made.out.as_slice(), b"formatted\n".as_slice());
     assert!(rt; made.err.is_empty());
     let bytes = made.bytes.as_slice();
-    assert_eq!(rt; part(bytes, 0, 16), b"TPNET\0\0\x01\x01\x01\0\0\0\0\0\0".as_slice());
-    assert_eq!(rt; part(bytes, 16, 10), [0, 0x40, 0, 0, 0, 0, 0, 0, 4, 0].as_slice());
+    assert_eq!(rt;
+        part(bytes, 0, 16),
+        b"TPNET\0\0\x01\x01\x01\0\0\0\0\0\0".as_slice()
+    );
+    assert_eq!(rt;
+        part(bytes, 16, 10),
+        [0, 0x40, 0, 0, 0, 0, 0, 0, 4, 0].as_slice()
+    );
     assert_eq!(rt; part(bytes, 56, 4), [0x80, 0, 0, 0].as_slice());
-    let front = [0xA5, 1, 0, 0, 0, 0, 0, 0, 0, 0xDC, 0x30, 0, 0, 0, 0, 0, 0, 0, 0, 0, 0];
+    let front = [
+        0xA5, 1, 0, 0, 0, 0, 0, 0, 0, 0xDC, 0x30, 0, 0, 0, 0, 0, 0, 0, 0, 0, 0,
+    ];
     assert_eq!(rt; part(bytes, 512, 21), front.as_slice());
     assert_eq!(rt; part(bytes, 533, 4268), image.as_slice());
     assert_eq!(rt; part(bytes, 13_033, 1), [0].as_slice());
@@ -108,11 +116,20 @@ fn areas_that_are_too_small(rt: HostRuntime) -> Result<(), Fail> {
     let alloc = rt.alloc();
     let images = images_of(alloc, letter(alloc)?)?;
     let full = b"tpnet: AreaFull\n".as_slice();
-    assert_eq!(rt; refused(alloc, images.as_slice(), 40_000, LEAST - 1)?.as_slice(), full);
-    assert_eq!(rt; refused(alloc, images.as_slice(), 26_579, LEAST)?.as_slice(), full);
+    assert_eq!(rt;
+        refused(alloc, images.as_slice(), 40_000, LEAST - 1)?.as_slice(),
+        full
+    );
+    assert_eq!(rt;
+        refused(alloc, images.as_slice(), 26_579, LEAST)?.as_slice(),
+        full
+    );
     assert_eq!(rt; refused(alloc, images.as_slice(), 511, 0)?.as_slice(), full);
     let disk = MemDisk::zeroed(alloc, 26_580)?;
-    assert_eq!(rt; format_in_memory(alloc, disk, images.as_slice(), LEAST)?.status, 0);
+    assert_eq!(rt;
+        format_in_memory(alloc, disk, images.as_slice(), LEAST)?.status,
+        0
+    );
     Ok(())
 }
 
@@ -126,11 +143,17 @@ fn images_that_do_not_fit(rt: HostRuntime) -> Result<(), Fail> {
     place(&mut larger, 2, &[5]);
     for image in [busy, larger, Vec::new(alloc)] {
         let images = images_of(alloc, image)?;
-        assert_eq!(rt; refused(alloc, images.as_slice(), 33_280, AREA)?.as_slice(), bad);
+        assert_eq!(rt;
+            refused(alloc, images.as_slice(), 33_280, AREA)?.as_slice(),
+            bad
+        );
     }
     let mut two = images_of(alloc, letter(alloc)?)?;
     two.push(letter(alloc)?)?;
-    assert_eq!(rt; refused(alloc, two.as_slice(), 33_280, AREA)?.as_slice(), bad);
+    assert_eq!(rt;
+        refused(alloc, two.as_slice(), 33_280, AREA)?.as_slice(),
+        bad
+    );
     assert_eq!(rt; refused(alloc, &[], 33_280, AREA)?.as_slice(), bad);
     Ok(())
 }
@@ -177,8 +200,16 @@ fn wanted(alloc: Global, topology: &str) -> Result<Wanted, Fail>
 fn files_are_read_and_made(rt: HostRuntime) -> Result<(), Fail> {
     let alloc = rt.alloc();
     put_file(&rt, "one.txt", Vec::from_slice(alloc, TEXT)?)?;
-    put_file(&rt, "two.txt", Vec::from_slice(alloc, b"node a 4\nnode b 4\nport h\n")?)?;
-    put_file(&rt, "bad.txt", Vec::from_slice(alloc, b"node a 4\nport h\nwire a.4 h\n")?)?;
+    put_file(
+        &rt,
+        "two.txt",
+        Vec::from_slice(alloc, b"node a 4\nnode b 4\nport h\n")?,
+    )?;
+    put_file(
+        &rt,
+        "bad.txt",
+        Vec::from_slice(alloc, b"node a 4\nport h\nwire a.4 h\n")?,
+    )?;
     put_file(&rt, "a.img", letter(alloc)?)?;
     let cases: [(&str, u8, &str); 4] = [
         ("one.txt", 0, ""),

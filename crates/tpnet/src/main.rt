@@ -10,6 +10,8 @@ mod formatting;
 mod refusal;
 mod shown;
 #[cfg(test)]
+mod shown_tests;
+#[cfg(test)]
 mod tests;
 
 use args::{Asked, read_args};
@@ -38,9 +40,7 @@ fn main(rt: HostRuntime) -> ExitCode {
         }
     };
     let status = match &asked {
-        Asked::Try { image, turns } => {
-            try_file(&rt, image.as_str(), *turns, &mut out, &mut err)
-        }
+        Asked::Try { image, turns } => { try_file(&rt, image.as_str(), *turns, &mut out, &mut err) }
         Asked::Format(wanted) => format_file(&rt, wanted, &mut out, &mut err),
     };
     ExitCode::from(status)
