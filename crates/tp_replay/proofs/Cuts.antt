@@ -1,14 +1,12 @@
 -- A cut that passes opening's test of each line is sound.
-use Rattle.std.proofs.Common.{◌≡◌, ℕ, zero, suc, ◌+◌, ◌*◌, ◌/◌, ◌<◌, ◌≤◌, Bool, true, false, not, cond, inl, inr, List, [], length, refl, sym, ap, ◌∙◌, arith, Option, Some, None, eqb-true}
-use Rattle.std.specs.Prelude.{Result, Ok, Err, ◌==◌}
+use Rattle.std.proofs.Common.{◌≡◌, ℕ, zero, suc, ◌+◌, ◌*◌, ◌/◌, ◌<◌, ◌≤◌, Bool, true, false, not, cond, inl, inr, [], length, refl, sym, ap, ◌∙◌, arith, None, eqb-true}
+use Rattle.std.specs.Prelude.{Ok, Err, ◌==◌}
 use Rattle.std.proofs.lemmas.Bool.{cases_eq, cases_lt, true≢false, le-ltb}
 use Rattle.std.proofs.lemmas.List.{get_or_past}
-use Rattle.tp_model.specs.declared.link.Token.{Token}
-use Rattle.tp_model.specs.declared.opening.OpenFault.{OpenFault}
 use Rattle.tp_model.specs.declared.opening.OpenFault.TheVariants.{Damaged}
 use Rattle.tp_model.specs.declared.limits.TheConstants.{LINE_BYTES}
 use Rattle.tp_model.specs.Word.{bit}
-use Rattle.tp_model.specs.Network.{Network, OfHost, own, is_wired, has_wire, receiver, back, on_line}
+use Rattle.tp_model.specs.Network.{Network, OfHost, own, is_wired, has_wire, back, on_line}
 use Rattle.tp_model.specs.Sound.{Ends, datas, acks, owner, end_waits, end_holds, Wired, Sound}
 use Rattle.tp_model.specs.Flight.{is_in_one_place, flights_in}
 use Rattle.tp_order.proofs.Local.{own-host}

@@ -1,6 +1,6 @@
 //! Laws that the calls rest on. The functions do nothing; their contracts are the laws.
 
-ghost use Rattle.std.specs.Prelude.{◌≡◌, ◌<◌, ◌+◌, ◌*◌, ℕ, List, [], length, false, true, Some, None, Ok, IsSome, slice_get};
+ghost use Rattle.std.specs.Prelude.{◌≡◌, ◌<◌, ◌+◌, ◌*◌, ℕ, List, [], ◌++◌, length, false, true, Some, None, Ok, Err, IsSome, slice_get};
 ghost use Rattle.tp_model.specs.declared.entry.Entry.{Entry};
 ghost use Rattle.tp_model.specs.declared.link.Token.{Token};
 ghost use Rattle.tp_model.specs.declared.wire.WireEnd.TheVariants.{Link};
@@ -13,6 +13,7 @@ ghost use Rattle.tp_model.specs.Node.{t414, t414_ends, took};
 ghost use Rattle.tp_model.specs.Flight.{flights_in};
 ghost use Rattle.tp_model.specs.Sound.{Wired, Sound};
 ghost use Rattle.tp_book.specs.Kept.{AreCounted};
+ghost use Rattle.tp_model.specs.declared.opening.OpenFault.{OpenFault};
 ghost use Rattle.tp_model.specs.Replay.{Replay, after_rows, replay_from};
 ghost use Rattle.tp_replay.specs.Flat.{IsFlat};
 ghost use Rattle.tp_replay.specs.History.{IsHistory};
@@ -46,4 +47,10 @@ pub fn rows_are_history()
 pub fn cuts_are_sound()
     ensures { (s : Network NodeState) (at : ℕ) → Wired s → length s.wires ≡ length s.lines → length s.lines ≡ 4 * length s.nodes + length s.ports
         → ((line : ℕ) → has_wire s.wires line ≡ false → on_line s.lines line ≡ []) → flights_in t414_ends s at 0 (length s.lines) ≡ Ok tt → Sound t414_ends s }
+{}
+
+/// Rows may be replayed in parts, one behind the other.
+pub fn rows_in_parts()
+    ensures on { (r now : Replay NodeState) (rows more : List (ℕ × List ℕ)) → after_rows t414 r rows ≡ Ok now → after_rows t414 r (rows ++ more) ≡ after_rows t414 now more }
+    ensures fault { (r : Replay NodeState) (rows more : List (ℕ × List ℕ)) (fault : OpenFault) → after_rows t414 r rows ≡ Err fault → after_rows t414 r (rows ++ more) ≡ Err fault }
 {}
