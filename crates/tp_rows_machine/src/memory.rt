@@ -86,33 +86,43 @@ const RANGES: &[(u32, u32, bool)] = &[
     (0x8000_0001, 0xFFFF_FFFF, false),
 ];
 
+/// Whether a range lies inside, and its byte can be read, where it is one byte.
+fn is_range(mem: &FlatMemory, row: &(u32, u32, bool)) -> bool {
+    let (address, count, inside) = *row;
+    let reads = mem.read_byte(address).is_some();
+    mem.is_inside(address, count) == inside && (count != 1 || reads == inside)
+}
+
 #[test]
 fn ranges(rt: HostRuntime) -> Result<(), Fail> {
     let mem = four_pages(rt.alloc())?;
-    assert_eq!(rt; (mem.len(), mem.pages()), (4096, 4));
+    let mut told = mem.len() == 4096 && mem.pages() == 4;
     for row in RANGES {
-        let (address, count, inside) = *row;
-        assert_eq!(rt; mem.is_inside(address, count), inside, "{address:X} {count}");
-        let is_read = mem.read_byte(address).is_some();
-        assert!(rt; count != 1 || is_read == inside, "{address:X}");
+        told = told && is_range(&mem, row);
     }
+    assert!(rt; told);
     Ok(())
+}
+
+/// Whether the frozen page 1 is all zeros.
+fn is_clear(mem: &FlatMemory) -> bool {
+    let mut page = [9; 1024];
+    if mem.is_frozen() && mem.pages() > 1 {
+        mem.frozen_page(1, &mut page);
+    }
+    page == [0; 1024]
 }
 
 /// Frozen bytes stay as they were until they are let go.
 #[test]
 fn freezes(rt: HostRuntime) -> Result<(), Fail> {
     let mut mem = four_pages(rt.alloc())?;
-    let mut page = [9; 1024];
     mem.drop_frozen();
     mem.freeze();
-    let wrote = writes(&mut mem, Write::Word(0x8000_0400, 6));
-    assert!(rt; wrote == Some(true) && mem.is_frozen());
-    if mem.pages() > 1 {
-        mem.frozen_page(1, &mut page);
-    }
-    assert!(rt; page == [0; 1024]);
+    let wrote = writes(&mut mem, Write::Word(0x8000_0400, 6)) == Some(true);
+    let kept = is_clear(&mem);
     mem.drop_frozen();
-    assert!(rt; !mem.is_frozen() && mem.read_word(0x8000_0400) == Some(6));
+    let lives = !mem.is_frozen() && mem.read_word(0x8000_0400) == Some(6);
+    assert!(rt; wrote && kept && lives);
     Ok(())
 }

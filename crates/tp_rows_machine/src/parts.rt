@@ -6,7 +6,7 @@ use crate::image::Fact::{A, Gone, High, Iptr, Low, Runs, Slice, Stack, State, Wo
 use std::alloc::Global;
 use std::test::Fail;
 use tp_mem::FlatMemory;
-use tp_model::{ChannelWord, Cpu, Fault, InRequest, OutRequest, Wish};
+use tp_model::{ChannelWord, Cpu, Fault, Wish};
 use tp_proc::{
     BAD_ADDRESS, ENABLING, KEPT_AT, NONE_CHOSEN, NOT_PROCESS, READY, Undone, WAITING, alt,
     alt_disable, alt_enable, altwt, chan_in, chan_out, chan_out_word, change, channel_at, choose,
@@ -373,25 +373,26 @@ fn parts(rt: HostRuntime) -> Result<(), Fail> {
     Ok(())
 }
 
-/// What a channel instruction asks of a link, which changes nothing.
-fn asked(desk: &mut Desk, call: Call) -> Option<(u8, u32)> {
-    match make(call, desk) {
-        Err(Undone::Asks(OutRequest { link, pointer, .. })) => Some((link, pointer)),
-        Err(Undone::Wants(InRequest {
-            link,
-            wish: Wish::Message { pointer, .. },
-            ..
-        })) => Some((link, pointer)),
-        _ => None,
+/// Whether a channel instruction asks the end of this link for a message at this pointer.
+fn asks(alloc: Global, call: Call, link: u8, pointer: u32, given: Fact<'_>) -> Result<bool, Fail> {
+    let mut desk = Desk::new(alloc, &[given])?;
+    match make(call, &mut desk) {
+        Err(Undone::Asks(request)) => Ok(request.link == link && request.pointer == pointer),
+        Err(Undone::Wants(request)) => {
+            let wish = Wish::Message { pointer, count: 4 };
+            Ok(request.link == link && request.wish == wish)
+        }
+        _ => Ok(false),
     }
 }
 
 #[test]
 fn requests(rt: HostRuntime) -> Result<(), Fail> {
-    let mut desk = Desk::new(rt.alloc(), &[Stack(4, 0x8000_0004, 0x8000_0310)])?;
-    assert_eq!(rt; asked(&mut desk, Call::Out), Some((1, 0x8000_0310)));
-    let mut desk = Desk::new(rt.alloc(), &[Stack(4, 0x8000_001C, 0x8000_0310)])?;
-    assert_eq!(rt; asked(&mut desk, Call::In), Some((3, 0x8000_0310)));
+    let out = Stack(4, 0x8000_0004, 0x8000_0310);
+    let asked = asks(rt.alloc(), Call::Out, 1, 0x8000_0310, out)?;
+    let input = Stack(4, 0x8000_001C, 0x8000_0320);
+    let wanted = asks(rt.alloc(), Call::In, 3, 0x8000_0320, input)?;
+    assert!(rt; asked && wanted);
     Ok(())
 }
 
@@ -408,7 +409,8 @@ const CHANNELS: &[(u32, ChannelWord)] = &[
 #[test]
 fn channels(rt: HostRuntime) {
     for row in CHANNELS {
-        assert_eq!(rt; channel_at(row.0), row.1);
+        let told = channel_at(row.0) == row.1;
+        assert!(rt; told);
     }
 }
 
@@ -440,7 +442,7 @@ fn are_constants() -> bool {
 #[test]
 fn workspaces(rt: HostRuntime) -> Result<(), Fail> {
     let desk = Desk::new(rt.alloc(), &[])?;
-    assert!(rt; are_workspaces(&desk));
-    assert!(rt; are_constants());
+    let told = are_workspaces(&desk) && are_constants();
+    assert!(rt; told);
     Ok(())
 }
