@@ -118,62 +118,59 @@ fn messages_and_lengths(rt: HostRuntime) -> Result<(), Fail> {
     Ok(())
 }
 
-/// The head of the tests' node, in parts.
-const HEAD: &[&[u8]] = &[
-    &[0x01, 0x00, 0x04, 0x00],
-    &[0x00, 0x01, 0x00, 0x80],
-    &[0x00, 0x02, 0x00, 0x80],
-    &[0; 12],
-    &[0x00, 0x00, 0x00, 0x80, 0x00, 0x00, 0x00, 0x80],
-    &[0x00, 0x00, 0x00, 0x80, 0x00, 0x00, 0x00, 0x80],
-    &[0x00, 0x02, 0x00, 0x00],
-    &[0; 128],
+/// The head of the tests' node up to its links, which have nothing.
+const HEAD: [u8; 44] = [
+    0x01, 0x00, 0x04, 0x00, 0x00, 0x01, 0x00, 0x80, 0x00, 0x02, 0x00, 0x80, 0x00, 0x00, 0x00, 0x00,
+    0x00, 0x00, 0x00, 0x00, 0x00, 0x00, 0x00, 0x00, 0x00, 0x00, 0x00, 0x80, 0x00, 0x00, 0x00, 0x80,
+    0x00, 0x00, 0x00, 0x80, 0x00, 0x00, 0x00, 0x80, 0x00, 0x02, 0x00, 0x00,
 ];
 
-/// The head and the first page of a frozen node.
-fn kept(node: &Node) -> Option<([u8; 172], [u8; 1024])> {
+/// Whether a node that is frozen now has that head.
+fn has_head(node: &mut Node) -> bool {
+    let mut head = [0xFF; 172];
+    node.drop_frozen();
+    node.freeze();
+    node.frozen_head(&mut head);
+    head[..44] == HEAD[..] && head[44..] == [0; 128][..]
+}
+
+/// The halt code and the slice count that a frozen node's head has, and the byte at its workspace.
+fn kept(node: &Node) -> (u8, u8, u8) {
     let mut head = [0xFF; 172];
     let mut page = [0xFF; 1024];
-    if !node.is_frozen() || node.pages() == 0 {
-        return None;
+    if node.is_frozen() && node.pages() > 0 {
+        node.frozen_head(&mut head);
+        node.frozen_page(0, &mut page);
     }
-    node.frozen_head(&mut head);
-    node.frozen_page(0, &mut page);
-    Some((head, page))
+    (head[1], head[42], page[0x200])
 }
 
-#[test]
-fn a_head(rt: HostRuntime) -> Result<(), Fail> {
-    let mut wanted = Vec::new(rt.alloc());
-    for part in HEAD {
-        wanted.extend_from_slice(part)?;
-    }
-    let image = Image::new(rt.alloc())?;
-    let mut node = Node::from_image(rt.alloc(), &image.bytes, 0)?;
-    node.drop_frozen();
-    node.freeze();
-    let (head, _) = kept(&node).ok_or("not frozen")?;
-    assert_eq!(rt; head.as_slice(), wanted.as_slice());
-    Ok(())
-}
-
-/// While a node is frozen it runs, and what was kept is what it was.
-#[test]
-fn a_frozen_node(rt: HostRuntime) -> Result<(), Fail> {
-    let mut image = Image::new(rt.alloc())?;
-    // ldc 4, stl 0, a number that is no operation
-    image.put_all(&[Fact::Bytes(START, &[0x44, 0xD0, 0x22, 0xF2])]);
-    let mut node = Node::from_image(rt.alloc(), &image.bytes, 4)?;
-    node.drop_frozen();
-    node.freeze();
+/// Whether a node runs while it is frozen, and what was kept is what it was.
+fn runs_frozen(node: &mut Node) -> bool {
     let mut out = ArrayVec::new();
-    assert!(rt; node.run(9, &mut out).count() == 3);
-    assert!(rt; node.halt() == Some(Fault::UnknownOp));
-    let (head, page) = kept(&node).ok_or("not frozen")?;
-    assert!(rt; (head[1], head[4], page[0x200]) == (0, 0, 0));
     node.drop_frozen();
     node.freeze();
-    let (head, page) = kept(&node).ok_or("not frozen")?;
-    assert!(rt; (head[1], head[4], page[0x200]) == (2, 2, 4));
+    let count = node.run(9, &mut out).count();
+    let before = kept(node);
+    node.drop_frozen();
+    node.freeze();
+    count == 3
+        && before == (0, 0, 0)
+        && kept(node) == (2, 2, 4)
+        && node.halt() == Some(Fault::UnknownOp)
+}
+
+/// Whether both are so of the tests' node, with the program ldc 4, stl 0, and a number that is no operation.
+fn freezes(alloc: Global) -> Result<bool, Fail> {
+    let mut image = Image::new(alloc)?;
+    image.put_all(&[Fact::Bytes(START, &[0x44, 0xD0, 0x22, 0xF2])]);
+    let mut node = Node::from_image(alloc, &image.bytes, 4)?;
+    Ok(has_head(&mut node) && runs_frozen(&mut node))
+}
+
+#[test]
+fn frozen_nodes(rt: HostRuntime) -> Result<(), Fail> {
+    let told = freezes(rt.alloc())?;
+    assert!(rt; told);
     Ok(())
 }

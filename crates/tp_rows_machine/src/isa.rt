@@ -120,7 +120,9 @@ fn spelled(number: u8) -> Result<Instr, DecodeFault> {
         operand: i32::from(number),
         len: 2,
     };
-    listed(u32::from(number)).map(|_| instr).ok_or(DecodeFault::UnknownOp)
+    listed(u32::from(number))
+        .map(|_| instr)
+        .ok_or(DecodeFault::UnknownOp)
 }
 
 /// Each number of two digits is its operation, or unknown. So are larger ones.
@@ -137,7 +139,12 @@ fn every_operation(rt: HostRuntime) {
 const READ: &[(&[u8], Fun, i32, u8)] = &[
     (&[0x27, 0x25, 0x44], Fun::Ldc, 0x754, 3),
     (&[0x61, 0x41], Fun::Ldc, -31, 2),
-    (&[0x27, 0x2F, 0x2F, 0x2F, 0x2F, 0x2F, 0x6F, 0x40], Fun::Ldc, i32::MIN, 8),
+    (
+        &[0x27, 0x2F, 0x2F, 0x2F, 0x2F, 0x2F, 0x6F, 0x40],
+        Fun::Ldc,
+        i32::MIN,
+        8,
+    ),
     (&[0x61, 0x6D, 0x43], Fun::Ldc, 0x123, 3),
     (&[0x24, 0xF2], Fun::Opr, 0x42, 2),
     (&[0x60, 0x0E], Fun::J, -2, 2),
@@ -187,7 +194,8 @@ fn reads_prefixes() -> bool {
         operand: 3,
         len: 17,
     };
-    decoder.feed(0x20) == Some(Err(DecodeFault::LongPrefix)) && decoder.feed(0x43) == Some(Ok(whole))
+    decoder.feed(0x20) == Some(Err(DecodeFault::LongPrefix))
+        && decoder.feed(0x43) == Some(Ok(whole))
 }
 
 #[test]
@@ -197,8 +205,16 @@ fn many_prefixes(rt: HostRuntime) {
 
 const WRITTEN: &[(Fun, i32, &[u8])] = &[
     (Fun::Ldc, -1, &[0x60, 0x4F]),
-    (Fun::Ldc, i32::MIN, &[0x27, 0x2F, 0x2F, 0x2F, 0x2F, 0x2F, 0x6F, 0x40]),
-    (Fun::Ldc, i32::MAX, &[0x27, 0x2F, 0x2F, 0x2F, 0x2F, 0x2F, 0x2F, 0x4F]),
+    (
+        Fun::Ldc,
+        i32::MIN,
+        &[0x27, 0x2F, 0x2F, 0x2F, 0x2F, 0x2F, 0x6F, 0x40],
+    ),
+    (
+        Fun::Ldc,
+        i32::MAX,
+        &[0x27, 0x2F, 0x2F, 0x2F, 0x2F, 0x2F, 0x2F, 0x4F],
+    ),
     (Fun::Ldc, 0x123, &[0x21, 0x22, 0x43]),
     (Fun::Ldc, 0x754, &[0x27, 0x25, 0x44]),
     (Fun::Ldc, -31, &[0x61, 0x41]),
@@ -209,16 +225,20 @@ const WRITTEN: &[(Fun, i32, &[u8])] = &[
     (Fun::Ldc, -17, &[0x61, 0x4F]),
 ];
 
+/// Whether an instruction is appended as it ought to be spelt.
+fn is_written(alloc: Global, row: &(Fun, i32, &[u8])) -> Result<bool, Fail> {
+    let (fun, operand, spelling) = *row;
+    let mut bytes = Vec::new(alloc);
+    bytes.push(0xAA)?;
+    encode(fun, operand, &mut bytes)?;
+    Ok(bytes.first() == Some(&0xAA) && bytes.get(1..) == Some(spelling))
+}
+
 #[test]
 fn writes(rt: HostRuntime) -> Result<(), Fail> {
-    let mut bytes = Vec::new(rt.alloc());
-    let mut wanted = Vec::new(rt.alloc());
     for row in WRITTEN {
-        let (fun, operand, spelling) = *row;
-        encode(fun, operand, &mut bytes)?;
-        wanted.extend_from_slice(spelling)?;
-        let told = bytes.as_slice() == wanted.as_slice();
-        assert!(rt; told, "{operand}");
+        let told = is_written(rt.alloc(), row)?;
+        assert!(rt; told, "{row:?}");
     }
     Ok(())
 }

@@ -224,11 +224,7 @@ const PARTS: &[Part<'static>] = &[
             Low(0x8000_0200, 0x8000_0200),
         ],
     ),
-    (
-        Call::Pass(0x8000_0104),
-        &[],
-        &[Iptr(0x8000_0104), Slice(2)],
-    ),
+    (Call::Pass(0x8000_0104), &[], &[Iptr(0x8000_0104), Slice(2)]),
     (Call::Jump(0x8000_0110), &[], &[Iptr(0x8000_0110)]),
     (
         Call::JumpLooping(0x8000_0110),
@@ -373,26 +369,44 @@ fn parts(rt: HostRuntime) -> Result<(), Fail> {
     Ok(())
 }
 
-/// Whether a channel instruction asks the end of this link for a message at this pointer.
-fn asks(alloc: Global, call: Call, link: u8, pointer: u32, given: Fact<'_>) -> Result<bool, Fail> {
-    let mut desk = Desk::new(alloc, &[given])?;
-    match make(call, &mut desk) {
-        Err(Undone::Asks(request)) => Ok(request.link == link && request.pointer == pointer),
+/// A channel instruction, what is given, and the link and the pointer for which it asks that link for 4 bytes.
+type Request<'a> = (Call, &'a [Fact<'a>], u8, u32);
+
+const REQUESTS: &[Request<'static>] = &[
+    (
+        Call::Out,
+        &[Stack(4, 0x8000_0004, 0x8000_0310)],
+        1,
+        0x8000_0310,
+    ),
+    (
+        Call::In,
+        &[Stack(4, 0x8000_001C, 0x8000_0320)],
+        3,
+        0x8000_0320,
+    ),
+];
+
+fn is_request(alloc: Global, row: &Request<'_>) -> Result<bool, Fail> {
+    let (call, given, link, pointer) = *row;
+    let mut desk = Desk::new(alloc, given)?;
+    let told = match make(call, &mut desk) {
+        Err(Undone::Asks(request)) => request.link == link && request.pointer == pointer,
         Err(Undone::Wants(request)) => {
             let wish = Wish::Message { pointer, count: 4 };
-            Ok(request.link == link && request.wish == wish)
+            request.link == link && request.wish == wish
         }
-        _ => Ok(false),
-    }
+        _ => false,
+    };
+    Ok(told)
 }
 
 #[test]
 fn requests(rt: HostRuntime) -> Result<(), Fail> {
-    let out = Stack(4, 0x8000_0004, 0x8000_0310);
-    let asked = asks(rt.alloc(), Call::Out, 1, 0x8000_0310, out)?;
-    let input = Stack(4, 0x8000_001C, 0x8000_0320);
-    let wanted = asks(rt.alloc(), Call::In, 3, 0x8000_0320, input)?;
-    assert!(rt; asked && wanted);
+    for row in REQUESTS {
+        let told = is_request(rt.alloc(), row)?;
+        assert!(rt; told);
+    }
     Ok(())
 }
 
@@ -427,7 +441,10 @@ fn are_workspaces(desk: &Desk) -> bool {
         && !must_slice(&desk.cpu)
         && queue_write(0x8000_0401, &desk.cpu).is_none()
         && load(&desk.mem, 0x8000_002C).ok() == Some(0x8000_0000)
-        && matches!(load(&desk.mem, 0x8000_1000), Err(Undone::Faulty(Fault::BadAddress)))
+        && matches!(
+            load(&desk.mem, 0x8000_1000),
+            Err(Undone::Faulty(Fault::BadAddress))
+        )
 }
 
 fn are_constants() -> bool {
@@ -439,10 +456,14 @@ fn are_constants() -> bool {
         && !is_alternative(0x8000_0004)
 }
 
+fn are_so(alloc: Global) -> Result<bool, Fail> {
+    let desk = Desk::new(alloc, &[])?;
+    Ok(are_workspaces(&desk) && are_constants())
+}
+
 #[test]
 fn workspaces(rt: HostRuntime) -> Result<(), Fail> {
-    let desk = Desk::new(rt.alloc(), &[])?;
-    let told = are_workspaces(&desk) && are_constants();
+    let told = are_so(rt.alloc())?;
     assert!(rt; told);
     Ok(())
 }

@@ -53,12 +53,22 @@ fn check(rt: &impl Abort, rows: &[Row]) {
 const SUMS_CHECKED: &[Row] = &[
     (Op::Add, [1, 0x7FFF_FFFF, 9], [0x8000_0000, 9, 9], true),
     (Op::Add, [2, 3, 9], [5, 9, 9], false),
-    (Op::Add, [0xFFFF_FFFF, 0x8000_0000, 9], [0x7FFF_FFFF, 9, 9], true),
+    (
+        Op::Add,
+        [0xFFFF_FFFF, 0x8000_0000, 9],
+        [0x7FFF_FFFF, 9, 9],
+        true,
+    ),
     (Op::Add, [0xFFFF_FFFF, 1, 9], [0, 9, 9], false),
     (Op::Sub, [1, 0x8000_0000, 9], [0x7FFF_FFFF, 9, 9], true),
     (Op::Sub, [5, 3, 9], [0xFFFF_FFFE, 9, 9], false),
     (Op::Sub, [0x8000_0000, 0, 9], [0x8000_0000, 9, 9], true),
-    (Op::Sub, [0x8000_0000, 0xFFFF_FFFF, 9], [0x7FFF_FFFF, 9, 9], false),
+    (
+        Op::Sub,
+        [0x8000_0000, 0xFFFF_FFFF, 9],
+        [0x7FFF_FFFF, 9, 9],
+        false,
+    ),
 ];
 
 const SUMS_THAT_WRAP: &[Row] = &[
@@ -74,9 +84,19 @@ const SUMS_THAT_WRAP: &[Row] = &[
 const PRODUCTS: &[Row] = &[
     (Op::Mul, [3, 0xFFFF_FFFE, 9], [0xFFFF_FFFA, 9, 9], false),
     (Op::Mul, [0x1_0000, 0x1_0000, 9], [0, 9, 9], true),
-    (Op::Mul, [0xFFFF_FFFF, 0x8000_0000, 9], [0x8000_0000, 9, 9], true),
+    (
+        Op::Mul,
+        [0xFFFF_FFFF, 0x8000_0000, 9],
+        [0x8000_0000, 9, 9],
+        true,
+    ),
     (Op::Mul, [0x8000, 0x1_0000, 9], [0x8000_0000, 9, 9], true),
-    (Op::Mul, [0xFFFF_8000, 0x1_0000, 9], [0x8000_0000, 9, 9], false),
+    (
+        Op::Mul,
+        [0xFFFF_8000, 0x1_0000, 9],
+        [0x8000_0000, 9, 9],
+        false,
+    ),
     (Op::Prod, [0x1_0000, 0x1_0000, 9], [0, 9, 9], false),
     (Op::Prod, [0x1_0001, 0x1_0001, 9], [0x2_0001, 9, 9], false),
 ];
@@ -128,18 +148,43 @@ const COMPARISONS: &[Row] = &[
     (Op::Ccnt1, [4, 4, 3], [4, 3, 3], false),
     (Op::Ccnt1, [4, 5, 3], [5, 3, 3], true),
     (Op::Ccnt1, [4, 0, 3], [0, 3, 3], true),
-    (Op::Ccnt1, [0xFFFF_FFFF, 0x8000_0000, 3], [0x8000_0000, 3, 3], false),
+    (
+        Op::Ccnt1,
+        [0xFFFF_FFFF, 0x8000_0000, 3],
+        [0x8000_0000, 3, 3],
+        false,
+    ),
 ];
 
 const LONG_SUMS: &[Row] = &[
     (Op::Ladd, [1, 2, 1], [4, 2, 1], false),
     (Op::Ladd, [1, 2, 2], [3, 2, 2], false),
-    (Op::Ladd, [0, 0x7FFF_FFFF, 1], [0x8000_0000, 0x7FFF_FFFF, 1], true),
-    (Op::Ladd, [0xFFFF_FFFF, 0x8000_0000, 1], [0x8000_0000, 0x8000_0000, 1], false),
+    (
+        Op::Ladd,
+        [0, 0x7FFF_FFFF, 1],
+        [0x8000_0000, 0x7FFF_FFFF, 1],
+        true,
+    ),
+    (
+        Op::Ladd,
+        [0xFFFF_FFFF, 0x8000_0000, 1],
+        [0x8000_0000, 0x8000_0000, 1],
+        false,
+    ),
     (Op::Lsub, [1, 5, 1], [3, 5, 1], false),
-    (Op::Lsub, [0, 0x8000_0000, 3], [0x7FFF_FFFF, 0x8000_0000, 3], true),
+    (
+        Op::Lsub,
+        [0, 0x8000_0000, 3],
+        [0x7FFF_FFFF, 0x8000_0000, 3],
+        true,
+    ),
     (Op::Lsum, [0xFFFF_FFFF, 1, 1], [1, 1, 1], false),
-    (Op::Lsum, [0xFFFF_FFFF, 0xFFFF_FFFF, 1], [0xFFFF_FFFF, 1, 1], false),
+    (
+        Op::Lsum,
+        [0xFFFF_FFFF, 0xFFFF_FFFF, 1],
+        [0xFFFF_FFFF, 1, 1],
+        false,
+    ),
     (Op::Lsum, [1, 2, 0], [3, 0, 0], false),
     (Op::Ldiff, [1, 0, 0], [0xFFFF_FFFF, 1, 0], false),
     (Op::Ldiff, [0xFFFF_FFFF, 0, 1], [0, 1, 1], false),
@@ -147,7 +192,12 @@ const LONG_SUMS: &[Row] = &[
 ];
 
 const LONG_PRODUCTS: &[Row] = &[
-    (Op::Lmul, [0xFFFF_FFFF, 0xFFFF_FFFF, 0xFFFF_FFFF], [0, 0xFFFF_FFFF, 0xFFFF_FFFF], false),
+    (
+        Op::Lmul,
+        [0xFFFF_FFFF, 0xFFFF_FFFF, 0xFFFF_FFFF],
+        [0, 0xFFFF_FFFF, 0xFFFF_FFFF],
+        false,
+    ),
     (Op::Lmul, [2, 3, 4], [10, 0, 4], false),
     (Op::Lmul, [0x1_0000, 0x1_0000, 0], [0, 1, 0], false),
     (Op::Ldiv, [2, 0, 1], [0x8000_0000, 0, 1], false),
@@ -186,8 +236,20 @@ const FUNCTIONS: &[(Fun, i32, [u32; 3], [u32; 3], bool)] = &[
     (Fun::Adc, 2, [3, 2, 1], [5, 2, 1], false),
     (Fun::Adc, 1, [0x7FFF_FFFF, 2, 1], [0x8000_0000, 2, 1], true),
     (Fun::Adc, -1, [0x8000_0000, 2, 1], [0x7FFF_FFFF, 2, 1], true),
-    (Fun::Ldnlp, 3, [0x8000_0100, 2, 1], [0x8000_010C, 2, 1], false),
-    (Fun::Ldnlp, -1, [0x8000_0100, 2, 1], [0x8000_00FC, 2, 1], false),
+    (
+        Fun::Ldnlp,
+        3,
+        [0x8000_0100, 2, 1],
+        [0x8000_010C, 2, 1],
+        false,
+    ),
+    (
+        Fun::Ldnlp,
+        -1,
+        [0x8000_0100, 2, 1],
+        [0x8000_00FC, 2, 1],
+        false,
+    ),
     (Fun::Eqc, 5, [5, 2, 1], [1, 2, 1], false),
     (Fun::Eqc, 5, [6, 2, 1], [0, 2, 1], false),
     (Fun::Eqc, -1, [0xFFFF_FFFF, 2, 1], [1, 2, 1], false),
@@ -253,7 +315,10 @@ fn is_other(instr: Instr) -> bool {
 fn others(rt: HostRuntime) {
     let before = regs([1, 2, 3], false);
     for op in OTHERS {
-        assert!(rt; is_other(operation(*op)) && op_row(*op, before).is_none(), "{op:?}");
+        assert!(rt;
+            is_other(operation(*op)) && op_row(*op, before).is_none(),
+            "{op:?}"
+        );
     }
     assert!(rt; OPERATIONS.len() == OTHERS.len() + 31);
 }
@@ -262,7 +327,10 @@ fn others(rt: HostRuntime) {
 fn other_functions(rt: HostRuntime) {
     let before = regs([1, 2, 3], false);
     for fun in OTHER_FUNCTIONS {
-        assert!(rt; is_other(instr(*fun, 5)) && fun_row(*fun, 5, before).is_none(), "{fun:?}");
+        assert!(rt;
+            is_other(instr(*fun, 5)) && fun_row(*fun, 5, before).is_none(),
+            "{fun:?}"
+        );
     }
     assert!(rt; is_other(instr(Fun::Opr, 0x22)));
 }
