@@ -119,11 +119,20 @@ fn messages_and_lengths(rt: HostRuntime) -> Result<(), Fail> {
 }
 
 /// The head of the tests' node up to its links, which have nothing.
-const HEAD: [u8; 44] = [
+const HEAD: &[u8] = &[
     0x01, 0x00, 0x04, 0x00, 0x00, 0x01, 0x00, 0x80, 0x00, 0x02, 0x00, 0x80, 0x00, 0x00, 0x00, 0x00,
     0x00, 0x00, 0x00, 0x00, 0x00, 0x00, 0x00, 0x00, 0x00, 0x00, 0x00, 0x80, 0x00, 0x00, 0x00, 0x80,
     0x00, 0x00, 0x00, 0x80, 0x00, 0x00, 0x00, 0x80, 0x00, 0x02, 0x00, 0x00,
 ];
+
+fn is_head(head: &[u8]) -> bool {
+    for (i, byte) in head.iter().enumerate() {
+        if *byte != HEAD.get(i).copied().unwrap_or(0) {
+            return false;
+        }
+    }
+    true
+}
 
 /// Whether a node that is frozen now has that head.
 fn has_head(node: &mut Node) -> bool {
@@ -131,7 +140,7 @@ fn has_head(node: &mut Node) -> bool {
     node.drop_frozen();
     node.freeze();
     node.frozen_head(&mut head);
-    head[..44] == HEAD[..] && head[44..] == [0; 128][..]
+    is_head(&head)
 }
 
 /// The halt code and the slice count that a frozen node's head has, and the byte at its workspace.
