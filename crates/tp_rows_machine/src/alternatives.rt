@@ -1,9 +1,7 @@
 //! Alternatives: a process waits for the first of several partners.
 
 use crate::image::FIRST;
-use crate::image::Fact::{
-    Bytes, Gone, Holds, Iptr, Low, Runs, Slice, Stack, Word,
-};
+use crate::image::Fact::{Bytes, Gone, Holds, Iptr, Low, Runs, Slice, Stack, Word};
 use crate::story::Event::{Run, Then};
 use crate::story::{Row, Story, check_rows, play_all};
 use std::test::Fail;

@@ -51,7 +51,10 @@ impl Bench {
     pub fn runs(&mut self, steps: u16, sent: &[(u8, Token)]) -> bool {
         let mut out = ArrayVec::new();
         let ran = self.node.run(steps, &mut out);
-        ran.max() == steps && ran.count() == steps && ran.why() == Why::Full && out.as_slice() == sent
+        ran.max() == steps
+            && ran.count() == steps
+            && ran.why() == Why::Full
+            && out.as_slice() == sent
     }
 
     /// Whether it has no step.

@@ -1,9 +1,9 @@
 //! Processes that meet at a word of memory.
 
-use crate::image::{FIRST, Fact};
 use crate::image::Fact::{
     A, B, Bytes, Gone, Halt, High, Iptr, Low, Runs, Slice, Stack, State, Word, Wptr,
 };
+use crate::image::{FIRST, Fact};
 use crate::story::Event::{Also, Rests, Run, Then};
 use crate::story::{Halting, Story, check_halts, play_all};
 use std::test::Fail;

@@ -3,100 +3,217 @@
 use tp_link::{InEngine, LinkBusy, OutEngine};
 use tp_model::{Arrival, InEnd, News, OutEnd, Started, Token, Transfer};
 
-/// A message under way.
-fn transfer(process: u32, pointer: u32, left: u32) -> Transfer {
-    Transfer {
-        process,
-        pointer,
-        left,
-    }
+/// Messages of the process 80000201: of two bytes, and what is left behind the first.
+const TWO: Transfer = Transfer {
+    process: 0x8000_0201,
+    pointer: 0x8000_031F,
+    left: 2,
+};
+
+const ONE: Transfer = Transfer {
+    process: 0x8000_0201,
+    pointer: 0x8000_0320,
+    left: 1,
+};
+
+/// Whether a message begins at an end that is idle, and no second one.
+fn begins() -> bool {
+    let mut engine = OutEngine::new(OutEnd::Idle);
+    !engine.is_waiting()
+        && engine.next_pointer().is_none()
+        && engine.start(TWO, 7) == Ok(Token::Data(7))
+        && engine.start(ONE, 8) == Err(LinkBusy)
+        && engine.is_waiting()
+        && engine.next_pointer() == Some(0x8000_0320)
+        && engine.end() == OutEnd::Waits(TWO)
 }
 
-/// What an arrival leads to.
-fn arrival(token: Option<Token>, place: Option<u32>, news: News) -> Arrival {
-    Arrival { token, place, news }
+/// What an acknowledge leads to where this message waits, and the end then.
+fn acked(message: Transfer) -> (Arrival, OutEnd) {
+    let mut engine = OutEngine::new(OutEnd::Waits(message));
+    let arrival = engine.on_ack(Some(9));
+    (arrival, engine.end())
 }
 
 #[test]
 fn outputs(rt: HostRuntime) {
-    let message = transfer(0x8000_0201, 0x8000_0310, 2);
-    let mut engine = OutEngine::new(OutEnd::Idle);
-    assert_eq!(rt; (engine.is_waiting(), engine.next_pointer()), (false, None));
-    assert_eq!(rt; engine.start(message, 7), Ok(Token::Data(7)));
-    assert_eq!(rt; (engine.is_waiting(), engine.next_pointer()), (true, Some(0x8000_0311)));
-    assert_eq!(rt; engine.start(message, 8), Err(LinkBusy));
-    assert_eq!(rt; engine.end(), OutEnd::Waits(message));
+    let more = Arrival {
+        token: Some(Token::Data(9)),
+        place: None,
+        news: News::Nobody,
+    };
+    let last = Arrival {
+        token: None,
+        place: None,
+        news: News::Process(0x8000_0201),
+    };
+    assert!(rt; begins());
+    assert!(rt; acked(TWO) == (more, OutEnd::Waits(ONE)));
+    assert!(rt; acked(ONE) == (last, OutEnd::Idle));
 }
 
-#[test]
-fn acknowledges(rt: HostRuntime) {
-    let rest = transfer(0x8000_0201, 0x8000_0311, 1);
-    let mut engine = OutEngine::new(OutEnd::Waits(transfer(0x8000_0201, 0x8000_0310, 2)));
-    assert_eq!(rt; engine.on_ack(Some(9)), arrival(Some(Token::Data(9)), None, News::Nobody));
-    assert_eq!(rt; engine.end(), OutEnd::Waits(rest));
-    let mut engine = OutEngine::new(OutEnd::Waits(rest));
-    assert_eq!(rt; engine.on_ack(Some(9)), arrival(None, None, News::Process(0x8000_0201)));
-    assert_eq!(rt; engine.end(), OutEnd::Idle);
-}
+/// An end, a message that begins there, what comes of it, and the end then.
+const STARTS: &[(InEnd, Transfer, Result<Started, LinkBusy>, InEnd)] = &[
+    (
+        InEnd::Idle(None),
+        ONE,
+        Ok(Started {
+            token: None,
+            byte: None,
+            waits: true,
+        }),
+        InEnd::Inputs(ONE),
+    ),
+    (
+        InEnd::Idle(Some(7)),
+        ONE,
+        Ok(Started {
+            token: Some(Token::Ack),
+            byte: Some(7),
+            waits: false,
+        }),
+        InEnd::Idle(None),
+    ),
+    (
+        InEnd::Idle(Some(7)),
+        TWO,
+        Ok(Started {
+            token: Some(Token::Ack),
+            byte: Some(7),
+            waits: true,
+        }),
+        InEnd::Inputs(ONE),
+    ),
+    (InEnd::Inputs(TWO), ONE, Err(LinkBusy), InEnd::Inputs(TWO)),
+    (
+        InEnd::Enabled(0x8000_0201),
+        ONE,
+        Err(LinkBusy),
+        InEnd::Enabled(0x8000_0201),
+    ),
+];
 
 #[test]
 fn inputs(rt: HostRuntime) {
-    let one = transfer(0x8000_0201, 0x8000_0320, 1);
-    let two = transfer(0x8000_0201, 0x8000_031F, 2);
-    let taken = Some(Token::Ack);
-    let rows = [
-        (InEnd::Idle(None), one, Some((None, None, true)), InEnd::Inputs(one)),
-        (InEnd::Idle(Some(7)), one, Some((taken, Some(7), false)), InEnd::Idle(None)),
-        (InEnd::Idle(Some(7)), two, Some((taken, Some(7), true)), InEnd::Inputs(one)),
-        (InEnd::Inputs(two), one, None, InEnd::Inputs(two)),
-        (InEnd::Enabled(0x8000_0201), one, None, InEnd::Enabled(0x8000_0201)),
-    ];
-    for (before, message, answer, after) in rows {
+    for (i, row) in STARTS.iter().enumerate() {
+        let (before, message, answer, after) = *row;
         let mut engine = InEngine::new(before);
-        let wanted = answer.map(|(token, byte, waits)| Started { token, byte, waits });
-        assert_eq!(rt; engine.start(message).ok(), wanted);
-        assert_eq!(rt; engine.end(), after);
+        let told = engine.start(message) == answer && engine.end() == after;
+        assert!(rt; told, "row {i}");
     }
 }
 
+/// An end, what a byte 07 leads to there, and the end then.
+const ARRIVALS: &[(InEnd, Arrival, InEnd)] = &[
+    (
+        InEnd::Inputs(TWO),
+        Arrival {
+            token: Some(Token::Ack),
+            place: Some(0x8000_031F),
+            news: News::Nobody,
+        },
+        InEnd::Inputs(ONE),
+    ),
+    (
+        InEnd::Inputs(ONE),
+        Arrival {
+            token: Some(Token::Ack),
+            place: Some(0x8000_0320),
+            news: News::Process(0x8000_0201),
+        },
+        InEnd::Idle(None),
+    ),
+    (
+        InEnd::Idle(None),
+        Arrival {
+            token: None,
+            place: None,
+            news: News::Nobody,
+        },
+        InEnd::Idle(Some(7)),
+    ),
+    (
+        InEnd::Enabled(0x8000_0281),
+        Arrival {
+            token: None,
+            place: None,
+            news: News::Alternative(0x8000_0281),
+        },
+        InEnd::Idle(Some(7)),
+    ),
+];
+
 #[test]
 fn arrivals(rt: HostRuntime) {
-    let place = Some(0x8000_031F);
-    let one = transfer(0x8000_0201, 0x8000_031F, 1);
-    let mut engine = InEngine::new(InEnd::Inputs(transfer(0x8000_0201, 0x8000_031F, 2)));
-    assert_eq!(rt; engine.on_data(7), arrival(Some(Token::Ack), place, News::Nobody));
-    assert_eq!(rt; engine.end(), InEnd::Inputs(transfer(0x8000_0201, 0x8000_0320, 1)));
-    let mut engine = InEngine::new(InEnd::Inputs(one));
-    assert_eq!(rt; engine.on_data(7), arrival(Some(Token::Ack), place, News::Process(0x8000_0201)));
-    assert_eq!(rt; engine.end(), InEnd::Idle(None));
-    let mut engine = InEngine::new(InEnd::Idle(None));
-    assert_eq!(rt; engine.on_data(7), arrival(None, None, News::Nobody));
-    assert_eq!(rt; (engine.end(), engine.is_holding()), (InEnd::Idle(Some(7)), true));
-    let mut engine = InEngine::new(InEnd::Enabled(0x8000_0281));
-    assert_eq!(rt; engine.on_data(7), arrival(None, None, News::Alternative(0x8000_0281)));
-    assert_eq!(rt; (engine.end(), engine.is_holding()), (InEnd::Idle(Some(7)), true));
+    for (i, row) in ARRIVALS.iter().enumerate() {
+        let (before, arrival, after) = *row;
+        let mut engine = InEngine::new(before);
+        assert!(rt; !engine.is_holding(), "row {i}");
+        let told = engine.on_data(7) == arrival && engine.end() == after;
+        assert!(rt; told, "row {i}");
+    }
 }
 
-/// An alternative of the process 201 enables an end, and disables it.
+/// An end; what enabling it by the process 201 answers, and the end then; the same of disabling it.
+type Guard = (
+    InEnd,
+    Result<bool, LinkBusy>,
+    InEnd,
+    Result<bool, LinkBusy>,
+    InEnd,
+);
+
+const GUARDS: &[Guard] = &[
+    (
+        InEnd::Idle(None),
+        Ok(false),
+        InEnd::Enabled(0x201),
+        Ok(false),
+        InEnd::Idle(None),
+    ),
+    (
+        InEnd::Idle(Some(7)),
+        Ok(true),
+        InEnd::Idle(Some(7)),
+        Ok(true),
+        InEnd::Idle(Some(7)),
+    ),
+    (
+        InEnd::Enabled(0x201),
+        Ok(false),
+        InEnd::Enabled(0x201),
+        Ok(false),
+        InEnd::Idle(None),
+    ),
+    (
+        InEnd::Enabled(0x281),
+        Err(LinkBusy),
+        InEnd::Enabled(0x281),
+        Err(LinkBusy),
+        InEnd::Enabled(0x281),
+    ),
+    (
+        InEnd::Inputs(ONE),
+        Err(LinkBusy),
+        InEnd::Inputs(ONE),
+        Err(LinkBusy),
+        InEnd::Inputs(ONE),
+    ),
+];
+
+fn is_guard(guard: &Guard) -> bool {
+    let (before, enables, enabled, disables, disabled) = *guard;
+    let mut one = InEngine::new(before);
+    let mut other = InEngine::new(before);
+    one.enable(0x201) == enables
+        && one.end() == enabled
+        && other.disable(0x201) == disables
+        && other.end() == disabled
+}
+
 #[test]
 fn guards(rt: HostRuntime) {
-    let own = InEnd::Enabled(0x201);
-    let other = InEnd::Enabled(0x281);
-    let busy = InEnd::Inputs(transfer(0x201, 0x8000_0320, 1));
-    let held = InEnd::Idle(Some(7));
-    let rows = [
-        (InEnd::Idle(None), Ok(false), own, Ok(false), InEnd::Idle(None)),
-        (held, Ok(true), held, Ok(true), held),
-        (own, Ok(false), own, Ok(false), InEnd::Idle(None)),
-        (other, Err(LinkBusy), other, Err(LinkBusy), other),
-        (busy, Err(LinkBusy), busy, Err(LinkBusy), busy),
-    ];
-    for (before, enables, enabled, disables, disabled) in rows {
-        let mut engine = InEngine::new(before);
-        assert_eq!(rt; engine.enable(0x201), enables);
-        assert_eq!(rt; engine.end(), enabled);
-        let mut engine = InEngine::new(before);
-        assert_eq!(rt; engine.disable(0x201), disables);
-        assert_eq!(rt; engine.end(), disabled);
+    for (i, row) in GUARDS.iter().enumerate() {
+        assert!(rt; is_guard(row), "row {i}");
     }
 }

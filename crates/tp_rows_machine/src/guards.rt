@@ -2,7 +2,8 @@
 
 use crate::image::FIRST;
 use crate::image::Fact::{
-    Bytes, Enabled, Gone, Halt, High, Holds, Inputs, Iptr, Low, Quiet, Runs, Slice, Stack, Unused, Waits, Word,
+    Bytes, Enabled, Gone, Halt, High, Holds, Inputs, Iptr, Low, Quiet, Runs, Slice, Stack, Unused,
+    Waits, Word,
 };
 use crate::story::Event::{Also, Rests, Run, Take, Then};
 use crate::story::{Halting, Row, Story, check_halts, check_rows, play_all};

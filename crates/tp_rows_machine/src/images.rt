@@ -15,165 +15,171 @@ fn is_image(alloc: Global, bytes: &[u8]) -> bool {
     }
 }
 
-/// One byte of an image after another is changed: where it is, what it is then, and whether the bytes still are an image.
+/// A byte of an image: where it is, what it is instead, and whether the bytes still are an image.
+const BYTES: &[(usize, u8, bool)] = &[
+    // version, halt code, pages, Wptr, Error, state, slice count
+    (0, 0, false),
+    (0, 2, false),
+    (1, 4, true),
+    (1, 5, false),
+    (2, 5, false),
+    (3, 1, false),
+    (8, 4, true),
+    (8, 2, false),
+    (40, 1, true),
+    (40, 2, false),
+    (41, 3, false),
+    (43, 4, true),
+    (43, 5, false),
+    // an idle output end has nothing; one that waits has a byte left; there is no third state
+    (44, 1, false),
+    (44, 2, false),
+    (45, 1, false),
+    (46, 1, false),
+    (47, 1, false),
+    (48, 1, false),
+    (52, 1, false),
+    (59, 1, false),
+    // an idle input end may hold a byte; one that inputs has a byte left; one may be enabled by any process
+    (108, 1, false),
+    (108, 2, true),
+    (108, 3, false),
+    (109, 1, true),
+    (109, 2, false),
+    (110, 1, false),
+    (111, 1, false),
+    (112, 1, false),
+    (171, 1, false),
+];
+
+/// Messages under way, by pointer and count. All that is left lies inside memory, and something is left.
+const MESSAGES: &[(u32, u32, bool)] = &[
+    (0x8000_0FFE, 2, true),
+    (0x8000_0FFF, 2, false),
+    (0x8000_1000, 1, false),
+    (0x7FFF_FFFF, 1, false),
+    (0x8000_0310, 0, false),
+    (0x8000_0000, 4096, true),
+    (0x8000_0001, 0xFFFF_FFFF, false),
+];
+
+/// Pages and length. A memory has whole pages, 4 to 256, as many as the head says.
+const LENGTHS: &[([u8; 2], usize, bool)] = &[
+    ([4, 0], 4268, true),
+    ([4, 0], 4267, false),
+    ([4, 0], 4269, false),
+    ([4, 0], 172, false),
+    ([4, 0], 171, false),
+    ([4, 0], 0, false),
+    ([3, 0], 3244, false),
+    ([5, 0], 5292, true),
+    ([0, 1], 262_316, true),
+    ([1, 1], 263_340, false),
+];
+
+/// Whether an image that has changed is one still.
+fn is_with(alloc: Global, at: usize, bytes: &[u8], len: usize) -> Result<bool, Fail> {
+    let mut image = Image::new(alloc)?;
+    image.put(at, bytes);
+    image.bytes.resize(len, 0)?;
+    Ok(is_image(alloc, &image.bytes))
+}
+
+/// Whether an image is one still where this is so.
+fn is_where(alloc: Global, fact: Fact<'_>) -> Result<bool, Fail> {
+    let mut image = Image::new(alloc)?;
+    image.put_all(&[fact]);
+    Ok(is_image(alloc, &image.bytes))
+}
+
 #[test]
-fn bytes_of_the_head(rt: HostRuntime) -> Result<(), Fail> {
-    let rows = [
-        // version, halt code, pages, Wptr, Error, state, slice count
-        (0, 0, false),
-        (0, 2, false),
-        (1, 4, true),
-        (1, 5, false),
-        (2, 5, false),
-        (3, 1, false),
-        (8, 4, true),
-        (8, 2, false),
-        (40, 1, true),
-        (40, 2, false),
-        (41, 3, false),
-        (43, 4, true),
-        (43, 5, false),
-    ];
-    for (at, byte, wanted) in rows {
-        let mut image = Image::new(rt.alloc())?;
-        image.put(at, &[byte]);
-        assert_eq!(rt; is_image(rt.alloc(), &image.bytes), wanted, "{at}");
+fn bytes_of_heads(rt: HostRuntime) -> Result<(), Fail> {
+    for row in BYTES {
+        let (at, byte, wanted) = *row;
+        let seen = is_with(rt.alloc(), at, &[byte], 4268)?;
+        assert!(rt; seen == wanted, "{at}: {byte}");
     }
     Ok(())
 }
 
 #[test]
-fn bytes_of_ends(rt: HostRuntime) -> Result<(), Fail> {
-    let rows = [
-        // an idle output end has nothing; one that waits has a byte left; there is no third state
-        (44, 1, false),
-        (44, 2, false),
-        (45, 1, false),
-        (46, 1, false),
-        (47, 1, false),
-        (48, 1, false),
-        (52, 1, false),
-        (59, 1, false),
-        // an idle input end may hold a byte; one that inputs has a byte left; one may be enabled by any process
-        (108, 1, false),
-        (108, 2, true),
-        (108, 3, false),
-        (109, 1, true),
-        (109, 2, false),
-        (110, 1, false),
-        (111, 1, false),
-        (112, 1, false),
-        (171, 1, false),
-    ];
-    for (at, byte, wanted) in rows {
-        let mut image = Image::new(rt.alloc())?;
-        image.put(at, &[byte]);
-        assert_eq!(rt; is_image(rt.alloc(), &image.bytes), wanted, "{at}");
+fn messages_and_lengths(rt: HostRuntime) -> Result<(), Fail> {
+    for row in MESSAGES {
+        let (pointer, left, wanted) = *row;
+        let sends = is_where(rt.alloc(), Fact::Waits(3, 0xFFFF_FFFF, pointer, left))?;
+        let receives = is_where(rt.alloc(), Fact::Inputs(3, 0xFFFF_FFFF, pointer, left))?;
+        assert!(rt; sends == wanted && receives == wanted, "{left}");
+    }
+    for row in LENGTHS {
+        let (pages, len, wanted) = *row;
+        let seen = is_with(rt.alloc(), 2, &pages, len)?;
+        assert!(rt; seen == wanted, "{len}");
     }
     Ok(())
 }
 
-/// All that is left of a message lies inside memory, and something is left.
-#[test]
-fn messages_under_way(rt: HostRuntime) -> Result<(), Fail> {
-    let rows = [
-        (0x8000_0FFE, 2, true),
-        (0x8000_0FFF, 2, false),
-        (0x8000_1000, 1, false),
-        (0x7FFF_FFFF, 1, false),
-        (0x8000_0310, 0, false),
-        (0x8000_0000, 4096, true),
-        (0x8000_0001, 0xFFFF_FFFF, false),
-    ];
-    for (pointer, left, wanted) in rows {
-        let mut image = Image::new(rt.alloc())?;
-        image.put_all(&[Fact::Waits(3, 0xFFFF_FFFF, pointer, left)]);
-        assert_eq!(rt; is_image(rt.alloc(), &image.bytes), wanted);
-        let mut image = Image::new(rt.alloc())?;
-        image.put_all(&[Fact::Inputs(3, 0xFFFF_FFFF, pointer, left)]);
-        assert_eq!(rt; is_image(rt.alloc(), &image.bytes), wanted);
+/// The head of the tests' node up to its links, which have nothing.
+const HEAD: &[u8] = &[
+    0x01, 0x00, 0x04, 0x00, 0x00, 0x01, 0x00, 0x80, 0x00, 0x02, 0x00, 0x80, 0x00, 0x00, 0x00, 0x00,
+    0x00, 0x00, 0x00, 0x00, 0x00, 0x00, 0x00, 0x00, 0x00, 0x00, 0x00, 0x80, 0x00, 0x00, 0x00, 0x80,
+    0x00, 0x00, 0x00, 0x80, 0x00, 0x00, 0x00, 0x80, 0x00, 0x02, 0x00, 0x00,
+];
+
+fn is_head(head: &[u8]) -> bool {
+    for (i, byte) in head.iter().enumerate() {
+        if *byte != HEAD.get(i).copied().unwrap_or(0) {
+            return false;
+        }
     }
-    Ok(())
+    true
 }
 
-/// A memory has whole pages, 4 to 256, as many as the head says.
-#[test]
-fn lengths(rt: HostRuntime) -> Result<(), Fail> {
-    let rows = [
-        ([4, 0], 4268, true),
-        ([4, 0], 4267, false),
-        ([4, 0], 4269, false),
-        ([4, 0], 172, false),
-        ([4, 0], 171, false),
-        ([4, 0], 0, false),
-        ([3, 0], 3244, false),
-        ([5, 0], 5292, true),
-        ([0, 1], 262_316, true),
-        ([1, 1], 263_340, false),
-    ];
-    for (pages, len, wanted) in rows {
-        let mut image = Image::new(rt.alloc())?;
-        image.put(2, &pages);
-        image.bytes.resize(len, 0)?;
-        assert_eq!(rt; is_image(rt.alloc(), &image.bytes), wanted, "{len}");
-    }
-    Ok(())
-}
-
-/// The head of the tests' node, byte for byte.
-#[test]
-fn a_head(rt: HostRuntime) -> Result<(), Fail> {
-    let mut wanted = Vec::new(rt.alloc());
-    let parts: [&[u8]; 9] = [
-        &[0x01, 0x00, 0x04, 0x00],
-        &[0x00, 0x01, 0x00, 0x80],
-        &[0x00, 0x02, 0x00, 0x80],
-        &[0; 12],
-        &[0x00, 0x00, 0x00, 0x80, 0x00, 0x00, 0x00, 0x80],
-        &[0x00, 0x00, 0x00, 0x80, 0x00, 0x00, 0x00, 0x80],
-        &[0x00, 0x02, 0x00, 0x00],
-        &[0; 64],
-        &[0; 64],
-    ];
-    for part in parts {
-        wanted.extend_from_slice(part)?;
-    }
-    let image = Image::new(rt.alloc())?;
-    let mut node = Node::from_image(rt.alloc(), &image.bytes, 0)?;
+/// Whether a node that is frozen now has that head.
+fn has_head(node: &mut Node) -> bool {
     let mut head = [0xFF; 172];
     node.drop_frozen();
     node.freeze();
     node.frozen_head(&mut head);
-    assert_eq!(rt; head.as_slice(), wanted.as_slice());
-    Ok(())
+    is_head(&head)
 }
 
-/// While a node is frozen it runs, and what was kept is what it was.
-#[test]
-fn a_frozen_node(rt: HostRuntime) -> Result<(), Fail> {
-    let mut image = Image::new(rt.alloc())?;
-    // ldc 4, stl 0, a number that is no operation
-    image.put_all(&[Fact::Bytes(START, &[0x44, 0xD0, 0x22, 0xF2])]);
-    let mut node = Node::from_image(rt.alloc(), &image.bytes, 4)?;
-    assert_eq!(rt; (node.pages(), node.is_frozen(), node.halt()), (4, false, None));
-    node.drop_frozen();
-    node.freeze();
-    let mut out = ArrayVec::new();
-    assert_eq!(rt; node.run(9, &mut out).count(), 3);
-    assert_eq!(rt; (node.is_frozen(), node.halt()), (true, Some(Fault::UnknownOp)));
+/// The halt code and the slice count that a frozen node's head has, and the byte at its workspace.
+fn kept(node: &Node) -> (u8, u8, u8) {
     let mut head = [0xFF; 172];
     let mut page = [0xFF; 1024];
     if node.is_frozen() && node.pages() > 0 {
         node.frozen_head(&mut head);
         node.frozen_page(0, &mut page);
     }
-    assert_eq!(rt; (head[1], head[4], page[0x200]), (0, 0, 0));
+    (head[1], head[42], page[0x200])
+}
+
+/// Whether a node runs while it is frozen, and what was kept is what it was.
+fn runs_frozen(node: &mut Node) -> bool {
+    let mut out = ArrayVec::new();
     node.drop_frozen();
     node.freeze();
-    if node.pages() > 0 {
-        node.frozen_head(&mut head);
-        node.frozen_page(0, &mut page);
-    }
-    assert_eq!(rt; (head[1], head[4], page[0x200]), (2, 2, 4));
+    let count = node.run(9, &mut out).count();
+    let before = kept(node);
+    node.drop_frozen();
+    node.freeze();
+    count == 3
+        && before == (0, 0, 0)
+        && kept(node) == (2, 2, 4)
+        && node.halt() == Some(Fault::UnknownOp)
+}
+
+/// Whether both are so of the tests' node, with the program ldc 4, stl 0, and a number that is no operation.
+fn freezes(alloc: Global) -> Result<bool, Fail> {
+    let mut image = Image::new(alloc)?;
+    image.put_all(&[Fact::Bytes(START, &[0x44, 0xD0, 0x22, 0xF2])]);
+    let mut node = Node::from_image(alloc, &image.bytes, 4)?;
+    Ok(has_head(&mut node) && runs_frozen(&mut node))
+}
+
+#[test]
+fn frozen_nodes(rt: HostRuntime) -> Result<(), Fail> {
+    let told = freezes(rt.alloc())?;
+    assert!(rt; told);
     Ok(())
 }

@@ -1,9 +1,10 @@
 //! Messages over links: a test hands the tokens.
 
-use crate::image::{FIRST, Fact};
 use crate::image::Fact::{
-    A, Bytes, Enabled, Gone, Holds, Inputs, Iptr, Low, Quiet, Slice, Stack, Unused, Waits, Word, Wptr,
+    A, Bytes, Enabled, Gone, Holds, Inputs, Iptr, Low, Quiet, Slice, Stack, Unused, Waits, Word,
+    Wptr,
 };
+use crate::image::{FIRST, Fact};
 use crate::story::Event::{Also, Rests, Run, Take, Then};
 use crate::story::{Halting, Row, Story, check_halts, check_rows, play_all};
 use std::test::Fail;

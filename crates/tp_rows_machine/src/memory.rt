@@ -1,6 +1,7 @@
 //! A node's memory on its own.
 
 use crate::desk::four_pages;
+use std::alloc::Global;
 use std::test::Fail;
 use tp_mem::{FlatMemory, Freeze, Mem, WriteFault};
 
@@ -45,19 +46,69 @@ fn writes(mem: &mut FlatMemory, call: Write<'_>) -> Option<bool> {
 /// Calls one after another, whether each writes, and a word that is then in memory: a call writes all or nothing, a block
 /// behind the first word and in front of the others, which are written in order.
 const WRITES: &[(Write<'static>, bool, u32, u32)] = &[
-    (Write::Word(0x8000_0102, 0x4433_2211), true, 0x8000_0103, 0x4433_2211),
+    (
+        Write::Word(0x8000_0102, 0x4433_2211),
+        true,
+        0x8000_0103,
+        0x4433_2211,
+    ),
     (Write::Word(0x8000_1000, 1), false, 0x8000_0FFF, 0),
     (Write::Byte(0x8000_0301, 7), true, 0x8000_0300, 0x700),
     (Write::Byte(0x8000_1000, 7), false, 0x8000_0000, 0),
-    (Write::Words(&[(0x8000_0310, 1), (0x8000_0310, 2)]), true, 0x8000_0310, 2),
-    (Write::Words(&[(0x8000_0310, 9), (0x8000_1000, 9)]), false, 0x8000_0310, 2),
-    (Write::ByteAndWords(0x8000_0302, 8, &[(0x8000_0322, 0xAA)]), true, 0x8000_0320, 0xAA),
-    (Write::ByteAndWords(0x8000_0302, 9, &[(0x8000_1000, 9)]), false, 0x8000_0300, 0x08_0700),
-    (Write::Block(0x8000_0301, 0x8000_0300, 3, &[]), true, 0x8000_0300, 0x0807_0000),
-    (Write::Block(0x8000_0300, 0x8000_0310, 4, &[(0x8000_1000, 9)]), false, 0x8000_0300, 0x0807_0000),
-    (Write::Block(0x8000_0300, 0x8000_0FFE, 3, &[]), false, 0x8000_0300, 0x0807_0000),
-    (Write::BlockAfter(0x8000_0341, 0x8000_0330, 2, &[(0x8000_1000, 9)]), false, 0x8000_0330, 0),
-    (Write::BlockAfter(0x8000_0341, 0x8000_0330, 2, &[(0x8000_0350, 9)]), true, 0x8000_0340, 0x0033_4400),
+    (
+        Write::Words(&[(0x8000_0310, 1), (0x8000_0310, 2)]),
+        true,
+        0x8000_0310,
+        2,
+    ),
+    (
+        Write::Words(&[(0x8000_0310, 9), (0x8000_1000, 9)]),
+        false,
+        0x8000_0310,
+        2,
+    ),
+    (
+        Write::ByteAndWords(0x8000_0302, 8, &[(0x8000_0322, 0xAA)]),
+        true,
+        0x8000_0320,
+        0xAA,
+    ),
+    (
+        Write::ByteAndWords(0x8000_0302, 9, &[(0x8000_1000, 9)]),
+        false,
+        0x8000_0300,
+        0x08_0700,
+    ),
+    (
+        Write::Block(0x8000_0301, 0x8000_0300, 3, &[]),
+        true,
+        0x8000_0300,
+        0x0807_0000,
+    ),
+    (
+        Write::Block(0x8000_0300, 0x8000_0310, 4, &[(0x8000_1000, 9)]),
+        false,
+        0x8000_0300,
+        0x0807_0000,
+    ),
+    (
+        Write::Block(0x8000_0300, 0x8000_0FFE, 3, &[]),
+        false,
+        0x8000_0300,
+        0x0807_0000,
+    ),
+    (
+        Write::BlockAfter(0x8000_0341, 0x8000_0330, 2, &[(0x8000_1000, 9)]),
+        false,
+        0x8000_0330,
+        0,
+    ),
+    (
+        Write::BlockAfter(0x8000_0341, 0x8000_0330, 2, &[(0x8000_0350, 9)]),
+        true,
+        0x8000_0340,
+        0x0033_4400,
+    ),
     (Write::Words(&[]), true, 0x8000_0350, 9),
 ];
 
@@ -86,33 +137,49 @@ const RANGES: &[(u32, u32, bool)] = &[
     (0x8000_0001, 0xFFFF_FFFF, false),
 ];
 
-#[test]
-fn ranges(rt: HostRuntime) -> Result<(), Fail> {
-    let mem = four_pages(rt.alloc())?;
-    assert_eq!(rt; (mem.len(), mem.pages()), (4096, 4));
-    for row in RANGES {
-        let (address, count, inside) = *row;
-        assert_eq!(rt; mem.is_inside(address, count), inside, "{address:X} {count}");
-        let is_read = mem.read_byte(address).is_some();
-        assert!(rt; count != 1 || is_read == inside, "{address:X}");
-    }
-    Ok(())
+/// Whether a range lies inside, and its byte can be read, where it is one byte.
+fn is_range(mem: &FlatMemory, row: &(u32, u32, bool)) -> bool {
+    let (address, count, inside) = *row;
+    let reads = mem.read_byte(address).is_some();
+    mem.is_inside(address, count) == inside && (count != 1 || reads == inside)
 }
 
-/// Frozen bytes stay as they were until they are let go.
-#[test]
-fn freezes(rt: HostRuntime) -> Result<(), Fail> {
-    let mut mem = four_pages(rt.alloc())?;
+fn are_ranges(mem: &FlatMemory) -> bool {
+    for row in RANGES {
+        if !is_range(mem, row) {
+            return false;
+        }
+    }
+    mem.len() == 4096 && mem.pages() == 4
+}
+
+/// Whether the frozen page 1 is all zeros.
+fn is_clear(mem: &FlatMemory) -> bool {
     let mut page = [9; 1024];
-    mem.drop_frozen();
-    mem.freeze();
-    let wrote = writes(&mut mem, Write::Word(0x8000_0400, 6));
-    assert!(rt; wrote == Some(true) && mem.is_frozen());
-    if mem.pages() > 1 {
+    if mem.is_frozen() && mem.pages() > 1 {
         mem.frozen_page(1, &mut page);
     }
-    assert!(rt; page == [0; 1024]);
+    page == [0; 1024]
+}
+
+/// Whether frozen bytes stay as they were until they are let go.
+fn keeps(mem: &mut FlatMemory) -> bool {
     mem.drop_frozen();
-    assert!(rt; !mem.is_frozen() && mem.read_word(0x8000_0400) == Some(6));
+    mem.freeze();
+    let wrote = writes(mem, Write::Word(0x8000_0400, 6)) == Some(true);
+    let kept = is_clear(mem);
+    mem.drop_frozen();
+    wrote && kept && !mem.is_frozen() && mem.read_word(0x8000_0400) == Some(6)
+}
+
+fn is_memory(alloc: Global) -> Result<bool, Fail> {
+    let mut mem = four_pages(alloc)?;
+    Ok(are_ranges(&mem) && keeps(&mut mem))
+}
+
+#[test]
+fn ranges_and_frozen_bytes(rt: HostRuntime) -> Result<(), Fail> {
+    let told = is_memory(rt.alloc())?;
+    assert!(rt; told);
     Ok(())
 }

@@ -6,7 +6,7 @@ use crate::image::Fact::{A, Gone, High, Iptr, Low, Runs, Slice, Stack, State, Wo
 use std::alloc::Global;
 use std::test::Fail;
 use tp_mem::FlatMemory;
-use tp_model::{ChannelWord, Cpu, Fault, InRequest, OutRequest, Wish};
+use tp_model::{ChannelWord, Cpu, Fault, Wish};
 use tp_proc::{
     BAD_ADDRESS, ENABLING, KEPT_AT, NONE_CHOSEN, NOT_PROCESS, READY, Undone, WAITING, alt,
     alt_disable, alt_enable, altwt, chan_in, chan_out, chan_out_word, change, channel_at, choose,
@@ -224,11 +224,7 @@ const PARTS: &[Part<'static>] = &[
             Low(0x8000_0200, 0x8000_0200),
         ],
     ),
-    (
-        Call::Pass(0x8000_0104),
-        &[],
-        &[Iptr(0x8000_0104), Slice(2)],
-    ),
+    (Call::Pass(0x8000_0104), &[], &[Iptr(0x8000_0104), Slice(2)]),
     (Call::Jump(0x8000_0110), &[], &[Iptr(0x8000_0110)]),
     (
         Call::JumpLooping(0x8000_0110),
@@ -373,25 +369,44 @@ fn parts(rt: HostRuntime) -> Result<(), Fail> {
     Ok(())
 }
 
-/// What a channel instruction asks of a link, which changes nothing.
-fn asked(desk: &mut Desk, call: Call) -> Option<(u8, u32)> {
-    match make(call, desk) {
-        Err(Undone::Asks(OutRequest { link, pointer, .. })) => Some((link, pointer)),
-        Err(Undone::Wants(InRequest {
-            link,
-            wish: Wish::Message { pointer, .. },
-            ..
-        })) => Some((link, pointer)),
-        _ => None,
-    }
+/// A channel instruction, what is given, and the link and the pointer for which it asks that link for 4 bytes.
+type Request<'a> = (Call, &'a [Fact<'a>], u8, u32);
+
+const REQUESTS: &[Request<'static>] = &[
+    (
+        Call::Out,
+        &[Stack(4, 0x8000_0004, 0x8000_0310)],
+        1,
+        0x8000_0310,
+    ),
+    (
+        Call::In,
+        &[Stack(4, 0x8000_001C, 0x8000_0320)],
+        3,
+        0x8000_0320,
+    ),
+];
+
+fn is_request(alloc: Global, row: &Request<'_>) -> Result<bool, Fail> {
+    let (call, given, link, pointer) = *row;
+    let mut desk = Desk::new(alloc, given)?;
+    let told = match make(call, &mut desk) {
+        Err(Undone::Asks(request)) => request.link == link && request.pointer == pointer,
+        Err(Undone::Wants(request)) => {
+            let wish = Wish::Message { pointer, count: 4 };
+            request.link == link && request.wish == wish
+        }
+        _ => false,
+    };
+    Ok(told)
 }
 
 #[test]
 fn requests(rt: HostRuntime) -> Result<(), Fail> {
-    let mut desk = Desk::new(rt.alloc(), &[Stack(4, 0x8000_0004, 0x8000_0310)])?;
-    assert_eq!(rt; asked(&mut desk, Call::Out), Some((1, 0x8000_0310)));
-    let mut desk = Desk::new(rt.alloc(), &[Stack(4, 0x8000_001C, 0x8000_0310)])?;
-    assert_eq!(rt; asked(&mut desk, Call::In), Some((3, 0x8000_0310)));
+    for row in REQUESTS {
+        let told = is_request(rt.alloc(), row)?;
+        assert!(rt; told);
+    }
     Ok(())
 }
 
@@ -408,7 +423,8 @@ const CHANNELS: &[(u32, ChannelWord)] = &[
 #[test]
 fn channels(rt: HostRuntime) {
     for row in CHANNELS {
-        assert_eq!(rt; channel_at(row.0), row.1);
+        let told = channel_at(row.0) == row.1;
+        assert!(rt; told);
     }
 }
 
@@ -425,7 +441,10 @@ fn are_workspaces(desk: &Desk) -> bool {
         && !must_slice(&desk.cpu)
         && queue_write(0x8000_0401, &desk.cpu).is_none()
         && load(&desk.mem, 0x8000_002C).ok() == Some(0x8000_0000)
-        && matches!(load(&desk.mem, 0x8000_1000), Err(Undone::Faulty(Fault::BadAddress)))
+        && matches!(
+            load(&desk.mem, 0x8000_1000),
+            Err(Undone::Faulty(Fault::BadAddress))
+        )
 }
 
 fn are_constants() -> bool {
@@ -437,10 +456,14 @@ fn are_constants() -> bool {
         && !is_alternative(0x8000_0004)
 }
 
+fn are_so(alloc: Global) -> Result<bool, Fail> {
+    let desk = Desk::new(alloc, &[])?;
+    Ok(are_workspaces(&desk) && are_constants())
+}
+
 #[test]
 fn workspaces(rt: HostRuntime) -> Result<(), Fail> {
-    let desk = Desk::new(rt.alloc(), &[])?;
-    assert!(rt; are_workspaces(&desk));
-    assert!(rt; are_constants());
+    let told = are_so(rt.alloc())?;
+    assert!(rt; told);
     Ok(())
 }

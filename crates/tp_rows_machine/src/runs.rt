@@ -200,11 +200,7 @@ const SLICES: &[Story<'static>] = &[
     Story {
         name: "a loop that doesn't jump makes no room",
         code: &[0x22, 0xF1],
-        given: &[
-            Slice(1024),
-            Stack(2, 0x8000_0240, 0),
-            Word(0x8000_0244, 1),
-        ],
+        given: &[Slice(1024), Stack(2, 0x8000_0240, 0), Word(0x8000_0244, 1)],
         events: &[
             Run(1, &[]),
             Then(&[Iptr(0x8000_0102), Word(0x8000_0244, 0)]),

@@ -56,10 +56,7 @@ const ROWS: &[Row<'static>] = &[
         &[],
     ),
     (
-        &[
-            Stack(0x44, 0x8000_0008, 3),
-            Word(0x8000_0100, 0x00FE_0000),
-        ],
+        &[Stack(0x44, 0x8000_0008, 3), Word(0x8000_0100, 0x00FE_0000)],
         StepEnd::LinkOut(OutRequest {
             link: 2,
             pointer: 0x8000_0200,
