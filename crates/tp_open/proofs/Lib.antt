@@ -1,4 +1,5 @@
 pub mod Areas
+pub mod GroupsRead
 pub mod HeadBytes
 pub mod Heads
 pub mod Numbers

@@ -1,4 +1,5 @@
 pub mod Fronts
+pub mod Groups
 pub mod Heads
 pub mod Lines
 pub mod Ports

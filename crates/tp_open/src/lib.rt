@@ -5,6 +5,7 @@ mod choice;
 mod device;
 mod flights;
 mod front;
+mod groups;
 mod head;
 mod line;
 mod number;
@@ -15,6 +16,7 @@ mod unopened;
 
 pub use choice::read_choice;
 pub use front::{CutFront, read_front};
+pub use groups::replay_groups;
 pub use head::{Head, head_in, read_head};
 pub use line::LineTokens;
 pub use port::CutPort;
