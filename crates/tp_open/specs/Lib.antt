@@ -1,5 +1,5 @@
+pub mod AfterGroups
 pub mod Fronts
-pub mod Groups
 pub mod Heads
 pub mod Lines
 pub mod Ports

@@ -16,7 +16,7 @@ mod unopened;
 
 pub use choice::read_choice;
 pub use front::{CutFront, read_front};
-pub use groups::replay_groups;
+pub use groups::replay_area;
 pub use head::{Head, head_in, read_head};
 pub use line::LineTokens;
 pub use port::CutPort;
