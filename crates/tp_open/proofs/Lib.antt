@@ -1,6 +1,8 @@
 pub mod Areas
+pub mod Groups
 pub mod HeadBytes
 pub mod Heads
+pub mod Nodes
 pub mod Numbers
 pub mod Parts
 pub mod Passing

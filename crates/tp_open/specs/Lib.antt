@@ -1,5 +1,7 @@
 pub mod Fronts
+pub mod Groups
 pub mod Heads
 pub mod Lines
+pub mod Nodes
 pub mod Ports
 pub mod Reading
