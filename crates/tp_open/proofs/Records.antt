@@ -2,7 +2,7 @@
 use Rattle.std.proofs.Common.{◌≡◌, ℕ, zero, suc, ◌+◌, ◌-◌, ◌*◌, ◌<◌, ◌≤◌, List, [], ◌∷◌, ◌++◌, length, take, drop, get_or, map, refl, sym, ap, ◌∙◌, arith, append_assoc, append-nil, subst}
 use Rattle.std.specs.Prelude.{Option, Some, None, Result, Ok, Err}
 use Rattle.std.specs.Option.{option_map}
-use Rattle.std.proofs.lemmas.List.{map_push, drop_more, drop_all, take-take}
+use Rattle.std.proofs.lemmas.List.{map_push, drop_more, drop_all, drop-take, take-take}
 use Rattle.tp_model.specs.declared.link.Token.{Token}
 use Rattle.tp_model.specs.declared.opening.OpenFault.{OpenFault}
 use Rattle.tp_model.specs.declared.opening.OpenFault.TheVariants.{Damaged}
@@ -113,3 +113,16 @@ pub lines_in-end : (at i : ℕ) (wires : List (Option WireEnd)) (given : Result 
     → given ≡ Ok (map tokens_on items)
 lines_in-end at i wires given rest items le so_far =
     so_far ∙ ap (behind (map tokens_on items)) (lines_in-none (at + LINE_BYTES * i) (drop i wires) rest (drop_all i wires le)) ∙ ap Ok (append-nil (map tokens_on items))
+
+-- the records in longer bytes
+pub lines_in-take : (at m : ℕ) (wires : List (Option WireEnd)) (bytes : List ℕ) → LINE_BYTES * length wires ≤ m → lines_in at wires (take m bytes) ≡ lines_in at wires bytes
+unfolding lines_in
+lines_in-take at m [] bytes le = refl
+lines_in-take at m (wire ∷ wires) bytes le =
+    let more : m ≡ 4 + (m - 4) = omega arith in
+    let one : line_with wire (take m bytes) ≡ line_with wire bytes =
+    sym (line_with-take wire (take m bytes)) ∙ ap (line_with wire) (take-take 4 m bytes (omega arith)) ∙ line_with-take wire bytes in
+    let rest : drop 4 (take m bytes) ≡ take (m - 4) (drop 4 bytes) = ap (λ k. drop 4 (take k bytes)) more ∙ drop-take 4 (m - 4) bytes in
+    ap (λ o. or_damaged at o >>= (λ line. with_first line (lines_in (at + 4) wires (drop 4 (take m bytes))))) one
+    ∙ ap (λ ys. or_damaged at (line_with wire bytes) >>= (λ line. with_first line (lines_in (at + 4) wires ys))) rest
+    ∙ ap (λ given. or_damaged at (line_with wire bytes) >>= (λ line. with_first line given)) (lines_in-take (at + 4) (m - 4) wires (drop 4 bytes) (omega arith))

@@ -1,4 +1,4 @@
-use Rattle.std.proofs.Common.{◌≡◌, ◌∙◌, sym, ap, length, subst}
+use Rattle.std.proofs.Common.{◌≡◌, ◌∙◌, sym, ap, length, take, drop, subst}
 use Rattle.tp_open.specs.Nodes.{live}
 use Rattle.tp_open.specs.Reading.{Answers}
 use Rattle.tp_open.proofs.Passing.{found_is, still_kept, still_counts}
@@ -17,5 +17,6 @@ returns-clause-kept g c k = still_kept c.node_in.result _ _ (c.in_ok-bytes.ensur
 pub returns-clause-is : goal.returns-clause-is
 returns-clause-is g c k =
     subst (λ given. Answers live given c.node_in.result)
-    (sym (node_read c.args.at c.args.pages (g.D.Disk.state c.args.disk.now).now.bytes c.deref.result.now ?))
+    (sym (node_read c.args.at c.args.pages (g.D.Disk.state c.args.disk.now).now.bytes c.deref.result.now
+    (c.deref.ensures.value ∙ sym (found_is _ _ (c.in_ok-bytes.ensures.bytes k)) ∙ ap (λ n. take n (drop c.args.at (g.D.Disk.state c.args.disk.now).now.bytes)) c.image_length.ensures)))
     c.node_in.ensures.is

@@ -7,7 +7,7 @@ use Rattle.tp_open.proofs.port.read_ports.Goals as goal
 pub returns-in_err-read-clause-is : goal.returns-in_err-read-clause-is
 returns-in_err-read-clause-is g c k =
     let told : c.from_residual.result ≡ Err c.in_err-read.field-0.0 = search rules in
-    ports_in-error _ _ c.args.base c.args.at c.loop-port.port c.args.count (g.D.Disk.state c.args.disk.now).now (g.D.Disk.state c.loop-port.disk).now (map port_of c.loop-port.ports.items) c.in_err-read.field-0.0 c.from_residual.result
+    ports_in-error port_of _ c.args.base c.args.at c.loop-port.port c.args.count (g.D.Disk.state c.args.disk.now).now (g.D.Disk.state c.loop-port.disk).now (map port_of c.loop-port.ports.items) c.in_err-read.field-0.0 c.from_residual.result
     (omega arith) (c.loop-port.invariant.read k) (c.loop-port.invariant.kept k) (c.in_err-read.ensures.is k) told
 
 pub loop-port-preserved : goal.loop-port-preserved
