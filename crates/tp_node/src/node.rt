@@ -3,7 +3,7 @@
 ghost use Rattle.std.specs.Prelude.{◌≡◌, ◌*◌, ◌<◌, [], Some, None, length, IsSome, IsNone, IfSome, is_some};
 ghost use Rattle.tp_model.specs.Image.{image_head, node_of};
 ghost use Rattle.tp_model.specs.Network.{steps};
-ghost use Rattle.tp_model.specs.Node.{took, t414};
+ghost use Rattle.tp_model.specs.Node.{took, t414, waits, holds};
 ghost use Rattle.tp_mem.specs.Contents.{page_of};
 ghost use Rattle.tp_node.specs.FromImage.{ReadsImage};
 ghost use Rattle.tp_node.specs.RunEnd.{IsWhy};
@@ -65,6 +65,22 @@ impl Node {
         ensures { result ≡ self.now.live.cpu.halt }
     {
         self.head.cpu.halt
+    }
+
+    /// Whether the output end of a link waits for an acknowledge.
+    pub fn waits(&self, link: u8) -> bool
+        requires { link < 4 }
+        ensures { result ≡ waits self.now.live link }
+    {
+        self.head.outputs[link as usize].is_waiting()
+    }
+
+    /// Whether the input end of a link holds a byte.
+    pub fn holds(&self, link: u8) -> bool
+        requires { link < 4 }
+        ensures { result ≡ holds self.now.live link }
+    {
+        self.head.inputs[link as usize].is_holding()
     }
 
     /// How many pages its memory has.
