@@ -12,3 +12,4 @@ pub mod Room
 pub mod SameBytes
 pub mod Topologies
 pub mod Wires
+mod LineEnds

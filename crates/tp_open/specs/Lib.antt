@@ -5,3 +5,4 @@ pub mod Lines
 pub mod Nodes
 pub mod Ports
 pub mod Reading
+pub mod Parts

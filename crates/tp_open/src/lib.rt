@@ -3,6 +3,7 @@
 
 mod choice;
 mod device;
+mod flights;
 mod front;
 mod head;
 mod group;
