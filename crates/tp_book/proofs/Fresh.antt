@@ -1,10 +1,10 @@
 -- A book at its start keeps what every book keeps.
-use Rattle.std.proofs.Common.{◌≡◌, ℕ, zero, suc, ◌+◌, ◌*◌, ◌<◌, ◌≤◌, false, cond, List, [], ◌∷◌, length, map, replicate, refl, sym, ap, subst, ◌∙◌, arith, Some, None, slice_get}
-use Rattle.std.specs.Prelude.{vec_len, vec_capacity, count_by}
+use Rattle.std.proofs.Common.{◌≡◌, ℕ, zero, suc, ◌+◌, ◌≤◌, false, cond, List, [], ◌∷◌, length, map, replicate, refl, sym, ap, subst, ◌∙◌, arith, Some, None, slice_get}
+use Rattle.std.specs.Prelude.{vec_len, count_by}
 use Rattle.std.proofs.lemmas.List.{length-map, length-replicate}
 use Rattle.std.proofs.lemmas.List.Sums.{sum_by-cons}
 use Rattle.tp_model.specs.NodeState.{NodeState}
-use Rattle.tp_model.specs.Node.{t414, t414_ends}
+use Rattle.tp_model.specs.Node.{t414_ends}
 use Rattle.tp_model.specs.declared.link.Token.{Token}
 use Rattle.tp_model.specs.Image.{node_at}
 use Rattle.tp_model.specs.Network.{Network, Port, on_line}
@@ -12,13 +12,13 @@ use Rattle.tp_model.specs.Numbers.{AreNumbered}
 use Rattle.tp_model.specs.Order.{after}
 use Rattle.tp_model.specs.Sound.{Sound}
 use Rattle.tp_model.specs.Markers.{plain, markers, plain_network}
-use Rattle.tp_model.specs.Halves.{BookState, live}
 use Rattle.tp_book.specs.Book.{agreed}
-use Rattle.tp_book.specs.Kept.{Keeps, IsShaped, IsCounted}
+use Rattle.tp_book.specs.Kept.{Keeps, IsCounted}
 use Rattle.tp_book.specs.declared.book.Book.TheInside.{Inside}
 use Rattle.tp_book.specs.Parts.{network_of, port_of}
-use Rattle.tp_book.specs.Inside.{state_of, value_of, in_hand, IsBook}
+use Rattle.tp_book.specs.Inside.{state_of, value_of, IsBook}
 use Rattle.tp_book.specs.Start.{IsFresh, IsNetwork, fresh_port, first_book}
+use Rattle.tp_book.specs.Kept.{IsRising}
 
 pub map-replicate : {A B : Type 0} (f : A → B) (n : ℕ) (x : A) → map f (replicate n x) ≡ replicate n (f x)
 map-replicate f zero x = refl
@@ -41,7 +41,7 @@ first_kept s F =
 
 -- ## The fields
 
-none_reserved : (n : ℕ) → count_by (λ run. run) (replicate n false) ≡ 0
+pub none_reserved : (n : ℕ) → count_by (λ run. run) (replicate n false) ≡ 0
 none_reserved zero = refl
 none_reserved (suc n) = sum_by-cons (λ run. cond run 1 0) false (replicate n false) ∙ omega (arith, none_reserved n)
 
@@ -52,29 +52,36 @@ fresh_counted next (suc n) zero port e =
     subst (IsCounted next) same (record { inputs = omega arith; outputs = omega arith })
 fresh_counted next (suc n) (suc p) port e = fresh_counted next n p port e
 
-module _ (b : Inside) (F : IsFresh (network_of b.start.value)) (N : IsNetwork (network_of b.start.value)) (wires : b.wires.items ≡ b.start.value.wires.items)
-    (lines : b.lines ≡ replicate (vec_len b.start.value.wires) []) (ports : b.ports.items ≡ replicate (vec_len b.start.value.ports) fresh_port)
-    (runs : b.runs.items ≡ replicate (vec_len b.start.value.images) false) (entries : b.entries.items ≡ []) where
+fresh_rising : (next n p : ℕ) (ns : List ℕ) → slice_get (replicate n fresh_port.marks) p ≡ Some ns → IsRising 0 next ns
+fresh_rising next zero p ns e = cc
+fresh_rising next (suc n) zero ns e =
+    let same : fresh_port.marks ≡ ns = cc in
+    subst (IsRising 0 next) same (omega arith)
+fresh_rising next (suc n) (suc p) ns e = fresh_rising next n p ns e
+
+module _ (b : Inside) (F : IsFresh (network_of b.start.value.value)) (N : IsNetwork (network_of b.start.value.value)) (wires : b.wires.items ≡ b.start.value.value.wires.items)
+    (lines : b.lines ≡ replicate (vec_len b.start.value.value.wires) []) (ports : b.ports.items ≡ replicate (vec_len b.start.value.value.ports) fresh_port)
+    (runs : b.runs.items ≡ replicate (vec_len b.start.value.value.images) false) (entries : b.entries.items ≡ []) where
   abbrev s : Network NodeState
-  s = network_of b.start.value
+  s = network_of b.start.value.value
 
   abbrev fields : Inside
   fields = record b { base = 0; reserved = 0; ready = None; broken = false }
 
-  port_count : vec_len b.start.value.ports ≡ length s.ports
-  port_count = b.start.value.ports.ok.0 ∙ sym (length-map b.start.value.ports.items port_of)
+  port_count : vec_len b.start.value.value.ports ≡ length s.ports
+  port_count = b.start.value.value.ports.ok.0 ∙ sym (length-map b.start.value.value.ports.items port_of)
 
-  node_count : vec_len b.start.value.images ≡ length s.nodes
-  node_count = b.start.value.images.ok.0 ∙ sym (length-map b.start.value.images.items (λ image. node_at image.items))
+  node_count : vec_len b.start.value.value.images ≡ length s.nodes
+  node_count = b.start.value.value.images.ok.0 ∙ sym (length-map b.start.value.value.images.items (λ image. node_at image.items))
 
   these_ports : map (λ p. p.port) b.ports.items ≡ s.ports
-  these_ports = ap (map (λ p. p.port)) ports ∙ map-replicate (λ p. p.port) (vec_len b.start.value.ports) fresh_port ∙ ap (λ n. replicate n fresh_port.port) port_count ∙ sym F.ports
+  these_ports = ap (map (λ p. p.port)) ports ∙ map-replicate (λ p. p.port) (vec_len b.start.value.value.ports) fresh_port ∙ ap (λ n. replicate n fresh_port.port) port_count ∙ sym F.ports
 
   these_lines : b.lines ≡ s.lines
-  these_lines = lines ∙ ap (λ n. replicate n []) b.start.value.wires.ok.0 ∙ sym F.lines
+  these_lines = lines ∙ ap (λ n. replicate n []) b.start.value.value.wires.ok.0 ∙ sym F.lines
 
   these_runs : vec_len b.runs ≡ length s.nodes
-  these_runs = b.runs.ok.0 ∙ ap length runs ∙ length-replicate (vec_len b.start.value.images) false ∙ node_count
+  these_runs = b.runs.ok.0 ∙ ap length runs ∙ length-replicate (vec_len b.start.value.value.images) false ∙ node_count
 
   no_entries : vec_len b.entries ≡ 0
   no_entries = b.entries.ok.0 ∙ ap length entries
@@ -96,11 +103,12 @@ module _ (b : Inside) (F : IsFresh (network_of b.start.value)) (N : IsNetwork (n
       few_ports = omega (arith, ap length these_ports, N.few_ports);
     };
     wires = wires;
-    reserved = sym (ap (count_by (λ run. run)) runs ∙ none_reserved (vec_len b.start.value.images));
+    reserved = sym (ap (count_by (λ run. run)) runs ∙ none_reserved (vec_len b.start.value.value.images));
     space = omega (arith, no_entries);
     numbers = omega (arith, no_entries);
     counted = λ p port at. fresh_counted (0 + vec_len b.entries) (length s.ports) p port (ap (λ given. slice_get given p) (sym (these_ports ∙ F.ports)) ∙ at);
     numbered = subst (λ given. AreNumbered 0 0 (map (λ n. n.number) given)) (sym entries) tt;
+    rising = λ p ns at. fresh_rising (0 + vec_len b.entries) (vec_len b.start.value.value.ports) p ns (ap (λ given. slice_get given p) (sym (ap (map (λ q. q.marks)) ports ∙ map-replicate (λ q. q.marks) (vec_len b.start.value.value.ports) fresh_port)) ∙ at);
   }
 
   pub first_value : value_of fields ≡ first_book s b.room
@@ -109,4 +117,4 @@ module _ (b : Inside) (F : IsFresh (network_of b.start.value)) (N : IsNetwork (n
       ∙ ap (λ given. record (value_of fields) { state = (first_book s None).state; numbers = map (λ n. n.number) given }) entries
       ∙ ap (λ given. record (value_of fields) { state = (first_book s None).state; numbers = []; runs = given }) (runs ∙ ap (λ n. replicate n false) node_count)
       ∙ ap (λ given. record (value_of fields) { state = (first_book s None).state; numbers = []; runs = replicate (length s.nodes) false; marks = given })
-      (ap (map (λ p. p.marks)) ports ∙ map-replicate (λ p. p.marks) (vec_len b.start.value.ports) fresh_port ∙ ap (λ n. replicate n []) port_count)
+      (ap (map (λ p. p.marks)) ports ∙ map-replicate (λ p. p.marks) (vec_len b.start.value.value.ports) fresh_port ∙ ap (λ n. replicate n []) port_count)

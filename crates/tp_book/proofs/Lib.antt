@@ -7,3 +7,11 @@ pub mod Journalled
 pub mod Ran
 pub mod Took
 pub mod Fresh
+pub mod PortEnds
+pub mod HostTaken
+pub mod TakeRefused
+pub mod Opened
+pub mod HandedIn
+pub mod Confirming
+pub mod Rising
+pub mod ShownOutputs

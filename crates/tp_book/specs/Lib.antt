@@ -7,3 +7,6 @@ pub mod Inside
 pub mod Calls
 pub mod Start
 pub mod Refusals
+pub mod Opened
+pub mod Host
+pub mod Inputs

@@ -1,5 +1,5 @@
 -- A network as its parts, with each node as its image.
-use Rattle.std.specs.Prelude.{List, map}
+use Rattle.std.specs.Prelude.{map}
 use Rattle.tp_model.specs.NodeState.{NodeState}
 use Rattle.tp_model.specs.Image.{node_at}
 use Rattle.tp_model.specs.Network.{Port, Network}

@@ -1,5 +1,5 @@
 -- Ports as the book holds them.
-use Rattle.std.specs.Prelude.{◌≡◌, ℕ, ◌+◌, ◌-◌, List, [], ◌∷◌, ◌++◌, drop, set, get_or, Option, Some, option_to_list}
+use Rattle.std.specs.Prelude.{◌≡◌, ℕ, ◌+◌, ◌-◌, List, [], ◌∷◌, ◌++◌, length, drop, set, get_or, replicate, Option, Some, option_to_list}
 use Rattle.tp_model.specs.declared.link.Token.{Token}
 use Rattle.tp_model.specs.declared.link.Token.TheVariants.{Data, Ack, Marker}
 use Rattle.tp_model.specs.Network.{Port}
@@ -16,6 +16,10 @@ abbrev pub marks_after : Token → List ℕ → ℕ → List ℕ
 marks_after (Data b) marks mark = marks ++ mark ∷ []
 marks_after Ack marks mark = marks
 marks_after Marker marks mark = marks
+
+-- a port of an opened state
+abbrev pub opened_port : Port → PortValue
+opened_port port = record { port = port; marks = replicate (length port.outputs) 0 }
 
 -- the port can take the token
 pub record CanTake (port : Port) (token : Token) : Type 0 where

@@ -1,6 +1,6 @@
 -- Why a call is refused. Where several reasons hold, the first one of these is answered: nothing to take, a snapshot that
 -- runs, a broken store, a full port, a full journal. Memory is answered only where none of them holds.
-use Rattle.std.specs.Prelude.{◌≡◌, ℕ, Bool, true, false, ◌||◌, nat_le, if◌then◌else◌, List, [], ◌∷◌, length, get_or, Option, Some, None, is_none, Result, Ok, Err, slice_get}
+use Rattle.std.specs.Prelude.{◌≡◌, ℕ, Bool, false, nat_le, if◌then◌else◌, List, [], ◌∷◌, length, get_or, Option, Some, None, is_none, Result, Ok, Err, slice_get}
 use Rattle.tp_model.specs.declared.link.Token.{Token}
 use Rattle.tp_model.specs.declared.link.Token.TheVariants.{Data, Ack, Marker}
 use Rattle.tp_model.specs.declared.wire.WireEnd.{WireEnd}

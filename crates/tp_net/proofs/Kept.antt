@@ -6,6 +6,7 @@ use Rattle.std.specs.List.{prefix_len, position_or_len, list_any}
 use Rattle.std.specs.Map.{keys_of}
 use Rattle.std.proofs.lemmas.Bool.{or_parts, true≢false, cond-false}
 use Rattle.std.proofs.lemmas.List.{length-map, map-append}
+use Rattle.std.proofs.lemmas.Simd.{map-map}
 use Rattle.indexmap.specs.IndexMap.{insert_entry}
 use Rattle.indexmap.specs.IndexSet.{insert_key}
 use Rattle.tp_model.specs.declared.wire.WireEnd.{WireEnd}
@@ -109,3 +110,9 @@ port_kept said before after nodes wires name view unknown added =
     let last : after ≡ before ++ name ∷ [] = added ∙ port_last said before name (ap (λ (s : Said). s.ports) view) unknown in
     ap (λ ks. kept (map f ks)) last ∙ ap kept (map-append f before (name ∷ []))
     ∙ ap (λ (s : Said). record s { ports = s.ports ++ name.now ∷ [] }) view
+
+-- names are kept in their order
+pub names_kept : (entries : List (Bor (List ℕ) × ℕ)) → map (λ name. name.now) (keys_of entries) ≡ map {A = List ℕ × ℕ} (λ node. node.0) (map (λ e. (e.0.now, e.1)) entries)
+names_kept entries =
+    map-map (λ (name : Bor (List ℕ)). name.now) (λ (e : Bor (List ℕ) × ℕ). e.0) entries
+    ∙ sym (map-map (λ (node : List ℕ × ℕ). node.0) (λ (e : Bor (List ℕ) × ℕ). (e.0.now, e.1)) entries)

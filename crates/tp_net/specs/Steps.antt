@@ -19,3 +19,12 @@ names_in names = map (λ name. name.now) names.keys
 abbrev pub IsStep : Result Said NetFault → Said → Result (Unit {0}) NetFault → Type 0
 IsStep want new (Ok done) = want ≡ Ok new
 IsStep want new (Err fault) = (fault ≡ Memory) ⊎ (want ≡ Err fault)
+
+-- the fault of what was to be read, or memory was refused
+abbrev pub IsFaultOf : {T : Type 0} → Result T NetFault → NetFault → Type 0
+IsFaultOf want fault = (fault ≡ Memory) ⊎ (want ≡ Err fault)
+
+-- What is read is what was to be read, or there is a fault.
+abbrev pub IsRead : {T : Type 0} → Result T NetFault → Result T NetFault → Type 0
+IsRead want (Ok found) = want ≡ Ok found
+IsRead want (Err fault) = IsFaultOf want fault

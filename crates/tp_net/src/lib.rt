@@ -3,6 +3,8 @@
 
 mod line;
 mod said;
+mod topology;
 mod words;
 
 pub use line::{LINE_TOKENS, Lines};
+pub use topology::{Named, Topology};

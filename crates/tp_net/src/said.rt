@@ -1,13 +1,15 @@
 //! What the lines of a topology's text have said.
 
-ghost use Rattle.std.specs.Prelude.{◌≡◌, ◌<◌, ◌≤◌, [], ◌∷◌, ◌++◌, false, IfSome, IfErr, OnOk, length};
+ghost use Rattle.std.specs.Prelude.{◌≡◌, ◌<◌, ◌≤◌, ◌+◌, ◌*◌, [], ◌∷◌, ◌++◌, false, true, IfSome, IfErr, IfOk, OnOk, length, map};
 ghost use Rattle.std.specs.Option.{option_map};
-ghost use Rattle.tp_model.specs.TopologyText.{after_ends, after_node, after_port, after_wire, are_ports, end_named, has_wire, is_known, joined, node_named, port_named, same_end, nothing_said};
-ghost use Rattle.tp_net.specs.Steps.{IsStep};
+ghost use Rattle.tp_model.specs.TopologyText.{after_ends, after_line, after_node, after_port, after_wire, after_words, are_ports, end_named, finished, has_wire, is_known, joined, node_named, other_end, port_named, same_end, nothing_said, topology_of};
+ghost use Rattle.tp_model.specs.Topology.{end_of, is_topology};
+ghost use Rattle.tp_net.specs.Steps.{IsRead, IsStep};
 
-use crate::words::{EndName, end_in, name_in, pages_in};
+use crate::topology::Topology;
+use crate::words::{EndName, end_in, has_space_around, is_skipped, name_in, pages_in, words};
 use indexmap::{IndexMap, IndexSet};
-use std::alloc::Global;
+use std::alloc::{AllocError, Global};
 use std::marker::Model;
 use tp_model::limits::{MAX_NODES, MAX_PORTS};
 use tp_model::{NetFault, WireEnd};
@@ -93,13 +95,70 @@ impl<'a> Said<'a> {
             .any(|wire| same_end(end, wire.0) || same_end(end, wire.1))
     }
 
-    /// A line declares a node.
-    pub(crate) fn add_node(
+    /// One more line, whose number is counted from 1.
+    pub(crate) fn add_line(
+        &mut self,
+        alloc: Global,
+        number: u64,
+        line: &'a [u8],
+    ) -> Result<(), NetFault>
+        ensures { IsStep (after_line self.old number line.now) self.new result }
+    {
+        if is_skipped(line) {
+            return Ok(());
+        }
+        if has_space_around(line) {
+            return Err(NetFault::Syntax(number));
+        }
+        let Ok(words) = words(alloc, line) else {
+            return Err(NetFault::Memory);
+        };
+        self.add_words(number, words.as_slice())
+    }
+
+    /// A line declares what its words say.
+    fn add_words(&mut self, number: u64, words: &[&'a [u8]]) -> Result<(), NetFault>
+        ensures { IsStep (after_words self.old number (map (λ word. word.now) words.now)) self.new result }
+    {
+        match words {
+            [kind, name] => self.add_pair(number, kind, name),
+            [kind, first, second] => self.add_triple(number, kind, first, second),
+            _ => Err(NetFault::Syntax(number)),
+        }
+    }
+
+    /// A line of two words declares a port.
+    fn add_pair(&mut self, number: u64, kind: &[u8], name: &'a [u8]) -> Result<(), NetFault>
+        ensures { IsStep (after_words self.old number (kind.now ∷ name.now ∷ [])) self.new result }
+    {
+        if kind == b"port".as_slice() {
+            self.add_port(number, name)
+        } else {
+            Err(NetFault::Syntax(number))
+        }
+    }
+
+    /// A line of three words declares a node or a wire.
+    fn add_triple(
         &mut self,
         number: u64,
-        name: &'a [u8],
-        pages: &[u8],
+        kind: &[u8],
+        first: &'a [u8],
+        second: &[u8],
     ) -> Result<(), NetFault>
+        ensures { IsStep (after_words self.old number (kind.now ∷ first.now ∷ second.now ∷ [])) self.new result }
+    {
+        if kind == b"node".as_slice() {
+            self.add_node(number, first, second)
+        } else if kind == b"wire".as_slice() {
+            self.add_wire(number, first, second)
+        } else {
+            Err(NetFault::Syntax(number))
+        }
+    }
+
+    /// A line declares a node.
+    fn add_node(&mut self, number: u64, name: &'a [u8], pages: &[u8]) -> Result<(), NetFault>
         ensures { IsStep (after_node self.old number name.now pages.now) self.new result }
     {
         let (Some(name), Some(pages)) = (name_in(name), pages_in(pages)) else {
@@ -127,7 +186,7 @@ impl<'a> Said<'a> {
     }
 
     /// A line declares a port.
-    pub(crate) fn add_port(&mut self, number: u64, name: &'a [u8]) -> Result<(), NetFault>
+    fn add_port(&mut self, number: u64, name: &'a [u8]) -> Result<(), NetFault>
         ensures { IsStep (after_port self.old number name.now) self.new result }
     {
         let Some(name) = name_in(name) else {
@@ -155,12 +214,7 @@ impl<'a> Said<'a> {
     }
 
     /// A line declares a wire between two ends.
-    pub(crate) fn add_wire(
-        &mut self,
-        number: u64,
-        first: &[u8],
-        second: &[u8],
-    ) -> Result<(), NetFault>
+    fn add_wire(&mut self, number: u64, first: &[u8], second: &[u8]) -> Result<(), NetFault>
         ensures { IsStep (after_wire self.old number first.now second.now) self.new result }
     {
         let (Some(first), Some(second)) = (end_in(first), end_in(second)) else {
@@ -188,6 +242,83 @@ impl<'a> Said<'a> {
             return Err(NetFault::Memory);
         };
         Ok(())
+    }
+
+    /// How many lines there are.
+    fn line_count(&self) -> usize
+        ensures value { result ≡ 4 * length self.now.nodes + length self.now.ports }
+        ensures bound { result ≤ 4 * length self.now.nodes + MAX_PORTS }
+    {
+        4 * self.nodes.len() + self.ports.len()
+    }
+
+    /// The pages of each node.
+    fn pages(&self, alloc: Global) -> Result<Vec<u16>, AllocError>
+        ensures { IfOk result (λ pages. pages.items ≡ map (λ node. node.1) self.now.nodes) }
+    {
+        self.nodes.values().copied().collect(alloc)
+    }
+
+    /// The name of each node.
+    pub(crate) fn names(&self, alloc: Global) -> Result<Vec<&'a str>, AllocError>
+        ensures { IfOk result (λ names. map (λ name. name.now) names.items ≡ map (λ node. node.0) self.now.nodes) }
+    {
+        self.nodes.keys().copied().collect(alloc)
+    }
+
+    /// The end that receives each line.
+    fn receivers(&self, alloc: Global) -> Result<Vec<Option<WireEnd>>, AllocError>
+        ensures { IfOk result (λ ends. ends.items ≡ (topology_of self.now).wires) }
+    {
+        let nodes = self.nodes.len();
+        let count = self.line_count();
+        let mut ends = Vec::with_capacity(alloc, count)?;
+        for line in 0..count {
+            ends.push(other_end(end_of(nodes, line), self.wires.as_slice()))?;
+        }
+        Ok(ends)
+    }
+
+    /// What was said as a whole.
+    pub(crate) fn finish(&self, alloc: Global) -> Result<Topology, NetFault>
+        requires { IfOk (finished self.now) (λ t. is_topology t ≡ true) }
+        ensures { IsRead (finished self.now) result }
+    {
+        if self.nodes.is_empty() || self.ports.is_empty() {
+            return Err(NetFault::Syntax(0));
+        }
+        let (Ok(pages), Ok(wires)) = (self.pages(alloc), self.receivers(alloc)) else {
+            return Err(NetFault::Memory);
+        };
+        Ok(Topology::new(pages, self.ports.len(), wires))
+    }
+}
+
+/// The other end of the wire at an end.
+fn other_end(end: WireEnd, wires: &[(WireEnd, WireEnd)]) -> Option<WireEnd>
+    ensures { result ≡ other_end end wires.now }
+{
+    for wire in wires {
+        if same_end(end, wire.0) {
+            return Some(wire.1);
+        }
+        if same_end(end, wire.1) {
+            return Some(wire.0);
+        }
+    }
+    None
+}
+
+/// The end that sends a line, with so many nodes.
+fn end_of(nodes: usize, line: usize) -> WireEnd
+    requires few { nodes ≤ MAX_NODES }
+    requires there { line < 4 * nodes + MAX_PORTS }
+    ensures { result ≡ end_of nodes line }
+{
+    if line < 4 * nodes {
+        WireEnd::Link((line / 4) as u8, (line % 4) as u8)
+    } else {
+        WireEnd::Port((line - 4 * nodes) as u8)
     }
 }
 

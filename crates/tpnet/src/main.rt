@@ -2,8 +2,16 @@
 #![tactic(auto)]
 
 mod args;
+mod commands;
+mod files;
+mod formatting;
+mod refusal;
+mod shown;
+#[cfg(test)]
+mod tests;
 
 use args::{Asked, read_args};
+use files::{format_file, try_file};
 use std::env;
 use std::io::Write;
 use std::process::ExitCode;
@@ -15,6 +23,7 @@ fn words_of<R: Env + AllocGlobal>(rt: &R) -> Option<Vec<String>> {
 }
 
 fn main(rt: HostRuntime) -> ExitCode {
+    let mut out = rt.stdout();
     let mut err = rt.stderr();
     let Some(words) = words_of(&rt) else {
         return ExitCode::from(2);
@@ -26,10 +35,15 @@ fn main(rt: HostRuntime) -> ExitCode {
             return ExitCode::from(2);
         }
     };
-    match asked {
-        Asked::Try { .. } => {
-            let _ = write!(&mut err, "tpnet: try is not built yet\n");
-            ExitCode::from(1)
+    let status = match &asked {
+        Asked::Try { image, turns } => {
+            try_file(&rt, image.as_str(), *turns, &mut out, &mut err)
         }
-    }
+        Asked::Format(wanted) => format_file(&rt, wanted, &mut out, &mut err),
+        Asked::Recover { .. } | Asked::Show { .. } => {
+            let _ = write!(&mut err, "tpnet: this is not built yet\n");
+            1
+        }
+    };
+    ExitCode::from(status)
 }

@@ -1,4 +1,4 @@
-use Rattle.std.proofs.Common.{◌<◌, ◌+◌, ◌-◌, length, take, drop, sym, ◌∙◌, arith, length-take, length-drop}
+use Rattle.std.proofs.Common.{◌<◌, ◌+◌, ◌-◌, length, drop, sym, ◌∙◌, arith, length-take, length-drop}
 use Rattle.std.proofs.lemmas.Bool.{eqb-false}
 use Rattle.tp_net.proofs.Cuts.{lines-none, lines-some}
 use Rattle.tp_net.proofs.words.next_line.Goals as goal

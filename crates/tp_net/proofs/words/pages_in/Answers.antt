@@ -1,5 +1,4 @@
 use Rattle.std.proofs.Common.{◌+◌, sym, ◌∙◌, arith}
-use Rattle.std.specs.Str.Parse.{digits_value}
 use Rattle.tp_net.proofs.Numerals.{digits_value_next, not_pages}
 use Rattle.tp_net.proofs.words.pages_in.Goals as goal
 

@@ -1,0 +1,107 @@
+-- What stays where a range of an area's groups is written: the head, the gates, the generations, and the other content.
+use Rattle.std.proofs.Common.{◌≡◌, ℕ, ◌+◌, ◌-◌, ◌*◌, ◌<◌, ◌≤◌, ◌⊎◌, inl, inr, Bool, true, false, not, List, [], ◌∷◌, ◌++◌, length, take, drop, get_or, refl, sym, ap, ◌∙◌, arith, append_assoc, length-append, length-drop, Result}
+use Rattle.std.proofs.lemmas.List.{drop_at, drop-drop, drop-take, length-take-le}
+use Rattle.std.proofs.Math.Seq.{take-append-add}
+use Rattle.tp_model.specs.declared.opening.OpenFault.{OpenFault}
+use Rattle.tp_model.specs.declared.limits.TheConstants.{GATE_OPEN}
+use Rattle.tp_model.specs.Bytes.{u64_at}
+use Rattle.tp_model.specs.Disk.{SameOutside, written}
+use Rattle.tp_model.specs.Device.{area_start, gate_of, content_of, is_open, generation_of}
+use Rattle.tp_model.specs.Opening.{chosen_area, choice}
+use Rattle.tp_disk.proofs.Moments.{length-written, written_same_outside}
+use Rattle.tp_disk.proofs.Agree.{same_wider, same_trans, same_apart, same_in}
+use Rattle.tp_area.proofs.SameFront.{SameFront, front_of_range, u64_same}
+
+-- ## Written bytes
+
+pub drop_written : (old : List ℕ) (at : ℕ) (bytes : List ℕ) → at ≤ length old → drop at (written old at bytes) ≡ bytes ++ drop (at + length bytes) old
+drop_written old at bytes room =
+    ap (drop at) (append_assoc (take at old) bytes (drop (at + length bytes) old))
+    ∙ drop_at (take at old) (bytes ++ drop (at + length bytes) old) at (length-take-le at old room)
+
+pub drop_behind : (old : List ℕ) (at : ℕ) (bytes : List ℕ) → at ≤ length old → drop (at + length bytes) (written old at bytes) ≡ drop (at + length bytes) old
+drop_behind old at bytes room =
+    let size : length (take at old ++ bytes) ≡ at + length bytes = omega (arith, length-append (take at old) bytes, length-take-le at old room) in
+    drop_at (take at old ++ bytes) (drop (at + length bytes) old) (at + length bytes) size
+
+-- bytes behind a gate, and then the gate
+abbrev pub with_gate : List ℕ → ℕ → List ℕ → List ℕ
+with_gate old gate body = written (written old (gate + 1) body) gate (GATE_OPEN ∷ [])
+
+pub gate_same : (old : List ℕ) (gate : ℕ) (body : List ℕ) → gate + 1 + length body ≤ length old → SameOutside gate (1 + length body) old (with_gate old gate body)
+gate_same old gate body room =
+    let mid = written old (gate + 1) body in
+    let size : length mid ≡ length old = length-written old (gate + 1) body room in
+    let one : SameOutside (gate + 1) (length body) old mid = written_same_outside old (gate + 1) body room in
+    let two : SameOutside gate 1 mid (with_gate old gate body) = written_same_outside mid gate (GATE_OPEN ∷ []) (omega arith) in
+    let outer : ℕ × ℕ = (gate, 1 + length body) in
+    same_trans gate (1 + length body) old mid (with_gate old gate body)
+    (same_wider outer (gate + 1, length body) old mid (omega arith, omega arith) one)
+    (same_wider outer (gate, 1) mid (with_gate old gate body) (omega arith, omega arith) two)
+
+pub drop_gate : (old : List ℕ) (gate : ℕ) (body : List ℕ) → gate + 1 + length body ≤ length old
+    → drop gate (with_gate old gate body) ≡ GATE_OPEN ∷ (body ++ drop (gate + 1 + length body) old)
+drop_gate old gate body room =
+    let mid = written old (gate + 1) body in
+    let size : length mid ≡ length old = length-written old (gate + 1) body room in
+    drop_written mid gate (GATE_OPEN ∷ []) (omega arith)
+    ∙ ap (λ xs. GATE_OPEN ∷ xs) (drop_written old (gate + 1) body (omega arith))
+
+-- and a front of it, that has the body
+pub taken_gate : (m : ℕ) (body rest : List ℕ) → 1 + length body ≤ m → take m (GATE_OPEN ∷ (body ++ rest)) ≡ GATE_OPEN ∷ (body ++ take (m - (1 + length body)) rest)
+taken_gate m body rest le =
+    let k = m - (1 + length body) in
+    let parts : m ≡ length (GATE_OPEN ∷ body) + k = omega arith in
+    ap (λ n. take n (GATE_OPEN ∷ (body ++ rest))) parts ∙ take-append-add (GATE_OPEN ∷ body) rest k
+
+-- ## The areas
+
+-- where a range lies that holds none of the areas' gates and generations: in the groups of this area
+pub record InGroups (area : ℕ) (second : Bool) (at count : ℕ) : Type 0 where
+  pub behind : area_start area second + 21 ≤ at
+  pub inside : at + count ≤ area_start area second + area
+
+gate_stays : (area at count : ℕ) (second which : Bool) (old new : List ℕ) → InGroups area second at count → SameOutside at count old new
+    → gate_of area which new ≡ gate_of area which old
+gate_stays area at count false false old new lies same = same.same 512 (inl (let low = lies.behind in omega arith))
+gate_stays area at count false true old new lies same = same.same (512 + area) (inr (let high = lies.inside in omega arith))
+gate_stays area at count true false old new lies same = same.same 512 (inl (let low = lies.behind in omega arith))
+gate_stays area at count true true old new lies same = same.same (512 + area) (inl (let low = lies.behind in omega arith))
+
+-- the area's own content, from its own first byte on
+pub own_content_same : (area at count : ℕ) (second : Bool) (old new : List ℕ) → InGroups area second at count → SameOutside at count old new
+    → SameFront (at - (area_start area second + 1)) (content_of area second old) (content_of area second new)
+own_content_same area at count second old new lies same =
+    let from = area_start area second + 1 in
+    let low = lies.behind in
+    front_of_range (at - from) count (content_of area second old) (content_of area second new)
+    (same_in at count old new from (area - 1) same (omega arith))
+
+own_generation : (area at count : ℕ) (second : Bool) (old new : List ℕ) → InGroups area second at count → SameOutside at count old new
+    → generation_of (content_of area second new) ≡ generation_of (content_of area second old)
+own_generation area at count second old new lies same =
+    let low = lies.behind in
+    u64_same 0 (at - (area_start area second + 1)) (content_of area second old) (content_of area second new) (omega arith) (own_content_same area at count second old new lies same)
+
+generation_stays : (area at count : ℕ) (second which : Bool) (old new : List ℕ) → InGroups area second at count → SameOutside at count old new
+    → generation_of (content_of area which new) ≡ generation_of (content_of area which old)
+generation_stays area at count false false old new lies same = own_generation area at count false old new lies same
+generation_stays area at count false true old new lies same =
+    ap generation_of (same_apart at count old new (512 + area + 1) (area - 1) same (inr (let high = lies.inside in omega arith)))
+generation_stays area at count true false old new lies same =
+    ap generation_of (same_apart at count old new (512 + 1) (area - 1) same (inl (let low = lies.behind in omega arith)))
+generation_stays area at count true true old new lies same = own_generation area at count true old new lies same
+
+pub chosen_stays : (area at count : ℕ) (second : Bool) (old new : List ℕ) → InGroups area second at count → SameOutside at count old new
+    → chosen_area area new ≡ chosen_area area old
+unfolding chosen_area
+chosen_stays area at count second old new lies same =
+    let other = area_start area true in
+    let g0 = gate_stays area at count second false old new lies same in
+    let g1 = gate_stays area at count second true old new lies same in
+    let n0 = generation_stays area at count second false old new lies same in
+    let n1 = generation_stays area at count second true old new lies same in
+    ap (λ g. choice other (is_open g) (is_open (gate_of area true new)) (generation_of (content_of area false new)) (generation_of (content_of area true new))) g0
+    ∙ ap (λ g. choice other (is_open (gate_of area false old)) (is_open g) (generation_of (content_of area false new)) (generation_of (content_of area true new))) g1
+    ∙ ap (λ n. choice other (is_open (gate_of area false old)) (is_open (gate_of area true old)) n (generation_of (content_of area true new))) n0
+    ∙ ap (λ n. choice other (is_open (gate_of area false old)) (is_open (gate_of area true old)) (generation_of (content_of area false old)) n) n1

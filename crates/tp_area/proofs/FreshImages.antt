@@ -1,0 +1,261 @@
+-- Images that a device may be formatted with.
+use Rattle.std.proofs.Common.{◌≡◌, ℕ, zero, suc, ◌+◌, ◌-◌, ◌*◌, ◌/◌, ◌<◌, ◌≤◌, ◌≢◌, Bool, true, false, cond, List, [], ◌∷◌, ◌++◌, length, take, drop, get_or, map, refl, sym, ap, subst, ◌∙◌, arith, length-drop, Option, Some, None, Result, Ok, Err}
+use Rattle.std.specs.Prelude.{◌&&◌, ◌==◌, nat_le, is_some, IsSome, bytes_eq}
+use Rattle.std.specs.List.{list_all}
+use Rattle.std.proofs.lemmas.Bool.{and_parts, and_from, leb-true, eqb-true, ne_eqb, eq-eqb, true≢false, cond-true, cond-false}
+use Rattle.std.proofs.lemmas.Option.{cond_some}
+use Rattle.std.proofs.lemmas.List.{get_or-take, take_rest, drop_all, drop_more}
+use Rattle.tp_model.specs.NodeState.{NodeState}
+use Rattle.tp_model.specs.Network.{◌>>=◌}
+use Rattle.tp_model.specs.declared.link.Transfer.{Transfer}
+use Rattle.tp_model.specs.declared.link.OutEnd.TheVariants.{Idle as OutIdle, Waits}
+use Rattle.tp_model.specs.declared.link.InEnd.TheVariants.{Idle as InIdle, Inputs, Enabled}
+use Rattle.tp_model.specs.EndBytes.{out_end_at, in_end_at, ends_at, is_idle_out, is_idle_in}
+use Rattle.tp_model.specs.Image.{page_count, is_memory, is_node, node_at, node_of, image_head, has_idle_links}
+use Rattle.tp_model.specs.CutImage.{only_if}
+use Rattle.tp_model.specs.Format.{fresh_node, fresh_nodes}
+use Rattle.tp_node.specs.declared.fault.ImageFault.{ImageFault}
+use Rattle.tp_node.specs.NodeContents.{NodeContents}
+use Rattle.tp_node.specs.FromImage.{ReadsImage}
+use Rattle.tp_area.specs.declared.fault.FormatFault.{FormatFault}
+use Rattle.tp_area.specs.Formatting.{Checks}
+
+-- ## Idle links
+
+out_idle : (b : Bool) (t : Transfer) → is_idle_out (cond b OutIdle (Waits t)) ≡ b
+out_idle true t = refl
+out_idle false t = refl
+
+in_idle : (a b c : Bool) (byte process : ℕ) (t : Transfer) → is_idle_in (cond a (InIdle (cond b None (Some byte))) (cond c (Inputs t) (Enabled process))) ≡ (a && b)
+in_idle true true c byte process t = refl
+in_idle true false c byte process t = refl
+in_idle false b true byte process t = refl
+in_idle false b false byte process t = refl
+
+outs_are : (n m : ℕ) (bytes : List ℕ) → n ≡ suc m
+    → list_all is_idle_out (ends_at out_end_at n bytes) ≡ ((get_or bytes 0 0 == 0) && list_all is_idle_out (ends_at out_end_at m (drop 16 bytes)))
+unfolding ends_at
+outs_are n m bytes is =
+    ap (λ k. list_all is_idle_out (ends_at out_end_at k bytes)) is
+    ∙ ap (λ b. b && list_all is_idle_out (ends_at out_end_at m (drop 16 bytes))) (out_idle (get_or bytes 0 0 == 0) _)
+
+ins_are : (n m : ℕ) (bytes : List ℕ) → n ≡ suc m
+    → list_all is_idle_in (ends_at in_end_at n bytes) ≡ (((get_or bytes 0 0 == 0) && (get_or bytes 1 0 == 0)) && list_all is_idle_in (ends_at in_end_at m (drop 16 bytes)))
+unfolding ends_at
+ins_are n m bytes is =
+    ap (λ k. list_all is_idle_in (ends_at in_end_at k bytes)) is
+    ∙ ap (λ b. b && list_all is_idle_in (ends_at in_end_at m (drop 16 bytes))) (in_idle (get_or bytes 0 0 == 0) (get_or bytes 1 0 == 0) _ _ _ _)
+
+-- the first end and those behind it
+first_byte : (bytes : List ℕ) (i : ℕ) → i < 16 → get_or (take 16 bytes) i 0 ≡ get_or bytes i 0
+first_byte bytes i lt = get_or-take 16 bytes i 0 lt
+
+pub outs_more : (k : ℕ) (bytes end behind : List ℕ) (answer : Bool) → k < 4 → end ≡ take 16 bytes → behind ≡ drop 16 bytes → answer ≡ (get_or end 0 0 == 0)
+    → list_all is_idle_out (ends_at out_end_at (4 - k) bytes) ≡ (answer && list_all is_idle_out (ends_at out_end_at (4 - (k + 1)) behind))
+outs_more k bytes end behind answer lt front back is =
+    let here : (get_or bytes 0 0 == 0) ≡ answer = ap (λ n. n == 0) (sym (first_byte bytes 0 (omega arith))) ∙ ap (λ xs. get_or xs 0 0 == 0) (sym front) ∙ sym is in
+    outs_are (4 - k) (4 - (k + 1)) bytes (omega arith)
+    ∙ ap (λ b. b && list_all is_idle_out (ends_at out_end_at (4 - (k + 1)) (drop 16 bytes))) here
+    ∙ ap (λ xs. answer && list_all is_idle_out (ends_at out_end_at (4 - (k + 1)) xs)) (sym back)
+
+pub ins_more : (k : ℕ) (bytes end behind : List ℕ) (answer : Bool) → k < 4 → end ≡ take 16 bytes → behind ≡ drop 16 bytes → answer ≡ ((get_or end 0 0 == 0) && (get_or end 1 0 == 0))
+    → list_all is_idle_in (ends_at in_end_at (4 - k) bytes) ≡ (answer && list_all is_idle_in (ends_at in_end_at (4 - (k + 1)) behind))
+ins_more k bytes end behind answer lt front back is =
+    let here : ((get_or bytes 0 0 == 0) && (get_or bytes 1 0 == 0)) ≡ answer =
+    ap (λ n. (n == 0) && (get_or bytes 1 0 == 0)) (sym (first_byte bytes 0 (omega arith)))
+    ∙ ap (λ n. (get_or (take 16 bytes) 0 0 == 0) && (n == 0)) (sym (first_byte bytes 1 (omega arith)))
+    ∙ ap (λ xs. (get_or xs 0 0 == 0) && (get_or xs 1 0 == 0)) (sym front) ∙ sym is in
+    ins_are (4 - k) (4 - (k + 1)) bytes (omega arith)
+    ∙ ap (λ b. b && list_all is_idle_in (ends_at in_end_at (4 - (k + 1)) (drop 16 bytes))) here
+    ∙ ap (λ xs. answer && list_all is_idle_in (ends_at in_end_at (4 - (k + 1)) xs)) (sym back)
+
+-- an end decides where it is busy, and leaves it to the others where it is idle
+pub busy : (answer rest all whole : Bool) → all ≡ (answer && rest) → all ≡ whole → answer ≡ false → false ≡ whole
+busy answer rest all whole is goes not = ap (λ b. b && rest) (sym not) ∙ sym is ∙ goes
+
+pub idle : (answer rest all whole : Bool) → all ≡ (answer && rest) → all ≡ whole → answer ≡ true → rest ≡ whole
+idle answer rest all whole is goes so = ap (λ b. b && rest) (sym so) ∙ sym is ∙ goes
+
+-- all links, of what is behind two places
+pub links_are : (image : List ℕ) (outs inns : Bool) → outs ≡ list_all is_idle_out (ends_at out_end_at 4 (take (length image - 44) (drop 44 image)))
+    → inns ≡ list_all is_idle_in (ends_at in_end_at 4 (take (length image - 108) (drop 108 image)))
+    → (outs && inns) ≡ (list_all is_idle_out (ends_at out_end_at 4 (drop 44 image)) && list_all is_idle_in (ends_at in_end_at 4 (drop 108 image)))
+links_are image outs inns o i =
+    ap (λ b. b && inns) (o ∙ ap (λ xs. list_all is_idle_out (ends_at out_end_at 4 xs)) (take_rest image 44))
+    ∙ ap (λ b. list_all is_idle_out (ends_at out_end_at 4 (drop 44 image)) && b) (i ∙ ap (λ xs. list_all is_idle_in (ends_at in_end_at 4 xs)) (take_rest image 108))
+
+pub links_busy : (image : List ℕ) (outs : Bool) → outs ≡ list_all is_idle_out (ends_at out_end_at 4 (take (length image - 44) (drop 44 image))) → outs ≡ false
+    → false ≡ (list_all is_idle_out (ends_at out_end_at 4 (drop 44 image)) && list_all is_idle_in (ends_at in_end_at 4 (drop 108 image)))
+links_busy image outs o not =
+    let inns = list_all is_idle_in (ends_at in_end_at 4 (take (length image - 108) (drop 108 image))) in
+    ap (λ b. b && inns) (sym not) ∙ links_are image outs inns o refl
+
+-- no end is left
+pub outs_none : (k : ℕ) (bytes : List ℕ) → 4 ≤ k → list_all is_idle_out (ends_at out_end_at (4 - k) bytes) ≡ true
+unfolding ends_at
+outs_none k bytes le = let none : 4 - k ≡ 0 = omega arith in ap (λ n. list_all is_idle_out (ends_at out_end_at n bytes)) none
+
+pub ins_none : (k : ℕ) (bytes : List ℕ) → 4 ≤ k → list_all is_idle_in (ends_at in_end_at (4 - k) bytes) ≡ true
+unfolding ends_at
+ins_none k bytes le = let none : 4 - k ≡ 0 = omega arith in ap (λ n. list_all is_idle_in (ends_at in_end_at n bytes)) none
+
+-- ## Images
+
+-- the node of an image, and how long the image is
+pub record IsImageOf (bytes : List ℕ) (n : NodeState) : Type 0 where
+  pub outputs : n.outputs ≡ ends_at out_end_at 4 (drop 44 bytes)
+  pub inputs : n.inputs ≡ ends_at in_end_at 4 (drop 108 bytes)
+  pub memory : length n.memory ≡ 1024 * page_count n.memory
+  pub size : length bytes ≡ 172 + length n.memory
+
+node_at_is : (bytes : List ℕ) → is_node (node_at bytes) ≡ true → IsImageOf bytes (node_at bytes)
+unfolding node_at is_node
+node_at_is bytes keeps =
+    let memory = drop 172 bytes in
+    let t = and_parts (is_memory memory) _ keeps in
+    let parts = and_parts (length memory == 1024 * page_count memory) (nat_le 4 (page_count memory) && nat_le (page_count memory) 256) t.0 in
+    let pages = and_parts (nat_le 4 (page_count memory)) (nat_le (page_count memory) 256) parts.1 in
+    let whole : length memory ≡ 1024 * page_count memory = eqb-true (length memory) (1024 * page_count memory) parts.0 in
+    record {
+      outputs = refl;
+      inputs = refl;
+      memory = whole;
+      size = omega (arith, leb-true 4 (page_count memory) pages.0, whole, length-drop 172 bytes);
+    }
+
+pub image_is : (bytes : List ℕ) (n : NodeState) → node_of bytes ≡ Some n → IsImageOf bytes n
+unfolding node_of
+image_is bytes n e =
+    let found = cond_some (is_node (node_at bytes) && bytes_eq (take 172 bytes) (image_head (node_at bytes))) (node_at bytes) n e in
+    subst (IsImageOf bytes) found.1 (node_at_is bytes (and_parts (is_node (node_at bytes)) _ found.0).0)
+
+-- ## The answers
+
+-- an image that is read is one of a node
+pub read_is : (o : Option NodeState) (node : NodeContents) → ReadsImage o (Ok node) → o ≡ Some node.live
+read_is (Some state) node is = ap (λ (n : NodeContents). Some n.live) (sym is)
+read_is None node is = elim is [ ]
+
+pub good_image : {A : Type 0} (o : Option A) (x : A) → o ≡ Some x → Checks o (Ok tt)
+good_image (Some y) x is = tt
+good_image None x is = cc
+
+pub bad_image : {A : Type 0} (o : Option A) → o ≡ None → Checks o (Err FormatFault.BadImage)
+bad_image (Some y) is = cc
+bad_image None is = tt
+
+-- its pages and its links decide
+image_checked : (pages count : ℕ) (bytes : List ℕ) (node : NodeContents) (answer : Bool) → ReadsImage (node_of bytes) (Ok node) → length node.live.memory ≡ 1024 * count
+    → answer ≡ (list_all is_idle_out (ends_at out_end_at 4 (drop 44 bytes)) && list_all is_idle_in (ends_at in_end_at 4 (drop 108 bytes)))
+    → fresh_node pages bytes ≡ cond ((count == pages) && answer) (Some node.live) None
+image_checked pages count bytes node answer read size has =
+    let n = node.live in
+    let found : node_of bytes ≡ Some n = read_is (node_of bytes) node read in
+    let is = image_is bytes n found in
+    let k : page_count n.memory ≡ count = omega (arith, size) in
+    ap (only_if (λ (m : NodeState). (page_count m.memory == pages) && has_idle_links m)) found
+    ∙ ap (λ c. cond ((c == pages) && (list_all is_idle_out n.outputs && list_all is_idle_in n.inputs)) (Some n) None) k
+    ∙ ap (λ ends. cond ((count == pages) && (list_all is_idle_out ends && list_all is_idle_in n.inputs)) (Some n) None) is.outputs
+    ∙ ap (λ ends. cond ((count == pages) && (list_all is_idle_out (ends_at out_end_at 4 (drop 44 bytes)) && list_all is_idle_in ends)) (Some n) None) is.inputs
+    ∙ ap (λ b. cond ((count == pages) && b) (Some n) None) (sym has)
+
+pub other_pages : (pages count : ℕ) (bytes : List ℕ) (node : NodeContents) → ReadsImage (node_of bytes) (Ok node) → length node.live.memory ≡ 1024 * count → count ≢ pages
+    → Checks (fresh_node pages bytes) (Err FormatFault.BadImage)
+other_pages pages count bytes node read size other =
+    let answer = list_all is_idle_out (ends_at out_end_at 4 (drop 44 bytes)) && list_all is_idle_in (ends_at in_end_at 4 (drop 108 bytes)) in
+    bad_image (fresh_node pages bytes)
+    (image_checked pages count bytes node answer read size refl ∙ ap (λ b. cond (b && answer) (Some node.live) None) (ne_eqb count pages other))
+
+pub other_links : (pages count : ℕ) (bytes : List ℕ) (node : NodeContents) (answer : Bool) → ReadsImage (node_of bytes) (Ok node) → length node.live.memory ≡ 1024 * count → count ≡ pages
+    → answer ≡ (list_all is_idle_out (ends_at out_end_at 4 (drop 44 bytes)) && list_all is_idle_in (ends_at in_end_at 4 (drop 108 bytes)))
+    → answer ≡ false → Checks (fresh_node pages bytes) (Err FormatFault.BadImage)
+other_links pages count bytes node answer read size same has not =
+    bad_image (fresh_node pages bytes)
+    (image_checked pages count bytes node answer read size has ∙ ap (λ b. cond ((count == pages) && b) (Some node.live) None) not
+    ∙ ap (λ b. cond (b && false) (Some node.live) None) (eq-eqb count pages same))
+
+pub fresh_image : (pages count : ℕ) (bytes : List ℕ) (node : NodeContents) (answer : Bool) → ReadsImage (node_of bytes) (Ok node) → length node.live.memory ≡ 1024 * count → count ≡ pages
+    → answer ≡ (list_all is_idle_out (ends_at out_end_at 4 (drop 44 bytes)) && list_all is_idle_in (ends_at in_end_at 4 (drop 108 bytes)))
+    → answer ≡ true → Checks (fresh_node pages bytes) (Ok tt)
+fresh_image pages count bytes node answer read size same has so =
+    good_image (fresh_node pages bytes) node.live
+    (image_checked pages count bytes node answer read size has ∙ ap (λ b. cond ((count == pages) && b) (Some node.live) None) so
+    ∙ ap (λ b. cond (b && true) (Some node.live) None) (eq-eqb count pages same))
+
+-- so many bytes, for its head to be there
+pub image_long : (bytes : List ℕ) (node : NodeContents) → ReadsImage (node_of bytes) (Ok node) → 172 ≤ length bytes
+image_long bytes node read = let is = image_is bytes node.live (read_is (node_of bytes) node read) in let size = is.size in omega arith
+
+-- a refusal of one image refuses them all
+pub all_refused : {A B : Type 0} (o : Option A) (all : Option B) (fault : FormatFault) → Checks o (Err fault) → (is_some o ≡ false → is_some all ≡ false) → Checks all (Err fault)
+all_refused (Some x) (Some y) FormatFault.Memory h none = tt
+all_refused (Some x) None FormatFault.Memory h none = tt
+all_refused None (Some y) FormatFault.Memory h none = tt
+all_refused None None FormatFault.Memory h none = tt
+all_refused (Some x) all FormatFault.BadImage h none = elim h [ ]
+all_refused None (Some y) FormatFault.BadImage h none = absurd (true≢false (none refl))
+all_refused None None FormatFault.BadImage h none = tt
+all_refused (Some x) all FormatFault.AreaFull h none = elim h [ ]
+all_refused None all FormatFault.AreaFull h none = elim h [ ]
+all_refused (Some x) all FormatFault.DeviceFailed h none = elim h [ ]
+all_refused None all FormatFault.DeviceFailed h none = elim h [ ]
+
+-- one image more
+nodes_some : {A B : Type 0} (o : Option A) (all : Option B) (f : A → B → B) → is_some (o >>= λ x. all >>= λ y. Some (f x y)) ≡ (is_some o && is_some all)
+nodes_some None all f = refl
+nodes_some (Some x) None f = refl
+nodes_some (Some x) (Some y) f = refl
+
+pub fresh_more : (pages : List ℕ) (images : List (List ℕ)) (i count : ℕ) (image : List ℕ) → i < length pages → i < length images → count ≡ get_or pages i count → image ≡ get_or images i image
+    → is_some (fresh_nodes (drop i pages) (drop i images)) ≡ (is_some (fresh_node count image) && is_some (fresh_nodes (drop (i + 1) pages) (drop (i + 1) images)))
+unfolding fresh_nodes
+fresh_more pages images i count image lt lt_image c m =
+    let rest_pages = drop (i + 1) pages in
+    let rest = drop (i + 1) images in
+    ap (λ xs. is_some (fresh_nodes xs (drop i images))) (drop_more pages i count lt)
+    ∙ ap (λ xs. is_some (fresh_nodes (get_or pages i count ∷ rest_pages) xs)) (drop_more images i image lt_image)
+    ∙ nodes_some (fresh_node (get_or pages i count) (get_or images i image)) (fresh_nodes rest_pages rest) (λ node nodes. node ∷ nodes)
+    ∙ ap (λ n. is_some (fresh_node n (get_or images i image)) && is_some (fresh_nodes rest_pages rest)) (sym c)
+    ∙ ap (λ xs. is_some (fresh_node count xs) && is_some (fresh_nodes rest_pages rest)) (sym m)
+
+-- too many or too few
+pub fresh_counts : (pages : List ℕ) (images : List (List ℕ)) → length pages ≢ length images → fresh_nodes pages images ≡ None
+unfolding fresh_nodes
+fresh_counts [] [] h = absurd (h refl)
+fresh_counts [] (image ∷ images) h = refl
+fresh_counts (count ∷ pages) [] h = refl
+fresh_counts (count ∷ pages) (image ∷ images) h =
+    none_behind (fresh_node count image) (fresh_nodes pages images) (fresh_counts pages images (λ same. h (omega arith)))
+  where
+    none_behind : {A : Type 0} (o : Option A) (all : Option (List A)) → all ≡ None → (o >>= λ x. all >>= λ xs. Some (x ∷ xs)) ≡ None
+    none_behind None all is = refl
+    none_behind (Some x) None is = refl
+    none_behind (Some x) (Some xs) is = cc
+
+-- none is left
+pub fresh_none : (pages : List ℕ) (images : List (List ℕ)) (i : ℕ) → length pages ≤ i → length images ≤ i → is_some (fresh_nodes (drop i pages) (drop i images)) ≡ true
+unfolding fresh_nodes
+fresh_none pages images i le le_image =
+    ap (λ xs. is_some (fresh_nodes xs (drop i images))) (drop_all i pages le) ∙ ap (λ xs. is_some (fresh_nodes [] xs)) (drop_all i images le_image)
+
+-- an image that was accepted leaves it to the others
+some_is : {A : Type 0} (o : Option A) → Checks o (Ok tt) → is_some o ≡ true
+some_is (Some x) h = refl
+some_is None h = elim h [ ]
+
+pub image_passed : (pages : List ℕ) (images : List (List ℕ)) (i count : ℕ) (image : List ℕ) → i < length pages → i < length images → count ≡ get_or pages i count → image ≡ get_or images i image
+    → Checks (fresh_node count image) (Ok tt)
+    → is_some (fresh_nodes (drop (i + 1) pages) (drop (i + 1) images)) ≡ is_some (fresh_nodes (drop i pages) (drop i images))
+image_passed pages images i count image lt lt_image c m h =
+    sym (fresh_more pages images i count image lt lt_image c m ∙ ap (λ b. b && is_some (fresh_nodes (drop (i + 1) pages) (drop (i + 1) images))) (some_is (fresh_node count image) h))
+
+pub image_refused : (pages : List ℕ) (images : List (List ℕ)) (i count : ℕ) (image : List ℕ) (fault : FormatFault) → i < length pages → i < length images → count ≡ get_or pages i count → image ≡ get_or images i image
+    → is_some (fresh_nodes (drop i pages) (drop i images)) ≡ is_some (fresh_nodes pages images)
+    → Checks (fresh_node count image) (Err fault) → Checks (fresh_nodes pages images) (Err fault)
+image_refused pages images i count image fault lt lt_image c m goes h =
+    all_refused (fresh_node count image) (fresh_nodes pages images) fault h
+    (λ none. sym goes ∙ fresh_more pages images i count image lt lt_image c m ∙ ap (λ b. b && is_some (fresh_nodes (drop (i + 1) pages) (drop (i + 1) images))) none)
+
+pub some_checks : {A : Type 0} (o : Option A) → is_some o ≡ true → Checks o (Ok tt)
+some_checks (Some x) is = tt
+some_checks None is = cc

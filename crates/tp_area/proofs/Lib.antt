@@ -1,0 +1,16 @@
+pub mod Results
+pub mod Numbered
+pub mod SameFront
+pub mod SameRows
+pub mod Listings
+pub mod Placed
+pub mod Frames
+pub mod Behind
+pub mod OpenedPlace
+pub mod Appends
+pub mod PutLaws
+pub mod FreshImages
+pub mod Topologies
+pub mod HeadBytes
+pub mod FormatBytes
+pub mod FormatCalls

@@ -1,0 +1,128 @@
+-- Pieces that are put one behind the other are put as one.
+use Rattle.std.proofs.Common.{◌≡◌, ℕ, ◌+◌, ◌-◌, ◌≤◌, List, [], ◌∷◌, ◌++◌, length, take, drop, refl, sym, ap, subst, ◌∙◌, arith, add-zero, append_assoc, append-nil, length-append, get_or, ◌<◌}
+use Rattle.std.specs.Prelude.{map, flat_map}
+use Rattle.std.specs.List.{AllByRecursion}
+use Rattle.std.proofs.lemmas.Grind.{flat_map-append}
+use Rattle.std.proofs.lemmas.List.Folds.{length-flat_map-take}
+use Rattle.std.proofs.lemmas.List.{take_more, replicate-append-replicate, take-replicate, length-replicate, take_at, take-append-drop, drop-drop, length-take-le}
+use Rattle.tp_model.specs.Disk.{Moment, Call, Write, IsWithin, written, done}
+use Rattle.tp_model.specs.DiskHistory.{State, Goes}
+use Rattle.tp_model.specs.StoreCalls.{Called, put_calls}
+use Rattle.tp_disk.proofs.Calls.{called_one, called_then}
+use Rattle.tp_model.specs.Bytes.{zeros}
+use Rattle.tp_area.specs.Puts.{Puts}
+use Rattle.tp_area.proofs.Frames.{drop_behind}
+
+abbrev Within : ℕ → ℕ → List (ℕ × List ℕ) → Type 0
+Within at count pieces = AllByRecursion (λ piece. IsWithin (at, count) (piece.0, length piece.1)) pieces
+
+within-append : (at count : ℕ) (first second : List (ℕ × List ℕ)) → Within at count first → Within at count second → Within at count (first ++ second)
+within-append at count [] second one two = two
+within-append at count (piece ∷ first) second one two = (one.0, within-append at count first second one.1 two)
+
+within-wider : (at count from size : ℕ) (pieces : List (ℕ × List ℕ)) → from ≤ at → at + count ≤ from + size → Within at count pieces → Within from size pieces
+within-wider at count from size [] low high all = tt
+within-wider at count from size (piece ∷ pieces) low high all =
+    let first = all.0.0 in
+    let last = all.0.1 in
+    ((omega arith, omega arith), within-wider at count from size pieces low high all.1)
+
+pub put_calls-append : (first second : List (ℕ × List ℕ)) → put_calls (first ++ second) ≡ put_calls first ++ put_calls second
+put_calls-append [] second = refl
+put_calls-append (piece ∷ first) second = ap (λ calls. Write piece.0 piece.1 ∷ calls) (put_calls-append first second)
+
+written_nothing : (old : List ℕ) (at : ℕ) → written old at [] ≡ old
+written_nothing old at =
+    ap (λ xs. xs ++ drop (at + 0) old) (append-nil (take at old)) ∙ ap (λ n. take at old ++ drop n old) (add-zero at) ∙ take-append-drop at old
+
+written_twice : (old : List ℕ) (at : ℕ) (first second : List ℕ) → at ≤ length old
+    → written (written old at first) (at + length first) second ≡ written old at (first ++ second)
+written_twice old at first second room =
+    let mid = written old at first in
+    let front = take at old ++ first in
+    let next = at + length first in
+    let size : length front ≡ next = omega (arith, length-append (take at old) first, length-take-le at old room) in
+    let rest : drop (next + length second) mid ≡ drop (at + length (first ++ second)) old =
+    sym (drop-drop (length second) next mid) ∙ ap (drop (length second)) (drop_behind old at first room)
+    ∙ drop-drop (length second) next old ∙ ap (λ n. drop n old) (omega (arith, length-append first second)) in
+    ap (λ xs. (xs ++ second) ++ drop (next + length second) mid) (take_at front (drop next old) next size)
+    ∙ ap (λ xs. (front ++ second) ++ xs) rest
+    ∙ ap (λ xs. xs ++ drop (at + length (first ++ second)) old) (append_assoc (take at old) first second)
+
+-- nothing
+pub puts_none : (at : ℕ) (s : State) → Puts at [] s s
+puts_none at s = record {
+  pieces = [];
+  within = tt;
+  called = record { now = refl; past = sym (append-nil s.past) };
+  are = sym (written_nothing s.now.bytes at);
+}
+
+-- one piece
+pub puts_one : (at : ℕ) (bytes : List ℕ) (s t : State) → t.now ≡ done (Write at bytes) s.now → Goes s t → Puts at bytes s t
+puts_one at bytes s t was goes = record {
+  pieces = (at, bytes) ∷ [];
+  within = ((omega arith, omega arith), tt);
+  called = called_one (Write at bytes) s t was goes;
+  are = ap (λ (m : Moment). m.bytes) was;
+}
+
+-- one behind the other
+pub puts_then : (at : ℕ) (first second : List ℕ) (s t u : State) → at ≤ length s.now.bytes → Puts at first s t → Puts (at + length first) second t u → Puts at (first ++ second) s u
+puts_then at first second s t u room one two =
+    let all = length-append first second in
+    record {
+      pieces = one.pieces ++ two.pieces;
+      within = within-append at (length (first ++ second)) one.pieces two.pieces
+          (within-wider at (length first) at (length (first ++ second)) one.pieces (omega arith) (omega arith) one.within)
+          (within-wider (at + length first) (length second) at (length (first ++ second)) two.pieces (omega arith) (omega arith) two.within);
+      called = subst (λ calls. Called calls s u) (sym (put_calls-append one.pieces two.pieces)) (called_then (put_calls one.pieces) (put_calls two.pieces) s t u one.called two.called);
+      are = two.are ∙ ap (λ bytes. written bytes (at + length first) second) one.are ∙ written_twice s.now.bytes at first second room;
+    }
+
+-- the same bytes, said otherwise
+pub puts_same : (at : ℕ) (bytes other : List ℕ) (s t : State) → bytes ≡ other → Puts at bytes s t → Puts at other s t
+puts_same at bytes other s t is puts = subst (λ xs. Puts at xs s t) is puts
+
+-- ## Turns of loops
+
+-- some zeros more
+pub zeros_more : (at count left size : ℕ) (piece : List ℕ) (s t u : State) → at + count ≤ length s.now.bytes → left ≤ count → size ≤ left → piece ≡ zeros size
+    → Puts at (zeros (count - left)) s t → Puts (at + (count - left)) piece t u → Puts at (zeros (count - (left - size))) s u
+zeros_more at count left size piece s t u room some fits is one two =
+    let k : ℕ = count - left in
+    let front : length (zeros k) ≡ k = length-replicate k 0 in
+    let next : Puts (at + length (zeros k)) piece t u = subst (λ n. Puts (at + n) piece t u) (sym front) two in
+    puts_same at (zeros k ++ piece) (zeros (count - (left - size))) s u
+    (ap (λ xs. zeros k ++ xs) is ∙ replicate-append-replicate k size 0 ∙ ap zeros (omega arith))
+    (puts_then at (zeros k) piece s t u (omega arith) one next)
+
+-- one image more
+pub flat_map_more : {X : Type 0} (f : X → List ℕ) (xs : List X) (i : ℕ) (x : X) → i < length xs → flat_map f (take (i + 1) xs) ≡ flat_map f (take i xs) ++ f (get_or xs i x)
+flat_map_more f xs i x lt =
+    ap (flat_map f) (take_more xs i x lt) ∙ flat_map-append f (take i xs) (get_or xs i x ∷ [])
+    ∙ ap (λ ys. flat_map f (take i xs) ++ ys) (append-nil (f (get_or xs i x)))
+
+pub image_puts : {X : Type 0} (f : X → List ℕ) (xs : List X) (i : ℕ) (x : X) (at place : ℕ) (s t u : State) → i < length xs → x ≡ get_or xs i x → at ≤ length s.now.bytes
+    → place ≡ at + length (flat_map f (take i xs)) → Puts at (flat_map f (take i xs)) s t → Puts place (f x) t u → Puts at (flat_map f (take (i + 1) xs)) s u
+image_puts f xs i x at place s t u lt is room here one two =
+    let next : Puts (at + length (flat_map f (take i xs))) (f x) t u = subst (λ n. Puts n (f x) t u) here two in
+    puts_same at (flat_map f (take i xs) ++ f x) (flat_map f (take (i + 1) xs)) s u
+    (ap (λ y. flat_map f (take i xs) ++ f y) is ∙ sym (flat_map_more f xs i x lt))
+    (puts_then at (flat_map f (take i xs)) (f x) s t u room one next)
+
+pub image_fits : {X : Type 0} (f : X → List ℕ) (xs : List X) (i : ℕ) (x : X) → i < length xs → x ≡ get_or xs i x
+    → length (flat_map f (take i xs)) + length (f x) ≤ length (flat_map f xs)
+image_fits f xs i x lt is = subst (λ y. length (flat_map f (take i xs)) + length (f y) ≤ length (flat_map f xs)) (sym is) (length-flat_map-take f xs i x lt)
+
+pub image_place : {X : Type 0} (f : X → List ℕ) (xs : List X) (i : ℕ) (x : X) → i < length xs → x ≡ get_or xs i x
+    → length (flat_map f (take (i + 1) xs)) ≡ length (flat_map f (take i xs)) + length (f x)
+image_place f xs i x lt is = ap length (flat_map_more f xs i x lt) ∙ length-append (flat_map f (take i xs)) (f (get_or xs i x)) ∙ ap (λ y. length (flat_map f (take i xs)) + length (f y)) (sym is)
+
+-- three parts, one behind the other
+pub puts_three : (at : ℕ) (one two three : List ℕ) (second third : ℕ) (s t u v : State) → at ≤ length s.now.bytes → second ≡ at + length one → third ≡ second + length two
+    → Puts at one s t → Puts second two t u → Puts third three u v → Puts at ((one ++ two) ++ three) s v
+puts_three at one two three second third s t u v room is_second is_third first next last =
+    let both : Puts at (one ++ two) s u = puts_then at one two s t u room first (subst (λ n. Puts n two t u) is_second next) in
+    let there : third ≡ at + length (one ++ two) = omega (arith, length-append one two) in
+    puts_then at (one ++ two) three s u v room both (subst (λ n. Puts n three u v) there last)

@@ -1,0 +1,8 @@
+use Rattle.tp_model.specs.Node.{t414, t414_ends}
+use Rattle.tp_model.specs.Opening.{verdict}
+use Rattle.tp_area.proofs.OpenedPlace.{opening_place}
+use Rattle.tp_area.proofs.laws.open_devices_say_their_place.Goals as goal
+
+pub returns : goal.returns
+unfolding verdict
+returns c = opening_place t414 t414_ends

@@ -1,0 +1,34 @@
+use Rattle.std.proofs.Common.{rules, ◌≡◌, ◌+◌, ◌≤◌, ℕ, List, Vec, Global, length, arith}
+use Rattle.tp_area.specs.Puts.{Puts}
+use Rattle.tp_area.proofs.PutLaws.{puts_same, image_puts, image_fits, image_place}
+use Rattle.tp_area.proofs.puts.put_images.Goals as goal
+
+abbrev items : Vec ℕ Global → List ℕ
+items image = image.items
+
+pub put_piece-requires : goal.put_piece-requires
+put_piece-requires g c =
+    omega (arith, c.requires.inside, image_fits items c.args.images.now c.loop-image.image-index c.image-item.result c.loop-image-test.true c.image-item.is, c.loop-image.invariant.place, c.loop-image.invariant.size, c.deref.ensures.value)
+
+pub overflow_add-place : goal.overflow_add-place
+overflow_add-place g c =
+    omega (arith, c.requires.inside, image_fits items c.args.images.now c.loop-image.image-index c.image-item.result c.loop-image-test.true c.image-item.is, c.loop-image.invariant.place, c.loop-image.invariant.size, c.deref.ensures.value)
+
+pub loop-image-preserved : goal.loop-image-preserved
+loop-image-preserved g c =
+    let i = c.loop-image.image-index in
+    let images = c.args.images.now in
+    let image = c.image-item.result in record {
+      place = omega (arith, image_place items images i image c.loop-image-test.true c.image-item.is, c.loop-image.invariant.place);
+      size = search rules;
+      failures = search rules;
+      put = λ k.
+          let s = g.D.Disk.state c.args.disk.now in
+          let t = g.D.Disk.state c.loop-image.disk in
+          let u = g.D.Disk.state c.put_piece.new.disk in
+          let room : c.args.at ≤ length s.now.bytes = omega (arith, c.requires.inside, g.met.D.Disk.whole k c.args.disk.now) in
+          let here : Puts c.loop-image.place (items image) t u =
+          puts_same c.loop-image.place c.deref.result.now (items image) t u c.deref.ensures.value (c.in_ok-put_piece.ensures.put k) in
+          image_puts items images i image c.args.at c.loop-image.place s t u c.loop-image-test.true c.image-item.is room
+          c.loop-image.invariant.place (c.loop-image.invariant.put k) here;
+    }

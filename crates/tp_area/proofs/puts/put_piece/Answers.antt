@@ -1,0 +1,11 @@
+use Rattle.std.proofs.Common.{OnOk}
+use Rattle.tp_model.specs.Disk.{Write, done}
+use Rattle.tp_area.proofs.Results.{from_ok}
+use Rattle.tp_area.proofs.PutLaws.{puts_one}
+use Rattle.tp_area.proofs.puts.put_piece.Goals as goal
+
+pub returns-clause-put : goal.returns-clause-put
+returns-clause-put g c k =
+    let s = g.D.Disk.state c.args.disk.now in
+    let t = g.D.Disk.state c.write_at.new.self in
+    from_ok c.write_at.result _ _ (λ was. puts_one c.args.at c.args.bytes.now s t was (c.write_at.ensures.goes k)) (c.write_at.ensures.after k)

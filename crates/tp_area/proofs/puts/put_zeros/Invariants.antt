@@ -1,0 +1,15 @@
+use Rattle.std.proofs.Common.{◌≡◌, ◌-◌, ◌≤◌}
+use Rattle.tp_model.specs.Bytes.{zeros}
+use Rattle.tp_area.specs.Puts.{Puts}
+use Rattle.tp_area.proofs.puts.put_zeros.Given as goal
+
+abbrev pub invariant-loop-left : goal.invariant-loop-left
+invariant-loop-left g l = record {
+  some : l.left ≤ l.count;
+  size : g.D.Disk.size_of l.disk ≡ g.D.Disk.size_of l.initial.disk;
+  failures : g.D.Disk.failures_of l.disk ≡ g.D.Disk.failures_of l.initial.disk;
+  put : g.D.Disk.keeps → Puts l.at (zeros (l.count - l.left)) (g.D.Disk.state l.initial.disk) (g.D.Disk.state l.disk);
+}
+
+abbrev pub decreases-loop-left : goal.decreases-loop-left
+decreases-loop-left g l = l.left

@@ -1,0 +1,4 @@
+pub mod Places
+pub mod Appended
+pub mod Puts
+pub mod Formatting

@@ -1,0 +1,13 @@
+-- Bytes that are put on a device piece by piece.
+use Rattle.std.specs.Prelude.{◌≡◌, ℕ, List, length}
+use Rattle.std.specs.List.{AllByRecursion}
+use Rattle.tp_model.specs.Disk.{IsWithin, written}
+use Rattle.tp_model.specs.DiskHistory.{State}
+use Rattle.tp_model.specs.StoreCalls.{Called, put_calls}
+
+-- These bytes were written from this place on, in pieces, and no other call was made. They aren't synced.
+pub record Puts (at : ℕ) (bytes : List ℕ) (old new : State) : Type 0 where
+  pub pieces : List (ℕ × List ℕ)
+  pub within : AllByRecursion (λ piece. IsWithin (at, length bytes) (piece.0, length piece.1)) pieces
+  pub called : Called (put_calls pieces) old new
+  pub are : new.now.bytes ≡ written old.now.bytes at bytes

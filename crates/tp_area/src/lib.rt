@@ -1,0 +1,20 @@
+//! The store on a device: its two areas, and the calls that write them.
+#![tactic(auto)]
+
+mod body;
+mod fault;
+mod formatting;
+mod group;
+mod head;
+mod images;
+mod laws;
+mod place;
+mod puts;
+mod room;
+mod store;
+
+pub use fault::{FormatFault, StoreFault};
+pub use formatting::format;
+pub use laws::open_devices_say_their_place;
+pub use place::Place;
+pub use store::Store;

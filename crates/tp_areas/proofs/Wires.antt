@@ -1,0 +1,220 @@
+-- The wires of a topology are read back of its links' ends.
+use Rattle.std.proofs.Common.{◌≡◌, ℕ, zero, suc, ◌+◌, ◌-◌, ◌*◌, ◌/◌, ◌%◌, ◌<◌, ◌≤◌, inl, inr, Bool, true, false, cond, List, [], ◌∷◌, length, take, get_or, refl, sym, ap, ◌∙◌, arith, length-append, length-take, Option, Some, None}
+use Rattle.std.specs.Prelude.{◌==◌, ◌&&◌, nat_lt, nat_le, map}
+use Rattle.std.specs.Option.{option_map}
+use Rattle.std.specs.List.{list_all, range_with_len, position_or_len}
+use Rattle.std.proofs.lemmas.Bool.{and_parts, cases_lt, ltb-true, lt-ltb, le-ltb, leb-true, eqb-true, cond-true, cond-false, ne_eqb, eq-eqb, false≢true}
+use Rattle.std.proofs.lemmas.List.{ext_get_or, get_or-map, get_or-take, get_or_append_left, get_or-append_right, length-map}
+use Rattle.std.proofs.lemmas.List.FromFn.{get_or-map-range_with_len, length-range_with_len}
+use Rattle.std.proofs.lemmas.List.Sums.{position_or_len_is}
+use Rattle.tp_model.specs.declared.wire.WireEnd.{WireEnd}
+use Rattle.tp_model.specs.declared.wire.WireEnd.TheVariants.{Link, Port as AtPort}
+use Rattle.tp_model.specs.declared.limits.TheConstants.{MAX_NODES, MAX_PORTS}
+use Rattle.tp_model.specs.Network.{receiver, line_of}
+use Rattle.tp_model.specs.Topology.{Topology, node_count, line_count, end_of, is_end, is_line, joins_link, leads_back, all_lead_back, is_page_count, is_topology}
+use Rattle.tp_model.specs.Head.{end_byte, end_of_byte, is_port, port_wire, all_wires}
+
+-- ## Wires that lead back
+
+-- what is so of a line with a wire
+record LeadsBack (N H : ℕ) (wires : List (Option WireEnd)) (line : ℕ) (other : WireEnd) : Type 0 where
+  end : is_end N H other ≡ true
+  joins : joins_link N line other ≡ true
+  here : WireEnd
+  is : receiver wires (line_of N other) ≡ Some here
+  back : line_of N here ≡ line
+
+line_found : (N line : ℕ) (found : Option WireEnd) → is_line line (option_map (line_of N) found) ≡ true → (here : WireEnd) × (found ≡ Some here) × (line_of N here ≡ line)
+line_found N line None h = absurd (false≢true h)
+line_found N line (Some here) h = (here, refl, eqb-true (line_of N here) line h)
+
+leads_parts : (N H : ℕ) (wires : List (Option WireEnd)) (line : ℕ) (other : WireEnd) → leads_back N H wires line (Some other) ≡ true → LeadsBack N H wires line other
+leads_parts N H wires line other h =
+    let a = and_parts (is_end N H other && joins_link N line other) (is_line line (option_map (line_of N) (receiver wires (line_of N other)))) h in
+    let b = and_parts (is_end N H other) (joins_link N line other) a.0 in
+    let found = line_found N line (receiver wires (line_of N other)) a.1 in
+    record { end = b.0; joins = b.1; here = found.0; is = found.1; back = found.2 }
+
+-- each wire leads back, and so does none
+each_leads : (N H : ℕ) (wires : List (Option WireEnd)) (line : ℕ) (ends : List (Option WireEnd)) → all_lead_back N H wires line ends ≡ true
+    → (i : ℕ) → leads_back N H wires (line + i) (get_or ends i None) ≡ true
+unfolding all_lead_back
+each_leads N H wires line [] h i = refl
+each_leads N H wires line (end ∷ ends) h zero =
+    let both = and_parts (leads_back N H wires line end) (all_lead_back N H wires (line + 1) ends) h in
+    ap (λ place. leads_back N H wires place end) (omega arith) ∙ both.0
+each_leads N H wires line (end ∷ ends) h (suc i) =
+    let both = and_parts (leads_back N H wires line end) (all_lead_back N H wires (line + 1) ends) h in
+    ap (λ place. leads_back N H wires place (get_or ends i None)) (omega arith) ∙ each_leads N H wires (line + 1) ends both.1 i
+
+-- ## What a topology has
+
+pub record Limits (t : Topology) : Type 0 where
+  pub nodes : node_count t ≤ 16
+  pub some : 1 ≤ node_count t
+  pub ports : t.ports ≤ 8
+  pub pages : list_all is_page_count t.pages ≡ true
+  pub lines : length t.wires ≡ line_count t
+  pub back : all_lead_back (node_count t) t.ports t.wires 0 t.wires ≡ true
+
+pub limits_of : (t : Topology) → is_topology t ≡ true → Limits t
+unfolding is_topology
+limits_of t h =
+    let a = and_parts (nat_le 1 (node_count t) && nat_le (node_count t) MAX_NODES) _ h in
+    let b = and_parts (nat_le 1 t.ports && nat_le t.ports MAX_PORTS) _ a.1 in
+    let c = and_parts (list_all is_page_count t.pages) _ b.1 in
+    let d = and_parts (length t.wires == line_count t) _ c.1 in
+    let nodes = and_parts (nat_le 1 (node_count t)) (nat_le (node_count t) MAX_NODES) a.0 in
+    record {
+      nodes = leb-true (node_count t) MAX_NODES nodes.1;
+      some = leb-true 1 (node_count t) nodes.0;
+      ports = leb-true t.ports MAX_PORTS (and_parts (nat_le 1 t.ports) (nat_le t.ports MAX_PORTS) b.0).1;
+      pages = c.0;
+      lines = eqb-true (length t.wires) (line_count t) d.0;
+      back = d.1;
+    }
+
+module _ (t : Topology) (L : Limits t) where
+  abbrev N : ℕ
+  N = node_count t
+
+  leads : (line : ℕ) (other : WireEnd) → receiver t.wires line ≡ Some other → LeadsBack N t.ports t.wires line other
+  leads line other is =
+      leads_parts N t.ports t.wires line other
+      (ap (leads_back N t.ports t.wires line) (sym is)
+      ∙ ap (λ place. leads_back N t.ports t.wires place (receiver t.wires line)) (omega arith)
+      ∙ each_leads N t.ports t.wires 0 t.wires L.back line)
+
+  -- ## The byte of an end
+
+  link_byte : (j k : ℕ) → j < 16 → k < 4 → end_of_byte (1 + 4 * j + k) ≡ Some (Link j k)
+  link_byte j k low small =
+      let byte = 1 + 4 * j + k in
+      let node : (byte - 1) / 4 ≡ j = omega arith in
+      let link : (byte - 1) % 4 ≡ k = omega arith in
+      cond-false (byte == 0) None (cond (nat_lt byte 128) (Some (Link ((byte - 1) / 4) ((byte - 1) % 4))) (Some (AtPort (byte - 128)))) (ne_eqb byte 0 (λ e. omega arith))
+      ∙ cond-true (nat_lt byte 128) (Some (Link ((byte - 1) / 4) ((byte - 1) % 4))) (Some (AtPort (byte - 128))) (lt-ltb byte 128 (omega arith))
+      ∙ (λ i. Some (Link (node i) (link i)))
+
+  port_byte : (p : ℕ) → end_of_byte (128 + p) ≡ Some (AtPort p)
+  port_byte p =
+      let byte = 128 + p in
+      let port : byte - 128 ≡ p = omega arith in
+      cond-false (byte == 0) None (cond (nat_lt byte 128) (Some (Link ((byte - 1) / 4) ((byte - 1) % 4))) (Some (AtPort (byte - 128)))) (ne_eqb byte 0 (λ e. omega arith))
+      ∙ cond-false (nat_lt byte 128) (Some (Link ((byte - 1) / 4) ((byte - 1) % 4))) (Some (AtPort (byte - 128))) (le-ltb byte 128 (omega arith))
+      ∙ (λ i. Some (AtPort (port i)))
+
+  end_back : (line : ℕ) (found : Option WireEnd) → receiver t.wires line ≡ found → end_of_byte (end_byte found) ≡ found
+  end_back line None is = refl
+  end_back line (Some (Link j k)) is =
+      let B = leads line (Link j k) is in
+      let both = and_parts (nat_lt j N) (nat_lt k 4) B.end in
+      let low = ltb-true j N both.0 in
+      link_byte j k (let most = L.nodes in omega arith) (ltb-true k 4 both.1)
+  end_back line (Some (AtPort p)) is = port_byte p
+
+  -- the wires of the links
+  abbrev pub links : List (Option WireEnd)
+  links = take (4 * N) t.wires
+
+  pub length-links : length links ≡ 4 * N
+  length-links = omega (arith, length-take (4 * N) t.wires, L.lines)
+
+  pub links_back : map end_of_byte (map end_byte links) ≡ links
+  links_back = ext_get_or None (map end_of_byte (map end_byte links)) links (length-map (map end_byte links) end_of_byte ∙ length-map links end_byte)
+      (λ i low.
+      let within : i < length links = omega (arith, length-map (map end_byte links) end_of_byte, length-map links end_byte) in
+      let few : i < 4 * N = omega (arith, length-links) in
+      get_or-map end_of_byte (map end_byte links) i 0 None (omega (arith, length-map links end_byte))
+      ∙ ap end_of_byte (get_or-map end_byte links i None 0 within)
+      ∙ ap (λ found. end_of_byte (end_byte found)) (get_or-take (4 * N) t.wires i None few)
+      ∙ end_back i (receiver t.wires i) refl
+      ∙ sym (get_or-take (4 * N) t.wires i None few))
+
+  -- ## The wire of a port
+
+  -- the line that has a port's end is the one to which that port's wire leads
+  port_named : (p line : ℕ) (found : Option WireEnd) → receiver t.wires line ≡ found → is_port p found ≡ true
+      → (here : WireEnd) × (receiver t.wires (4 * N + p) ≡ Some here) × (line_of N here ≡ line)
+  port_named p line None is named = absurd (false≢true named)
+  port_named p line (Some (Link i k)) is named = absurd (false≢true named)
+  port_named p line (Some (AtPort q)) is named =
+      let B = leads line (AtPort q) is in
+      let same : q ≡ p = eqb-true q p named in
+      (B.here, ap (λ n. receiver t.wires (4 * N + n)) (sym same) ∙ B.is, B.back)
+
+  link_at : (i : ℕ) → i < 4 * N → get_or links i None ≡ receiver t.wires i
+  link_at i low = get_or-take (4 * N) t.wires i None low
+
+  is_named : (p : ℕ) (found : Option WireEnd) → found ≡ Some (AtPort p) → is_port p found ≡ true
+  is_named p found is = ap (is_port p) is ∙ eq-eqb p p refl
+
+  -- an end that sends the line of a port is that port
+  port_only : (p : ℕ) (end : WireEnd) → is_end N t.ports end ≡ true → line_of N end ≡ 4 * N + p → end ≡ AtPort p
+  port_only p (Link i k) there is =
+      let both = and_parts (nat_lt i N) (nat_lt k 4) there in
+      let low = ltb-true i N both.0 in
+      let small = ltb-true k 4 both.1 in
+      absurd (omega arith)
+  port_only p (AtPort q) there is = ap AtPort (omega arith)
+
+  not_named : (b : Bool) → (b ≡ true → ⊥) → b ≡ false
+  not_named true h = absurd (h refl)
+  not_named false h = refl
+
+  port_wired : (p : ℕ) (found : Option WireEnd) → receiver t.wires (4 * N + p) ≡ found → port_wire N links p ≡ found
+  port_wired p None is =
+      let size = length-links in
+      let place : position_or_len (is_port p) links ≡ length links =
+      position_or_len_is (is_port p) links (length links) None (omega arith)
+      (λ k low. not_named (is_port p (get_or links k None)) (λ named.
+      let there = port_named p k (receiver t.wires k) refl (ap (is_port p) (sym (link_at k (omega arith))) ∙ named) in
+      let both = there.1 in absurd (cc)))
+      (λ more. absurd (omega arith)) in
+      ap (option_map (end_of N)) (cond-false (nat_lt (position_or_len (is_port p) links) (length links)) (Some (position_or_len (is_port p) links)) None (le-ltb (position_or_len (is_port p) links) (length links) (omega arith)))
+  port_wired p (Some (AtPort q)) is =
+      let B = leads (4 * N + p) (AtPort q) is in
+      let low = ltb-true (4 * N + p) (4 * N) B.joins in absurd (omega arith)
+  port_wired p (Some (Link i k)) is =
+      let size = length-links in
+      let B = leads (4 * N + p) (Link i k) is in
+      let both = and_parts (nat_lt i N) (nat_lt k 4) B.end in
+      let low = ltb-true i N both.0 in
+      let small = ltb-true k 4 both.1 in
+      let line : ℕ = 4 * i + k in
+      let here = leads (4 * i + k) B.here B.is in
+      let names : receiver t.wires (4 * i + k) ≡ Some (AtPort p) = B.is ∙ ap (λ end. Some end) (port_only p B.here here.end B.back) in
+      let place : position_or_len (is_port p) links ≡ 4 * i + k =
+      position_or_len_is (is_port p) links (4 * i + k) None (omega arith)
+      (λ q before. not_named (is_port p (get_or links q None)) (λ named.
+      let there = port_named p q (receiver t.wires q) refl (ap (is_port p) (sym (link_at q (omega arith))) ∙ named) in
+      let same : there.0 ≡ Link i k = let e = there.1 in let f = is in cc in
+      let line_is : line_of N (Link i k) ≡ q = ap (line_of N) (sym same) ∙ there.2 in
+      absurd (omega arith)))
+      (λ more. is_named p (get_or links (4 * i + k) None) (link_at (4 * i + k) (omega arith) ∙ names)) in
+      let node : (4 * i + k) / 4 ≡ i = omega arith in
+      let link : (4 * i + k) % 4 ≡ k = omega arith in
+      ap (option_map (end_of N)) (cond-true (nat_lt (position_or_len (is_port p) links) (length links)) (Some (position_or_len (is_port p) links)) None (lt-ltb (position_or_len (is_port p) links) (length links) (omega arith)))
+      ∙ ap (λ q. Some (end_of N q)) place
+      ∙ ap (λ end. Some end) (cond-true (nat_lt (4 * i + k) (4 * N)) (Link ((4 * i + k) / 4) ((4 * i + k) % 4)) (AtPort (4 * i + k - 4 * N)) (lt-ltb (4 * i + k) (4 * N) (omega arith)))
+      ∙ (λ x. Some (Link (node x) (link x)))
+
+  -- The wires are those of the links, and of each port the one that names it.
+  pub wires_back : all_wires N t.ports links ≡ t.wires
+  wires_back = ext_get_or None (all_wires N t.ports links) t.wires size each
+    where
+      behind : List (Option WireEnd)
+      behind = map (port_wire N links) (range_with_len 0 t.ports)
+
+      size : length (all_wires N t.ports links) ≡ length t.wires
+      size = omega (arith, length-append links (map (port_wire N links) (range_with_len 0 t.ports)), length-map (range_with_len 0 t.ports) (port_wire N links), length-range_with_len 0 t.ports, length-links, L.lines)
+
+      each : (i : ℕ) → i < length (all_wires N t.ports links) → get_or (all_wires N t.ports links) i None ≡ get_or t.wires i None
+      each i low = elim (cases_lt i (4 * N)) [
+        | inl link ↦ get_or_append_left links (map (port_wire N links) (range_with_len 0 t.ports)) None i (omega (arith, length-links)) ∙ link_at i link
+        | inr port ↦
+            get_or-append_right links (map (port_wire N links) (range_with_len 0 t.ports)) (4 * N) i None length-links port
+            ∙ get_or-map-range_with_len (port_wire N links) 0 t.ports (i - 4 * N) (i - 4 * N) None (omega (arith, size, L.lines)) (omega arith)
+            ∙ port_wired (i - 4 * N) (receiver t.wires (4 * N + (i - 4 * N))) refl
+            ∙ ap (λ line. receiver t.wires line) (omega arith)
+      ]

@@ -1,0 +1,32 @@
+-- Where runs begin: a device that was formatted, and opened.
+use Rattle.std.specs.Prelude.{◌≡◌, ◌<◌, ℕ, ◌^◌, true, List, [], length, Some}
+use Rattle.tp_model.specs.NodeState.{NodeState}
+use Rattle.tp_model.specs.Network.{Network}
+use Rattle.tp_model.specs.WriteOrder.{Resting}
+use Rattle.tp_model.specs.Topology.{Topology, is_topology}
+use Rattle.tp_model.specs.Device.{fits}
+use Rattle.tp_model.specs.Format.{start_of, IsFormatted}
+use Rattle.tp_model.specs.Runs.{World, fresh}
+
+-- no entry yet, and the device is synced
+abbrev pub formatted_world : Network NodeState → List ℕ → World NodeState
+formatted_world start bytes = record {
+  net = fresh start;
+  base = 0;
+  journal = [];
+  disk = record { bytes = bytes; unsynced = [] };
+  at = Resting;
+  backlog = [];
+  stored = 0;
+  mark = 0;
+  seen = [];
+}
+
+-- These bytes are a device that was formatted with these images, for a topology, in areas of a length for which there is
+-- room and a field.
+pub record WasFormatted (t : Topology) (area : ℕ) (images : List (List ℕ)) (start : Network NodeState) (bytes : List ℕ) : Type 0 where
+  pub topology : is_topology t ≡ true
+  pub room : fits (length bytes) t area ≡ true
+  pub area_fits : area < 2 ^ 64
+  pub network : start_of t images ≡ Some start
+  pub format : IsFormatted t area start bytes

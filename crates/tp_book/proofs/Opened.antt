@@ -1,0 +1,161 @@
+-- A book of an opened device keeps what every book keeps.
+use Rattle.std.proofs.Common.{◌≡◌, ℕ, ◌+◌, ◌<◌, ◌≤◌, false, inl, inr, List, [], ◌∷◌, length, map, get_or, replicate, refl, sym, ap, subst, ◌∙◌, arith, Some, None}
+use Rattle.std.specs.Prelude.{vec_len, count_by}
+use Rattle.std.specs.Option.{option_map}
+use Rattle.std.specs.Prelude.{Vec}
+use Rattle.std.specs.declared.alloc.Global.{Global}
+use Rattle.std.proofs.lemmas.Option.{slice_get-map, slice_get-get_or, get_or_from_slice_get}
+use Rattle.std.proofs.lemmas.Bool.{cases_Bool}
+use Rattle.std.proofs.lemmas.List.{length-map, length-replicate}
+use Rattle.tp_model.specs.NodeState.{NodeState}
+use Rattle.tp_model.specs.Node.{t414, t414_ends}
+use Rattle.tp_model.specs.declared.link.Token.{Token}
+use Rattle.tp_model.specs.Image.{node_at}
+use Rattle.tp_model.specs.Network.{Network, on_line}
+use Rattle.tp_model.specs.Numbers.{AreNumbered}
+use Rattle.tp_model.specs.Order.{after}
+use Rattle.tp_model.specs.Sound.{Sound}
+use Rattle.tp_model.specs.Markers.{is_marker, plain, markers, plain_network}
+use Rattle.tp_model.specs.Halves.{BookState, live}
+use Rattle.tp_order.proofs.Local.{SameShape}
+use Rattle.tp_order.proofs.Reorder.{after_shape}
+use Rattle.tp_order.proofs.Sound.{sound_small}
+use Rattle.tp_order.proofs.Room.{length-kinds, on_line-plain}
+use Rattle.tp_laws.proofs.LinkLaws.{has_four_links}
+use Rattle.tp_book.specs.declared.parts.PortParts.{PortParts}
+use Rattle.tp_book.specs.declared.state.NetState.{NetState}
+use Rattle.tp_book.specs.declared.book.Book.TheInside.{Inside}
+use Rattle.tp_book.specs.Book.{agreed, nodes_in}
+use Rattle.tp_book.specs.Kept.{Keeps, AreCounted}
+use Rattle.tp_book.specs.Parts.{network_of, port_of}
+use Rattle.tp_book.specs.Ports.{opened_port}
+use Rattle.tp_book.specs.Inside.{state_of, value_of, IsBook}
+use Rattle.tp_book.specs.Opened.{cut_of, now_of, kept_of, numbers_of, IsOpened, opened_book}
+use Rattle.tp_book.proofs.Fresh.{none_reserved}
+use Rattle.tp_book.specs.Kept.{IsRising}
+use Rattle.tp_book.proofs.Rising.{rising_zeros}
+use Rattle.std.proofs.Common.{slice_get, zero, suc}
+use Rattle.tp_model.specs.Network.{Port}
+
+-- without Markers there is none
+markers-plain : (ts : List Token) → markers (plain ts) ≡ 0
+markers-plain [] = refl
+markers-plain (t ∷ ts) = elim (cases_Bool (is_marker t)) [
+  | inl y ↦ rw y (markers-plain ts)
+  | inr n ↦ rw (n, n) (markers-plain ts)
+]
+
+-- A book whose entries lead to a sound network without Markers keeps what every book keeps.
+pub opened_kept : (b : BookState NodeState) (s : Network NodeState) → after t414 b.start b.entries ≡ Some s → b.ports ≡ s.ports → b.lines ≡ s.lines → map plain s.lines ≡ s.lines
+    → Sound t414_ends s → Keeps b
+unfolding agreed
+opened_kept b s history ports lines unmarked sound =
+    let shape = after_shape t414 has_four_links b.start s b.entries history in
+    let nodes : agreed b ≡ s.nodes = ap nodes_in history in
+    let same : plain_network (live b (agreed b)) ≡ s =
+    ap (λ given. record { wires = given; nodes = agreed b; ports = b.ports; lines = map plain b.lines }) (sym shape.wires)
+    ∙ ap (λ given. record { wires = s.wires; nodes = given; ports = b.ports; lines = map plain b.lines }) nodes
+    ∙ ap (λ given. record { wires = s.wires; nodes = s.nodes; ports = given; lines = map plain b.lines }) ports
+    ∙ ap (λ given. record { wires = s.wires; nodes = s.nodes; ports = s.ports; lines = given }) (ap (map plain) lines ∙ unmarked) in
+    record {
+      history = history ∙ ap Some (sym same);
+      sound = subst (Sound t414_ends) (sym same) sound;
+      marked = λ line.
+          subst (λ n. n ≤ 1)
+          (sym (ap (λ given. markers (on_line given line)) (lines ∙ sym unmarked) ∙ ap markers (on_line-plain s.lines line) ∙ markers-plain (on_line s.lines line)))
+          (omega arith);
+    }
+
+-- no line has more than three tokens
+pub line_few : (s : NetState) → IsOpened s → (line : ℕ) → length (on_line (now_of s).lines line) ≤ 3
+line_few s O line =
+    let small = sound_small O.sound line in
+    let none : markers (on_line (now_of s).lines line) ≡ 0 = ap (λ given. markers (on_line given line)) (sym O.unmarked) ∙ ap markers (on_line-plain (now_of s).lines line) ∙ markers-plain (on_line (now_of s).lines line) in
+    omega (arith, length-kinds (on_line (now_of s).lines line), none, small.0, small.1)
+
+-- as the vectors of its lines
+pub vec_few : (s : NetState) → IsOpened s → (k : ℕ) (d : Vec Token Global) → k < length s.net.lines.items → vec_len (get_or s.net.lines.items k d) ≤ 3
+vec_few s O k d below =
+    let there = slice_get-map (λ line. line.items) s.net.lines.items k ∙ ap (option_map (λ line. line.items)) (slice_get-get_or s.net.lines.items k d below) in
+    let on = get_or_from_slice_get (map (λ line. line.items) s.net.lines.items) k (get_or s.net.lines.items k d).items [] there in
+    omega (arith, line_few s O k, ap length on, (get_or s.net.lines.items k d).ok.0)
+
+-- the ports of an opened state, and the marks of what they hold
+opened_ports : (parts : List PortParts) → map (λ p. p.port) (map (λ port. opened_port (port_of port)) parts) ≡ map port_of parts
+opened_ports [] = refl
+opened_ports (p ∷ ps) = ap (λ more. port_of p ∷ more) (opened_ports ps)
+
+opened_marks : (parts : List PortParts) → map (λ p. p.marks) (map (λ port. opened_port (port_of port)) parts) ≡ map (λ port. (opened_port port).marks) (map port_of parts)
+opened_marks [] = refl
+opened_marks (p ∷ ps) = ap (λ more. (opened_port (port_of p)).marks ∷ more) (opened_marks ps)
+
+opened_rising : (next : ℕ) (ports : List Port) (p : ℕ) (ns : List ℕ) → slice_get (map (λ port. (opened_port port).marks) ports) p ≡ Some ns → IsRising 0 next ns
+opened_rising next [] p ns e = cc
+opened_rising next (q ∷ qs) zero ns e =
+    let same : (opened_port q).marks ≡ ns = cc in
+    subst (IsRising 0 next) same (rising_zeros (length q.outputs) next)
+opened_rising next (q ∷ qs) (suc p) ns e = opened_rising next qs p ns e
+
+module _ (b : Inside) (s : NetState) (O : IsOpened s) (cut : b.start.value ≡ s.cut) (wires : b.wires.items ≡ s.net.wires.items)
+    (lines : b.lines ≡ map (λ line. line.items) s.net.lines.items) (ports : b.ports.items ≡ map (λ port. opened_port (port_of port)) s.net.ports.items)
+    (runs : b.runs.items ≡ replicate (vec_len s.net.images) false) (entries : b.entries.items ≡ s.kept.items) (base : b.base ≡ s.base) where
+  abbrev fields : Inside
+  fields = record b { reserved = 0; ready = None; broken = false }
+
+  shape : SameShape (cut_of s) (now_of s)
+  shape = after_shape t414 has_four_links (cut_of s) (now_of s) (kept_of s) O.history
+
+  starts : (state_of b).start ≡ cut_of s
+  starts = ap (λ given. network_of given.value) cut
+
+  these_entries : (state_of b).entries ≡ kept_of s
+  these_entries = ap (map (λ n. n.entry)) entries
+
+  these_ports : (state_of b).ports ≡ (now_of s).ports
+  these_ports = ap (map (λ p. p.port)) ports ∙ opened_ports s.net.ports.items
+
+  these_marks : map (λ p. p.marks) b.ports.items ≡ map (λ port. (opened_port port).marks) (now_of s).ports
+  these_marks = ap (map (λ p. p.marks)) ports ∙ opened_marks s.net.ports.items
+
+  node_count : vec_len s.net.images ≡ length (now_of s).nodes
+  node_count = s.net.images.ok.0 ∙ sym (length-map s.net.images.items (λ image. node_at image.items))
+
+  these_runs : vec_len b.runs ≡ length (now_of s).nodes
+  these_runs = b.runs.ok.0 ∙ ap length runs ∙ length-replicate (vec_len s.net.images) false ∙ node_count
+
+  entry_count : vec_len b.entries ≡ vec_len s.kept
+  entry_count = b.entries.ok.0 ∙ ap length entries ∙ sym s.kept.ok.0
+
+  leads : after t414 (state_of b).start (state_of b).entries ≡ Some (now_of s)
+  leads = ap (λ given. after t414 given (state_of b).entries) starts ∙ ap (after t414 (cut_of s)) these_entries ∙ O.history
+
+  pub opened_fields : IsBook fields
+  opened_fields = record {
+    keeps = opened_kept (state_of fields) (now_of s) leads these_ports lines O.unmarked O.sound;
+    shaped = record {
+      count = ap (λ given. length given.nodes) starts ∙ sym shape.nodes ∙ sym these_runs;
+      wires = omega (arith, ap (λ given. length given.wires) starts, ap length shape.wires, O.shaped.wires, these_runs, ap length these_ports);
+      lines = omega (arith, ap length lines, O.lines, O.shaped.wires, these_runs, ap length these_ports);
+      few_nodes = omega (arith, these_runs, O.shaped.few_nodes);
+      few_ports = omega (arith, ap length these_ports, O.shaped.few_ports);
+    };
+    wires = wires ∙ shape.wires ∙ ap (λ given. given.wires) (sym starts);
+    reserved = sym (ap (count_by (λ run. run)) runs ∙ none_reserved (vec_len s.net.images));
+    space = omega (arith, b.entries.ok.1);
+    numbers = omega (arith, entry_count, base, O.next, O.few);
+    counted = subst (λ given. AreCounted (b.base + vec_len b.entries) given) (sym these_ports)
+        (subst (λ n. AreCounted n (now_of s).ports) (omega (arith, entry_count, base, O.next)) O.counted);
+    numbered = subst (λ given. AreNumbered 0 given (map (λ n. n.number) b.entries.items)) (sym base) (subst (λ given. AreNumbered 0 s.base (map (λ n. n.number) given)) (sym entries) O.numbered);
+    rising = λ p ns at. opened_rising (b.base + vec_len b.entries) (now_of s).ports p ns (ap (λ given. slice_get given p) (sym these_marks) ∙ at);
+  }
+
+  pub opened_value : value_of fields ≡ opened_book s b.room
+  opened_value =
+      ap (λ given. record (value_of fields) { state = record (state_of fields) { start = given } }) starts
+      ∙ ap (λ given. record (value_of fields) { state = record (state_of fields) { start = cut_of s; entries = given } }) these_entries
+      ∙ ap (λ given. record (value_of fields) { state = record (state_of fields) { start = cut_of s; entries = kept_of s; ports = given } }) these_ports
+      ∙ ap (λ given. record (value_of fields) { state = record (opened_book s b.room).state { lines = given } }) lines
+      ∙ ap (λ given. record (value_of fields) { state = (opened_book s b.room).state; numbers = map (λ n. n.number) given }) entries
+      ∙ ap (λ given. record (value_of fields) { state = (opened_book s b.room).state; numbers = numbers_of s; base = given }) base
+      ∙ ap (λ given. record (opened_book s b.room) { runs = given; marks = map (λ p. p.marks) b.ports.items }) (runs ∙ ap (λ n. replicate n false) node_count)
+      ∙ ap (λ given. record (opened_book s b.room) { marks = given }) these_marks

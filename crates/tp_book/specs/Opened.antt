@@ -1,0 +1,60 @@
+-- A book of an opened device.
+use Rattle.std.specs.Prelude.{◌≡◌, ◌<◌, ◌≤◌, ℕ, ◌+◌, false, List, All, length, map, replicate, vec_len, Option, Some, None}
+use Rattle.tp_model.specs.declared.entry.Entry.{Entry}
+use Rattle.tp_model.specs.declared.limits.TheConstants.{MAX_HELD, NUMBER_LIMIT}
+use Rattle.tp_model.specs.NodeState.{NodeState}
+use Rattle.tp_model.specs.Node.{t414, t414_ends}
+use Rattle.tp_model.specs.Network.{Network}
+use Rattle.tp_model.specs.Numbers.{AreNumbered}
+use Rattle.tp_model.specs.Order.{after}
+use Rattle.tp_model.specs.Sound.{Sound}
+use Rattle.tp_model.specs.Markers.{plain}
+use Rattle.tp_book.specs.declared.state.NetState.{NetState}
+use Rattle.tp_book.specs.Parts.{network_of}
+use Rattle.tp_book.specs.Ports.{opened_port}
+use Rattle.tp_book.specs.Kept.{AreCounted}
+use Rattle.tp_book.specs.Start.{IsNetwork}
+use Rattle.tp_book.specs.Book.{BookValue}
+
+-- the kept cut's network, and the network after the kept entries
+abbrev pub cut_of : NetState → Network NodeState
+cut_of s = network_of s.cut.value
+
+abbrev pub now_of : NetState → Network NodeState
+now_of s = network_of s.net
+
+-- the kept entries, and their numbers
+abbrev pub kept_of : NetState → List Entry
+kept_of s = map (λ n. n.entry) s.kept.items
+
+abbrev pub numbers_of : NetState → List ℕ
+numbers_of s = map (λ n. n.number) s.kept.items
+
+-- What opening leaves: the kept entries lead from the kept cut's network to the one that is there, which is sound and has no
+-- Markers under way; each port holds what it has room for, and has counted no more than there are entries.
+pub record IsOpened (s : NetState) : Type 0 where
+  pub history : after t414 (cut_of s) (kept_of s) ≡ Some (now_of s)
+  pub sound : Sound t414_ends (now_of s)
+  pub shaped : IsNetwork (now_of s)
+  pub lines : length (now_of s).lines ≡ length (now_of s).wires
+  pub unmarked : map plain (now_of s).lines ≡ (now_of s).lines
+  pub numbered : AreNumbered 0 s.base (numbers_of s)
+  pub next : s.next ≡ s.base + vec_len s.kept
+  pub few : s.next < NUMBER_LIMIT
+  pub counted : AreCounted s.next (now_of s).ports
+  pub pending : All (λ port. vec_len port.pending ≤ MAX_HELD) s.net.ports.items
+  pub outputs : All (λ port. vec_len port.outputs ≤ MAX_HELD) s.net.ports.items
+
+-- The book of an opened device, on which groups may fill so many bytes: nothing is reserved, and what the ports hold is shown
+-- by every mark.
+abbrev pub opened_book : NetState → Option ℕ → BookValue
+opened_book s room = record {
+  state = record { start = cut_of s; entries = kept_of s; ports = (now_of s).ports; lines = (now_of s).lines; snapshot = None };
+  numbers = numbers_of s;
+  base = s.base;
+  runs = replicate (length (now_of s).nodes) false;
+  ready = None;
+  broken = false;
+  room = room;
+  marks = map (λ port. (opened_port port).marks) (now_of s).ports;
+}

@@ -1,0 +1,32 @@
+//! Books of opened devices.
+
+ghost use Rattle.std.specs.Prelude.{◌≡◌, IfOk};
+ghost use Rattle.tp_book.specs.Opened.{IsOpened, opened_book};
+
+use crate::book::Book;
+use crate::fill::{lines_with, ports_with};
+use crate::state::NetState;
+use std::alloc::{AllocError, Global};
+use std::snapshot::Snapshot;
+
+impl Book {
+    /// The book of an opened device, on which groups may fill so many bytes; nothing is reserved or made ready.
+    pub fn open(alloc: Global, state: &NetState, room: Option<u64>) -> Result<Book, AllocError>
+        requires { IsOpened state.now }
+        ensures { IfOk result (λ book. book ≡ opened_book state.now room) }
+    {
+        Ok(Book {
+            start: Snapshot::of(&state.cut),
+            wires: Vec::from_slice(alloc, &state.net.wires)?,
+            lines: lines_with(alloc, &state.net.lines)?,
+            ports: ports_with(alloc, &state.net.ports)?,
+            entries: Vec::from_slice(alloc, &state.kept)?,
+            base: state.base,
+            runs: Vec::from_elem(alloc, false, state.net.images.len())?,
+            reserved: 0,
+            ready: None,
+            broken: false,
+            room,
+        })
+    }
+}

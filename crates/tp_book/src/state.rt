@@ -1,0 +1,26 @@
+//! The state that opening a device leaves.
+
+use crate::note::Numbered;
+use crate::parts::NetParts;
+use std::snapshot::Snapshot;
+
+/// What an opened device stands for. It is written once, by opening.
+#[derive(Drop)]
+pub struct NetState {
+    /// The kept cut's network. It has no bytes: contracts alone see it.
+    pub cut: Snapshot<NetParts>,
+    /// The network after the kept entries.
+    pub net: NetParts,
+    /// How many entries the kept cut holds.
+    pub base: u64,
+    /// The entries behind the kept cut, with their numbers.
+    pub kept: Vec<Numbered>,
+    /// The number that the next entry gets.
+    pub next: u64,
+    /// The generation of the kept cut.
+    pub generation: u64,
+    /// How many bytes each of the two areas has; none without a device.
+    pub area: Option<u64>,
+    /// Which area is open, 0 or 1.
+    pub open_area: u8,
+}

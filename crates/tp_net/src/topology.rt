@@ -1,0 +1,113 @@
+//! A network's shape.
+
+ghost use Rattle.std.specs.Prelude.{◌≡◌, true, Ok, IfOk, MatchResult, map};
+ghost use Rattle.std.specs.Str.Lines.{lines};
+ghost use Rattle.tp_model.specs.Topology.{is_topology};
+ghost use Rattle.tp_model.specs.TopologyText.{nothing_said, read_lines, read_text};
+ghost use Rattle.tp_net.specs.NodeNames.{node_names};
+ghost use Rattle.tp_net.specs.Steps.{IsFaultOf, IsRead};
+
+use crate::said::Said;
+use crate::words::next_line;
+use std::alloc::Global;
+use std::marker::Model;
+use tp_model::{NetFault, WireEnd};
+
+/// A network's nodes, ports and wires. Nodes and ports are numbers.
+#[derive(Drop)]
+pub struct Topology {
+    pages: Vec<u16>,
+    ports: usize,
+    wires: Vec<Option<WireEnd>>,
+}
+
+impl Model for Topology {
+    ghost use Rattle.std.specs.Prelude.{◌≡◌, true};
+    ghost use Rattle.tp_model.specs.Topology.{Topology as Shape, is_topology};
+
+    ghost Value = { Shape };
+
+    ghost view = { λ topology. record { pages = topology.pages.items; ports = topology.ports; wires = topology.wires.items } };
+
+    ghost invariant = { λ topology. is_topology (record { pages = topology.pages.items; ports = topology.ports; wires = topology.wires.items }) ≡ true };
+}
+
+impl Topology {
+    pub(crate) fn new(pages: Vec<u16>, ports: usize, wires: Vec<Option<WireEnd>>) -> Topology
+        requires { is_topology (record { pages = pages.items; ports = ports; wires = wires.items }) ≡ true }
+        ensures { result ≡ record { pages = pages.items; ports = ports; wires = wires.items } }
+    {
+        Topology {
+            pages,
+            ports,
+            wires,
+        }
+    }
+
+    /// Reads a text that has a line for each node, each port and each wire. A text that isn't one has its first fault in
+    /// the order of its lines.
+    pub fn read(alloc: Global, text: &[u8]) -> Result<Topology, NetFault>
+        ensures { IsRead (read_text text.now) result }
+    {
+        said_in(alloc, text)?.finish(alloc)
+    }
+
+    /// Reads a text as `read` does, and keeps its nodes' names.
+    pub fn read_named(alloc: Global, text: &[u8]) -> Result<Named<'_>, NetFault>
+        ensures topology { MatchResult result (λ found. read_text text.now ≡ Ok found.topology) (λ fault. IsFaultOf (read_text text.now) fault) }
+        ensures names { IfOk result (λ found. map (λ name. name.now) found.names.items ≡ node_names text.now) }
+    {
+        let said = said_in(alloc, text)?;
+        let topology = said.finish(alloc)?;
+        let Ok(names) = said.names(alloc) else {
+            return Err(NetFault::Memory);
+        };
+        Ok(Named { topology, names })
+    }
+
+    /// The pages of each node.
+    pub fn pages(&self) -> &[u16]
+        ensures value { result.now ≡ self.now.pages }
+        ensures rules { is_topology self.now ≡ true }
+    {
+        self.pages.as_slice()
+    }
+
+    /// How many host ports there are.
+    pub fn port_count(&self) -> usize
+        ensures value { result ≡ self.now.ports }
+        ensures rules { is_topology self.now ≡ true }
+    {
+        self.ports
+    }
+
+    /// The end that receives each line, those of the links before those of the ports.
+    pub fn wires(&self) -> &[Option<WireEnd>]
+        ensures value { result.now ≡ self.now.wires }
+        ensures rules { is_topology self.now ≡ true }
+    {
+        self.wires.as_slice()
+    }
+}
+
+/// A topology, and the name that its text gives each node.
+#[derive(Drop)]
+pub struct Named<'a> {
+    pub topology: Topology,
+    pub names: Vec<&'a str>,
+}
+
+/// What all lines of a text have said.
+fn said_in(alloc: Global, text: &[u8]) -> Result<Said<'_>, NetFault>
+    ensures { IsRead (read_lines nothing_said 1 (lines text.now)) result }
+{
+    let mut said = Said::new(alloc);
+    let mut number = 1;
+    let mut rest = text;
+    while let Some((line, behind)) = next_line(rest) {
+        said.add_line(alloc, number, line)?;
+        number += 1;
+        rest = behind;
+    }
+    Ok(said)
+}

@@ -1,0 +1,147 @@
+-- Each kind of entry, where it is possible: a step of the network.
+use Rattle.std.proofs.Common.{◌≡◌, ℕ, ◌+◌, ◌*◌, ◌<◌, ◌≤◌, true, cond, List, [], ◌∷◌, length, map, set, drop, refl, ap, ◌∙◌, arith, Option, Some, None, slice_get}
+use Rattle.std.specs.Prelude.{nat_le, ◌&&◌}
+use Rattle.std.specs.Option.{option_map}
+use Rattle.std.proofs.lemmas.Bool.{lt-ltb, le-leb}
+use Rattle.std.proofs.lemmas.Option.{slice_get_within}
+use Rattle.tp_model.specs.declared.link.Token.{Token}
+use Rattle.tp_model.specs.declared.wire.WireEnd.TheVariants.{Link, Port as AtPort}
+use Rattle.tp_model.specs.declared.entry.Entry.{Entry}
+use Rattle.tp_model.specs.declared.entry.Entry.TheVariants.{Run, Take, HostIn, Confirm}
+use Rattle.tp_model.specs.declared.limits.TheConstants.{MAX_STEPS}
+use Rattle.tp_model.specs.NodeState.{NodeState}
+use Rattle.tp_model.specs.Node.{t414, took}
+use Rattle.tp_model.specs.Network.{steps, Port, Network, OfNode, OfHost, own, put, receiver, has_wire, process_at, on_line, is_first, taken, sent}
+use Rattle.tp_model.specs.Entries.{process, takes, of_node, of_port, receives, port_took, handed_in, confirmed, does}
+use Rattle.tp_order.proofs.Lines.{cons_taken}
+use Rattle.tp_order.proofs.Local.{Step, own-node, own-host}
+use Rattle.tp_book.specs.Calls.{on_lines}
+
+-- the lines without the front of one
+abbrev pub without_front : List (List Token) → ℕ → List (List Token)
+without_front lines line = set lines line (drop 1 (on_line lines line))
+
+-- what a port sends, on its line
+abbrev pub on_port : ℕ → List Token → List (ℕ × Token)
+on_port line tokens = map (λ token. (line, token)) tokens
+
+-- the network behind what a node, or a port, did that sent these tokens
+abbrev pub node_after : Network NodeState → List (List Token) → ℕ → NodeState → List (ℕ × Token) → Network NodeState
+node_after s lines i node tokens = record s { nodes = set s.nodes i node; lines = sent (has_wire s.wires) lines (on_lines i tokens) }
+
+abbrev pub port_after : Network NodeState → List (List Token) → ℕ → Port → List Token → Network NodeState
+port_after s lines p port tokens =
+    record s { ports = set s.ports p port; lines = sent (has_wire s.wires) lines (on_port (4 * length s.nodes + p) tokens) }
+
+-- the step that an entry is: what it leaves of the lines that it takes from, and what it sends
+pub record Made (s : Network NodeState) (e : Entry) (out : List (List Token)) (sends : List (ℕ × Token)) (t : Network NodeState) : Type 0 where
+  pub step : Step t414 s e t
+  pub is_out : step.out ≡ out
+  pub is_sends : step.sends ≡ sends
+
+made : (s : Network NodeState) (e : Entry) (t : Network NodeState) (S : Step t414 s e t) → Made s e S.out S.sends t
+made s e t S = record { step = S; is_out = refl; is_sends = refl }
+
+-- a node that is there is no host
+pub own_there : (s : Network NodeState) (i : ℕ) (n : NodeState) → slice_get s.nodes i ≡ Some n → own s i ≡ Some (OfNode n)
+own_there s i n at =
+    let below : i < length s.nodes = slice_get_within s.nodes i n at in
+    own-node s i (λ same. omega arith) ∙ ap (option_map OfNode) at
+
+-- the front of a line is taken off
+front_taken : (s : Network NodeState) (line : ℕ) (token : Token) → is_first (on_line s.lines line) token ≡ true
+    → taken s.lines ((line, token) ∷ []) ≡ Some (without_front s.lines line)
+unfolding taken
+front_taken s line token front = cons_taken s.lines (line, token) [] front
+
+pub run_step : (s : Network NodeState) (i count : ℕ) (n after : NodeState) (tokens : List (ℕ × Token)) → slice_get s.nodes i ≡ Some n
+    → 0 < count → count ≤ MAX_STEPS → steps t414 count n ≡ Some (after, tokens)
+    → Made s (Run i count) s.lines (on_lines i tokens) (node_after s s.lines i after tokens)
+unfolding taken takes process does put
+run_step s i count n after tokens at some few ran = made s (Run i count) _ (record {
+  out = s.lines;
+  takes_out = refl;
+  was = OfNode n;
+  own_was = own_there s i n at;
+  now = OfNode after;
+  sends = on_lines i tokens;
+  change =
+      ap (λ c. cond (c && nat_le count MAX_STEPS) (option_map (of_node i) (steps t414 count n)) None) (lt-ltb 0 count some)
+      ∙ ap (λ c. cond c (option_map (of_node i) (steps t414 count n)) None) (le-leb count MAX_STEPS few)
+      ∙ ap (option_map (of_node i)) ran;
+  makes = refl;
+})
+
+pub node_takes : (s : Network NodeState) (line i k : ℕ) (token : Token) (n after : NodeState) (tokens : List (ℕ × Token))
+    → receiver s.wires line ≡ Some (Link i k) → is_first (on_line s.lines line) token ≡ true → slice_get s.nodes i ≡ Some n
+    → took n k token ≡ Some (after, tokens)
+    → Made s (Take line token) (without_front s.lines line) (on_lines i tokens) (node_after s (without_front s.lines line) i after tokens)
+unfolding takes process does receives put
+node_takes s line i k token n after tokens to front at did =
+    made s (Take line token) _ (record {
+      out = without_front s.lines line;
+      takes_out = front_taken s line token front;
+      was = OfNode n;
+      own_was = ap (own s) mine ∙ own_there s i n at;
+      now = OfNode after;
+      sends = on_lines i tokens;
+      change = ap (λ end. receives t414 (length s.nodes) end token (OfNode n)) to ∙ ap (option_map (of_node i)) did;
+      makes = ap (λ p. put (record s { lines = sent (has_wire s.wires) (without_front s.lines line) (on_lines i tokens) }) p (OfNode after)) mine;
+    })
+  where
+    mine : process_at (length s.nodes) (receiver s.wires line) ≡ i
+    mine = ap (process_at (length s.nodes)) to
+
+-- what a port's change gives
+of_port_is : (N p : ℕ) (ports : List Port) (change : Port → Option (Port × List Token)) (port after : Port) (tokens : List Token) → slice_get ports p ≡ Some port
+    → change port ≡ Some (after, tokens) → of_port {Node = NodeState} N p ports change ≡ Some (OfHost (set ports p after), on_port (4 * N + p) tokens)
+unfolding of_port
+of_port_is N p ports change port after tokens at did = rw (at, did) refl
+
+pub port_takes : (s : Network NodeState) (line p : ℕ) (token : Token) (port after : Port) (tokens : List Token)
+    → receiver s.wires line ≡ Some (AtPort p) → is_first (on_line s.lines line) token ≡ true → slice_get s.ports p ≡ Some port
+    → port_took token port ≡ Some (after, tokens)
+    → Made s (Take line token) (without_front s.lines line) (on_port (4 * length s.nodes + p) tokens) (port_after s (without_front s.lines line) p after tokens)
+unfolding takes process does receives put
+port_takes s line p token port after tokens to front at did =
+    made s (Take line token) _ (record {
+      out = without_front s.lines line;
+      takes_out = front_taken s line token front;
+      was = OfHost s.ports;
+      own_was = ap (own s) mine ∙ own-host s;
+      now = OfHost (set s.ports p after);
+      sends = on_port (4 * length s.nodes + p) tokens;
+      change = ap (λ end. receives t414 (length s.nodes) end token (OfHost s.ports)) to ∙ of_port_is (length s.nodes) p s.ports (port_took token) port after tokens at did;
+      makes = refl;
+    })
+  where
+    mine : process_at (length s.nodes) (receiver s.wires line) ≡ length s.nodes
+    mine = ap (process_at (length s.nodes)) to
+
+pub hand_in_step : (s : Network NodeState) (p byte : ℕ) (port after : Port) (tokens : List Token) → slice_get s.ports p ≡ Some port → handed_in byte port ≡ Some (after, tokens)
+    → Made s (HostIn p byte) s.lines (on_port (4 * length s.nodes + p) tokens) (port_after s s.lines p after tokens)
+unfolding taken takes process does put
+hand_in_step s p byte port after tokens at did = made s (HostIn p byte) _ (record {
+  out = s.lines;
+  takes_out = refl;
+  was = OfHost s.ports;
+  own_was = own-host s;
+  now = OfHost (set s.ports p after);
+  sends = on_port (4 * length s.nodes + p) tokens;
+  change = of_port_is (length s.nodes) p s.ports (handed_in byte) port after tokens at did;
+  makes = refl;
+})
+
+pub confirm_step : (s : Network NodeState) (p upto : ℕ) (port after : Port) (tokens : List Token) → slice_get s.ports p ≡ Some port → confirmed upto port ≡ Some (after, tokens)
+    → Made s (Confirm p upto) s.lines (on_port (4 * length s.nodes + p) tokens) (port_after s s.lines p after tokens)
+unfolding taken takes process does put
+confirm_step s p upto port after tokens at did = made s (Confirm p upto) _ (record {
+  out = s.lines;
+  takes_out = refl;
+  was = OfHost s.ports;
+  own_was = own-host s;
+  now = OfHost (set s.ports p after);
+  sends = on_port (4 * length s.nodes + p) tokens;
+  change = of_port_is (length s.nodes) p s.ports (confirmed upto) port after tokens at did;
+  makes = refl;
+})

@@ -1,0 +1,44 @@
+-- What every network in one thread keeps.
+use Rattle.std.specs.Prelude.{◌≡◌, ◌≤◌, ◌<◌, ℕ, ◌+◌, ◌*◌, ◌^◌, List, length, map, Option, Some, None, slice_get}
+use Rattle.tp_model.specs.declared.link.Token.{Token}
+use Rattle.tp_model.specs.declared.wire.WireEnd.{WireEnd}
+use Rattle.tp_model.specs.NodeState.{NodeState}
+use Rattle.tp_model.specs.Node.{t414_ends}
+use Rattle.tp_model.specs.Network.{Network, Port, on_line}
+use Rattle.tp_model.specs.Sound.{Sound}
+use Rattle.tp_model.specs.Markers.{markers}
+use Rattle.tp_model.specs.declared.limits.TheConstants.{MAX_NODES, MAX_PORTS}
+use Rattle.tp_node.specs.NodeContents.{NodeContents}
+use Rattle.tp_book.specs.Ports.{PortValue}
+use Rattle.tp_replay.specs.Messages.{MessagesInside}
+
+-- A line for each link and each port, and no more nodes and ports than a network may have.
+pub record IsShaped (s : Network NodeState) : Type 0 where
+  pub wires : length s.wires ≡ 4 * length s.nodes + length s.ports
+  pub lines : length s.lines ≡ 4 * length s.nodes + length s.ports
+  pub few_nodes : length s.nodes ≤ MAX_NODES
+  pub few_ports : length s.ports ≤ MAX_PORTS
+
+-- It is sound and shaped, no line has two Markers, and the messages under way at each node lie inside its memory.
+pub record IsFlat (s : Network NodeState) : Type 0 where
+  pub sound : Sound t414_ends s
+  pub shaped : IsShaped s
+  pub marked : (line : ℕ) → markers (on_line s.lines line) ≤ 1
+  pub inside : (i : ℕ) (node : NodeState) → slice_get s.nodes i ≡ Some node → MessagesInside node
+
+-- the network of these nodes and ports, with these wires and lines
+abbrev pub network_of : List (Option WireEnd) → List NodeContents → List (List Token) → List PortValue → Network NodeState
+network_of wires nodes lines ports = record {
+  wires = wires;
+  nodes = map (λ node. node.live) nodes;
+  ports = map (λ port. port.port) ports;
+  lines = lines;
+}
+
+-- no node is frozen
+abbrev pub AreThawed : List NodeContents → Type 0
+AreThawed nodes = (i : ℕ) (node : NodeContents) → slice_get nodes i ≡ Some node → node.frozen ≡ None
+
+-- each port can count one more byte
+abbrev pub CanCount : Network NodeState → Type 0
+CanCount s = (p : ℕ) (port : Port) → slice_get s.ports p ≡ Some port → port.in_base + 1 < 2 ^ 64

@@ -1,0 +1,49 @@
+//! What can be taken.
+
+ghost use Rattle.std.specs.Prelude.{◌≡◌, ◌<◌, ℕ, IsTrue, List, length, Some, is_some, ◌&&◌, not, slice_get};
+ghost use Rattle.tp_model.specs.Entries.{port_took, handed_in, confirmed};
+ghost use Rattle.tp_model.specs.Markers.{is_marker};
+ghost use Rattle.tp_model.specs.Network.{is_first};
+ghost use Rattle.tp_model.specs.declared.link.Token.{Token};
+
+use tp_book::HostPort;
+use tp_model::Token;
+use tp_model::limits::MAX_HELD;
+
+/// Whether a token stands in front of a line and is no Marker.
+pub(crate) fn stands_in_front(front: Option<Token>, token: Token) -> bool
+    ensures { (line : List Token) → slice_get line 0 ≡ front → result ≡ (is_first line token && not (is_marker token)) }
+{
+    match (front, token) {
+        (Some(Token::Data(byte)), Token::Data(other)) => byte == other,
+        (Some(Token::Ack), Token::Ack) => true,
+        _ => false,
+    }
+}
+
+/// Whether a port can take a token: it has room for a byte, or a byte that the acknowledge takes off.
+pub(crate) fn can_take(port: &HostPort, token: Token) -> bool
+    ensures { result ≡ is_some (port_took token port.now.port) }
+{
+    match token {
+        Token::Data(_) => !port.is_full(),
+        Token::Ack => !port.pending().is_empty(),
+        Token::Marker => false,
+    }
+}
+
+/// Whether a port can let its outputs go up to a position: it is past what was confirmed, and not past what there is.
+pub(crate) fn can_confirm(port: &HostPort, upto: u64) -> bool
+    ensures { result ≡ is_some (confirmed upto port.now.port) }
+{
+    let base = port.out_base();
+    base < upto && upto - base <= port.outputs().len() as u64
+}
+
+/// Whether a port has room for a byte from the host.
+pub(crate) fn has_room(port: &HostPort) -> bool
+    ensures value { (byte : ℕ) → result ≡ is_some (handed_in byte port.now.port) }
+    ensures room { IsTrue result → length port.now.port.pending < MAX_HELD }
+{
+    port.pending().len() < MAX_HELD
+}

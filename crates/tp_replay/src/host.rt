@@ -1,0 +1,48 @@
+//! What the host does at ports.
+
+ghost use Rattle.std.specs.Prelude.{◌≡◌, OnErr};
+ghost use Rattle.tp_model.specs.declared.entry.Entry.TheVariants.{HostIn, Confirm};
+ghost use Rattle.tp_model.specs.Entries.{next};
+ghost use Rattle.tp_model.specs.Node.{t414};
+ghost use Rattle.tp_replay.specs.Answers.{Applies};
+
+use crate::fault::NotPossible;
+use crate::front::{can_confirm, has_room};
+use crate::network::FlatNetwork;
+use crate::send::send_some;
+
+impl FlatNetwork {
+    /// The host hands a byte to a port.
+    pub(crate) fn hand_in(&mut self, port: u8, byte: u8) -> Result<(), NotPossible>
+        ensures applies { Applies (next t414 self.old (HostIn port byte)) result self.new }
+        ensures err { OnErr result (self.new ≡ self.old) }
+    {
+        let i = port as usize;
+        let line = self.port_line(i);
+        if i >= self.ports.len() {
+            return Err(NotPossible);
+        }
+        if !has_room(&self.ports[i]) {
+            return Err(NotPossible);
+        }
+        let token = self.ports[i].hand_in(byte);
+        send_some(&self.wires, &mut self.lines, line, token);
+        Ok(())
+    }
+
+    /// The host confirms a port's output up to a position.
+    pub(crate) fn confirm(&mut self, port: u8, upto: u64) -> Result<(), NotPossible>
+        ensures applies { Applies (next t414 self.old (Confirm port upto)) result self.new }
+        ensures err { OnErr result (self.new ≡ self.old) }
+    {
+        let i = port as usize;
+        if i >= self.ports.len() {
+            return Err(NotPossible);
+        }
+        if !can_confirm(&self.ports[i], upto) {
+            return Err(NotPossible);
+        }
+        self.ports[i].confirm(upto);
+        Ok(())
+    }
+}

@@ -1,0 +1,68 @@
+//! A network in one thread.
+
+ghost use Rattle.std.specs.Prelude.{◌≡◌, ◌≤◌, ◌+◌, ◌*◌, length};
+ghost use Rattle.tp_replay.specs.Flat.{IsFlat, AreThawed, network_of};
+
+use std::marker::Model;
+use tp_book::HostPort;
+use tp_model::WireEnd;
+use tp_net::Lines;
+use tp_node::Node;
+
+/// A network in one thread: its wires, nodes, lines and ports. No node is frozen.
+#[derive(Drop)]
+pub struct FlatNetwork {
+    pub(crate) wires: Vec<Option<WireEnd>>,
+    pub(crate) nodes: Vec<Node>,
+    pub(crate) lines: Lines,
+    pub(crate) ports: Vec<HostPort>,
+}
+
+impl Model for FlatNetwork {
+    ghost use Rattle.tp_model.specs.NodeState.{NodeState};
+    ghost use Rattle.tp_model.specs.Network.{Network};
+
+    ghost Value = { Network NodeState };
+
+    ghost use Rattle.tp_replay.specs.Inside.{state_of, IsInside};
+
+    ghost view = { state_of };
+
+    ghost invariant = { IsInside };
+}
+
+impl FlatNetwork {
+    /// The network of its parts, which has to be sound and shaped.
+    pub fn new(
+        wires: Vec<Option<WireEnd>>,
+        nodes: Vec<Node>,
+        lines: Lines,
+        ports: Vec<HostPort>,
+    ) -> FlatNetwork
+        requires flat { IsFlat (network_of wires.items nodes.items lines ports.items) }
+        requires thawed { AreThawed nodes.items }
+        ensures { result ≡ network_of wires.items nodes.items lines ports.items }
+    {
+        FlatNetwork {
+            wires,
+            nodes,
+            lines,
+            ports,
+        }
+    }
+
+    /// What is known of every flat network.
+    pub fn is_flat(&self)
+        ensures { IsFlat self.now }
+    {
+        let _lines = &self.lines;
+    }
+
+    /// The line that a port sends.
+    pub(crate) fn port_line(&self, port: usize) -> usize
+        requires { port ≤ 1024 }
+        ensures { result ≡ 4 * length self.now.nodes + port }
+    {
+        4 * self.nodes.len() + port
+    }
+}

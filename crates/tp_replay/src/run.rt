@@ -1,0 +1,47 @@
+//! Runs of nodes.
+
+ghost use Rattle.std.specs.Prelude.{◌≡◌, ◌<◌, ◌≤◌, ◌&&◌, IsTrue, nat_lt, nat_le, OnErr};
+ghost use Rattle.tp_model.specs.declared.limits.TheConstants.{MAX_STEPS};
+ghost use Rattle.tp_model.specs.declared.entry.Entry.TheVariants.{Run};
+ghost use Rattle.tp_model.specs.Entries.{next};
+ghost use Rattle.tp_model.specs.Node.{t414};
+ghost use Rattle.tp_replay.specs.Answers.{Applies, Leaves};
+
+use crate::fault::NotPossible;
+use crate::network::FlatNetwork;
+use crate::send::send_all;
+use arrayvec::ArrayVec;
+use tp_model::limits::MAX_STEPS;
+
+impl FlatNetwork {
+    /// A node makes so many steps. Where it can't, it has made as many as it can.
+    pub(crate) fn run(&mut self, node: u8, count: u16) -> Result<(), NotPossible>
+        ensures applies { Applies (next t414 self.old (Run node count)) result self.new }
+        ensures err { OnErr result (Leaves self.old (Run node count) self.new) }
+    {
+        let i = node as usize;
+        if i >= self.nodes.len() {
+            return Err(NotPossible);
+        }
+        if !is_count(count) {
+            return Err(NotPossible);
+        }
+        let mut sent = ArrayVec::new();
+        let ran = self.nodes[i].run(count, &mut sent);
+        send_all(&self.wires, &mut self.lines, 4 * i, &sent);
+        if ran.count() == count {
+            Ok(())
+        } else {
+            Err(NotPossible)
+        }
+    }
+}
+
+/// A run may have so many steps.
+fn is_count(count: u16) -> bool
+    ensures value { result ≡ (nat_lt 0 count && nat_le count MAX_STEPS) }
+    ensures some { IsTrue result → 0 < count }
+    ensures few { IsTrue result → count ≤ MAX_STEPS }
+{
+    0 < count && count as usize <= MAX_STEPS
+}

@@ -1,0 +1,81 @@
+//! Tokens that are taken.
+
+ghost use Rattle.std.specs.Prelude.{◌≡◌, ◌<◌, Some, false, true, length, OnErr};
+ghost use Rattle.tp_model.specs.declared.entry.Entry.TheVariants.{Take};
+ghost use Rattle.tp_model.specs.declared.wire.WireEnd.TheVariants.{Link, Port};
+ghost use Rattle.tp_model.specs.Entries.{next};
+ghost use Rattle.tp_model.specs.Markers.{is_marker};
+ghost use Rattle.tp_model.specs.Network.{is_first, on_line, receiver};
+ghost use Rattle.tp_model.specs.Node.{t414};
+ghost use Rattle.tp_replay.specs.Answers.{Applies};
+ghost use Rattle.tp_replay.specs.Flat.{CanCount};
+
+use crate::fault::NotPossible;
+use crate::front::{can_take, stands_in_front};
+use crate::network::FlatNetwork;
+use crate::send::send_some;
+use tp_model::{Token, WireEnd};
+use tp_node::NoFrame;
+
+impl FlatNetwork {
+    /// The receiver of a line takes the token in front.
+    pub(crate) fn take(&mut self, line: u16, token: Token) -> Result<(), NotPossible>
+        requires counted { CanCount self.old }
+        ensures applies { Applies (next t414 self.old (Take line token)) result self.new }
+        ensures err { OnErr result (self.new ≡ self.old) }
+    {
+        let at = line as usize;
+        if at >= self.wires.len() {
+            return Err(NotPossible);
+        }
+        if !stands_in_front(self.lines.front(at), token) {
+            return Err(NotPossible);
+        }
+        match self.wires[at] {
+            None => Err(NotPossible),
+            Some(WireEnd::Link(node, link)) => {
+                self.take_at_node(at, token, node, link);
+                Ok(())
+            }
+            Some(WireEnd::Port(port)) => self.take_at_port(at, token, port),
+        }
+    }
+
+    /// The node that the line goes to takes the token in front, and answers on the line of the same link.
+    fn take_at_node(&mut self, line: usize, token: Token, node: u8, link: u8)
+        requires goes { receiver self.old.wires line ≡ Some (Link node link) }
+        requires front { is_first (on_line self.old.lines line) token ≡ true }
+        requires plain { is_marker token ≡ false }
+        ensures { next t414 self.old (Take line token) ≡ Some self.new }
+    {
+        let i = node as usize;
+        let answer = match self.nodes[i].take(link, token) {
+            Ok(answer) => answer,
+            Err(NoFrame) => unreachable!(),
+        };
+        self.lines.pop(line);
+        send_some(&self.wires, &mut self.lines, 4 * i + link as usize, answer);
+    }
+
+    /// The port that the line goes to takes the token in front where it can, and answers on its own line.
+    fn take_at_port(&mut self, line: usize, token: Token, port: u8) -> Result<(), NotPossible>
+        requires counted { CanCount self.old }
+        requires goes { receiver self.old.wires line ≡ Some (Port port) }
+        requires front { is_first (on_line self.old.lines line) token ≡ true }
+        ensures applies { Applies (next t414 self.old (Take line token)) result self.new }
+        ensures err { OnErr result (self.new ≡ self.old) }
+    {
+        let i = port as usize;
+        let back = self.port_line(i);
+        if i >= self.ports.len() {
+            return Err(NotPossible);
+        }
+        if !can_take(&self.ports[i], token) {
+            return Err(NotPossible);
+        }
+        let answer = self.ports[i].take(token, 0);
+        self.lines.pop(line);
+        send_some(&self.wires, &mut self.lines, back, answer);
+        Ok(())
+    }
+}

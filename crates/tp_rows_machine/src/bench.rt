@@ -1,0 +1,95 @@
+//! A node on the bench: it is run and handed tokens, and the whole of it is compared with what is wanted.
+
+use crate::arrival::hearer;
+use crate::image::{Fact, Image, START};
+use arrayvec::ArrayVec;
+use std::alloc::{AllocError, Global};
+use std::test::Fail;
+use tp_model::Token;
+use tp_node::{Node, Why};
+
+/// A node, and the image that it ought to have.
+#[derive(Drop)]
+pub struct Bench {
+    alloc: Global,
+    node: Node,
+    wanted: Image,
+}
+
+/// The image of a node as it is now.
+fn image_of(node: &mut Node, alloc: Global) -> Result<Vec<u8>, AllocError> {
+    let mut bytes = Vec::new(alloc);
+    let mut head = [0; 172];
+    let mut page = [0; 1024];
+    node.drop_frozen();
+    node.freeze();
+    node.frozen_head(&mut head);
+    bytes.extend_from_slice(&head)?;
+    for i in 0..node.pages() {
+        node.frozen_page(i, &mut page);
+        bytes.extend_from_slice(&page)?;
+    }
+    node.drop_frozen();
+    Ok(bytes)
+}
+
+impl Bench {
+    /// A node that is about to run this program, but for these facts.
+    pub fn new(alloc: Global, code: &[u8], given: &[Fact<'_>]) -> Result<Bench, Fail> {
+        let mut wanted = Image::new(alloc)?;
+        wanted.put_all(&[Fact::Bytes(START, code)]);
+        wanted.put_all(given);
+        let node = Node::from_image(alloc, &wanted.bytes, 0)?;
+        Ok(Bench {
+            alloc,
+            node,
+            wanted,
+        })
+    }
+
+    /// Whether it makes so many steps, and sends these tokens.
+    pub fn runs(&mut self, steps: u16, sent: &[(u8, Token)]) -> bool {
+        let mut out = ArrayVec::new();
+        let ran = self.node.run(steps, &mut out);
+        ran.max() == steps && ran.count() == steps && ran.why() == Why::Full && out.as_slice() == sent
+    }
+
+    /// Whether it has no step.
+    pub fn rests(&mut self, why: Why) -> bool {
+        let mut out = ArrayVec::new();
+        let ran = self.node.run(1, &mut out);
+        ran.count() == 0 && ran.why() == why && out.is_empty()
+    }
+
+    /// Whether it can take a token on a link, and answers with that one.
+    pub fn takes(&mut self, link: u8, token: Token, answer: Option<Token>) -> Result<bool, Fail> {
+        let bytes = image_of(&mut self.node, self.alloc)?;
+        match hearer(self.alloc, &bytes, link, token) {
+            None => Ok(false),
+            Some(mut node) => {
+                let seen = node.take(link, token)?;
+                self.node = node;
+                Ok(seen == answer)
+            }
+        }
+    }
+
+    /// The test changes it in these facts.
+    pub fn also(&mut self, given: &[Fact<'_>]) -> Result<(), Fail> {
+        self.wanted.put_all(given);
+        self.node = Node::from_image(self.alloc, &self.wanted.bytes, 0)?;
+        Ok(())
+    }
+
+    /// These facts ought to change, and perhaps others too.
+    pub fn expect(&mut self, changed: &[Fact<'_>]) {
+        self.wanted.put_all(changed);
+    }
+
+    /// Whether since it was last looked at these facts have changed and nothing else.
+    pub fn is(&mut self, changed: &[Fact<'_>]) -> Result<bool, Fail> {
+        self.wanted.put_all(changed);
+        let seen = image_of(&mut self.node, self.alloc)?;
+        Ok(seen.as_slice() == self.wanted.bytes.as_slice())
+    }
+}

@@ -1,0 +1,12 @@
+//! Tests of what is stored and read: worked examples and values computed by hand. They say what no proof can: that the
+//! definitions mean what was meant.
+#![tactic(auto)]
+
+#[cfg(test)]
+mod entries;
+#[cfg(test)]
+mod groups;
+#[cfg(test)]
+mod topologies;
+#[cfg(test)]
+mod topology_faults;

@@ -1,0 +1,11 @@
+pub mod Long
+pub mod Fits
+pub mod Possible
+pub mod Leads
+pub mod Grown
+pub mod Ran
+pub mod HostTook
+pub mod Idle
+pub mod Turned
+pub mod Lone
+pub mod Formatted

@@ -1,0 +1,268 @@
+-- The network of one node and one port: it is sound before its first entry, and a book of it begins there.
+use Rattle.std.proofs.Common.{◌≡◌, ℕ, zero, suc, ◌*◌, ◌%◌, ◌<◌, ◌≤◌, Bool, true, false, cond, List, [], ◌∷◌, ◌++◌, length, refl, sym, ap, subst, ◌∙◌, arith, Option, Some, None, slice_get}
+use Rattle.std.specs.Prelude.{◌==◌, ◌&&◌, nat_le, is_some, IsSome, Ok, Err}
+use Rattle.std.specs.List.{list_all}
+use Rattle.std.proofs.lemmas.Bool.{and_parts, eqb-true, leb-true}
+use Rattle.tp_model.specs.declared.link.OutEnd.{OutEnd}
+use Rattle.tp_model.specs.declared.link.OutEnd.TheVariants.{Waits, Idle as NoOutput}
+use Rattle.tp_model.specs.declared.link.InEnd.{InEnd}
+use Rattle.tp_model.specs.declared.link.InEnd.TheVariants.{Inputs, Enabled, Idle}
+use Rattle.tp_model.specs.declared.wire.WireEnd.TheVariants.{Link}
+use Rattle.tp_model.specs.declared.limits.TheConstants.{PAGE_BYTES, MIN_PAGES, MAX_PAGES}
+use Rattle.tp_model.specs.LinkEnd.{is_waiting, is_holding}
+use Rattle.tp_model.specs.EndBytes.{is_idle_out, is_idle_in, ends_at}
+use Rattle.tp_model.specs.Image.{page_count, is_memory, is_node, node_at, node_of, has_idle_links}
+use Rattle.tp_model.specs.NodeState.{NodeState}
+use Rattle.tp_model.specs.Node.{waits_there, holds_there, t414_ends}
+use Rattle.tp_model.specs.Network.{Network, Port, Own, OfNode, OfHost, own, receiver, has_wire, back, on_line}
+use Rattle.tp_model.specs.Order.{after}
+use Rattle.tp_model.specs.Sound.{owner, is_pending, waits_at, holds_at, end_waits, end_holds}
+use Rattle.tp_model.specs.Format.{fresh_port}
+use Rattle.tp_order.proofs.Local.{own_node, own_host}
+use Rattle.tp_book.specs.Book.{BookValue, agreed, outputs_of}
+use Rattle.tp_book.specs.Start.{IsFresh, IsNetwork, first_book}
+use Rattle.tp_turn.specs.Books.{network_of, Did}
+use Rattle.tp_turn.specs.Turns.{AreTurns}
+use Rattle.tp_turn.specs.Nodes.{Agrees}
+use Rattle.tp_turn.specs.declared.trial.Tried.{Tried}
+use Rattle.tp_turn.proofs.Turned.{turns_lead}
+use Rattle.tp_model.specs.CutImage.{only_if}
+use Rattle.tp_laws.proofs.Partial.{cond_some, map_some}
+use Rattle.tp_node.specs.NodeContents.{NodeContents}
+use Rattle.tp_node.specs.FromImage.{ReadsImage}
+use Rattle.tp_node.specs.declared.fault.ImageFault.TheVariants.{Memory as NoMemory}
+use Rattle.tp_turn.specs.Tried.{fresh_image, lone_network, IsTried}
+use Rattle.tp_turn.specs.Fits.{OutFits, InFits, Fits}
+
+-- ## Idle links
+
+idle_out : (ends : List OutEnd) (k : ℕ) → list_all is_idle_out ends ≡ true → waits_there (slice_get ends k) ≡ false
+idle_out [] k e = refl
+idle_out (end ∷ ends) zero e = one end (and_parts (is_idle_out end) (list_all is_idle_out ends) e).0
+  where
+    one : (end : OutEnd) → is_idle_out end ≡ true → is_waiting end ≡ false
+    one NoOutput e = refl
+    one (Waits t) e = cc
+idle_out (end ∷ ends) (suc k) e = idle_out ends k (and_parts (is_idle_out end) (list_all is_idle_out ends) e).1
+
+idle_in : (ends : List InEnd) (k : ℕ) → list_all is_idle_in ends ≡ true → holds_there (slice_get ends k) ≡ false
+idle_in [] k e = refl
+idle_in (end ∷ ends) zero e = one end (and_parts (is_idle_in end) (list_all is_idle_in ends) e).0
+  where
+    one : (end : InEnd) → is_idle_in end ≡ true → is_holding end ≡ false
+    one (Idle None) e = refl
+    one (Idle (Some byte)) e = cc
+    one (Inputs t) e = cc
+    one (Enabled process) e = refl
+idle_in (end ∷ ends) (suc k) e = idle_in ends k (and_parts (is_idle_in end) (list_all is_idle_in ends) e).1
+
+idle_out_fits : (size : ℕ) (ends : List OutEnd) (k : ℕ) (end : OutEnd) → list_all is_idle_out ends ≡ true → slice_get ends k ≡ Some end → OutFits size end
+idle_out_fits size [] k end e at = cc
+idle_out_fits size (one ∷ ends) zero end e at =
+    let same : one ≡ end = cc in
+    subst (OutFits size) same (fits one (and_parts (is_idle_out one) (list_all is_idle_out ends) e).0)
+  where
+    fits : (end : OutEnd) → is_idle_out end ≡ true → OutFits size end
+    fits NoOutput e = tt
+    fits (Waits t) e = cc
+idle_out_fits size (one ∷ ends) (suc k) end e at = idle_out_fits size ends k end (and_parts (is_idle_out one) (list_all is_idle_out ends) e).1 at
+
+idle_in_fits : (size : ℕ) (ends : List InEnd) (k : ℕ) (end : InEnd) → list_all is_idle_in ends ≡ true → slice_get ends k ≡ Some end → InFits size end
+idle_in_fits size [] k end e at = cc
+idle_in_fits size (one ∷ ends) zero end e at =
+    let same : one ≡ end = cc in
+    subst (InFits size) same (fits one (and_parts (is_idle_in one) (list_all is_idle_in ends) e).0)
+  where
+    fits : (end : InEnd) → is_idle_in end ≡ true → InFits size end
+    fits (Idle held) e = tt
+    fits (Inputs t) e = cc
+    fits (Enabled process) e = tt
+idle_in_fits size (one ∷ ends) (suc k) end e at = idle_in_fits size ends k end (and_parts (is_idle_in one) (list_all is_idle_in ends) e).1 at
+
+-- ## The node of an image
+
+-- the node of an image is the one that its bytes spell, and keeps the rules
+pub node_of_is : (bytes : List ℕ) (n : NodeState) → node_of bytes ≡ Some n → (node_at bytes ≡ n) × (is_node n ≡ true)
+unfolding node_of
+node_of_is bytes n e = go (is_node (node_at bytes)) refl _ e
+  where
+    go : (keeps : Bool) → is_node (node_at bytes) ≡ keeps → (same : Bool) → cond (keeps && same) (Some (node_at bytes)) None ≡ Some n → (node_at bytes ≡ n) × (is_node n ≡ true)
+    go true is true e = let one : node_at bytes ≡ n = cc in (one, ap is_node (sym one) ∙ is)
+    go true is false e = cc
+    go false is same e = cc
+
+-- an image that is read, and has idle links
+pub fresh_is : (bytes : List ℕ) (n : NodeState) → fresh_image bytes ≡ Some n → (node_of bytes ≡ Some n) × (has_idle_links n ≡ true)
+fresh_is bytes n e = go (node_of bytes) e
+  where
+    go : (o : Option NodeState) → only_if has_idle_links o ≡ Some n → (o ≡ Some n) × (has_idle_links n ≡ true)
+    go None e = cc
+    go (Some m) e =
+        let test = cond_some (has_idle_links m) (Some m) n e in
+        let same : m ≡ n = cc in
+        (test.1, ap has_idle_links (sym same) ∙ test.0)
+
+pub fresh_some : (bytes : List ℕ) (n : NodeState) → node_of bytes ≡ Some n → has_idle_links (node_at bytes) ≡ true → fresh_image bytes ≡ Some n
+fresh_some bytes n e idle =
+    let is = node_of_is bytes n e in
+    ap (only_if has_idle_links) e ∙ ap (λ b. cond b (Some n) None) (ap has_idle_links (sym is.0) ∙ idle)
+
+pub fresh_none : (bytes : List ℕ) → has_idle_links (node_at bytes) ≡ false → fresh_image bytes ≡ None
+fresh_none bytes busy = go (node_of bytes) refl
+  where
+    go : (o : Option NodeState) → node_of bytes ≡ o → only_if has_idle_links o ≡ None
+    go None e = refl
+    go (Some n) e = ap (λ b. cond b (Some n) None) (ap has_idle_links (sym (node_of_is bytes n e).0) ∙ busy)
+
+pub reads_ok : (o : Option NodeState) (node : NodeContents) → ReadsImage o (Ok node) → (o ≡ Some node.live) × (node.frozen ≡ None)
+reads_ok None node h = absurd h
+reads_ok (Some state) node h = (ap Some (ap (λ (n : NodeContents). n.live) (sym h)), ap (λ (n : NodeContents). n.frozen) h)
+
+pub reads_memory : (bytes : List ℕ) (o : Option NodeState) → node_of bytes ≡ o → ReadsImage o (Err NoMemory) → has_idle_links (node_at bytes) ≡ true → IsSome (fresh_image bytes)
+reads_memory bytes None e h idle = absurd h
+reads_memory bytes (Some n) e h idle = ap is_some (fresh_some bytes n e idle)
+
+four_inputs : (bytes : List ℕ) → length (node_at bytes).inputs ≡ 4
+unfolding node_at ends_at
+four_inputs bytes = refl
+
+pub node_fits : (bytes : List ℕ) (n : NodeState) → node_of bytes ≡ Some n → has_idle_links n ≡ true → Fits (length n.memory) n
+unfolding is_node
+node_fits bytes n e idle =
+    let is = node_of_is bytes n e in
+    let rule = and_parts (is_memory n.memory) _ is.1 in
+    let whole = and_parts (length n.memory == PAGE_BYTES * page_count n.memory) _ rule.0 in
+    let many : length n.memory ≡ PAGE_BYTES * page_count n.memory = eqb-true (length n.memory) (PAGE_BYTES * page_count n.memory) whole.0 in
+    let most : page_count n.memory ≤ MAX_PAGES = leb-true (page_count n.memory) MAX_PAGES (and_parts (nat_le MIN_PAGES (page_count n.memory)) (nat_le (page_count n.memory) MAX_PAGES) whole.1).1 in
+    let ends = and_parts (list_all is_idle_out n.outputs) (list_all is_idle_in n.inputs) idle in
+    record {
+      small = omega (arith, many, most);
+      long = record { many = refl; whole = omega (arith, many) };
+      four = ap (λ (m : NodeState). length m.inputs) (sym is.0) ∙ four_inputs bytes;
+      outs = λ k end at. idle_out_fits (length n.memory) n.outputs k end ends.0 at;
+      ins = λ k end at. idle_in_fits (length n.memory) n.inputs k end ends.1 at;
+    }
+
+-- ## The network
+
+module _ (n : NodeState) (idle : has_idle_links n ≡ true) where
+  abbrev s : Network NodeState
+  s = lone_network n
+
+  ends : (list_all is_idle_out n.outputs ≡ true) × (list_all is_idle_in n.inputs ≡ true)
+  ends = and_parts (list_all is_idle_out n.outputs) (list_all is_idle_in n.inputs) idle
+
+  only : (p : ℕ) (m : NodeState) → slice_get (n ∷ []) p ≡ Some m → m ≡ n
+  only zero m e = cc
+  only (suc p) m e = cc
+
+  no_waits : (x : ℕ) → end_waits t414_ends s x ≡ false
+  no_waits x = go (own s (owner 1 x)) refl
+    where
+      none : (p : ℕ) → is_pending (slice_get (fresh_port ∷ []) p) ≡ false
+      none zero = refl
+      none (suc p) = refl
+
+      go : (o : Option (Own NodeState)) → own s (owner 1 x) ≡ o → waits_at t414_ends 1 o x ≡ false
+      go None is = refl
+      go (Some (OfNode m)) is = rw (only (owner 1 x) m (own_node s (owner 1 x) m is).1) (idle_out n.outputs (x % 4) ends.0)
+      go (Some (OfHost ports)) is = rw (← (own_host s (owner 1 x) ports is).1) (none _)
+
+  no_holds : (x : ℕ) → end_holds t414_ends s x ≡ false
+  no_holds x = go (own s (owner 1 x)) refl
+    where
+      go : (o : Option (Own NodeState)) → own s (owner 1 x) ≡ o → holds_at t414_ends o x ≡ false
+      go None is = refl
+      go (Some (OfNode m)) is = rw (only (owner 1 x) m (own_node s (owner 1 x) m is).1) (idle_in n.inputs (x % 4) ends.1)
+      go (Some (OfHost ports)) is = refl
+
+  empty : (x : ℕ) → on_line s.lines x ≡ []
+  empty zero = refl
+  empty (suc zero) = refl
+  empty (suc (suc zero)) = refl
+  empty (suc (suc (suc zero))) = refl
+  empty (suc (suc (suc (suc zero)))) = refl
+  empty (suc (suc (suc (suc (suc x))))) = refl
+
+  both : (x y : ℕ) → back s x ≡ Some y → back s y ≡ Some x
+  both zero y e = let is : 4 ≡ y = cc in subst (λ m. back s m ≡ Some 0) is refl
+  both (suc zero) y e = cc
+  both (suc (suc zero)) y e = cc
+  both (suc (suc (suc zero))) y e = cc
+  both (suc (suc (suc (suc zero)))) y e = let is : 0 ≡ y = cc in subst (λ m. back s m ≡ Some 4) is refl
+  both (suc (suc (suc (suc (suc x))))) y e = cc
+
+  inside : (x i k : ℕ) → receiver s.wires x ≡ Some (Link i k) → (i < 1) × (k < 4)
+  inside zero i k e = cc
+  inside (suc zero) i k e = cc
+  inside (suc (suc zero)) i k e = cc
+  inside (suc (suc (suc zero))) i k e = cc
+  inside (suc (suc (suc (suc zero)))) i k e =
+      let first : 0 ≡ i = cc in
+      let second : 0 ≡ k = cc in
+      (omega (arith, first), omega (arith, second))
+  inside (suc (suc (suc (suc (suc x))))) i k e = cc
+
+  there : (x : ℕ) → has_wire s.wires x ≡ true → x < 5
+  there zero e = omega arith
+  there (suc zero) e = omega arith
+  there (suc (suc zero)) e = omega arith
+  there (suc (suc (suc zero))) e = omega arith
+  there (suc (suc (suc (suc zero)))) e = omega arith
+  there (suc (suc (suc (suc (suc x))))) e = cc
+
+  pub lone_fresh : IsFresh s
+  lone_fresh = record {
+    sound = record {
+      wires = record { both_ways = both; links = inside };
+      there = there;
+      flight = λ x y to. rw (no_waits x, no_holds y, empty x, empty y) refl;
+      none = λ x to. (empty x, no_holds x);
+    };
+    lines = refl;
+    ports = refl;
+  }
+
+  pub lone_shaped : IsNetwork s
+  lone_shaped = record { wires = refl; few_nodes = omega arith; few_ports = omega arith }
+
+pub first_agreed : (s : Network NodeState) → agreed (first_book s None).state ≡ s.nodes
+unfolding agreed after
+first_agreed s = refl
+
+-- ## A trial
+
+pub lone_agrees : (image : List ℕ) (node : NodeContents) (b : BookValue) → fresh_image image ≡ Some node.live → node.frozen ≡ None → b ≡ first_book (lone_network (node_at image)) None → Agrees b 0 node
+lone_agrees image node b fresh thawed is =
+    let F = fresh_is image node.live fresh in
+    let same = (node_of_is image node.live F.0).0 in
+    record {
+      there = ap (λ (x : BookValue). slice_get (agreed x.state) 0) is ∙ ap (λ ns. slice_get ns 0) (first_agreed (lone_network (node_at image))) ∙ ap Some same;
+      size = length node.live.memory;
+      fits = node_fits image node.live F.0 F.1;
+      thawed = thawed;
+    }
+
+pub lone_begins : (image : List ℕ) (n : NodeState) (s : Network NodeState) → fresh_image image ≡ Some n → s ≡ lone_network (node_at image) → IsFresh s
+lone_begins image n s fresh is =
+    let F = fresh_is image n fresh in
+    subst IsFresh (sym (is ∙ ap lone_network (node_of_is image n F.0).0)) (lone_fresh n F.1)
+
+pub lone_tried : (image : List ℕ) (n : NodeState) (s : Network NodeState) (a b : BookValue) (turns quantum : ℕ) (tried : Tried) → fresh_image image ≡ Some n → s ≡ lone_network (node_at image) → a ≡ first_book s None
+    → Did (AreTurns quantum turns) a b → tried.entries.items ≡ b.state.entries → Some tried.output.items ≡ outputs_of b 0 → IsTried n turns quantum tried
+lone_tried image n s a b turns quantum tried fresh is first D entries output =
+    let F = fresh_is image n fresh in
+    let start : network_of a ≡ lone_network n =
+    ap network_of first ∙ ap (λ nodes. record s { nodes = nodes }) (first_agreed s) ∙ is ∙ ap lone_network (node_of_is image n F.0).0 in
+    let all : tried.entries.items ≡ D.entries = entries ∙ D.grew.entries_are ∙ ap (λ (x : BookValue). x.state.entries ++ D.entries) first in
+    let turned : AreTurns quantum turns (lone_network n) tried.entries.items (network_of b) =
+    subst (λ es. AreTurns quantum turns (lone_network n) es (network_of b)) (sym all) (subst (λ from. AreTurns quantum turns from D.entries (network_of b)) start D.did) in
+    let port = map_some (λ (p : Port). p.outputs) (slice_get b.state.ports 0) tried.output.items (sym output) in
+    record {
+      end = network_of b;
+      leads = turns_lead quantum turns (lone_network n) (network_of b) tried.entries.items turned;
+      turned = turned;
+      port = port.0;
+      there = port.1;
+      output = sym port.2;
+    }

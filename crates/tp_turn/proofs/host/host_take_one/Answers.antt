@@ -1,0 +1,5 @@
+use Rattle.tp_turn.proofs.HostTook.{host_took_done}
+use Rattle.tp_turn.proofs.host.host_take_one.Goals as goal
+
+pub returns-in-Ok-clause-took : goal.returns-in-Ok-clause-took
+returns-in-Ok-clause-took c = host_took_done c.args.book.now c.host_take.new.self c.args.line c.known.ensures.keeps c.known.ensures.shaped c.requires.idle c.in-Ok.ensures.ok

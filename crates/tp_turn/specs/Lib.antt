@@ -1,0 +1,5 @@
+pub mod Turns
+pub mod Books
+pub mod Fits
+pub mod Nodes
+pub mod Tried

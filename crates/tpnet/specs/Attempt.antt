@@ -1,0 +1,25 @@
+-- What `try` does.
+use Rattle.std.specs.Prelude.{◌≡◌, ℕ, List, Option, Some, None, IsSome, Result, Ok, Err}
+use Rattle.std.specs.Io.KnownBytes.{Appends}
+use Rattle.tp_model.specs.NodeState.{NodeState}
+use Rattle.tp_turn.specs.declared.trial.Tried.{Tried}
+use Rattle.tp_turn.specs.Tried.{fresh_image, IsTried}
+use Rattle.tpnet.specs.declared.refusal.Refusal.{Refusal}
+use Rattle.tpnet.specs.declared.refusal.Refusal.TheVariants.{BadImage, DeviceFailed, Memory}
+use Rattle.tpnet.specs.declared.commands.TheConstants.{TRY_QUANTUM}
+
+-- The node of the image was tried for so many turns, and exactly what its port put out was appended.
+pub record Shows (image : List ℕ) (turns : ℕ) (was now : Option (List ℕ)) : Type 0 where
+  pub node : NodeState
+  pub is : fresh_image image ≡ Some node
+  pub tried : Tried
+  pub tried_is : IsTried node turns TRY_QUANTUM tried
+  pub shown : Appends was now tried.output.items
+
+-- The answer: an image that is none is refused, and nothing was written then, nor where memory was wanting.
+abbrev pub Answers : List ℕ → ℕ → Option (List ℕ) → Option (List ℕ) → Result (Unit {0}) Refusal → Type 0
+Answers image turns was now (Ok done) = Shows image turns was now
+Answers image turns was now (Err BadImage) = (fresh_image image ≡ None) × (now ≡ was)
+Answers image turns was now (Err DeviceFailed) = IsSome (fresh_image image)
+Answers image turns was now (Err Memory) = IsSome (fresh_image image) × (now ≡ was)
+Answers image turns was now (Err other) = ⊥
