@@ -1,4 +1,6 @@
+mod LineEnds
 pub mod Areas
+pub mod Cuts
 pub mod Groups
 pub mod HeadBytes
 pub mod Heads
@@ -12,4 +14,3 @@ pub mod Room
 pub mod SameBytes
 pub mod Topologies
 pub mod Wires
-mod LineEnds

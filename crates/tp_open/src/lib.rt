@@ -2,6 +2,7 @@
 #![tactic(auto)]
 
 mod choice;
+mod cut;
 mod device;
 mod flights;
 mod front;
@@ -16,6 +17,7 @@ mod topology;
 mod unopened;
 
 pub use choice::read_choice;
+pub use cut::{Cut, read_cut};
 pub use front::{CutFront, read_front};
 pub use group::read_group_at;
 pub use head::{Head, head_in, read_head};

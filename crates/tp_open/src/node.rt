@@ -52,6 +52,7 @@ pub(crate) fn read_nodes<D: Disk>(
     requires counted { at + sum_by image_length pages.now < 2 ^ 64 }
     ensures counts { Counts (has_read result) (D.size_of disk.old) (D.size_of disk.new) (D.failures_of disk.old) (D.failures_of disk.new) }
     ensures kept { D.keeps → IsKept result (D.state disk.old).now (D.state disk.new).now }
+    ensures len { IfOk result (λ nodes. length nodes.items ≡ length pages.now) }
     ensures thawed { IfOk result (λ nodes. AreThawed nodes.items) }
     ensures is { D.keeps → Answers (λ nodes. map live nodes.items) (nodes_in at pages.now (drop at (D.state disk.old).now.bytes)) result }
 {

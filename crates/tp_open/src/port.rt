@@ -136,6 +136,7 @@ pub(crate) fn read_ports<D: Disk>(
     requires counted { at + PORT_BYTES * count < 2 ^ 64 }
     ensures counts { Counts (has_read result) (D.size_of disk.old) (D.size_of disk.new) (D.failures_of disk.old) (D.failures_of disk.new) }
     ensures kept { D.keeps → IsKept result (D.state disk.old).now (D.state disk.new).now }
+    ensures len { IfOk result (λ ports. length ports.items ≡ count) }
     ensures is { D.keeps → Answers (λ ports. map port_of ports.items) (ports_in base at count (drop at (D.state disk.old).now.bytes)) result }
 {
     let mut ports = Vec::new(alloc);

@@ -1,5 +1,5 @@
-use Rattle.std.proofs.Common.{◌≡◌, ◌+◌, ◌∙◌, ap, sym, arith, map, rules, Err, subst}
-use Rattle.std.proofs.lemmas.List.{map_push}
+use Rattle.std.proofs.Common.{◌≡◌, ◌+◌, ◌∙◌, ap, sym, arith, length, map, rules, Err, subst}
+use Rattle.std.proofs.lemmas.List.{length_push, map_push}
 use Rattle.tp_open.specs.Nodes.{live, AreThawed}
 use Rattle.tp_open.proofs.Nodes.{nodes_in-step, nodes_in-error, nodes_in-end, place_more, place_inside, thawed_push}
 use Rattle.tp_open.proofs.node.read_nodes.Goals as goal
@@ -22,6 +22,7 @@ loop-count-preserved g c = record {
   };
   kept = λ k. c.in_ok-read.ensures.kept k ∙ c.loop-count.invariant.kept k;
   place = ap (λ n. c.loop-count.place + n) c.image_length.ensures ∙ place_more c.args.at c.loop-count.place c.loop-count.count-index c.args.pages.now c.loop-count-test.true c.loop-count.invariant.place;
+  count = ap length c.in-Ok.ensures.items ∙ length_push c.loop-count.nodes.items c.in_ok-read.read ∙ ap (λ n. n + 1) c.loop-count.invariant.count;
   thawed = subst AreThawed (sym c.in-Ok.ensures.items) (thawed_push c.loop-count.nodes.items c.in_ok-read.read c.loop-count.invariant.thawed c.in_ok-read.ensures.thawed);
   read = λ k.
       nodes_in-step c.args.at c.loop-count.place (c.loop-count.place + c.image_length.result) c.loop-count.count-index c.args.pages.now (g.D.Disk.state c.args.disk.now).now (g.D.Disk.state c.loop-count.disk).now

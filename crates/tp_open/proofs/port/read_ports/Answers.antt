@@ -1,5 +1,5 @@
-use Rattle.std.proofs.Common.{◌≡◌, ◌∙◌, ap, sym, arith, map, rules, Err}
-use Rattle.std.proofs.lemmas.List.{map_push}
+use Rattle.std.proofs.Common.{◌≡◌, ◌+◌, ◌∙◌, length, ap, sym, arith, map, rules, Err}
+use Rattle.std.proofs.lemmas.List.{length_push, map_push}
 use Rattle.tp_book.specs.Parts.{port_of}
 use Rattle.tp_open.proofs.Ports.{ports_in-step, ports_in-error, ports_in-end}
 use Rattle.tp_open.proofs.port.read_ports.Goals as goal
@@ -17,6 +17,7 @@ loop-port-preserved g c = record {
     failures = c.in_ok-read.ensures.counts.failures ∙ c.loop-port.invariant.counts.failures;
   };
   kept = λ k. c.in_ok-read.ensures.kept k ∙ c.loop-port.invariant.kept k;
+  count = ap length c.in-Ok.ensures.items ∙ length_push c.loop-port.ports.items c.in_ok-read.read ∙ ap (λ n. n + 1) c.loop-port.invariant.count;
   read = λ k.
       ports_in-step c.args.base c.args.at c.loop-port.port c.args.count (g.D.Disk.state c.args.disk.now).now (g.D.Disk.state c.loop-port.disk).now (map port_of c.loop-port.ports.items) (map port_of c.push.new.self.items) (port_of c.in_ok-read.read)
       (omega arith) (c.loop-port.invariant.read k) (c.loop-port.invariant.kept k) (c.in_ok-read.ensures.is k)
