@@ -34,15 +34,15 @@ pub first_error : {A B C D Y : Type 0} (seen_then : Y → D) (a : Result A OpenF
     → Answers (λ (x : A). x) a (Err error) → answer ≡ Err error → Answers seen_then (three a b c f) answer
 first_error {A} seen_then a b c f error answer read told = passed (λ (x : A). x) seen_then a (λ x. b >>= (λ y. c >>= (λ z. Ok (f x y z)))) error answer read told
 
-pub second_error : {A B C D Y : Type 0} (seen_then : Y → D) (a : Result A OpenFault) (x : A) (b : Result B OpenFault) (c : Result C OpenFault) (f : A → B → C → D) (error : Unopened) (answer : Result Y Unopened)
-    → a ≡ Ok x → Answers (λ (x : B). x) b (Err error) → answer ≡ Err error → Answers seen_then (three a b c f) answer
-second_error {A} {B} seen_then a x b c f error answer is read told =
-    rw is (passed (λ (x : B). x) seen_then b (λ y. c >>= (λ z. Ok (f x y z))) error answer read told)
+pub second_error : {A B C D Y : Type 0} (seen_then : Y → D) (a : Result A OpenFault) (x : A) (b then : Result B OpenFault) (c : Result C OpenFault) (f : A → B → C → D) (error : Unopened) (answer : Result Y Unopened)
+    → a ≡ Ok x → then ≡ b → Answers (λ (x : B). x) then (Err error) → answer ≡ Err error → Answers seen_then (three a b c f) answer
+second_error {A} {B} seen_then a x b then c f error answer is same read told =
+    rw is (passed (λ (x : B). x) seen_then b (λ y. c >>= (λ z. Ok (f x y z))) error answer (subst (λ r. Answers (λ (x : B). x) r (Err error)) same read) told)
 
-pub third_error : {A B C D Y : Type 0} (seen_then : Y → D) (a : Result A OpenFault) (x : A) (b : Result B OpenFault) (y : B) (c : Result C OpenFault) (f : A → B → C → D) (error : Unopened) (answer : Result Y Unopened)
-    → a ≡ Ok x → b ≡ Ok y → Answers (λ (x : C). x) c (Err error) → answer ≡ Err error → Answers seen_then (three a b c f) answer
-third_error {A} {B} {C} seen_then a x b y c f error answer is then_is read told =
-    rw (is, then_is) (passed (λ (x : C). x) seen_then c (λ z. Ok (f x y z)) error answer read told)
+pub third_error : {A B C D Y : Type 0} (seen_then : Y → D) (a : Result A OpenFault) (x : A) (b : Result B OpenFault) (y : B) (c then : Result C OpenFault) (f : A → B → C → D) (error : Unopened) (answer : Result Y Unopened)
+    → a ≡ Ok x → b ≡ Ok y → then ≡ c → Answers (λ (x : C). x) then (Err error) → answer ≡ Err error → Answers seen_then (three a b c f) answer
+third_error {A} {B} {C} seen_then a x b y c then f error answer is then_is same read told =
+    rw (is, then_is) (passed (λ (x : C). x) seen_then c (λ z. Ok (f x y z)) error answer (subst (λ r. Answers (λ (x : C). x) r (Err error)) same read) told)
 
 pub all_read : {A B C D : Type 0} (a : Result A OpenFault) (x : A) (b : Result B OpenFault) (y : B) (c : Result C OpenFault) (z : C) (f : A → B → C → D)
     → a ≡ Ok x → b ≡ Ok y → c ≡ Ok z → three a b c f ≡ Ok (f x y z)
@@ -141,8 +141,8 @@ cut_in-records E t area second base ports pages wires places xs room lines p w h
 -- ## The test of what was read
 
 pub cut_ok : (E : Ends NodeState) (at count : ℕ) (s : Network NodeState) (given records : Result (Network NodeState) OpenFault)
-    → given ≡ (records >>= tested E at count) → records ≡ Ok s → flights_in E s at 0 count ≡ Ok tt → given ≡ Ok s
-cut_ok E at count s given records is read sound = is ∙ ap (λ r. r >>= tested E at count) read ∙ ap (λ r. r >>= (λ u. Ok s)) sound
+    → given ≡ (records >>= tested E at count) → records ≡ Ok s → (sound : Unit {0}) → flights_in E s at 0 count ≡ Ok sound → given ≡ Ok s
+cut_ok E at count s given records is read sound told = is ∙ ap (λ r. r >>= tested E at count) read ∙ ap (λ r. r >>= (λ u. Ok s)) told
 
 pub cut_fault : (E : Ends NodeState) (at count : ℕ) (s : Network NodeState) (given records : Result (Network NodeState) OpenFault) (fault : OpenFault)
     → given ≡ (records >>= tested E at count) → records ≡ Ok s → flights_in E s at 0 count ≡ Err fault → given ≡ Err fault

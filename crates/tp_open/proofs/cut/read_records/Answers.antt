@@ -20,10 +20,10 @@ returns-in_err-found-clause-is g c k =
     let now = (g.D.Disk.state c.read_nodes.new.disk).now in
     let told : c.from_residual-in_err-found.result ≡ Err c.in_err-found.field-0.0 = search rules in
     second_error (cut_network c.args.wires.now) (nodes_in c.args.places.nodes c.args.pages.now (drop c.args.places.nodes old.bytes)) (map live c.in_ok-nodes.nodes.items)
-    (lines_in c.args.places.lines c.args.wires.now (drop c.args.places.lines old.bytes))
+    (lines_in c.args.places.lines c.args.wires.now (drop c.args.places.lines old.bytes)) (lines_in c.args.places.lines c.args.wires.now (drop c.args.places.lines now.bytes))
     (ports_in c.args.base c.args.places.ports c.args.ports (drop c.args.places.ports old.bytes)) (wired c.args.wires.now) c.in_err-found.field-0.0 c.from_residual-in_err-found.result
     (c.in_ok-nodes.ensures.is k)
-    (rw (← lines_then c.args.places.lines c.args.wires.now old now (c.in_ok-nodes.ensures.kept k)) (c.in_err-found.ensures.is k)) told
+    (lines_then c.args.places.lines c.args.wires.now old now (c.in_ok-nodes.ensures.kept k)) (c.in_err-found.ensures.is k) told
 
 pub returns-in_err-ports-clause-is : goal.returns-in_err-ports-clause-is
 returns-in_err-ports-clause-is g c k =
@@ -33,10 +33,10 @@ returns-in_err-ports-clause-is g c k =
     let told : c.from_residual-in_err-ports.result ≡ Err c.in_err-ports.field-0.0 = search rules in
     third_error (cut_network c.args.wires.now) (nodes_in c.args.places.nodes c.args.pages.now (drop c.args.places.nodes old.bytes)) (map live c.in_ok-nodes.nodes.items)
     (lines_in c.args.places.lines c.args.wires.now (drop c.args.places.lines old.bytes)) (map tokens_on c.in_ok-found.found.items)
-    (ports_in c.args.base c.args.places.ports c.args.ports (drop c.args.places.ports old.bytes)) (wired c.args.wires.now) c.in_err-ports.field-0.0 c.from_residual-in_err-ports.result
+    (ports_in c.args.base c.args.places.ports c.args.ports (drop c.args.places.ports old.bytes)) (ports_in c.args.base c.args.places.ports c.args.ports (drop c.args.places.ports now.bytes)) (wired c.args.wires.now) c.in_err-ports.field-0.0 c.from_residual-in_err-ports.result
     (c.in_ok-nodes.ensures.is k)
     (sym (lines_then c.args.places.lines c.args.wires.now old then (c.in_ok-nodes.ensures.kept k)) ∙ c.in_ok-found.ensures.is k)
-    (rw (← ports_then c.args.base c.args.places.ports c.args.ports old now (c.in_ok-found.ensures.kept k ∙ c.in_ok-nodes.ensures.kept k)) (c.in_err-ports.ensures.is k)) told
+    (ports_then c.args.base c.args.places.ports c.args.ports old now (c.in_ok-found.ensures.kept k ∙ c.in_ok-nodes.ensures.kept k)) (c.in_err-ports.ensures.is k) told
 
 pub returns-in-Ok-clause-is : goal.returns-in-Ok-clause-is
 returns-in-Ok-clause-is g c k =
