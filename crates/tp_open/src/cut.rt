@@ -1,12 +1,13 @@
 //! The cut of an area.
 
-ghost use Rattle.std.specs.Prelude.{◌≡◌, ◌+◌, ◌*◌, ◌≤◌, ◌<◌, ◌^◌, IfOk, map, length, sum_by};
+ghost use Rattle.std.specs.Prelude.{◌≡◌, ◌+◌, ◌*◌, ◌≤◌, ◌<◌, ◌^◌, ℕ, Ok, IfOk, map, length, sum_by};
 ghost use Rattle.tp_model.specs.Device.{area_start, content_of};
 ghost use Rattle.tp_model.specs.DiskHistory.{Counts};
 ghost use Rattle.tp_model.specs.Flight.{flights_in};
 ghost use Rattle.tp_model.specs.Journal.{image_length};
 ghost use Rattle.tp_model.specs.Node.{t414_ends};
 ghost use Rattle.tp_model.specs.Opening.{base_of, cut_in, lines_place, nodes_place, ports_place};
+ghost use Rattle.tp_model.specs.Topology.{line_count};
 ghost use Rattle.tp_open.specs.Cuts.{cut_network, records_at};
 ghost use Rattle.tp_open.specs.Lines.{tokens_on};
 ghost use Rattle.tp_open.specs.Nodes.{AreThawed};
@@ -144,6 +145,8 @@ fn check_flights(wires: &[Option<WireEnd>], cut: &Cut, at: u64) -> Result<(), Op
 }
 
 /// Reads the cut of an area, which has so many entries.
+///
+/// What is read was tested, so it is sound and thawed also where the device doesn't keep the model.
 pub fn read_cut<D: Disk>(
     alloc: Global,
     disk: &mut D,
@@ -154,6 +157,9 @@ pub fn read_cut<D: Disk>(
     requires { HEAD_BYTES + 2 * head.now.area ≤ D.size_of disk.old }
     ensures counts { Counts (has_read result) (D.size_of disk.old) (D.size_of disk.new) (D.failures_of disk.old) (D.failures_of disk.new) }
     ensures kept { D.keeps → IsKept result (D.state disk.old).now (D.state disk.new).now }
+    ensures nodes { IfOk result (λ cut. length cut.nodes.items ≡ length head.now.topology.pages) }
+    ensures ports { IfOk result (λ cut. length cut.ports.items ≡ head.now.topology.ports) }
+    ensures sound { IfOk result (λ cut. (at : ℕ) × (flights_in t414_ends (cut_network head.now.topology.wires cut) at 0 (line_count head.now.topology) ≡ Ok tt)) }
     ensures thawed { IfOk result (λ cut. AreThawed cut.nodes.items) }
     ensures is { D.keeps → base ≡ base_of (content_of head.now.area second (D.state disk.old).now.bytes)
         → Answers (cut_network head.now.topology.wires) (cut_in t414_ends head.now.topology (area_start head.now.area second + 1) (content_of head.now.area second (D.state disk.old).now.bytes)) result }

@@ -19,7 +19,7 @@ mod unopened;
 pub use choice::read_choice;
 pub use cut::{Cut, read_cut};
 pub use front::{CutFront, read_front};
-pub use group::read_group_at;
+pub use group::{groups_are_listed, read_group_at};
 pub use head::{Head, head_in, read_head};
 pub use line::LineTokens;
 pub use spelling::head_bytes;

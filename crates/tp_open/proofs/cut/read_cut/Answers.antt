@@ -87,3 +87,21 @@ returns-in-Err-clause-is g c k base =
     ∙ ap (λ n. flights_in t414_ends (cut_network t.wires c.in_ok-cut.cut) c.of-places.result.lines 0 n) (sym shape.lines)
     ∙ ap (λ ws. flights_in t414_ends (cut_network ws c.in_ok-cut.cut) c.of-places.result.lines 0 (length ws)) (sym wires.1)
     ∙ sym c.check_flights.ensures ∙ c.in-Err.is)
+
+-- the wires and the counts of what was read, which no device has to answer for
+pub returns-in-Ok-clause-nodes : goal.returns-in-Ok-clause-nodes
+returns-in-Ok-clause-nodes g c =
+    c.in_ok-cut.ensures.nodes ∙ ap length c.pages.ensures.value ∙ ap (λ s. length s.pages) c.topology-topology.ensures.value
+
+pub returns-in-Ok-clause-ports : goal.returns-in-Ok-clause-ports
+returns-in-Ok-clause-ports g c = c.in_ok-cut.ensures.ports ∙ c.ports.ensures ∙ ap (λ s. s.ports) c.topology-topology.ensures.value
+
+pub returns-in-Ok-clause-sound : goal.returns-in-Ok-clause-sound
+returns-in-Ok-clause-sound g c =
+    let t = c.args.head.now.topology in
+    let shape = has_shape t c.topology-topology.ensures.valid in
+    let wires : c.wires-2.result.now ≡ t.wires = c.wires-2.ensures.value ∙ ap (λ s. s.wires) c.topology-topology.ensures.value in
+    (c.of-places.result.lines,
+     ap (λ n. flights_in t414_ends (cut_network t.wires c.in_ok-cut.cut) c.of-places.result.lines 0 n) (sym shape.lines)
+     ∙ ap (λ ws. flights_in t414_ends (cut_network ws c.in_ok-cut.cut) c.of-places.result.lines 0 (length ws)) (sym wires)
+     ∙ sym c.check_flights.ensures ∙ c.in-Ok.is)
