@@ -12,3 +12,5 @@ pub mod PutLaws
 pub mod FreshImages
 pub mod Topologies
 pub mod HeadBytes
+pub mod FormatBytes
+pub mod FormatCalls

@@ -27,7 +27,7 @@ within-wider at count from size (piece ∷ pieces) low high all =
     let last = all.0.1 in
     ((omega arith, omega arith), within-wider at count from size pieces low high all.1)
 
-put_calls-append : (first second : List (ℕ × List ℕ)) → put_calls (first ++ second) ≡ put_calls first ++ put_calls second
+pub put_calls-append : (first second : List (ℕ × List ℕ)) → put_calls (first ++ second) ≡ put_calls first ++ put_calls second
 put_calls-append [] second = refl
 put_calls-append (piece ∷ first) second = ap (λ calls. Write piece.0 piece.1 ∷ calls) (put_calls-append first second)
 
@@ -118,3 +118,11 @@ image_fits f xs i x lt is = subst (λ y. length (flat_map f (take i xs)) + lengt
 pub image_place : {X : Type 0} (f : X → List ℕ) (xs : List X) (i : ℕ) (x : X) → i < length xs → x ≡ get_or xs i x
     → length (flat_map f (take (i + 1) xs)) ≡ length (flat_map f (take i xs)) + length (f x)
 image_place f xs i x lt is = ap length (flat_map_more f xs i x lt) ∙ length-append (flat_map f (take i xs)) (f (get_or xs i x)) ∙ ap (λ y. length (flat_map f (take i xs)) + length (f y)) (sym is)
+
+-- three parts, one behind the other
+pub puts_three : (at : ℕ) (one two three : List ℕ) (second third : ℕ) (s t u v : State) → at ≤ length s.now.bytes → second ≡ at + length one → third ≡ second + length two
+    → Puts at one s t → Puts second two t u → Puts third three u v → Puts at ((one ++ two) ++ three) s v
+puts_three at one two three second third s t u v room is_second is_third first next last =
+    let both : Puts at (one ++ two) s u = puts_then at one two s t u room first (subst (λ n. Puts n two t u) is_second next) in
+    let there : third ≡ at + length (one ++ two) = omega (arith, length-append one two) in
+    puts_then at (one ++ two) three s u v room both (subst (λ n. Puts n three u v) there last)

@@ -1,7 +1,8 @@
 -- What formatting a device answers, and what it writes.
-use Rattle.std.specs.Prelude.{◌≡◌, ◌≤◌, ℕ, ◌+◌, List, [], ◌∷◌, ◌++◌, Option, Some, None, Result, Ok, Err}
+use Rattle.std.specs.Prelude.{◌≡◌, ◌≤◌, ℕ, ◌+◌, Bool, true, false, List, [], ◌∷◌, ◌++◌, Option, Some, None, Result, Ok, Err}
 use Rattle.std.specs.List.{AllByRecursion}
 use Rattle.tp_model.specs.declared.limits.TheConstants.{HEAD_BYTES, GATE_OPEN, GATE_CLOSED}
+use Rattle.tp_model.specs.Bytes.{u32_bytes, u64_bytes}
 use Rattle.tp_model.specs.NodeState.{NodeState}
 use Rattle.tp_model.specs.Network.{Network}
 use Rattle.tp_model.specs.Topology.{Topology}
@@ -25,18 +26,54 @@ Checks (Some x) (Err BadImage) = ⊥
 Checks o (Err AreaFull) = ⊥
 Checks o (Err DeviceFailed) = ⊥
 
+-- what the first area begins with: its open gate, generation 1, the length of its cut, and that the cut holds no entry
+unfoldable pub area_front : ℕ → List ℕ
+area_front cut = GATE_OPEN ∷ (u64_bytes 1 ++ (u32_bytes cut ++ u64_bytes 0))
+
 -- the first area as far as it is written: its gate, its fields, the cut of that network, and a closed gate
 abbrev pub first_area : Topology → Network NodeState → List ℕ
 first_area t s = GATE_OPEN ∷ (front_bytes t 1 0 s ++ GATE_CLOSED ∷ [])
 
--- The device was formatted for the network of these images: both areas were written and synced before the head was, and that
--- is synced too. All bytes that the format doesn't name are as they were.
+-- Both areas were written and synced before the head was, and that is synced too. All other bytes are as they were.
+pub record Wrote (first head : List ℕ) (area : ℕ) (old new : State) : Type 0 where
+  pub pieces : List (ℕ × List ℕ)
+  pub behind_head : AllByRecursion (λ piece. HEAD_BYTES ≤ piece.0) pieces
+  pub called : Called (put_calls pieces ++ (Sync ∷ Write 0 head ∷ Sync ∷ [])) old new
+  pub bytes : new.now.bytes ≡ written (written (written old.now.bytes HEAD_BYTES first) (HEAD_BYTES + area) gate_closed) 0 head
+
+-- The device was formatted for the network of these images, before its first entry.
 pub record Formatted (t : Topology) (images : List (List ℕ)) (area : ℕ) (old new : State) : Type 0 where
   pub start : Network NodeState
   pub is : start_of t images ≡ Some start
-  pub pieces : List (ℕ × List ℕ)
-  pub behind_head : AllByRecursion (λ piece. HEAD_BYTES ≤ piece.0) pieces
-  pub called : Called (put_calls pieces ++ (Sync ∷ Write 0 (head_bytes t area) ∷ Sync ∷ [])) old new
-  pub bytes : new.now.bytes ≡ written (written (written old.now.bytes HEAD_BYTES (first_area t start)) (HEAD_BYTES + area) gate_closed) 0 (head_bytes t area)
+  pub wrote : Wrote (first_area t start) (head_bytes t area) area old new
   pub synced : IsSynced new
   pub formatted : IsFormatted t area start new.now.bytes
+
+-- What is answered: images that don't fit the topology before a device that is too small, and both before any call of the
+-- device. Want of memory may come before both.
+abbrev pub Answers : {A : Type 0} → Option A → Bool → Result (Unit {0}) FormatFault → Type 0
+Answers start fits (Err Memory) = Unit {0}
+Answers None fits (Err BadImage) = Unit {0}
+Answers None fits (Err AreaFull) = ⊥
+Answers None fits (Err DeviceFailed) = ⊥
+Answers None fits (Ok unit) = ⊥
+Answers (Some s) fits (Err BadImage) = ⊥
+Answers (Some s) true (Err AreaFull) = ⊥
+Answers (Some s) false (Err AreaFull) = Unit {0}
+Answers (Some s) true (Err DeviceFailed) = Unit {0}
+Answers (Some s) false (Err DeviceFailed) = ⊥
+Answers (Some s) true (Ok unit) = Unit {0}
+Answers (Some s) false (Ok unit) = ⊥
+
+-- the answer comes before any call of the device
+abbrev pub is_early : Result (Unit {0}) FormatFault → Bool
+is_early (Ok unit) = false
+is_early (Err DeviceFailed) = false
+is_early (Err AreaFull) = true
+is_early (Err Memory) = true
+is_early (Err BadImage) = true
+
+-- how many calls of the device failed
+abbrev pub failed_calls : Result (Unit {0}) FormatFault → ℕ
+failed_calls (Err DeviceFailed) = 1
+failed_calls result = 0

@@ -95,7 +95,11 @@ fn check_image(alloc: Global, pages: u16, image: &[u8]) -> Result<(), FormatFaul
 }
 
 /// Whether there is one such image for each node.
-pub(crate) fn check_images(alloc: Global, pages: &[u16], images: &[Vec<u8>]) -> Result<(), FormatFault>
+pub(crate) fn check_images(
+    alloc: Global,
+    pages: &[u16],
+    images: &[Vec<u8>],
+) -> Result<(), FormatFault>
     ensures { Checks (fresh_nodes pages.now (map (λ image. image.items) images.now)) result }
 {
     if pages.len() != images.len() {

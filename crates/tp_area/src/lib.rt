@@ -3,6 +3,7 @@
 
 mod body;
 mod fault;
+mod formatting;
 mod group;
 mod head;
 mod images;
@@ -13,6 +14,7 @@ mod room;
 mod store;
 
 pub use fault::{FormatFault, StoreFault};
+pub use formatting::format;
 pub use laws::open_devices_say_their_place;
 pub use place::Place;
 pub use store::Store;

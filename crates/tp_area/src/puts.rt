@@ -37,7 +37,11 @@ pub(crate) fn put_zeros<D: Disk>(disk: &mut D, at: u64, count: u64) -> Result<()
 }
 
 /// Puts images, one behind the other.
-pub(crate) fn put_images<D: Disk>(disk: &mut D, at: u64, images: &[Vec<u8>]) -> Result<(), DeviceFailed>
+pub(crate) fn put_images<D: Disk>(
+    disk: &mut D,
+    at: u64,
+    images: &[Vec<u8>],
+) -> Result<(), DeviceFailed>
     requires inside { at + length (flat_map (λ image. image.items) images.now) ≤ D.size_of disk.old }
     requires fits { D.size_of disk.old < 2 ^ 64 }
     ensures counts { Counts (is_ok result) (D.size_of disk.old) (D.size_of disk.new) (D.failures_of disk.old) (D.failures_of disk.new) }

@@ -127,6 +127,7 @@ impl<'a> Said<'a> {
         }
     }
 
+    /// A line of two words declares a port.
     fn add_pair(&mut self, number: u64, kind: &[u8], name: &'a [u8]) -> Result<(), NetFault>
         ensures { IsStep (after_words self.old number (kind.now ∷ name.now ∷ [])) self.new result }
     {
@@ -137,6 +138,7 @@ impl<'a> Said<'a> {
         }
     }
 
+    /// A line of three words declares a node or a wire.
     fn add_triple(
         &mut self,
         number: u64,
@@ -156,12 +158,7 @@ impl<'a> Said<'a> {
     }
 
     /// A line declares a node.
-    pub(crate) fn add_node(
-        &mut self,
-        number: u64,
-        name: &'a [u8],
-        pages: &[u8],
-    ) -> Result<(), NetFault>
+    fn add_node(&mut self, number: u64, name: &'a [u8], pages: &[u8]) -> Result<(), NetFault>
         ensures { IsStep (after_node self.old number name.now pages.now) self.new result }
     {
         let (Some(name), Some(pages)) = (name_in(name), pages_in(pages)) else {
@@ -189,7 +186,7 @@ impl<'a> Said<'a> {
     }
 
     /// A line declares a port.
-    pub(crate) fn add_port(&mut self, number: u64, name: &'a [u8]) -> Result<(), NetFault>
+    fn add_port(&mut self, number: u64, name: &'a [u8]) -> Result<(), NetFault>
         ensures { IsStep (after_port self.old number name.now) self.new result }
     {
         let Some(name) = name_in(name) else {
@@ -217,12 +214,7 @@ impl<'a> Said<'a> {
     }
 
     /// A line declares a wire between two ends.
-    pub(crate) fn add_wire(
-        &mut self,
-        number: u64,
-        first: &[u8],
-        second: &[u8],
-    ) -> Result<(), NetFault>
+    fn add_wire(&mut self, number: u64, first: &[u8], second: &[u8]) -> Result<(), NetFault>
         ensures { IsStep (after_wire self.old number first.now second.now) self.new result }
     {
         let (Some(first), Some(second)) = (end_in(first), end_in(second)) else {

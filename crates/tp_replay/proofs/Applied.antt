@@ -1,5 +1,5 @@
 -- The fields of a flat network behind an entry.
-use Rattle.std.proofs.Common.{◌≡◌, ℕ, ◌+◌, ◌*◌, ◌<◌, ◌≤◌, Bool, true, false, inl, inr, List, [], ◌∷◌, length, map, set, get_or, refl, sym, ap, subst, ◌∙◌, arith, Option, Some, None, slice_get}
+use Rattle.std.proofs.Common.{◌≡◌, ℕ, ◌+◌, ◌*◌, ◌<◌, ◌≤◌, true, false, inl, inr, List, length, set, get_or, refl, sym, ap, subst, ◌∙◌, arith, Option, Some, None, slice_get}
 use Rattle.std.specs.Prelude.{is_some, Ok, Err}
 use Rattle.std.specs.Option.{option_map}
 use Rattle.std.specs.Vec.{with_item}
@@ -13,7 +13,7 @@ use Rattle.tp_model.specs.Node.{t414}
 use Rattle.tp_model.specs.Network.{◌>>=◌, Port, Network, has_wire, sent}
 use Rattle.tp_model.specs.Entries.{next}
 use Rattle.tp_order.proofs.Local.{next_from}
-use Rattle.tp_order.proofs.Partial.{map_some, slice_get-set_same, slice_get-set_other}
+use Rattle.tp_order.proofs.Partial.{slice_get-set_same, slice_get-set_other}
 use Rattle.tp_node.specs.NodeContents.{NodeContents}
 use Rattle.tp_book.specs.Ports.{PortValue}
 use Rattle.tp_book.specs.Calls.{on_lines}
@@ -103,7 +103,7 @@ module _ (n : Inside) (I : IsInside n) where
   pub still_thawed : (i : ℕ) (old node : NodeContents) → slice_get n.nodes.items i ≡ Some old → node.frozen ≡ old.frozen → AreThawed (set n.nodes.items i node)
   still_thawed i old node there thawed j c at = elim (cases_eq j i) [
     | inl same ↦
-        let is : node ≡ c = cc (slice_get-set_same n.nodes.items i node old there, ap (slice_get (set n.nodes.items i node)) same) in
+        let is : node ≡ c = cc (slice_get-set_same n.nodes.items i node old there) in
         ap (λ x. x.frozen) (sym is) ∙ thawed ∙ I.thawed i old there
     | inr other ↦ I.thawed j c (sym (slice_get-set_other n.nodes.items i j node other) ∙ at)
   ]

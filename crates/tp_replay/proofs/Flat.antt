@@ -1,5 +1,5 @@
 -- Every entry keeps what networks in one thread keep, and what it sends finds room.
-use Rattle.std.proofs.Common.{◌≡◌, ◌≢◌, ℕ, ◌+◌, ◌*◌, ◌<◌, ◌≤◌, Bool, true, false, cond, inl, inr, List, [], ◌∷◌, length, refl, sym, ap, subst, ◌∙◌, arith, Option, Some, None, slice_get}
+use Rattle.std.proofs.Common.{◌≡◌, ℕ, ◌<◌, ◌≤◌, inl, inr, List, length, sym, ap, subst, ◌∙◌, arith, Option, Some, None, slice_get}
 use Rattle.std.specs.Prelude.{nat_lt, nat_le, ◌&&◌}
 use Rattle.std.specs.Option.{option_map}
 use Rattle.std.proofs.lemmas.Bool.{cases_eq}
@@ -12,11 +12,11 @@ use Rattle.tp_model.specs.declared.entry.Entry.TheVariants.{Run, Take, HostIn, C
 use Rattle.tp_model.specs.declared.limits.TheConstants.{MAX_STEPS}
 use Rattle.tp_model.specs.NodeState.{NodeState}
 use Rattle.tp_model.specs.Node.{t414, took}
-use Rattle.tp_model.specs.Network.{steps, Port, Network, Own, OfNode, OfHost, own, receiver, has_wire, on_line, sent}
+use Rattle.tp_model.specs.Network.{steps, Port, Network, Own, OfNode, OfHost, own, receiver, has_wire, on_line}
 use Rattle.tp_model.specs.Entries.{process, takes, of_node, of_port, receives, port_took, handed_in, confirmed, does, next}
 use Rattle.tp_model.specs.Markers.{markers}
 use Rattle.tp_order.proofs.Lines.{length_taken}
-use Rattle.tp_order.proofs.Local.{Step, step_of, next_from, own_node, own-node, PortStep, port_step, SameShape, step_shape, step_lines, step_own_same, step_own_other}
+use Rattle.tp_order.proofs.Local.{Step, step_of, next_from, own_node, own-node, port_step, SameShape, step_shape, step_lines, step_own_same, step_own_other}
 use Rattle.tp_order.proofs.Partial.{map_some, cond_some}
 use Rattle.tp_order.proofs.Room.{line_room}
 use Rattle.tp_order.proofs.Sound.{sound_kept}
@@ -26,7 +26,7 @@ use Rattle.tp_book.specs.Room.{HasRoom}
 use Rattle.tp_book.proofs.Marks.{markers-taken, markers-sent}
 use Rattle.tp_book.proofs.Sending.{room_before}
 use Rattle.tp_replay.specs.Messages.{MessagesInside}
-use Rattle.tp_replay.specs.Flat.{IsFlat, IsShaped}
+use Rattle.tp_replay.specs.Flat.{IsFlat}
 use Rattle.tp_replay.proofs.Messages.{inside_steps, inside_took}
 
 -- ## The node whose entry it is

@@ -1,20 +1,18 @@
 -- Each kind of entry, where it isn't possible.
-use Rattle.std.proofs.Common.{◌≡◌, ◌≢◌, ℕ, zero, suc, ◌+◌, ◌*◌, ◌<◌, ◌≤◌, Bool, true, false, cond, inl, inr, List, [], ◌∷◌, ◌++◌, length, drop, refl, sym, ap, subst, ◌∙◌, arith, Option, Some, None, slice_get}
-use Rattle.std.specs.Prelude.{nat_lt, nat_le, ◌&&◌, ◌==◌}
+use Rattle.std.proofs.Common.{◌≡◌, ℕ, zero, suc, ◌<◌, true, false, List, [], ◌++◌, length, refl, sym, ap, ◌∙◌, arith, Option, Some, None, slice_get}
+use Rattle.std.specs.Prelude.{nat_lt, nat_le, ◌&&◌}
 use Rattle.std.specs.Option.{option_map}
-use Rattle.std.proofs.lemmas.Bool.{lt-ltb, le-leb, le-ltb, eq-eqb, ne_eqb, cases_eq}
 use Rattle.tp_model.specs.declared.link.Token.{Token}
 use Rattle.tp_model.specs.declared.link.Token.TheVariants.{Marker}
 use Rattle.tp_model.specs.declared.wire.WireEnd.{WireEnd}
 use Rattle.tp_model.specs.declared.wire.WireEnd.TheVariants.{Link, Port as AtPort}
-use Rattle.tp_model.specs.declared.entry.Entry.{Entry}
 use Rattle.tp_model.specs.declared.entry.Entry.TheVariants.{Run, Take, HostIn, Confirm}
 use Rattle.tp_model.specs.declared.limits.TheConstants.{MAX_STEPS}
 use Rattle.tp_model.specs.NodeState.{NodeState}
-use Rattle.tp_model.specs.Node.{t414, took, node_step}
-use Rattle.tp_model.specs.Network.{◌>>=◌, Machine, steps, Port, Network, Own, OfNode, OfHost, own, receiver, process_at, on_line, is_first, taken}
+use Rattle.tp_model.specs.Node.{t414, took}
+use Rattle.tp_model.specs.Network.{◌>>=◌, Machine, steps, Port, Network, Own, OfNode, OfHost, own, receiver, process_at, on_line, is_first}
 use Rattle.tp_model.specs.Entries.{process, takes, of_node, of_port, receives, port_took, handed_in, confirmed, does, next}
-use Rattle.tp_order.proofs.Local.{Step, step_of, own_host, own_node, PortStep, port_step}
+use Rattle.tp_order.proofs.Local.{step_of, own_host, own_node, port_step}
 use Rattle.tp_order.proofs.Lines.{taken_cons}
 use Rattle.tp_order.proofs.Partial.{bind_some, map_some, cond_some}
 use Rattle.tp_laws.proofs.LinkLaws.{never_marks}

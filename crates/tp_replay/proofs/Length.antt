@@ -1,7 +1,6 @@
 -- A step of the processor keeps the length of memory.
-use Rattle.std.proofs.Common.{◌≡◌, ℕ, ◌+◌, ◌%◌, Bool, true, false, List, [], ◌∷◌, ◌++◌, length, refl, sym, ap, ◌∙◌, arith, Option, Some, None}
+use Rattle.std.proofs.Common.{◌≡◌, ℕ, ◌%◌, Bool, true, false, List, [], ◌∷◌, length, refl, ◌∙◌, Option, Some, None}
 use Rattle.std.specs.Prelude.{◌==◌, if◌then◌else◌, drop, is_some, Result, Ok, Err}
-use Rattle.std.specs.Option.{option_and_then}
 use Rattle.tp_model.specs.declared.instruction.Fun.{Fun}
 use Rattle.tp_model.specs.declared.instruction.Fun.TheVariants.{J, Ldlp, Ldnl, Ldl, Call, Cj, Ajw, Stl, Stnl, Opr}
 use Rattle.tp_model.specs.declared.instruction.Op.{Op}
@@ -24,7 +23,7 @@ use Rattle.tp_model.specs.Coding.{operand_of, op_of, decoded}
 use Rattle.tp_model.specs.Registers.{op_row, fun_row}
 use Rattle.tp_model.specs.Outcome.{Outcome, Next, Halts, Rests, Sends, Receives, ◌>>=◌, leaves}
 use Rattle.tp_model.specs.Processor.{interrupt}
-use Rattle.tp_model.specs.Channel.{channel_at, input, output, input_at, output_at, output_word_at, enable, enable_at, disable, disable_at}
+use Rattle.tp_model.specs.Channel.{input, output, input_at, output_at, output_word_at, enable, enable_at, disable, disable_at}
 use Rattle.tp_model.specs.Step.{by_row, operate, operation, effect, executed, instruction, in_state, step_of}
 use Rattle.tp_mem.proofs.Writes.{length-stored, length-byte_stored, length-copied, length-changed}
 

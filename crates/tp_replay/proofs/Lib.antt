@@ -2,10 +2,12 @@ pub mod Applied
 pub mod Counted
 pub mod Flat
 pub mod Fronts
+pub mod Imaged
 pub mod Impossible
 pub mod Length
 pub mod LinkMessages
 pub mod Messages
+pub mod Pages
 pub mod Ran
 pub mod Rows
 pub mod Steps

@@ -1,6 +1,6 @@
 -- What an instruction asks of an end of a link leaves the end's message inside memory.
-use Rattle.std.proofs.Common.{◌≡◌, ℕ, ◌+◌, ◌-◌, ◌%◌, ◌^◌, ◌<◌, ◌≤◌, Bool, true, false, ◌&&◌, cond, List, [], ◌∷◌, length, refl, sym, ap, ◌∙◌, arith, Option, Some, None}
-use Rattle.std.specs.Prelude.{◌==◌, nat_lt, nat_le, ◌||◌}
+use Rattle.std.proofs.Common.{◌≡◌, ℕ, ◌+◌, ◌-◌, ◌%◌, ◌^◌, ◌<◌, ◌≤◌, Bool, true, false, cond, List, [], ◌∷◌, length, refl, sym, ap, ◌∙◌, arith, Option, Some, None}
+use Rattle.std.specs.Prelude.{◌==◌, nat_le}
 use Rattle.std.proofs.lemmas.Bool.{ltb-true, leb-true, le-leb, and_parts, ne_eqb, eqb-false}
 use Rattle.tp_model.specs.declared.processor.Cpu.{Cpu}
 use Rattle.tp_model.specs.declared.processor.Fault.{Fault}
@@ -19,7 +19,7 @@ use Rattle.tp_model.specs.Memory.{offset, byte_at, word_at, is_inside, stored}
 use Rattle.tp_model.specs.Processor.{state_at, descriptor_of, without_b, save_writes, stopped}
 use Rattle.tp_model.specs.Alternative.{ready, choice_writes, chosen, passed_over}
 use Rattle.tp_model.specs.EndBytes.{is_under_way, is_out_end, is_in_end}
-use Rattle.tp_model.specs.LinkEnd.{is_waiting, out_begun, advanced, has_more, filled, in_started, in_enabled, in_disabled}
+use Rattle.tp_model.specs.LinkEnd.{is_waiting, advanced, has_more, filled, in_started, in_enabled, in_disabled}
 use Rattle.tp_model.specs.LinkStep.{LinkOutcome, Did, Fails, ◌>>=◌, message, with_word, with_byte, begin_output, take_up, enabled, disabled, begin_input}
 use Rattle.tp_replay.proofs.Length.{Long, LongIf, stored_long, byte_long}
 
@@ -34,8 +34,7 @@ advanced_inside memory t small inside more =
     let parts = and_parts (nat_le 1 t.left) (is_inside memory t.pointer t.left) inside in
     let within : offset t.pointer + t.left ≤ length memory = leb-true (offset t.pointer + t.left) (length memory) (rw some at parts.1) in
     let next : offset (wrap (t.pointer + 1)) ≡ offset t.pointer + 1 = omega arith in
-    let left : (t.left - 1 == 0) ≡ false = ne_eqb (t.left - 1) 0 (λ e. omega arith) in
-    (
+    let left : (t.left - 1 == 0) ≡ false = ne_eqb (t.left - 1) 0 (λ e. omega arith) in (
       rw (le-leb 1 (t.left - 1) (omega arith), left) (le-leb (offset (wrap (t.pointer + 1)) + (t.left - 1)) (length memory) (omega arith)),
       omega arith,
     )

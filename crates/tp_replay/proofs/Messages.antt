@@ -1,9 +1,9 @@
 -- The messages under way at a node's links stay inside its memory, whatever the node does. So it can take each token
 -- that its ends wait for.
-use Rattle.std.proofs.Common.{◌≡◌, ◌≢◌, ℕ, zero, suc, ◌+◌, ◌%◌, ◌^◌, ◌<◌, ◌≤◌, Bool, true, false, cond, inl, inr, List, [], ◌∷◌, ◌++◌, length, set, get_or, length-set, refl, sym, ap, subst, ◌∙◌, arith, Option, Some, None, IsSome, slice_get}
+use Rattle.std.proofs.Common.{◌≡◌, ℕ, zero, suc, ◌+◌, ◌%◌, ◌^◌, ◌<◌, ◌≤◌, Bool, true, false, cond, inl, inr, List, [], ◌++◌, length, set, get_or, length-set, refl, sym, ap, subst, ◌∙◌, arith, Option, Some, None, IsSome, slice_get}
 use Rattle.std.specs.Prelude.{◌==◌, nat_lt, nat_le, is_some}
 use Rattle.std.specs.Option.{option_map}
-use Rattle.std.proofs.lemmas.Bool.{cases_eq, lt-ltb, leb-true, ltb-true, and_parts, ne_eqb, true≢false}
+use Rattle.std.proofs.lemmas.Bool.{cases_eq, lt-ltb, leb-true, and_parts, ne_eqb, true≢false}
 use Rattle.std.proofs.lemmas.Option.{slice_get-get_or}
 use Rattle.tp_model.specs.declared.processor.Cpu.{Cpu}
 use Rattle.tp_model.specs.declared.processor.Fault.TheVariants.{BadAddress}
@@ -17,10 +17,10 @@ use Rattle.tp_model.specs.declared.link.InEnd.TheVariants.{Idle, Inputs, Enabled
 use Rattle.tp_model.specs.declared.link.Arrival.{Arrival}
 use Rattle.tp_model.specs.declared.link.News.{News}
 use Rattle.tp_model.specs.declared.link.News.TheVariants.{Nobody, Process, Alternative}
-use Rattle.tp_model.specs.Memory.{offset, byte_at, word_at, is_inside, byte_stored, stored}
+use Rattle.tp_model.specs.Memory.{offset, byte_at, word_at, is_inside, stored}
 use Rattle.tp_model.specs.Processor.{workspace, state_at, queue_writes, queued, past}
 use Rattle.tp_model.specs.Alternative.{waiting, ready_writes}
-use Rattle.tp_model.specs.EndBytes.{is_out_end, is_in_end, is_under_way}
+use Rattle.tp_model.specs.EndBytes.{is_out_end, is_in_end}
 use Rattle.tp_model.specs.LinkEnd.{is_waiting, is_holding, advanced, has_more, filled, next_pointer, out_acked, in_arrived}
 use Rattle.tp_model.specs.LinkStep.{LinkOutcome, Did, Fails, begin_output, begin_input}
 use Rattle.tp_model.specs.Outcome.{Outcome, Next, Halts, Rests, Sends, Receives}
@@ -32,7 +32,7 @@ use Rattle.tp_laws.proofs.Partial.{bind_some, slice_get-set_same, slice_get-set_
 use Rattle.tp_mem.proofs.Writes.{length-stored, length-byte_stored}
 use Rattle.tp_replay.specs.Messages.{MessagesInside}
 use Rattle.tp_replay.proofs.Length.{Long, Keeps, step_keeps}
-use Rattle.tp_replay.proofs.LinkMessages.{Fits, OutFits, InFits, out_fits, in_fits, waits_fits, advanced_fits, filled_fits, advanced_inside, LinkKeeps, begin_output_keeps, begin_input_keeps}
+use Rattle.tp_replay.proofs.LinkMessages.{OutFits, InFits, out_fits, in_fits, waits_fits, advanced_fits, filled_fits, advanced_inside, LinkKeeps, begin_output_keeps, begin_input_keeps}
 
 -- ## A node's ends
 

@@ -1,6 +1,6 @@
 -- A run of a node, of as many steps as it could make.
-use Rattle.std.proofs.Common.{◌≡◌, ℕ, zero, suc, ◌+◌, ◌*◌, ◌<◌, ◌≤◌, Bool, true, false, cond, inl, inr, List, [], ◌∷◌, length, map, set, option_to_list, refl, sym, ap, subst, ◌∙◌, arith, Option, Some, None, IsSome, slice_get}
-use Rattle.std.specs.Prelude.{is_some, Ok, Err, Result}
+use Rattle.std.proofs.Common.{◌≡◌, ℕ, zero, suc, ◌+◌, ◌*◌, ◌<◌, ◌≤◌, inl, inr, List, [], ◌∷◌, length, map, option_to_list, refl, sym, ap, subst, ◌∙◌, arith, Option, Some, None, IsSome, slice_get}
+use Rattle.std.specs.Prelude.{is_some, Ok, Err}
 use Rattle.std.specs.List.{AllByRecursion}
 use Rattle.std.specs.Option.{option_map}
 use Rattle.std.specs.Vec.{with_item}
@@ -13,7 +13,7 @@ use Rattle.tp_model.specs.declared.limits.TheConstants.{MAX_STEPS}
 use Rattle.tp_model.specs.NodeState.{NodeState}
 use Rattle.tp_model.specs.Node.{t414, node_step, on_link}
 use Rattle.tp_model.specs.Step.{step_of}
-use Rattle.tp_model.specs.Network.{steps, Network, has_wire, sent}
+use Rattle.tp_model.specs.Network.{steps, has_wire, sent}
 use Rattle.tp_model.specs.Entries.{next}
 use Rattle.tp_order.proofs.Local.{steps_links}
 use Rattle.tp_laws.proofs.LinkLaws.{has_four_links}
@@ -28,9 +28,9 @@ use Rattle.tp_book.specs.Room.{HasRoom}
 use Rattle.tp_book.proofs.Fields.{set_back}
 use Rattle.tp_replay.specs.declared.network.FlatNetwork.TheInside.{Inside}
 use Rattle.tp_replay.specs.Answers.{Leaves}
-use Rattle.tp_replay.specs.Flat.{IsFlat, AreThawed}
+use Rattle.tp_replay.specs.Flat.{IsFlat}
 use Rattle.tp_replay.specs.Inside.{state_of, IsInside}
-use Rattle.tp_replay.proofs.Applied.{room, node_state, node_inside, node_next, still_thawed}
+use Rattle.tp_replay.proofs.Applied.{room, node_inside, node_next, still_thawed}
 use Rattle.tp_replay.proofs.Impossible.{steps_fewer}
 use Rattle.tp_replay.proofs.Steps.{Made, node_after, run_step}
 

@@ -1,5 +1,5 @@
 -- What is replayed so far, in its fields.
-use Rattle.std.specs.Prelude.{◌≡◌, ◌<◌, ℕ, List, map}
+use Rattle.std.specs.Prelude.{◌<◌, ℕ, map}
 use Rattle.tp_model.specs.declared.entry.Entry.{Entry}
 use Rattle.tp_model.specs.declared.limits.TheConstants.{NUMBER_LIMIT}
 use Rattle.tp_model.specs.NodeState.{NodeState}

@@ -54,12 +54,7 @@ impl FlatNetwork {
             Err(NoFrame) => unreachable!(),
         };
         self.lines.pop(line);
-        send_some(
-            &self.wires,
-            &mut self.lines,
-            4 * i + link as usize,
-            answer,
-        );
+        send_some(&self.wires, &mut self.lines, 4 * i + link as usize, answer);
     }
 
     /// The port that the line goes to takes the token in front where it can, and answers on its own line.

@@ -1,10 +1,9 @@
-//! A node on the bench: it is run and handed tokens, and after each the whole of it is compared with what is wanted.
+//! A node on the bench: it is run and handed tokens, and the whole of it is compared with what is wanted.
 
 use crate::arrival::hearer;
 use crate::image::{Fact, Image, START};
 use arrayvec::ArrayVec;
-use std::alloc::Global;
-use std::process::Abort;
+use std::alloc::{AllocError, Global};
 use std::test::Fail;
 use tp_model::Token;
 use tp_node::{Node, Why};
@@ -18,7 +17,7 @@ pub struct Bench {
 }
 
 /// The image of a node as it is now.
-fn image_of(node: &mut Node, alloc: Global) -> Result<Vec<u8>, Fail> {
+fn image_of(node: &mut Node, alloc: Global) -> Result<Vec<u8>, AllocError> {
     let mut bytes = Vec::new(alloc);
     let mut head = [0; 172];
     let mut page = [0; 1024];
@@ -32,14 +31,6 @@ fn image_of(node: &mut Node, alloc: Global) -> Result<Vec<u8>, Fail> {
     }
     node.drop_frozen();
     Ok(bytes)
-}
-
-/// The first place at which two lists differ.
-fn difference(seen: &[u8], wanted: &[u8]) -> Option<usize> {
-    if seen.len() != wanted.len() {
-        return Some(seen.len());
-    }
-    seen.iter().zip(wanted).position(|(a, b)| a != b)
 }
 
 impl Bench {
@@ -56,54 +47,49 @@ impl Bench {
         })
     }
 
-    /// Runs the node for so many steps, all of which it makes, and compares what leaves.
-    pub fn run(&mut self, rt: &impl Abort, steps: u16, sent: &[(u8, Token)]) {
+    /// Whether it makes so many steps, and sends these tokens.
+    pub fn runs(&mut self, steps: u16, sent: &[(u8, Token)]) -> bool {
         let mut out = ArrayVec::new();
         let ran = self.node.run(steps, &mut out);
-        assert_eq!(rt; ran.count(), steps);
-        assert_eq!(rt; out.as_slice(), sent);
+        ran.max() == steps && ran.count() == steps && ran.why() == Why::Full && out.as_slice() == sent
     }
 
-    /// The node has no step.
-    pub fn rests(&mut self, rt: &impl Abort, why: Why) {
+    /// Whether it has no step.
+    pub fn rests(&mut self, why: Why) -> bool {
         let mut out = ArrayVec::new();
         let ran = self.node.run(1, &mut out);
-        assert_eq!(rt; (ran.max(), ran.count(), ran.why()), (1, 0, why));
-        assert_eq!(rt; out.len(), 0);
+        ran.count() == 0 && ran.why() == why && out.is_empty()
     }
 
-    /// Hands the node a token on a link, and compares what leaves on it.
-    pub fn take(
-        &mut self,
-        rt: &impl Abort,
-        link: u8,
-        token: Token,
-        answer: Option<Token>,
-    ) -> Result<(), Fail> {
+    /// Whether it can take a token on a link, and answers with that one.
+    pub fn takes(&mut self, link: u8, token: Token, answer: Option<Token>) -> Result<bool, Fail> {
         let bytes = image_of(&mut self.node, self.alloc)?;
-        let mut node = hearer(self.alloc, &bytes, link, token).ok_or("it can't take that")?;
-        assert_eq!(rt; node.take(link, token)?, answer);
-        self.node = node;
-        Ok(())
+        match hearer(self.alloc, &bytes, link, token) {
+            None => Ok(false),
+            Some(mut node) => {
+                let seen = node.take(link, token)?;
+                self.node = node;
+                Ok(seen == answer)
+            }
+        }
     }
 
-    /// The node changes in these facts.
+    /// The test changes it in these facts.
     pub fn also(&mut self, given: &[Fact<'_>]) -> Result<(), Fail> {
         self.wanted.put_all(given);
         self.node = Node::from_image(self.alloc, &self.wanted.bytes, 0)?;
         Ok(())
     }
 
-    /// These facts have changed, and perhaps others too.
+    /// These facts ought to change, and perhaps others too.
     pub fn expect(&mut self, changed: &[Fact<'_>]) {
         self.wanted.put_all(changed);
     }
 
-    /// Since it was last looked at, these facts have changed and nothing else.
-    pub fn then(&mut self, rt: &impl Abort, changed: &[Fact<'_>]) -> Result<(), Fail> {
+    /// Whether since it was last looked at these facts have changed and nothing else.
+    pub fn is(&mut self, changed: &[Fact<'_>]) -> Result<bool, Fail> {
         self.wanted.put_all(changed);
         let seen = image_of(&mut self.node, self.alloc)?;
-        assert_eq!(rt; difference(&seen, &self.wanted.bytes), None);
-        Ok(())
+        Ok(seen.as_slice() == self.wanted.bytes.as_slice())
     }
 }

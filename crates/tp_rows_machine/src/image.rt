@@ -1,7 +1,6 @@
 //! Node images as the tests write and read them, byte by byte after the format's table.
 
 use std::alloc::{AllocError, Global};
-use tp_model::{InEnd, OutEnd, Transfer};
 
 /// The first address, which is also the word that names no process.
 pub const FIRST: u32 = 0x8000_0000;
@@ -30,26 +29,23 @@ pub enum Fact<'a> {
     /// 0 idle, 1 high, 2 low.
     State(u8),
     Slice(u16),
-    Output(u8, OutEnd),
-    Input(u8, InEnd),
+    /// The output end of a link is idle, or its process waits, with the bytes from a pointer on left.
+    Unused(u8),
+    Waits(u8, u32, u32, u32),
+    /// The input end of a link is idle, or holds a byte, or its process inputs, or it is enabled by a process.
+    Quiet(u8),
+    Holds(u8, u8),
+    Inputs(u8, u32, u32, u32),
+    Enabled(u8, u32),
     Word(u32, u32),
     Bytes(u32, &'a [u8]),
+    /// A, B and C.
+    Stack(u32, u32, u32),
+    /// A low process runs, with this Iptr and Wptr and an empty stack.
+    Runs(u32, u32),
+    /// Nothing runs.
+    Gone,
 }
-
-/// A message under way: its process, where its next byte is, and how many are left.
-pub fn transfer(process: u32, pointer: u32, left: u32) -> Transfer {
-    Transfer {
-        process,
-        pointer,
-        left,
-    }
-}
-
-const NO_TRANSFER: Transfer = Transfer {
-    process: 0,
-    pointer: 0,
-    left: 0,
-};
 
 /// The bytes of a node's image.
 #[derive(Drop)]
@@ -77,7 +73,7 @@ impl Image {
     }
 
     /// Puts bytes at a place. Those that would go past the end are left out.
-    fn put(&mut self, at: usize, bytes: &[u8]) {
+    pub fn put(&mut self, at: usize, bytes: &[u8]) {
         for (slot, byte) in self.bytes.iter_mut().skip(at).zip(bytes) {
             *slot = *byte;
         }
@@ -92,31 +88,35 @@ impl Image {
         self.put_word(usize::from(at) + 4, back);
     }
 
-    /// Puts the fields of a link's end, the transfer's among them.
-    fn put_end(&mut self, at: u8, state: u8, held: u8, byte: u8, transfer: Transfer) {
+    /// Puts the fields of a link's end: its state, whether it holds a byte, and that byte.
+    fn put_state(&mut self, at: u8, state: u8, held: u8, byte: u8) {
         self.put(usize::from(at), &[state, held, byte, 0]);
-        self.put_word(usize::from(at) + 4, transfer.process);
-        self.put_word(usize::from(at) + 8, transfer.pointer);
-        self.put_word(usize::from(at) + 12, transfer.left);
+        self.put_transfer(at, 0, 0, 0);
     }
 
-    fn put_output(&mut self, at: u8, end: OutEnd) {
-        match end {
-            OutEnd::Idle => self.put_end(at, 0, 0, 0, NO_TRANSFER),
-            OutEnd::Waits(transfer) => self.put_end(at, 1, 0, 0, transfer),
-        }
+    /// Puts the rest of them: its process, its pointer, and how many bytes are left.
+    fn put_transfer(&mut self, at: u8, process: u32, pointer: u32, left: u32) {
+        self.put_word(usize::from(at) + 4, process);
+        self.put_word(usize::from(at) + 8, pointer);
+        self.put_word(usize::from(at) + 12, left);
     }
 
-    fn put_input(&mut self, at: u8, end: InEnd) {
-        match end {
-            InEnd::Idle(None) => self.put_end(at, 0, 0, 0, NO_TRANSFER),
-            InEnd::Idle(Some(byte)) => self.put_end(at, 0, 1, byte, NO_TRANSFER),
-            InEnd::Inputs(transfer) => self.put_end(at, 1, 0, 0, transfer),
-            InEnd::Enabled(process) => {
-                let guard = transfer(process, 0, 0);
-                self.put_end(at, 2, 0, 0, guard);
-            }
-        }
+    fn put_way(&mut self, at: u8, process: u32, pointer: u32, left: u32) {
+        self.put_state(at, 1, 0, 0);
+        self.put_transfer(at, process, pointer, left);
+    }
+
+    fn put_stack(&mut self, a: u32, b: u32, c: u32) {
+        self.put_word(12, a);
+        self.put_word(16, b);
+        self.put_word(20, c);
+    }
+
+    fn put_runs(&mut self, iptr: u32, wptr: u32, state: u8) {
+        self.put_word(4, iptr);
+        self.put_word(8, wptr);
+        self.put_stack(0, 0, 0);
+        self.put(41, &[state]);
     }
 
     fn put_fact(&mut self, fact: Fact<'_>) {
@@ -132,10 +132,24 @@ impl Image {
             Fact::Error(flag) => self.put(40, &[flag]),
             Fact::State(state) => self.put(41, &[state]),
             Fact::Slice(count) => self.put(42, &count.to_le_bytes()),
-            Fact::Output(link, end) => self.put_output(44 + 16 * (link % 4), end),
-            Fact::Input(link, end) => self.put_input(108 + 16 * (link % 4), end),
+            Fact::Unused(link) => self.put_state(output(link), 0, 0, 0),
+            Fact::Waits(link, process, pointer, left) => {
+                self.put_way(output(link), process, pointer, left);
+            }
+            Fact::Quiet(link) => self.put_state(input(link), 0, 0, 0),
+            Fact::Holds(link, byte) => self.put_state(input(link), 0, 1, byte),
+            Fact::Inputs(link, process, pointer, left) => {
+                self.put_way(input(link), process, pointer, left);
+            }
+            Fact::Enabled(link, process) => {
+                self.put_state(input(link), 2, 0, 0);
+                self.put_transfer(input(link), process, 0, 0);
+            }
             Fact::Word(address, word) => self.put_word(place_of(address), word),
             Fact::Bytes(address, bytes) => self.put(place_of(address), bytes),
+            Fact::Stack(a, b, c) => self.put_stack(a, b, c),
+            Fact::Runs(iptr, wptr) => self.put_runs(iptr, wptr, 2),
+            Fact::Gone => self.put_runs(0, 0, 0),
         }
     }
 
@@ -144,6 +158,15 @@ impl Image {
             self.put_fact(*fact);
         }
     }
+}
+
+/// Where the ends of a link stand in an image.
+fn output(link: u8) -> u8 {
+    44 + 16 * (link % 4)
+}
+
+fn input(link: u8) -> u8 {
+    108 + 16 * (link % 4)
 }
 
 /// Where the byte of an address stands in an image.

@@ -1,5 +1,7 @@
 //! Tests of the machine: worked examples and values computed by hand, for all layers from the instruction table to a
 //! node. They say what no proof can: that the definitions mean what was meant.
+//!
+//! Most tests are stories (`story`): a node is given, and the whole of its image is compared after each event.
 #![tactic(auto)]
 
 #[cfg(test)]
@@ -22,5 +24,3 @@ mod links;
 mod runs;
 #[cfg(test)]
 mod story;
-#[cfg(test)]
-mod tales;

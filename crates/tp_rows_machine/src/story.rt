@@ -1,7 +1,7 @@
 //! Stories: what a node is given, and what then happens to it.
 
 use crate::bench::Bench;
-use crate::image::Fact;
+use crate::image::{Fact, START};
 use std::alloc::Global;
 use std::process::Abort;
 use std::test::Fail;
@@ -19,36 +19,87 @@ pub enum Event<'a> {
     Take(u8, Token, Option<Token>),
     /// The test changes it in these facts.
     Also(&'a [Fact<'a>]),
-    /// These facts have changed, and perhaps others too.
-    Expect(&'a [Fact<'a>]),
-    /// Since the node was last looked at, these facts and those that were expected have changed, and nothing else.
+    /// Since the node was last looked at, these facts have changed and nothing else.
     Then(&'a [Fact<'a>]),
 }
 
 /// A node that is about to run this program, but for these facts, and what happens to it.
 #[derive(Clone, Copy)]
 pub struct Story<'a> {
+    pub name: &'a str,
     pub code: &'a [u8],
     pub given: &'a [Fact<'a>],
     pub events: &'a [Event<'a>],
 }
 
-fn happens(rt: &impl Abort, bench: &mut Bench, event: Event<'_>) -> Result<(), Fail> {
+/// Whether an event is as told.
+fn happens(bench: &mut Bench, event: Event<'_>) -> Result<bool, Fail> {
     match event {
-        Event::Run(steps, sent) => bench.run(rt, steps, sent),
-        Event::Rests(why) => bench.rests(rt, why),
-        Event::Take(link, token, answer) => bench.take(rt, link, token, answer)?,
-        Event::Also(given) => bench.also(given)?,
-        Event::Expect(changed) => bench.expect(changed),
-        Event::Then(changed) => bench.then(rt, changed)?,
+        Event::Run(steps, sent) => Ok(bench.runs(steps, sent)),
+        Event::Rests(why) => Ok(bench.rests(why)),
+        Event::Take(link, token, answer) => bench.takes(link, token, answer),
+        Event::Also(given) => {
+            bench.also(given)?;
+            Ok(true)
+        }
+        Event::Then(changed) => bench.is(changed),
+    }
+}
+
+fn play(rt: &impl Abort, alloc: Global, story: &Story<'_>) -> Result<(), Fail> {
+    let mut bench = Bench::new(alloc, story.code, story.given)?;
+    for (i, event) in story.events.iter().enumerate() {
+        let told = happens(&mut bench, *event)?;
+        assert!(rt; told, "{}: event {i}", story.name);
     }
     Ok(())
 }
 
-pub fn play(rt: &impl Abort, alloc: Global, story: &Story<'_>) -> Result<(), Fail> {
-    let mut bench = Bench::new(alloc, story.code, story.given)?;
-    for event in story.events {
-        happens(rt, &mut bench, *event)?;
+pub fn play_all(rt: &impl Abort, alloc: Global, stories: &[Story<'_>]) -> Result<(), Fail> {
+    for story in stories {
+        play(rt, alloc, story)?;
+    }
+    Ok(())
+}
+
+/// An instruction's bytes, what is given, and what then has changed beside the place of the next instruction and the
+/// slice count.
+pub type Row<'a> = (&'a [u8], &'a [Fact<'a>], &'a [Fact<'a>]);
+
+/// Whether one step of a low process is as the row says.
+fn is_row(alloc: Global, row: &Row<'_>) -> Result<bool, Fail> {
+    let (code, given, then) = *row;
+    let next = START.wrapping_add(u32::try_from(code.len())?);
+    let mut bench = Bench::new(alloc, code, given)?;
+    let ran = bench.runs(1, &[]);
+    bench.expect(&[Fact::Iptr(next), Fact::Slice(1)]);
+    let same = bench.is(then)?;
+    Ok(ran && same)
+}
+
+pub fn check_rows(rt: &impl Abort, alloc: Global, rows: &[Row<'_>]) -> Result<(), Fail> {
+    for (i, row) in rows.iter().enumerate() {
+        let same = is_row(alloc, row)?;
+        assert!(rt; same, "row {i}");
+    }
+    Ok(())
+}
+
+/// An instruction's bytes, what is given, and the halt code, which alone changes.
+pub type Halting<'a> = (&'a [u8], &'a [Fact<'a>], u8);
+
+fn is_halt(alloc: Global, row: &Halting<'_>) -> Result<bool, Fail> {
+    let (code, given, halt) = *row;
+    let mut bench = Bench::new(alloc, code, given)?;
+    let ran = bench.runs(1, &[]);
+    let same = bench.is(&[Fact::Halt(halt)])?;
+    Ok(ran && same && bench.rests(Why::Halted))
+}
+
+pub fn check_halts(rt: &impl Abort, alloc: Global, rows: &[Halting<'_>]) -> Result<(), Fail> {
+    for (i, row) in rows.iter().enumerate() {
+        let same = is_halt(alloc, row)?;
+        assert!(rt; same, "row {i}");
     }
     Ok(())
 }

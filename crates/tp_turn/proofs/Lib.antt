@@ -8,3 +8,4 @@ pub mod HostTook
 pub mod Idle
 pub mod Turned
 pub mod Lone
+pub mod Formatted

@@ -11,7 +11,7 @@ mod trial;
 mod turn;
 
 pub use host::host_turn;
-pub use law::messages_stay_inside;
+pub use law::{messages_stay_inside, tried_images_are_formatted};
 pub use take::TAKES;
 pub use trial::{Tried, TryFault, try_turns};
 pub use turn::{TURN_ENTRIES, node_turn};

@@ -1,1 +1,4 @@
+pub mod Args
+pub mod Shown
 pub mod Attempt
+pub mod Formats

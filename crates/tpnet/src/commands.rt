@@ -22,7 +22,7 @@ pub fn refuse<E: Write>(err: &mut E, refusal: Refusal) -> u8
 }
 
 /// Writes bytes as they are.
-fn put<O: Write>(out: &mut O, bytes: &[u8]) -> Result<(), Refusal>
+pub(crate) fn put<O: Write>(out: &mut O, bytes: &[u8]) -> Result<(), Refusal>
     ensures written { OnOk result (Appends (O.contents out.old) (O.contents out.new) bytes.now) }
     ensures refused { IfErr result (λ refusal. refusal ≡ Refusal.DeviceFailed) }
 {

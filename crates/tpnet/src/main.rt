@@ -3,36 +3,23 @@
 
 mod args;
 mod commands;
+mod files;
+mod formatting;
 mod refusal;
+mod shown;
 #[cfg(test)]
 mod tests;
 
 use args::{Asked, read_args};
-use commands::{refuse, try_on};
-use refusal::Refusal;
-use std::fs::Files;
+use files::{format_file, try_file};
+use std::env;
 use std::io::Write;
 use std::process::ExitCode;
 use std::rt::Env;
-use std::{env, fs};
 
 fn words_of<R: Env + AllocGlobal>(rt: &R) -> Option<Vec<String>> {
     let words = env::args(rt).ok()?;
     words.collect(rt.alloc()).ok()
-}
-
-/// `tpnet try`, on the image's file.
-fn try_file<R: Files + AllocGlobal, O: Write, E: Write>(
-    rt: &R,
-    image: &str,
-    turns: u32,
-    out: &mut O,
-    err: &mut E,
-) -> u8 {
-    match fs::read(rt, image) {
-        Ok(bytes) => try_on(rt.alloc(), bytes.as_slice(), turns, out, err),
-        Err(_) => refuse(err, Refusal::ReadFailed),
-    }
 }
 
 fn main(rt: HostRuntime) -> ExitCode {
@@ -49,7 +36,14 @@ fn main(rt: HostRuntime) -> ExitCode {
         }
     };
     let status = match &asked {
-        Asked::Try { image, turns } => { try_file(&rt, image.as_str(), *turns, &mut out, &mut err) }
+        Asked::Try { image, turns } => {
+            try_file(&rt, image.as_str(), *turns, &mut out, &mut err)
+        }
+        Asked::Format(wanted) => format_file(&rt, wanted, &mut out, &mut err),
+        Asked::Recover { .. } | Asked::Show { .. } => {
+            let _ = write!(&mut err, "tpnet: this is not built yet\n");
+            1
+        }
     };
     ExitCode::from(status)
 }

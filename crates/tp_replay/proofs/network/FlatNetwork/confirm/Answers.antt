@@ -1,4 +1,4 @@
-use Rattle.std.proofs.Common.{◌≡◌, ◌<◌, ◌≤◌, length, arith, sym, refl, ap, ◌∙◌, [], true, false, Some, None}
+use Rattle.std.proofs.Common.{arith, sym, refl, ◌∙◌, []}
 use Rattle.tp_model.specs.declared.entry.Entry.TheVariants.{Confirm}
 use Rattle.tp_model.specs.Entries.{confirmed}
 use Rattle.tp_model.specs.Network.{sent}

@@ -1,11 +1,10 @@
-use Rattle.std.proofs.Common.{◌≡◌, ◌+◌, ◌*◌, ◌<◌, ◌≤◌, length, get_or, arith, sym, refl, ap, ◌∙◌, inl, inr, [], true, false, Some, None, slice_get}
+use Rattle.std.proofs.Common.{◌≡◌, ◌<◌, ◌≤◌, length, arith, sym, refl, ◌∙◌}
 use Rattle.std.proofs.lemmas.Option.{slice_get_past, slice_get_read}
-use Rattle.tp_model.specs.declared.entry.Entry.TheVariants.{Run}
 use Rattle.tp_model.specs.declared.limits.TheConstants.{MAX_STEPS}
 use Rattle.tp_replay.specs.Inside.{state_of}
 use Rattle.tp_replay.proofs.Applied.{refused, applied, node_count, node_at}
 use Rattle.tp_replay.proofs.Impossible.{run_nowhere, run_uncounted, run_short}
-use Rattle.tp_replay.proofs.Ran.{why_most, why_fewer, ran_known, ran_room, ran_none, ran_next, ran_inside, ran_short, ran_leaves}
+use Rattle.tp_replay.proofs.Ran.{why_most, why_fewer, ran_known, ran_room, ran_next, ran_inside, ran_short, ran_leaves}
 use Rattle.tp_replay.proofs.network.FlatNetwork.run.Goals as goal
 use Rattle.tp_replay.proofs.network.FlatNetwork.run.Goals.{then-count, else-count}
 

@@ -1,4 +1,4 @@
-use Rattle.std.proofs.Common.{◌≡◌, ◌<◌, ◌≤◌, length, Bool, true, false, not, ◌&&◌, inl, inr, List, arith, sym, refl, ap, ◌∙◌, Some, None, slice_get}
+use Rattle.std.proofs.Common.{◌≡◌, false, not, ◌&&◌, inl, inr, arith, sym, refl, ◌∙◌, None}
 use Rattle.std.proofs.lemmas.Bool.{cases_Bool, true≢false}
 use Rattle.std.proofs.lemmas.List.{get_or_past}
 use Rattle.tp_model.specs.declared.link.Token.{Token}

@@ -1,0 +1,253 @@
+-- The bytes that a device is formatted with.
+use Rattle.std.proofs.Common.{◌≡◌, ℕ, zero, suc, ◌+◌, ◌-◌, ◌*◌, ◌<◌, ◌≤◌, inl, inr, Bool, true, false, cond, List, [], ◌∷◌, ◌++◌, length, take, drop, get_or, map, refl, sym, ap, subst, ◌∙◌, arith, append_assoc, append-nil, length-append, length-drop, length-take, add-zero, Option, Some, None, Result, Ok, Err}
+use Rattle.std.specs.Prelude.{◌&&◌, ◌==◌, nat_le, flat_map, sum_by, replicate}
+use Rattle.std.specs.Option.{option_map}
+use Rattle.std.specs.List.{AllByRecursion, concat}
+use Rattle.std.proofs.lemmas.Bool.{and_parts, leb-true, eqb-true}
+use Rattle.std.proofs.lemmas.Option.{cond_some}
+use Rattle.std.proofs.lemmas.List.{take_at, drop_at, drop-drop, length-replicate, replicate-append-replicate, get_or_append_left, get_or-append_right, get_or-drop}
+use Rattle.std.proofs.Math.Seq.{take-append-add}
+use Rattle.std.proofs.lemmas.List.Sums.{sum_by-cons}
+use Rattle.tp_model.specs.declared.limits.TheConstants.{GATE_OPEN, GATE_CLOSED, MAX_HELD}
+use Rattle.tp_model.specs.Bytes.{u16_bytes, u32_bytes, u64_bytes, zeros, padded}
+use Rattle.tp_model.specs.NodeState.{NodeState}
+use Rattle.tp_model.specs.Network.{◌>>=◌, Network}
+use Rattle.tp_model.specs.Topology.{Topology, line_count, is_topology}
+use Rattle.tp_model.specs.Journal.{image_length, images_length, cut_length, is_roomy, room, reserve, entry_room}
+use Rattle.tp_model.specs.Disk.{Moment, SameOutside, Write, Sync, written}
+use Rattle.tp_model.specs.DiskHistory.{State, IsSynced}
+use Rattle.tp_model.specs.Device.{area_start, gate_of, content_of, fits}
+use Rattle.tp_model.specs.Head.{head_bytes}
+use Rattle.tp_model.specs.Image.{page_count, image, node_of, has_idle_links}
+use Rattle.tp_model.specs.CutImage.{line_bytes, port_bytes, cut_bytes, only_if}
+use Rattle.tp_model.specs.Opening.{network_of}
+use Rattle.tp_model.specs.Spelling.{front_bytes}
+use Rattle.tp_model.specs.Format.{fresh_node, fresh_nodes, fresh_port, start_of, IsFormatted}
+use Rattle.tp_laws.proofs.Images.{image-node_of}
+use Rattle.tp_disk.proofs.Moments.{length-written, written_same_outside}
+use Rattle.tp_disk.proofs.Agree.{same_apart}
+use Rattle.tp_disk.proofs.Calls.{all_done-append}
+use Rattle.tp_model.specs.StoreCalls.{put_calls}
+use Rattle.tp_area.specs.declared.fault.FormatFault.{FormatFault}
+use Rattle.tp_area.specs.Formatting.{Checks, Answers, area_front, first_area, Wrote, Formatted}
+use Rattle.tp_area.proofs.FormatCalls.{length-area_front}
+use Rattle.tp_area.proofs.FreshImages.{IsImageOf, image_is}
+use Rattle.tp_area.proofs.Frames.{drop_written}
+
+-- ## Images
+
+fresh_is : (pages : ℕ) (bytes : List ℕ) (o : Option NodeState) (n : NodeState) → only_if (λ (m : NodeState). (page_count m.memory == pages) && has_idle_links m) o ≡ Some n
+    → (o ≡ Some n) × (page_count n.memory ≡ pages)
+fresh_is pages bytes None n h = cc
+fresh_is pages bytes (Some m) n h =
+    let t = cond_some ((page_count m.memory == pages) && has_idle_links m) m n h in
+    let parts = and_parts (page_count m.memory == pages) (has_idle_links m) t.0 in
+    (ap (λ (x : NodeState). Some x) t.1, ap (λ (x : NodeState). page_count x.memory) (sym t.1) ∙ eqb-true (page_count m.memory) pages parts.0)
+
+bind_some : {A B : Type 0} (o : Option A) (f : A → Option B) (y : B) → o >>= f ≡ Some y → (x : A) × ((o ≡ Some x) × (f x ≡ Some y))
+bind_some None f y h = cc
+bind_some (Some x) f y h = (x, (refl, h))
+
+-- the images of the nodes are those bytes, and so long
+pub images_are : (pages : List ℕ) (images : List (List ℕ)) (nodes : List NodeState) → fresh_nodes pages images ≡ Some nodes
+    → (flat_map image nodes ≡ concat images) × (length (concat images) ≡ sum_by image_length pages)
+unfolding fresh_nodes
+images_are [] [] nodes h =
+    let none : [] ≡ nodes = cc in
+    (ap (flat_map image) (sym none), refl)
+images_are [] (bytes ∷ images) nodes h = cc
+images_are (count ∷ pages) [] nodes h = cc
+images_are (count ∷ pages) (bytes ∷ images) nodes h =
+    let one = bind_some (fresh_node count bytes) (λ node. fresh_nodes pages images >>= λ rest. Some (node ∷ rest)) nodes h in
+    let two = bind_some (fresh_nodes pages images) (λ rest. Some (one.0 ∷ rest)) nodes one.1.1 in
+    let same : one.0 ∷ two.0 ≡ nodes = cc in
+    let here = fresh_is count bytes (node_of bytes) one.0 one.1.0 in
+    let is = image_is bytes one.0 here.0 in
+    let rest = images_are pages images two.0 two.1.0 in
+    let long : length bytes ≡ image_length count = let size = is.size in let memory = is.memory in omega (arith, here.1) in (
+      ap (flat_map image) (sym same) ∙ ap (λ xs. xs ++ flat_map image two.0) (image-node_of bytes one.0 here.0) ∙ ap (λ xs. bytes ++ xs) rest.0,
+      length-append bytes (concat images) ∙ ap (λ n. n + length (concat images)) long ∙ ap (λ n. image_length count + n) rest.1 ∙ sym (sum_by-cons image_length count pages),
+    )
+
+pub concat-map : {X : Type 0} (f : X → List ℕ) (xs : List X) → concat (map f xs) ≡ flat_map f xs
+concat-map f [] = refl
+concat-map f (x ∷ xs) = ap (λ ys. f x ++ ys) (concat-map f xs)
+
+checked_some : {A : Type 0} (o : Option A) → Checks o (Ok tt) → (x : A) × (o ≡ Some x)
+checked_some (Some x) h = (x, refl)
+checked_some None h = elim h [ ]
+
+-- images that were accepted have the bytes that their nodes' pages say
+pub checked_length : {X : Type 0} (f : X → List ℕ) (pages : List ℕ) (xs : List X) → Checks (fresh_nodes pages (map f xs)) (Ok tt) → length (flat_map f xs) ≡ sum_by image_length pages
+checked_length f pages xs h =
+    let t = checked_some (fresh_nodes pages (map f xs)) h in
+    ap length (sym (concat-map f xs)) ∙ (images_are pages (map f xs) t.0 t.1).1
+
+-- ## Lines and ports
+
+blank_lines : (n : ℕ) → flat_map line_bytes (replicate n []) ≡ zeros (4 * n)
+blank_lines zero = refl
+blank_lines (suc n) =
+    ap (λ xs. (0 ∷ 0 ∷ 0 ∷ 0 ∷ []) ++ xs) (blank_lines n) ∙ replicate-append-replicate 4 (4 * n) 0 ∙ ap zeros (omega arith)
+
+blank_port : (n : ℕ) → u64_bytes 0 ++ (u64_bytes 0 ++ (u16_bytes 0 ++ (u16_bytes 0 ++ (zeros n ++ zeros n)))) ≡ zeros (20 + (n + n))
+blank_port n =
+    ap (λ xs. zeros 20 ++ xs) (replicate-append-replicate n n 0) ∙ replicate-append-replicate 20 (n + n) 0
+
+blank_ports : (n : ℕ) → flat_map port_bytes (replicate n fresh_port) ≡ zeros (8212 * n)
+blank_ports zero = refl
+blank_ports (suc n) =
+    ap (λ xs. xs ++ flat_map port_bytes (replicate n fresh_port)) (blank_port 4096)
+    ∙ ap (λ xs. zeros 8212 ++ xs) (blank_ports n) ∙ replicate-append-replicate 8212 (8212 * n) 0 ∙ ap zeros (omega arith)
+
+-- ## The first area
+
+-- what stands behind the images, with the closed gate
+tail_is : (t : Topology) (rest : ℕ) → rest ≡ 4 * line_count t + 8212 * t.ports + 1
+    → (flat_map line_bytes (replicate (line_count t) []) ++ flat_map port_bytes (replicate t.ports fresh_port)) ++ GATE_CLOSED ∷ [] ≡ zeros rest
+tail_is t rest is =
+    let lines = flat_map line_bytes (replicate (line_count t) []) in
+    let ports = flat_map port_bytes (replicate t.ports fresh_port) in
+    let n : ℕ = 4 * line_count t in
+    let m : ℕ = 8212 * t.ports in
+    ap (λ xs. (xs ++ ports) ++ GATE_CLOSED ∷ []) (blank_lines (line_count t))
+    ∙ ap (λ xs. (zeros n ++ xs) ++ GATE_CLOSED ∷ []) (blank_ports t.ports)
+    ∙ ap (λ xs. xs ++ zeros 1) (replicate-append-replicate n m 0)
+    ∙ replicate-append-replicate (n + m) 1 0
+    ∙ ap zeros (sym is)
+
+-- the network that a device is formatted for
+abbrev pub start_with : Topology → List NodeState → Network NodeState
+start_with t nodes = network_of t nodes (replicate (line_count t) []) (replicate t.ports fresh_port)
+
+area_is : (t : Topology) (images : List (List ℕ)) (nodes : List NodeState) (cut rest : ℕ) → fresh_nodes t.pages images ≡ Some nodes → cut ≡ cut_length t
+    → rest ≡ 4 * line_count t + 8212 * t.ports + 1
+    → (area_front cut ++ concat images) ++ zeros rest ≡ first_area t (start_with t nodes)
+unfolding area_front front_bytes cut_bytes
+area_is t images nodes cut rest fresh is_cut is_rest =
+    let lines = flat_map line_bytes (replicate (line_count t) []) in
+    let ports = flat_map port_bytes (replicate t.ports fresh_port) in
+    let same = (images_are t.pages images nodes fresh).0 in
+    let tail : concat images ++ zeros rest ≡ (flat_map image nodes ++ (lines ++ ports)) ++ GATE_CLOSED ∷ [] =
+    ap (λ xs. concat images ++ xs) (sym (tail_is t rest is_rest))
+    ∙ ap (λ xs. xs ++ ((lines ++ ports) ++ GATE_CLOSED ∷ [])) (sym same)
+    ∙ sym (append_assoc (flat_map image nodes) (lines ++ ports) (GATE_CLOSED ∷ [])) in
+    ap (λ n. (area_front n ++ concat images) ++ zeros rest) is_cut
+    ∙ ap (λ xs. GATE_OPEN ∷ (u64_bytes 1 ++ (u32_bytes (cut_length t) ++ (u64_bytes 0 ++ xs)))) tail
+
+length-area : (t : Topology) (images : List (List ℕ)) (nodes : List NodeState) (cut rest : ℕ) → fresh_nodes t.pages images ≡ Some nodes → cut ≡ cut_length t
+    → rest ≡ 4 * line_count t + 8212 * t.ports + 1 → length (first_area t (start_with t nodes)) ≡ 14 + cut_length t
+length-area t images nodes cut rest fresh is_cut is_rest =
+    let front = length-area_front cut in
+    let all = length-append (area_front cut ++ concat images) (zeros rest) in
+    let both = length-append (area_front cut) (concat images) in
+    let size = (images_are t.pages images nodes fresh).1 in
+    let behind : length (zeros rest) ≡ rest = length-replicate rest 0 in
+    ap length (sym (area_is t images nodes cut rest fresh is_cut is_rest)) ∙ (omega arith)
+
+-- ## What stands on the device
+
+pub record IsRoomy (size : ℕ) (t : Topology) (area : ℕ) : Type 0 where
+  pub areas : 512 + 2 * area ≤ size
+  pub cut : cut_length t + 14 < area
+
+pub roomy : (size : ℕ) (t : Topology) (area : ℕ) → fits size t area ≡ true → IsRoomy size t area
+roomy size t area h =
+    let parts = and_parts (nat_le (512 + 2 * area) size) (is_roomy t area) h in
+    let most = leb-true (reserve (line_count t) + entry_room) (room t area) parts.1 in
+    record { areas = leb-true (512 + 2 * area) size parts.0; cut = omega arith }
+
+formatted_is : (t : Topology) (area : ℕ) (s : Network NodeState) (old new : List ℕ) → length (head_bytes t area) ≡ 512 → 512 + 2 * area ≤ length old → length (first_area t s) ≤ area
+    → new ≡ written (written (written old 512 (first_area t s)) (512 + area) (GATE_CLOSED ∷ [])) 0 (head_bytes t area) → IsFormatted t area s new
+formatted_is t area s old new size room most is =
+    let front = front_bytes t 1 0 s in
+    let whole = first_area t s in
+    let head = head_bytes t area in
+    let one = written old 512 whole in
+    let two = written one (512 + area) (GATE_CLOSED ∷ []) in
+    let three = written two 0 head in
+    let long : length whole ≡ 1 + (length front + 1) = ap (λ n. suc n) (length-append front (GATE_CLOSED ∷ [])) ∙ (omega arith) in
+    let fit_one : 512 + length whole ≤ length old = omega arith in
+    let size_one : length one ≡ length old = length-written old 512 whole fit_one in
+    let fit_two : (512 + area) + 1 ≤ length one = omega arith in
+    let size_two : length two ≡ length one = length-written one (512 + area) (GATE_CLOSED ∷ []) fit_two in
+    let fit_three : 0 + length head ≤ length two = omega arith in
+    let same_two : SameOutside (512 + area) 1 one two = written_same_outside one (512 + area) (GATE_CLOSED ∷ []) fit_two in
+    let same_three : SameOutside 0 (length head) two three = written_same_outside two 0 head fit_three in
+    let behind = drop (512 + length whole) old in
+    let first : drop 512 one ≡ whole ++ behind = drop_written old 512 whole (omega arith) in
+    let second : drop (512 + area) two ≡ GATE_CLOSED ∷ drop (512 + area + 1) one = drop_written one (512 + area) (GATE_CLOSED ∷ []) (omega arith) in
+    let k : ℕ = area - 1 - (length front + 1) in
+    let parts : area - 1 ≡ length (front ++ GATE_CLOSED ∷ []) + k = omega (arith, length-append front (GATE_CLOSED ∷ [])) in
+    let there : IsFormatted t area s three = record {
+      head = take_at head (drop (0 + length head) two) 512 size;
+      open_gate = same_three.same 512 (inr (omega arith)) ∙ same_two.same 512 (inl (omega arith))
+          ∙ sym (get_or-drop 512 one 0 0) ∙ ap (λ xs. get_or xs 0 0) first;
+      closed_gate = same_three.same (512 + area) (inr (omega arith)) ∙ ap (λ n. get_or two n 0) (sym (add-zero (512 + area)))
+          ∙ sym (get_or-drop (512 + area) two 0 0) ∙ ap (λ xs. get_or xs 0 0) second;
+      rest = take k behind;
+      content = same_apart 0 (length head) two three 513 (area - 1) same_three (inr (omega arith))
+          ∙ same_apart (512 + area) 1 one two 513 (area - 1) same_two (inl (omega arith))
+          ∙ ap (take (area - 1)) (sym (drop-drop 1 512 one) ∙ ap (drop 1) first)
+          ∙ ap (λ n. take n ((front ++ GATE_CLOSED ∷ []) ++ behind)) parts
+          ∙ take-append-add (front ++ GATE_CLOSED ∷ []) behind k
+          ∙ append_assoc front (GATE_CLOSED ∷ []) (take k behind);
+    } in
+    subst (IsFormatted t area s) (sym is) there
+
+-- ## The whole
+
+synced_after : (first head : List ℕ) (area : ℕ) (old new : State) → Wrote first head area old new → IsSynced new
+synced_after first head area old new wrote =
+    ap (λ (m : Moment). m.unsynced) (wrote.called.now ∙ all_done-append (put_calls wrote.pieces) (Sync ∷ Write 0 head ∷ Sync ∷ []) old.now)
+
+-- images that were accepted, an area that is large enough, and what was written
+pub formatted_by : {X : Type 0} (f : X → List ℕ) (t : Topology) (xs : List X) (pages head : List ℕ) (area size cut rest : ℕ) (old new : State)
+    → pages ≡ t.pages → Checks (fresh_nodes pages (map f xs)) (Ok tt) → fits size t area ≡ true → length old.now.bytes ≡ size
+    → head ≡ head_bytes t area → length head ≡ 512 → cut ≡ cut_length t → rest ≡ 4 * line_count t + 8212 * t.ports + 1
+    → Wrote ((area_front cut ++ flat_map f xs) ++ zeros rest) head area old new → Formatted t (map f xs) area old new
+formatted_by f t xs pages head area size cut rest old new is_pages checked large whole is_head long is_cut is_rest wrote =
+    let images = map f xs in
+    let nodes = checked_some (fresh_nodes t.pages images) (subst (λ ps. Checks (fresh_nodes ps images) (Ok tt)) is_pages checked) in
+    let start = start_with t nodes.0 in
+    let same : (area_front cut ++ flat_map f xs) ++ zeros rest ≡ first_area t start =
+    ap (λ ys. (area_front cut ++ ys) ++ zeros rest) (sym (concat-map f xs)) ∙ area_is t images nodes.0 cut rest nodes.1 is_cut is_rest in
+    let first : Wrote (first_area t start) head area old new = subst (λ ys. Wrote ys head area old new) same wrote in
+    let both : Wrote (first_area t start) (head_bytes t area) area old new = subst (λ ys. Wrote (first_area t start) ys area old new) is_head first in
+    let fit = roomy size t area large in
+    let areas = fit.areas in
+    let room = fit.cut in
+    let most = length-area t images nodes.0 cut rest nodes.1 is_cut is_rest in
+    record {
+      start = start;
+      is = ap (option_map (λ ns. start_with t ns)) nodes.1;
+      wrote = both;
+      synced = synced_after (first_area t start) (head_bytes t area) area old new both;
+      formatted = formatted_is t area start old.now.bytes new.now.bytes (ap length (sym is_head) ∙ long) (omega arith) (omega arith) both.bytes;
+    }
+
+-- the answers
+pub answers_done : {A B : Type 0} (o : Option A) (f : A → B) (large : Bool) → Checks o (Ok tt) → large ≡ true → Answers (option_map f o) large (Ok tt)
+answers_done (Some x) f true h is = tt
+answers_done (Some x) f false h is = cc
+answers_done None f large h is = elim h [ ]
+
+pub answers_failed : {A B : Type 0} (o : Option A) (f : A → B) (large : Bool) → Checks o (Ok tt) → large ≡ true → Answers (option_map f o) large (Err FormatFault.DeviceFailed)
+answers_failed (Some x) f true h is = tt
+answers_failed (Some x) f false h is = cc
+answers_failed None f large h is = elim h [ ]
+
+pub answers_full : {A B : Type 0} (o : Option A) (f : A → B) (large : Bool) → Checks o (Ok tt) → large ≡ false → Answers (option_map f o) large (Err FormatFault.AreaFull)
+answers_full (Some x) f true h is = cc
+answers_full (Some x) f false h is = tt
+answers_full None f large h is = elim h [ ]
+
+pub answers_checked : {A B : Type 0} (o : Option A) (f : A → B) (large : Bool) (fault : FormatFault) → Checks o (Err fault) → Answers (option_map f o) large (Err fault)
+answers_checked (Some x) f large FormatFault.Memory h = tt
+answers_checked None f large FormatFault.Memory h = tt
+answers_checked (Some x) f large FormatFault.BadImage h = elim h [ ]
+answers_checked None f large FormatFault.BadImage h = tt
+answers_checked (Some x) f large FormatFault.AreaFull h = elim h [ ]
+answers_checked None f large FormatFault.AreaFull h = elim h [ ]
+answers_checked (Some x) f large FormatFault.DeviceFailed h = elim h [ ]
+answers_checked None f large FormatFault.DeviceFailed h = elim h [ ]

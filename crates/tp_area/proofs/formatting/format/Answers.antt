@@ -1,0 +1,37 @@
+use Rattle.std.proofs.Common.{◌≡◌, ◌∙◌, ℕ, List, Vec, Global, map, length, true, sym, ap, subst, Ok}
+use Rattle.std.specs.Prelude.{sum_by}
+use Rattle.tp_model.specs.Journal.{image_length}
+use Rattle.tp_area.specs.Formatting.{Checks}
+use Rattle.tp_model.specs.Format.{fresh_nodes}
+use Rattle.tp_model.specs.Device.{fits}
+use Rattle.tp_area.proofs.FormatBytes.{start_with, checked_length, formatted_by, answers_done}
+use Rattle.tp_area.proofs.formatting.format.Goals as goal
+
+abbrev items : Vec ℕ Global → List ℕ
+items image = image.items
+
+pub write_all-requires-clause-images : goal.write_all-requires-clause-images
+write_all-requires-clause-images g c =
+    c.lengths_of-lengths.ensures.images ∙ ap (sum_by image_length) (sym c.pages.ensures.value)
+    ∙ sym (checked_length items c.pages.result.now c.args.images.now c.in_ok-check_images.ensures)
+
+pub returns-clause-answer : goal.returns-clause-answer
+returns-clause-answer g c =
+    let t = c.args.topology.now in
+    let images = map items c.args.images.now in
+    let large : fits (g.D.Disk.size_of c.args.disk.now) t c.args.area ≡ true =
+    ap (λ n. fits n t c.args.area) (sym c.size.ensures) ∙ sym c.is_large_enough.ensures ∙ c.if-not-is_large_enough.false in
+    answers_done (fresh_nodes t.pages images) (start_with t) (fits (g.D.Disk.size_of c.args.disk.now) t c.args.area)
+    (subst (λ pages. Checks (fresh_nodes pages images) (Ok tt)) c.pages.ensures.value c.in_ok-check_images.ensures) large
+
+pub returns-clause-formatted : goal.returns-clause-formatted
+returns-clause-formatted g c k =
+    let t = c.args.topology.now in
+    let whole = g.met.D.Disk.whole k c.args.disk.now in
+    let large : fits c.size.result t c.args.area ≡ true = sym c.is_large_enough.ensures ∙ c.if-not-is_large_enough.false in
+    formatted_by items t c.args.images.now c.pages.result.now c.as_slice.result.now c.args.area c.size.result c.lengths_of-lengths.result.cut c.lengths_of-lengths.result.rest
+    (g.D.Disk.state c.args.disk.now) (g.D.Disk.state c.write_all.new.disk)
+    c.pages.ensures.value c.in_ok-check_images.ensures large (whole ∙ sym c.size.ensures)
+    (c.as_slice.ensures.value ∙ c.head_bytes-head.ensures.bytes)
+    (ap length c.as_slice.ensures.value ∙ c.head_bytes-head.ensures.len)
+    c.lengths_of-lengths.ensures.cut c.lengths_of-lengths.ensures.rest (c.in-Ok.ensures.wrote k)

@@ -1,0 +1,151 @@
+//! Formatting a device.
+
+ghost use Rattle.std.specs.Prelude.{◌≡◌, ◌+◌, ◌*◌, ◌^◌, ◌<◌, ◌≤◌, ◌++◌, true, map, flat_map, drop, length, is_ok, OnOk};
+ghost use Rattle.tp_model.specs.declared.limits.TheConstants.{HEAD_BYTES, LINE_BYTES, PORT_BYTES};
+ghost use Rattle.tp_model.specs.Bytes.{zeros};
+ghost use Rattle.tp_model.specs.Device.{fits};
+ghost use Rattle.tp_model.specs.DiskHistory.{Counts};
+ghost use Rattle.tp_model.specs.Format.{start_of};
+ghost use Rattle.tp_model.specs.Journal.{cut_length, images_length};
+ghost use Rattle.tp_model.specs.Topology.{is_topology, line_count};
+ghost use Rattle.tp_area.specs.Formatting.{Answers, Formatted, Wrote, area_front, failed_calls, is_early};
+ghost use Rattle.tp_area.specs.Puts.{Puts};
+
+use crate::fault::FormatFault;
+use crate::head::head_bytes;
+use crate::images::check_images;
+use crate::puts::{put_images, put_piece, put_zeros};
+use crate::room::{has_room, images_length, records_length};
+use byteorder::{ByteOrder, LittleEndian};
+use std::alloc::Global;
+use tp_disk::{DeviceFailed, Disk, write_through};
+use tp_model::limits::{AREA_HEAD_BYTES, BASE_BYTES, GATE_CLOSED, GATE_OPEN, HEAD_BYTES};
+use tp_net::Topology;
+
+/// Bytes of an area in front of its images.
+const FRONT_BYTES: usize = AREA_HEAD_BYTES + BASE_BYTES;
+
+/// How the first area is filled: the bytes of its images, of its cut, and of the records behind the images with the closed
+/// gate behind those.
+#[derive(Clone, Copy)]
+struct Lengths {
+    images: u64,
+    cut: u64,
+    rest: u64,
+}
+
+/// How many bytes a network's first area is filled with.
+fn lengths_of(topology: &Topology) -> Lengths
+    requires { is_topology topology.now ≡ true }
+    ensures images { result.images ≡ images_length topology.now }
+    ensures cut { result.cut ≡ cut_length topology.now }
+    ensures rest { result.rest ≡ LINE_BYTES * line_count topology.now + PORT_BYTES * topology.now.ports + 1 }
+    ensures bound { result.cut < 2 ^ 32 }
+{
+    let pages = topology.pages();
+    let ports = topology.port_count() as u64;
+    let records = records_length(4 * pages.len() as u64 + ports, ports);
+    let images = images_length(pages);
+    Lengths {
+        images,
+        cut: BASE_BYTES as u64 + images + records,
+        rest: records + 1,
+    }
+}
+
+/// Whether a device of so many bytes has room for areas of so many.
+fn is_large_enough(size: u64, topology: &Topology, cut: u64, area: u64) -> bool
+    requires valid { is_topology topology.now ≡ true }
+    requires cut { cut ≡ cut_length topology.now }
+    ensures { result ≡ fits size topology.now area }
+{
+    let lines = 4 * topology.pages().len() as u64 + topology.port_count() as u64;
+    has_room(size, lines, cut, area)
+}
+
+/// Writes what the first area begins with: its gate, open; generation 1; its cut's length; and that the cut holds no entry.
+#[tactic(auto, unfolding(crate::specs::Formatting::area_front))]
+fn put_front(cut: u32, out: &mut [u8])
+    requires { FRONT_BYTES ≤ length out.old }
+    ensures { out.new ≡ area_front cut ++ drop FRONT_BYTES out.old }
+{
+    out[0] = GATE_OPEN;
+    LittleEndian::write_u64(&mut out[1..], 1);
+    LittleEndian::write_u32(&mut out[9..], cut);
+    LittleEndian::write_u64(&mut out[AREA_HEAD_BYTES..], 0);
+}
+
+/// Puts the first area, as far as it is written: its lines and ports are empty, so they are zeros, as the closed gate is.
+fn put_first_area<D: Disk>(
+    disk: &mut D,
+    images: &[Vec<u8>],
+    lengths: Lengths,
+) -> Result<(), DeviceFailed>
+    requires images { lengths.images ≡ length (flat_map (λ image. image.items) images.now) }
+    requires cut { lengths.cut < 2 ^ 32 }
+    requires inside { HEAD_BYTES + FRONT_BYTES + lengths.images + lengths.rest ≤ D.size_of disk.old }
+    requires fits { D.size_of disk.old < 2 ^ 64 }
+    ensures counts { Counts (is_ok result) (D.size_of disk.old) (D.size_of disk.new) (D.failures_of disk.old) (D.failures_of disk.new) }
+    ensures put { D.keeps → OnOk result (Puts HEAD_BYTES ((area_front lengths.cut ++ flat_map (λ image. image.items) images.now) ++ zeros lengths.rest)
+        (D.state disk.old) (D.state disk.new)) }
+{
+    let mut front = [0; FRONT_BYTES];
+    put_front(lengths.cut as u32, &mut front);
+    let start = HEAD_BYTES as u64;
+    let behind = start + FRONT_BYTES as u64;
+    put_piece(disk, start, &front)?;
+    put_images(disk, behind, images)?;
+    put_zeros(disk, behind + lengths.images, lengths.rest)
+}
+
+/// Writes both areas, and then the head.
+fn write_all<D: Disk>(
+    disk: &mut D,
+    head: &[u8],
+    area: u64,
+    images: &[Vec<u8>],
+    lengths: Lengths,
+) -> Result<(), DeviceFailed>
+    requires images { lengths.images ≡ length (flat_map (λ image. image.items) images.now) }
+    requires cut { lengths.cut < 2 ^ 32 }
+    requires inside { FRONT_BYTES + lengths.images + lengths.rest ≤ area }
+    requires room { HEAD_BYTES + 2 * area ≤ D.size_of disk.old }
+    requires head { length head.now ≡ HEAD_BYTES }
+    requires fits { D.size_of disk.old < 2 ^ 64 }
+    ensures counts { Counts (is_ok result) (D.size_of disk.old) (D.size_of disk.new) (D.failures_of disk.old) (D.failures_of disk.new) }
+    ensures wrote { D.keeps → OnOk result (Wrote ((area_front lengths.cut ++ flat_map (λ image. image.items) images.now) ++ zeros lengths.rest)
+        head.now area (D.state disk.old) (D.state disk.new)) }
+{
+    put_first_area(disk, images, lengths)?;
+    put_piece(disk, HEAD_BYTES as u64 + area, &[GATE_CLOSED])?;
+    disk.sync()?;
+    write_through(disk, 0, head)
+}
+
+/// Formats a device for the network of these images, one a node, with areas of so many bytes: the first area is open, with
+/// generation 1, the network and no entry; the second one is closed. Memory is taken for one node's memory at a time.
+pub fn format<D: Disk>(
+    alloc: Global,
+    disk: &mut D,
+    topology: &Topology,
+    images: &[Vec<u8>],
+    area: u64,
+) -> Result<(), FormatFault>
+    requires valid { is_topology topology.now ≡ true }
+    ensures answer { Answers (start_of topology.now (map (λ image. image.items) images.now)) (fits (D.size_of disk.old) topology.now area) result }
+    ensures early { is_early result ≡ true → disk.new ≡ disk.old }
+    ensures failures { D.failures_of disk.new ≡ D.failures_of disk.old + failed_calls result }
+    ensures size { D.size_of disk.new ≡ D.size_of disk.old }
+    ensures formatted { D.keeps → OnOk result (Formatted topology.now (map (λ image. image.items) images.now) area (D.state disk.old) (D.state disk.new)) }
+{
+    check_images(alloc, topology.pages(), images)?;
+    let lengths = lengths_of(topology);
+    if !is_large_enough(disk.size(), topology, lengths.cut, area) {
+        return Err(FormatFault::AreaFull);
+    }
+    let head = head_bytes(topology, area);
+    let Ok(()) = write_all(disk, head.as_slice(), area, images, lengths) else {
+        return Err(FormatFault::DeviceFailed);
+    };
+    Ok(())
+}

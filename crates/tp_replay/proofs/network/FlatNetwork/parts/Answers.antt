@@ -1,0 +1,13 @@
+use Rattle.std.proofs.Common.{map, ap, ◌∙◌}
+use Rattle.tp_replay.proofs.Pages.{images_live}
+use Rattle.tp_replay.proofs.network.FlatNetwork.parts.Goals as goal
+
+pub returns-clause-parts : goal.returns-clause-parts
+returns-clause-parts c =
+    let n = c.self.inside in
+    rw (← c.self.view_is) (record {
+      wires = c.in_ok-from_slice.ensures.items ∙ c.deref.ensures.value;
+      images = c.in_ok-images_of.ensures.images ∙ images_live n.nodes.items;
+      lines = c.in_ok-all_tokens.ensures;
+      ports = c.in_ok-all_parts.ensures ∙ ap (map (λ port. port.port)) c.deref-2.ensures.value;
+    })

@@ -1,0 +1,77 @@
+//! A flat network read out.
+
+ghost use Rattle.std.specs.Prelude.{◌≡◌, ◌<◌, IfOk, length, map};
+ghost use Rattle.tp_model.specs.Image.{image};
+ghost use Rattle.tp_model.specs.Network.{on_line};
+ghost use Rattle.tp_book.specs.Parts.{port_of};
+ghost use Rattle.tp_replay.specs.PartsOf.{ArePartsOf};
+
+use crate::image::images_of;
+use crate::network::FlatNetwork;
+use std::alloc::{AllocError, Global};
+use tp_book::{HostPort, NetParts, PortParts};
+use tp_model::Token;
+use tp_net::Lines;
+
+/// The tokens on a line.
+fn tokens_on(alloc: Global, lines: &Lines, line: usize) -> Result<Vec<Token>, AllocError>
+    requires { line < length lines.now }
+    ensures { IfOk result (λ tokens. tokens.items ≡ on_line lines.now line) }
+{
+    let mut tokens = Vec::new(alloc);
+    for at in 0..lines.len(line) {
+        if let Some(token) = lines.get(line, at) {
+            tokens.push(token)?;
+        }
+    }
+    Ok(tokens)
+}
+
+/// The tokens on each line.
+fn all_tokens(alloc: Global, lines: &Lines) -> Result<Vec<Vec<Token>>, AllocError>
+    ensures { IfOk result (λ tokens. map (λ line. line.items) tokens.items ≡ lines.now) }
+{
+    let mut tokens = Vec::new(alloc);
+    for line in 0..lines.count() {
+        tokens.push(tokens_on(alloc, lines, line)?)?;
+    }
+    Ok(tokens)
+}
+
+/// A port as its parts.
+fn parts_of(alloc: Global, port: &HostPort) -> Result<PortParts, AllocError>
+    ensures { IfOk result (λ parts. port_of parts ≡ port.now.port) }
+{
+    Ok(PortParts {
+        pending: Vec::from_slice(alloc, port.pending())?,
+        in_base: port.in_base(),
+        outputs: Vec::from_slice(alloc, port.outputs())?,
+        out_base: port.out_base(),
+    })
+}
+
+/// Each port as its parts.
+fn all_parts(alloc: Global, ports: &[HostPort]) -> Result<Vec<PortParts>, AllocError>
+    ensures { IfOk result (λ parts. map port_of parts.items ≡ map (λ port. port.port) ports.now) }
+{
+    let mut parts = Vec::new(alloc);
+    for i in 0..ports.len() {
+        parts.push(parts_of(alloc, &ports[i])?)?;
+    }
+    Ok(parts)
+}
+
+impl FlatNetwork {
+    /// The network as its parts, with each node as its image. The network stays as it is.
+    pub fn parts(&mut self, alloc: Global) -> Result<NetParts, AllocError>
+        ensures parts { IfOk result (λ parts. ArePartsOf parts self.old) }
+        ensures same { self.new ≡ self.old }
+    {
+        Ok(NetParts {
+            images: images_of(alloc, &mut self.nodes)?,
+            wires: Vec::from_slice(alloc, &self.wires)?,
+            lines: all_tokens(alloc, &self.lines)?,
+            ports: all_parts(alloc, &self.ports)?,
+        })
+    }
+}
