@@ -1,6 +1,10 @@
+mod LineEnds
 pub mod Areas
+pub mod GroupsRead
+pub mod Cuts
 pub mod HeadBytes
 pub mod Heads
+pub mod Nodes
 pub mod Numbers
 pub mod Parts
 pub mod Passing
@@ -10,4 +14,3 @@ pub mod Room
 pub mod SameBytes
 pub mod Topologies
 pub mod Wires
-mod LineEnds

@@ -1,8 +1,8 @@
 -- Records that are read one behind the other.
-use Rattle.std.proofs.Common.{◌≡◌, ℕ, zero, suc, ◌+◌, ◌-◌, ◌*◌, ◌<◌, ◌≤◌, List, [], ◌∷◌, ◌++◌, length, take, drop, get_or, map, refl, sym, ap, ◌∙◌, arith, append_assoc, append-nil}
+use Rattle.std.proofs.Common.{◌≡◌, ℕ, zero, suc, ◌+◌, ◌-◌, ◌*◌, ◌<◌, ◌≤◌, List, [], ◌∷◌, ◌++◌, length, take, drop, get_or, map, refl, sym, ap, ◌∙◌, arith, append_assoc, append-nil, subst}
 use Rattle.std.specs.Prelude.{Option, Some, None, Result, Ok, Err}
 use Rattle.std.specs.Option.{option_map}
-use Rattle.std.proofs.lemmas.List.{map_push, drop_more, drop_all, take-take}
+use Rattle.std.proofs.lemmas.List.{map_push, drop_more, drop_all, drop-take, take-take}
 use Rattle.tp_model.specs.declared.link.Token.{Token}
 use Rattle.tp_model.specs.declared.opening.OpenFault.{OpenFault}
 use Rattle.tp_model.specs.declared.opening.OpenFault.TheVariants.{Damaged}
@@ -11,6 +11,9 @@ use Rattle.tp_model.specs.declared.limits.TheConstants.{LINE_BYTES}
 use Rattle.tp_model.specs.Results.{◌>>=◌}
 use Rattle.tp_open.specs.declared.line.LineTokens.{LineTokens}
 use Rattle.tp_open.specs.Lines.{tokens_on}
+use Rattle.tp_open.specs.declared.unopened.Unopened.{Unopened}
+use Rattle.tp_open.specs.Reading.{Answers}
+use Rattle.tp_open.proofs.Passing.{passed}
 use Rattle.tp_open.proofs.Parts.{u8_at-take}
 use Rattle.tp_model.specs.CutImage.{line_with, lines_in, or_damaged}
 
@@ -29,6 +32,23 @@ behind-first xs x (Err fault) = refl
 pub behind-none : {A : Type 0} (given : Result (List A) OpenFault) → behind [] given ≡ given
 behind-none (Ok more) = refl
 behind-none (Err fault) = refl
+
+bind-behind : {A : Type 0} (xs : List A) (given : Result A OpenFault) (f : A → Result (List A) OpenFault) → behind xs (given >>= f) ≡ (given >>= (λ x. behind xs (f x)))
+bind-behind xs (Ok x) f = refl
+bind-behind xs (Err fault) f = refl
+
+-- one more was read, or it was not
+pub step_read : {A : Type 0} (xs new : List A) (x : A) (given : Result (List A) OpenFault) (here : Result A OpenFault) (left : Result (List A) OpenFault)
+    → given ≡ behind xs (here >>= (λ first. with_first first left)) → here ≡ Ok x → new ≡ xs ++ x ∷ [] → given ≡ behind new left
+step_read xs new x given here left is read push =
+    is ∙ ap (λ h. behind xs (h >>= (λ first. with_first first left))) read ∙ behind-first xs x left ∙ ap (λ ys. behind ys left) (sym push)
+
+pub step_error : {A B C : Type 0} (seen : A → B) (seen_then : C → List B) (xs : List B) (given : Result (List B) OpenFault) (here : Result B OpenFault) (left : Result (List B) OpenFault)
+    (error : Unopened) (answer : Result C Unopened)
+    → given ≡ behind xs (here >>= (λ first. with_first first left)) → Answers seen here (Err error) → answer ≡ Err error → Answers seen_then given answer
+step_error seen seen_then xs given here left error answer is read told =
+    subst (λ g. Answers seen_then g answer) (sym (is ∙ bind-behind xs here (λ first. with_first first left)))
+    (passed seen seen_then here (λ x. behind xs (with_first x left)) error answer read told)
 
 -- ## Lines
 
@@ -93,3 +113,16 @@ pub lines_in-end : (at i : ℕ) (wires : List (Option WireEnd)) (given : Result 
     → given ≡ Ok (map tokens_on items)
 lines_in-end at i wires given rest items le so_far =
     so_far ∙ ap (behind (map tokens_on items)) (lines_in-none (at + LINE_BYTES * i) (drop i wires) rest (drop_all i wires le)) ∙ ap Ok (append-nil (map tokens_on items))
+
+-- the records in longer bytes
+pub lines_in-take : (at m : ℕ) (wires : List (Option WireEnd)) (bytes : List ℕ) → LINE_BYTES * length wires ≤ m → lines_in at wires (take m bytes) ≡ lines_in at wires bytes
+unfolding lines_in
+lines_in-take at m [] bytes le = refl
+lines_in-take at m (wire ∷ wires) bytes le =
+    let more : m ≡ 4 + (m - 4) = omega arith in
+    let one : line_with wire (take m bytes) ≡ line_with wire bytes =
+    sym (line_with-take wire (take m bytes)) ∙ ap (line_with wire) (take-take 4 m bytes (omega arith)) ∙ line_with-take wire bytes in
+    let rest : drop 4 (take m bytes) ≡ take (m - 4) (drop 4 bytes) = ap (λ k. drop 4 (take k bytes)) more ∙ drop-take 4 (m - 4) bytes in
+    ap (λ o. or_damaged at o >>= (λ line. with_first line (lines_in (at + 4) wires (drop 4 (take m bytes))))) one
+    ∙ ap (λ ys. or_damaged at (line_with wire bytes) >>= (λ line. with_first line (lines_in (at + 4) wires ys))) rest
+    ∙ ap (λ given. or_damaged at (line_with wire bytes) >>= (λ line. with_first line given)) (lines_in-take (at + 4) (m - 4) wires (drop 4 bytes) (omega arith))

@@ -1,6 +1,9 @@
+pub mod AfterGroups
+pub mod Cuts
 pub mod Fronts
 pub mod Heads
 pub mod Lines
+pub mod Nodes
+pub mod Parts
 pub mod Ports
 pub mod Reading
-pub mod Parts

@@ -1,6 +1,6 @@
 //! Reading bytes of a device.
 
-ghost use Rattle.std.specs.Prelude.{◌≡◌, ◌+◌, ◌≤◌, take, drop};
+ghost use Rattle.std.specs.Prelude.{◌≡◌, ◌+◌, ◌≤◌, length, take, drop, IfOk};
 ghost use Rattle.tp_model.specs.DiskHistory.{Counts};
 ghost use Rattle.tp_open.specs.Reading.{has_read, found, Answers, IsKept};
 
@@ -27,6 +27,7 @@ pub(crate) fn read_bytes<D: Disk>(alloc: Global, disk: &mut D, at: u64, count: u
     requires { at + count ≤ D.size_of disk.old }
     ensures counts { Counts (has_read result) (D.size_of disk.old) (D.size_of disk.new) (D.failures_of disk.old) (D.failures_of disk.new) }
     ensures kept { D.keeps → IsKept result (D.state disk.old).now (D.state disk.new).now }
+    ensures len { IfOk result (λ bytes. length bytes.items ≡ count) }
     ensures bytes { D.keeps → Answers (λ bytes. bytes.items) (found (take count (drop at (D.state disk.old).now.bytes))) result }
 {
     let mut bytes = Vec::new(alloc);

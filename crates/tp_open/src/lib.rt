@@ -2,11 +2,14 @@
 #![tactic(auto)]
 
 mod choice;
+mod cut;
 mod device;
 mod flights;
 mod front;
+mod groups;
 mod head;
 mod line;
+mod node;
 mod number;
 mod port;
 mod spelling;
@@ -14,10 +17,11 @@ mod topology;
 mod unopened;
 
 pub use choice::read_choice;
+pub use cut::{Cut, read_cut};
 pub use front::{CutFront, read_front};
+pub use groups::replay_area;
 pub use head::{Head, head_in, read_head};
 pub use line::LineTokens;
-pub use port::CutPort;
 pub use spelling::head_bytes;
 pub use topology::{MAX_LINES, Topology};
 pub use unopened::Unopened;

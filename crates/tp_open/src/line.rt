@@ -1,15 +1,19 @@
 //! The lines of a cut.
 
-ghost use Rattle.std.specs.Prelude.{◌≡◌, ◌*◌, ◌+◌, ◌<◌, ◌≤◌, ◌^◌, true, map, length};
+ghost use Rattle.std.specs.Prelude.{◌≡◌, ◌*◌, ◌+◌, ◌<◌, ◌≤◌, ◌^◌, true, map, length, drop};
 ghost use Rattle.std.specs.Option.{option_map};
+ghost use Rattle.tp_model.specs.DiskHistory.{Counts};
 ghost use Rattle.tp_model.specs.CutImage.{is_line_of, line_bytes, line_with, lines_in, tokens_of};
 ghost use Rattle.tp_model.specs.declared.opening.OpenFault.{OpenFault};
 ghost use Rattle.tp_open.specs.declared.unopened.Unopened.{Unopened};
 ghost use Rattle.tp_open.specs.Lines.{tokens_on};
-ghost use Rattle.tp_open.specs.Reading.{has_read, Answers};
+ghost use Rattle.tp_open.specs.Reading.{has_read, Answers, IsKept};
 
+use crate::device::read_bytes;
+use crate::topology::MAX_LINES;
 use crate::unopened::Unopened;
 use std::alloc::Global;
+use tp_disk::Disk;
 use tp_model::limits::LINE_BYTES;
 use tp_model::{OpenFault, WireEnd};
 
@@ -105,4 +109,22 @@ fn damaged(at: u64, line: usize) -> Unopened
     ensures { result ≡ Unopened.Fault (OpenFault.Damaged (at + LINE_BYTES * line)) }
 {
     Unopened::Fault(OpenFault::Damaged(at + (LINE_BYTES * line) as u64))
+}
+
+/// Reads the tokens of the lines with these wires, whose records stand here, one behind the other.
+pub(crate) fn read_lines<D: Disk>(
+    alloc: Global,
+    disk: &mut D,
+    at: u64,
+    wires: &[Option<WireEnd>],
+) -> Result<Vec<LineTokens>, Unopened>
+    requires few { length wires.now ≤ MAX_LINES }
+    requires inside { at + LINE_BYTES * length wires.now ≤ D.size_of disk.old }
+    requires counted { at + LINE_BYTES * length wires.now < 2 ^ 64 }
+    ensures counts { Counts (has_read result) (D.size_of disk.old) (D.size_of disk.new) (D.failures_of disk.old) (D.failures_of disk.new) }
+    ensures kept { D.keeps → IsKept result (D.state disk.old).now (D.state disk.new).now }
+    ensures is { D.keeps → Answers (λ lines. map tokens_on lines.items) (lines_in at wires.now (drop at (D.state disk.old).now.bytes)) result }
+{
+    let bytes = read_bytes(alloc, disk, at, LINE_BYTES * wires.len())?;
+    lines_in(alloc, at, wires, &bytes)
 }

@@ -1,9 +1,11 @@
 //! The ports of a cut.
 
-ghost use Rattle.std.specs.Prelude.{◌≡◌, ◌*◌, ◌+◌, ◌<◌, ◌≤◌, ◌^◌, ◌&&◌, IfOk, length, take, drop, nat_le};
+ghost use Rattle.std.specs.Prelude.{◌≡◌, ◌*◌, ◌+◌, ◌≤◌, ◌<◌, ◌^◌, ◌&&◌, IfOk, map, length, take, drop, nat_le};
 ghost use Rattle.std.specs.List.{list_all};
+ghost use Rattle.std.specs.Option.{option_map};
+ghost use Rattle.tp_book.specs.Parts.{port_of};
 ghost use Rattle.tp_model.specs.Bytes.{u64_at};
-ghost use Rattle.tp_model.specs.CutImage.{or_damaged, port_with};
+ghost use Rattle.tp_model.specs.CutImage.{or_damaged, port_with, ports_in};
 ghost use Rattle.tp_model.specs.DiskHistory.{Counts};
 ghost use Rattle.tp_open.specs.Ports.{is_port_at, is_zero, keeps_rules};
 ghost use Rattle.tp_open.specs.Reading.{has_read, Answers, IsKept};
@@ -12,7 +14,7 @@ use crate::device::read_bytes;
 use crate::number::{u16_at, u64_at};
 use crate::unopened::Unopened;
 use std::alloc::{AllocError, Global};
-use std::marker::Model;
+use tp_book::PortParts;
 use tp_disk::Disk;
 use tp_model::OpenFault;
 use tp_model::limits::{MAX_HELD, PORT_BYTES};
@@ -21,24 +23,6 @@ use tp_model::limits::{MAX_HELD, PORT_BYTES};
 const PENDING_PLACE: usize = 20;
 
 const OUTPUTS_PLACE: usize = 20 + MAX_HELD;
-
-/// A host port of a cut: the bytes that no Ack has taken off and how many were taken off, the outputs that aren't
-/// confirmed and how many were.
-#[derive(Drop)]
-pub struct CutPort {
-    pub pending: Vec<u8>,
-    pub in_base: u64,
-    pub outputs: Vec<u8>,
-    pub out_base: u64,
-}
-
-impl Model for CutPort {
-    ghost use Rattle.tp_model.specs.Network.{Port};
-
-    ghost Value = { Port };
-
-    ghost view = { λ port. record { pending = port.pending.items; in_base = port.in_base; outputs = port.outputs.items; out_base = port.out_base } };
-}
 
 /// Whether all bytes are 00.
 fn are_zeros(bytes: &[u8]) -> bool
@@ -90,20 +74,20 @@ fn copied(alloc: Global, bytes: &[u8]) -> Result<Vec<u8>, AllocError>
 }
 
 /// The port of a record that says that so many bytes are held, and so many outputs are shown.
-fn port_of(
+fn parts_of(
     alloc: Global,
     held: usize,
     shown: usize,
     bytes: &[u8],
-) -> Result<CutPort, AllocError>
+) -> Result<PortParts, AllocError>
     requires whole { length bytes.now ≡ PORT_BYTES }
     requires few { held ≤ MAX_HELD }
     requires few_outputs { shown ≤ MAX_HELD }
-    ensures { IfOk result (λ port. port ≡ record { pending = take held (drop 20 bytes.now); in_base = u64_at bytes.now 0; outputs = take shown (drop (20 + MAX_HELD) bytes.now); out_base = u64_at bytes.now 8 }) }
+    ensures { IfOk result (λ port. port_of port ≡ record { pending = take held (drop 20 bytes.now); in_base = u64_at bytes.now 0; outputs = take shown (drop (20 + MAX_HELD) bytes.now); out_base = u64_at bytes.now 8 }) }
 {
     let pending = copied(alloc, &bytes[PENDING_PLACE..PENDING_PLACE + held])?;
     let outputs = copied(alloc, &bytes[OUTPUTS_PLACE..OUTPUTS_PLACE + shown])?;
-    Ok(CutPort {
+    Ok(PortParts {
         pending,
         in_base: u64_at(bytes, 0),
         outputs,
@@ -112,25 +96,25 @@ fn port_of(
 }
 
 /// The port of a cut of so many entries, whose record these bytes are, if they are one.
-fn port_in(alloc: Global, base: u64, bytes: &[u8]) -> Result<Option<CutPort>, AllocError>
+fn port_in(alloc: Global, base: u64, bytes: &[u8]) -> Result<Option<PortParts>, AllocError>
     requires { length bytes.now ≡ PORT_BYTES }
-    ensures { IfOk result (λ port. port ≡ port_with base bytes.now) }
+    ensures { IfOk result (λ port. option_map port_of port ≡ port_with base bytes.now) }
 {
     if !is_port_at(base, bytes) {
         return Ok(None);
     }
     let held = usize::from(u16_at(bytes, 16));
     let shown = usize::from(u16_at(bytes, 18));
-    let port = port_of(alloc, held, shown, bytes)?;
+    let port = parts_of(alloc, held, shown, bytes)?;
     Ok(Some(port))
 }
 
 /// Reads the port of a cut of so many entries, whose record stands here.
-fn read_port<D: Disk>(alloc: Global, disk: &mut D, at: u64, base: u64) -> Result<CutPort, Unopened>
+fn read_port<D: Disk>(alloc: Global, disk: &mut D, at: u64, base: u64) -> Result<PortParts, Unopened>
     requires { at + PORT_BYTES ≤ D.size_of disk.old }
     ensures counts { Counts (has_read result) (D.size_of disk.old) (D.size_of disk.new) (D.failures_of disk.old) (D.failures_of disk.new) }
     ensures kept { D.keeps → IsKept result (D.state disk.old).now (D.state disk.new).now }
-    ensures is { D.keeps → Answers (λ port. port) (or_damaged at (port_with base (drop at (D.state disk.old).now.bytes))) result }
+    ensures is { D.keeps → Answers port_of (or_damaged at (port_with base (drop at (D.state disk.old).now.bytes))) result }
 {
     let bytes = read_bytes(alloc, disk, at, PORT_BYTES)?;
     match port_in(alloc, base, &bytes) {
@@ -138,4 +122,30 @@ fn read_port<D: Disk>(alloc: Global, disk: &mut D, at: u64, base: u64) -> Result
         Ok(None) => Err(Unopened::Fault(OpenFault::Damaged(at))),
         Err(_) => Err(Unopened::Memory),
     }
+}
+
+/// Reads so many ports of a cut of so many entries, whose records stand here, one behind the other.
+pub(crate) fn read_ports<D: Disk>(
+    alloc: Global,
+    disk: &mut D,
+    at: u64,
+    base: u64,
+    count: u8,
+) -> Result<Vec<PortParts>, Unopened>
+    requires inside { at + PORT_BYTES * count ≤ D.size_of disk.old }
+    requires counted { at + PORT_BYTES * count < 2 ^ 64 }
+    ensures counts { Counts (has_read result) (D.size_of disk.old) (D.size_of disk.new) (D.failures_of disk.old) (D.failures_of disk.new) }
+    ensures kept { D.keeps → IsKept result (D.state disk.old).now (D.state disk.new).now }
+    ensures len { IfOk result (λ ports. length ports.items ≡ count) }
+    ensures is { D.keeps → Answers (λ ports. map port_of ports.items) (ports_in base at count (drop at (D.state disk.old).now.bytes)) result }
+{
+    let mut ports = Vec::new(alloc);
+    for port in 0..u64::from(count) {
+        let place = at + PORT_BYTES as u64 * port;
+        let read = read_port(alloc, disk, place, base)?;
+        let Ok(()) = ports.push(read) else {
+            return Err(Unopened::Memory);
+        };
+    }
+    Ok(ports)
 }

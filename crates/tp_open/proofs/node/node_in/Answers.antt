@@ -1,0 +1,9 @@
+use Rattle.std.proofs.Common.{◌∙◌, ap}
+use Rattle.tp_model.specs.CutImage.{or_damaged}
+use Rattle.tp_model.specs.Image.{node_of}
+use Rattle.tp_open.proofs.Nodes.{image_read, node_with-whole}
+use Rattle.tp_open.proofs.node.node_in.Goals as goal
+
+pub returns-in-Ok-clause-is : goal.returns-in-Ok-clause-is
+returns-in-Ok-clause-is c =
+    ap (or_damaged c.args.at) (node_with-whole c.args.pages c.args.bytes.now c.requires ∙ image_read (node_of c.args.bytes.now) c.in-Ok.node c.in-Ok.ensures)
