@@ -1,10 +1,9 @@
 -- What is read of the fronts of areas.
-use Rattle.std.proofs.Common.{◌≡◌, ℕ, ◌+◌, ◌-◌, ◌≤◌, List, take, drop, refl, sym, ap, ◌∙◌, arith, true, false, cond}
-use Rattle.std.specs.Prelude.{Bool, Ok, Err, Result}
-use Rattle.tp_model.specs.declared.opening.OpenFault.{OpenFault}
+use Rattle.std.proofs.Common.{◌≡◌, ℕ, ◌+◌, ◌-◌, ◌≤◌, List, take, drop, refl, sym, ap, ◌∙◌, arith, true, false}
+use Rattle.std.specs.Prelude.{Bool, Ok}
 use Rattle.tp_model.specs.Disk.{Moment}
 use Rattle.tp_model.specs.Bytes.{u8_at, u64_at}
-use Rattle.tp_model.specs.Device.{area_start, content_of, gate_of, generation_of, is_open}
+use Rattle.tp_model.specs.Device.{area_start, content_of, generation_of}
 use Rattle.tp_model.specs.Opening.{choice, chosen_area}
 use Rattle.tp_model.specs.Topology.{Topology}
 use Rattle.tp_open.specs.declared.choice.AreaFront.{AreaFront}

@@ -1,21 +1,20 @@
 -- The records of a cut, one kind after the other.
-use Rattle.std.proofs.Common.{◌≡◌, ℕ, zero, suc, ◌+◌, ◌-◌, ◌*◌, ◌<◌, ◌≤◌, List, [], ◌∷◌, length, take, drop, map, refl, sym, ap, ◌∙◌, arith, true, subst}
+use Rattle.std.proofs.Common.{◌≡◌, ℕ, zero, suc, ◌+◌, ◌-◌, ◌*◌, ◌≤◌, List, [], ◌∷◌, length, take, drop, refl, sym, ap, ◌∙◌, arith, subst}
 use Rattle.std.specs.Prelude.{Bool, Option, Result, Ok, Err, sum_by}
-use Rattle.std.proofs.lemmas.List.{drop-take, drop-drop, take-take, take_all}
+use Rattle.std.proofs.lemmas.List.{drop-take, drop-drop, take-take}
 use Rattle.std.proofs.lemmas.List.Sums.{sum_by-drop_more}
 use Rattle.tp_model.specs.declared.link.Token.{Token}
 use Rattle.tp_model.specs.declared.opening.OpenFault.{OpenFault}
 use Rattle.tp_model.specs.declared.wire.WireEnd.{WireEnd}
-use Rattle.tp_model.specs.declared.limits.TheConstants.{LINE_BYTES, PORT_BYTES}
+use Rattle.tp_model.specs.declared.limits.TheConstants.{PORT_BYTES}
 use Rattle.tp_model.specs.CutImage.{nodes_in, lines_in, ports_in, node_with, port_with, or_damaged}
 use Rattle.tp_model.specs.Device.{area_start, content_of}
 use Rattle.tp_model.specs.Disk.{Moment}
 use Rattle.tp_model.specs.Flight.{flights_in}
-use Rattle.tp_model.specs.Journal.{cut_length, image_length, images_length, is_roomy}
+use Rattle.tp_model.specs.Journal.{cut_length, image_length}
 use Rattle.tp_model.specs.Network.{Network, Port}
 use Rattle.tp_model.specs.NodeState.{NodeState}
-use Rattle.tp_model.specs.Node.{t414_ends}
-use Rattle.tp_model.specs.Opening.{base_of, cut_in, lines_place, nodes_place, ports_place, network_of}
+use Rattle.tp_model.specs.Opening.{base_of, cut_in, lines_place, nodes_place, ports_place}
 use Rattle.tp_model.specs.Results.{◌>>=◌}
 use Rattle.tp_model.specs.Sound.{Ends}
 use Rattle.tp_model.specs.Topology.{Topology, line_count}

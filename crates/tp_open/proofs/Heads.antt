@@ -1,21 +1,20 @@
 -- The head that bytes are, by their fields.
-use Rattle.std.proofs.Common.{◌≡◌, ℕ, zero, suc, ◌+◌, ◌-◌, ◌*◌, ◌<◌, ◌≤◌, List, [], ◌∷◌, ◌++◌, length, take, drop, get_or, map, refl, sym, ap, ◌∙◌, arith, Bool, true, false, cond, subst, inl, inr}
-use Rattle.std.specs.Prelude.{◌&&◌, ◌⊎◌, not, nat_le, nat_eq, bytes_eq, Option, Some, None, Result, Ok, Err}
-use Rattle.std.proofs.lemmas.Bool.{and_parts, le-leb, lt-leb, leb-true, cases_Bool, cases_lt, false≢true, true≢false}
-use Rattle.std.proofs.lemmas.List.{take-take, take_rest, drop-drop, drop-take, take-map}
-use Rattle.tp_model.specs.declared.opening.OpenFault.{OpenFault}
-use Rattle.tp_model.specs.declared.opening.OpenFault.TheVariants.{NotFormatted, BadVersion, Damaged}
-use Rattle.tp_model.specs.declared.limits.TheConstants.{HEAD_BYTES, HEAD_NODES, HEAD_VERSION, MAX_NODES, MAX_PORTS}
-use Rattle.tp_model.specs.Bytes.{u8_at, u16_at, u64_at}
+use Rattle.std.proofs.Common.{◌≡◌, ℕ, ◌+◌, ◌-◌, ◌*◌, ◌<◌, ◌≤◌, List, length, take, drop, map, refl, sym, ap, ◌∙◌, arith, Bool, true, false, cond, inl, inr}
+use Rattle.std.specs.Prelude.{◌&&◌, ◌⊎◌, nat_le, bytes_eq, Some, None, Ok, Err}
+use Rattle.std.proofs.lemmas.Bool.{and_parts, le-leb, lt-leb, leb-true, cases_Bool, cases_lt}
+use Rattle.std.proofs.lemmas.List.{take-take, take_rest, drop-drop, drop-take}
+use Rattle.tp_model.specs.declared.opening.OpenFault.TheVariants.{NotFormatted, Damaged}
+use Rattle.tp_model.specs.declared.limits.TheConstants.{HEAD_BYTES, HEAD_NODES, MAX_NODES, MAX_PORTS}
+use Rattle.tp_model.specs.Bytes.{u8_at, u64_at}
 use Rattle.tp_model.specs.CutImage.{or_damaged}
 use Rattle.tp_model.specs.Device.{fits}
-use Rattle.tp_model.specs.Head.{Head, all_wires, end_of_byte, head_at, head_bytes, head_of, is_head, magic, u16s_at}
+use Rattle.tp_model.specs.Head.{Head, all_wires, end_of_byte, head_at, head_bytes, head_of, is_head, u16s_at}
 use Rattle.tp_model.specs.Journal.{is_roomy}
-use Rattle.tp_model.specs.Topology.{Topology, is_topology, node_count}
+use Rattle.tp_model.specs.Topology.{Topology, is_topology}
 use Rattle.tp_open.specs.Heads.{is_whole, fields_in, head_in}
 use Rattle.tp_open.proofs.Numbers.{length-u16s_at, u16s_at-take}
 use Rattle.tp_open.proofs.Parts.{u8_at-take, u64_at-take, part_of_part}
-use Rattle.tp_open.proofs.Topologies.{HasShape, has_shape}
+use Rattle.tp_open.proofs.Topologies.{has_shape}
 
 -- the head is that of its fields
 pub head_at-fields : (bytes : List ℕ) (t : Topology) (area : ℕ)
@@ -34,12 +33,12 @@ few_nodes bytes h =
 
 pub not_topology : (bytes : List ℕ) → (MAX_NODES < u8_at bytes 8) ⊎ (MAX_PORTS < u8_at bytes 9) → is_topology (head_at bytes).topology ≡ false
 not_topology bytes many = elim (cases_Bool (is_topology (head_at bytes).topology)) [
-    | inl is ↦ absurd (elim many [
-        | inl nodes ↦ omega (arith, (few_nodes bytes is).0)
-        | inr ports ↦ omega (arith, (few_nodes bytes is).1)
-        ])
-    | inr not_so ↦ not_so
-    ]
+  | inl is ↦ absurd (elim many [
+    | inl nodes ↦ omega (arith, (few_nodes bytes is).0)
+    | inr ports ↦ omega (arith, (few_nodes bytes is).1)
+  ])
+  | inr not_so ↦ not_so
+]
 
 -- what the tests answer together
 pub fields_in-many : (len : ℕ) (bytes : List ℕ) → (MAX_NODES < u8_at bytes 8) ⊎ (MAX_PORTS < u8_at bytes 9) → None ≡ fields_in len bytes
@@ -93,14 +92,14 @@ or_damaged-cond at false x = refl
 
 head_of-rest : (xs : List ℕ) → or_damaged 0 (fields_in (length xs) (take HEAD_BYTES xs)) ≡ cond (is_head (head_at xs) xs) (Ok (head_at xs)) (Err (Damaged 0))
 head_of-rest xs = elim (cases_lt MAX_NODES (u8_at xs 8)) [
-    | inl many ↦
-        let here : MAX_NODES < u8_at (take HEAD_BYTES xs) 8 = rw (u8_at-take HEAD_BYTES 8 xs (omega arith)) many in
-        ap (or_damaged 0) (sym (fields_in-many (length xs) (take HEAD_BYTES xs) (inl here)))
-        ∙ sym (ap (λ b. cond (b && (bytes_eq (take HEAD_BYTES xs) (head_bytes (head_at xs).topology (head_at xs).area) && fits (length xs) (head_at xs).topology (head_at xs).area)) (Ok (head_at xs)) (Err (Damaged 0))) (not_topology xs (inl many)))
-    | inr few ↦
-        ap (or_damaged 0) (fields_in-whole (length xs) (take HEAD_BYTES xs) (head_at xs) (is_head (head_at xs) xs) (head_at-front xs few) refl)
-        ∙ or_damaged-cond 0 (is_head (head_at xs) xs) (head_at xs)
-    ]
+  | inl many ↦
+      let here : MAX_NODES < u8_at (take HEAD_BYTES xs) 8 = rw (u8_at-take HEAD_BYTES 8 xs (omega arith)) many in
+      ap (or_damaged 0) (sym (fields_in-many (length xs) (take HEAD_BYTES xs) (inl here)))
+      ∙ sym (ap (λ b. cond (b && (bytes_eq (take HEAD_BYTES xs) (head_bytes (head_at xs).topology (head_at xs).area) && fits (length xs) (head_at xs).topology (head_at xs).area)) (Ok (head_at xs)) (Err (Damaged 0))) (not_topology xs (inl many)))
+  | inr few ↦
+      ap (or_damaged 0) (fields_in-whole (length xs) (take HEAD_BYTES xs) (head_at xs) (is_head (head_at xs) xs) (head_at-front xs few) refl)
+      ∙ or_damaged-cond 0 (is_head (head_at xs) xs) (head_at xs)
+]
 
 -- a device that is long enough is seen by its first bytes
 pub head_of-front : (xs : List ℕ) → HEAD_BYTES ≤ length xs → head_of xs ≡ head_in (length xs) (take HEAD_BYTES xs)

@@ -1,22 +1,21 @@
 -- Images that are read one behind the other.
-use Rattle.std.proofs.Common.{◌≡◌, ℕ, zero, suc, ◌+◌, ◌-◌, ◌*◌, ◌<◌, ◌≤◌, List, [], ◌∷◌, ◌++◌, length, take, drop, get_or, map, refl, sym, ap, ◌∙◌, arith, append-nil, Bool, true, false, cond, subst}
+use Rattle.std.proofs.Common.{◌≡◌, ℕ, ◌+◌, ◌<◌, ◌≤◌, List, [], ◌∷◌, ◌++◌, length, take, drop, get_or, refl, sym, ap, ◌∙◌, arith, append-nil, Bool, true, false, cond, subst}
 use Rattle.std.specs.Prelude.{nat_eq, Option, Some, None, Result, Ok, Err, sum_by}
 use Rattle.std.proofs.lemmas.Bool.{eq-eqb}
-use Rattle.std.proofs.lemmas.List.{take_all, take-take, drop-drop, drop_more, drop_all, length-drop, map_push}
+use Rattle.std.proofs.lemmas.List.{take_all, take-take, drop-drop, drop_more, drop_all, length-drop}
 use Rattle.std.proofs.lemmas.List.Sums.{sum_by_more, sum_by_more_le}
-use Rattle.tp_model.specs.declared.opening.OpenFault.{OpenFault}
-use Rattle.tp_model.specs.declared.limits.TheConstants.{IMAGE_HEAD_BYTES, PAGE_BYTES}
+use Rattle.tp_model.specs.declared.limits.TheConstants.{IMAGE_HEAD_BYTES}
 use Rattle.tp_model.specs.CutImage.{node_with, nodes_in, only_if, or_damaged}
 use Rattle.tp_model.specs.Disk.{Moment}
 use Rattle.tp_model.specs.Image.{node_at, node_of, page_count}
 use Rattle.tp_model.specs.Journal.{image_length}
 use Rattle.tp_model.specs.NodeState.{NodeState}
 use Rattle.tp_model.specs.Results.{◌>>=◌}
-use Rattle.tp_node.specs.declared.fault.ImageFault.TheVariants.{BadImage, Memory}
+use Rattle.tp_node.specs.declared.fault.ImageFault.TheVariants.{BadImage}
 use Rattle.tp_node.specs.FromImage.{ReadsImage}
 use Rattle.tp_node.specs.NodeContents.{NodeContents}
 use Rattle.tp_open.specs.declared.unopened.Unopened.{Unopened}
-use Rattle.tp_open.specs.Nodes.{live, AreThawed}
+use Rattle.tp_open.specs.Nodes.{AreThawed}
 use Rattle.tp_open.specs.Reading.{Answers}
 use Rattle.tp_open.proofs.Records.{behind, with_first, step_read, step_error}
 

@@ -1,5 +1,5 @@
 -- What a part of some bytes says, and what they say themselves.
-use Rattle.std.proofs.Common.{◌≡◌, ℕ, zero, suc, ◌+◌, ◌-◌, ◌*◌, ◌<◌, ◌≤◌, List, [], ◌∷◌, ◌++◌, length, take, drop, get_or, refl, sym, ap, ◌∙◌, arith}
+use Rattle.std.proofs.Common.{◌≡◌, ℕ, zero, suc, ◌+◌, ◌-◌, ◌<◌, ◌≤◌, List, take, drop, get_or, sym, ap, ◌∙◌, arith}
 use Rattle.std.proofs.lemmas.List.{get_or-take, get_or-drop, drop-drop, drop-take, take-take}
 use Rattle.std.specs.Int.{sum_through, byte_worth, from_le_bytes, w16, w32, w64}
 use Rattle.tp_model.specs.Bytes.{u8_at, u16_at, u32_at, u64_at}

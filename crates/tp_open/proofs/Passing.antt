@@ -1,5 +1,5 @@
 -- One reading after another: what the first one answers passes on.
-use Rattle.std.proofs.Common.{◌≡◌, ℕ, true, refl, ap, ◌∙◌, sym}
+use Rattle.std.proofs.Common.{◌≡◌, ℕ, true, ap}
 use Rattle.std.specs.Prelude.{Result, Ok, Err}
 use Rattle.tp_model.specs.declared.opening.OpenFault.{OpenFault}
 use Rattle.tp_model.specs.Results.{◌>>=◌}

@@ -1,11 +1,10 @@
 -- Records of ports.
-use Rattle.std.proofs.Common.{◌≡◌, ℕ, zero, suc, ◌+◌, ◌-◌, ◌*◌, ◌^◌, ◌<◌, ◌≤◌, List, [], ◌∷◌, ◌++◌, length, take, drop, get_or, refl, sym, ap, ◌∙◌, arith, append_assoc, append-nil, Bool, true, false, cond, subst, inl, inr, Fits, w8}
+use Rattle.std.proofs.Common.{◌≡◌, ℕ, suc, ◌+◌, ◌-◌, ◌*◌, ◌^◌, ◌<◌, ◌≤◌, List, [], ◌∷◌, ◌++◌, length, take, drop, get_or, refl, sym, ap, ◌∙◌, arith, append_assoc, append-nil, true, false, cond, subst, inl, inr, Fits, w8}
 use Rattle.std.specs.Prelude.{◌&&◌, ◌⊎◌, nat_le, bytes_eq, Option, Some, None, Result, Ok, Err}
 use Rattle.std.specs.List.{list_all}
-use Rattle.std.specs.Int.{from_le_bytes, to_le_bytes, w16, w64}
 use Rattle.std.proofs.lemmas.Bool.{and_parts, leb-true, le-leb, cases_Bool, cases_lt}
 use Rattle.std.proofs.lemmas.Nat.{from_le_bytes-to_le_bytes_2, le_bytes_2, le_bytes_8}
-use Rattle.std.proofs.lemmas.List.{length-take, length-drop, length-take-le, take-take, take_all, drop-drop, drop_all, drop-take, length-replicate, get_or-take, get_or-drop, get_or_past}
+use Rattle.std.proofs.lemmas.List.{length-take, length-drop, length-take-le, take-take, take_all, drop-drop, length-replicate, get_or-take, get_or-drop, get_or_past}
 use Rattle.std.proofs.lemmas.Slice.Eq.{bytes_eq-Decides}
 use Rattle.tp_model.specs.declared.limits.TheConstants.{MAX_HELD, PORT_BYTES}
 use Rattle.tp_model.specs.Bytes.{u16_bytes, u64_bytes, u16_at, u64_at, zeros, padded}
@@ -48,21 +47,21 @@ said_few base bytes h =
 -- so where it says more, it is no port's
 pub said_many : (base : ℕ) (bytes : List ℕ) → (MAX_HELD < u16_at bytes 16) ⊎ (MAX_HELD < u16_at bytes 18) → false ≡ is_port_at base bytes
 said_many base bytes many = elim (cases_Bool (is_port_at base bytes)) [
-    | inl is ↦ absurd (elim many [
-        | inl held ↦ omega (arith, (said_few base bytes is).0)
-        | inr shown ↦ omega (arith, (said_few base bytes is).1)
-        ])
-    | inr not_so ↦ sym not_so
-    ]
+  | inl is ↦ absurd (elim many [
+    | inl held ↦ omega (arith, (said_few base bytes is).0)
+    | inr shown ↦ omega (arith, (said_few base bytes is).1)
+  ])
+  | inr not_so ↦ sym not_so
+]
 
 -- a part of bytes is bytes
 part_bytes : (n place : ℕ) (bytes : List ℕ) → AreBytes bytes → (i : ℕ) → get_or (take n (drop place bytes)) i 0 < 256
 part_bytes n place bytes are i = elim (cases_lt i n) [
-    | inl inside ↦ rw (get_or-take n (drop place bytes) i 0 inside, get_or-drop place bytes i 0) (omega (arith, are.each (place + i)))
-    | inr past ↦
-        let short : length (take n (drop place bytes)) ≤ i = omega (arith, length-take n (drop place bytes)) in
-        rw (get_or_past (take n (drop place bytes)) i 0 short) (omega arith)
-    ]
+  | inl inside ↦ rw (get_or-take n (drop place bytes) i 0 inside, get_or-drop place bytes i 0) (omega (arith, are.each (place + i)))
+  | inr past ↦
+      let short : length (take n (drop place bytes)) ≤ i = omega (arith, length-take n (drop place bytes)) in
+      rw (get_or_past (take n (drop place bytes)) i 0 short) (omega arith)
+]
 
 part_length : (n place : ℕ) (bytes : List ℕ) → place + n ≤ length bytes → length (take n (drop place bytes)) ≡ n
 part_length n place bytes le = length-take-le n (drop place bytes) (omega (arith, length-drop place bytes))
@@ -150,8 +149,14 @@ shown_few base shown bytes is shown_is = omega (arith, (said_few base bytes is).
 
 same_port : (bytes : List ℕ) → u16_at bytes 16 ≤ MAX_HELD → u16_at bytes 18 ≤ MAX_HELD → port_at (take PORT_BYTES bytes) ≡ port_at bytes
 same_port bytes few few_shown =
-    rw (u16_at-take PORT_BYTES 16 bytes (omega arith), u16_at-take PORT_BYTES 18 bytes (omega arith), u64_at-take PORT_BYTES 0 bytes (omega arith), u64_at-take PORT_BYTES 8 bytes (omega arith),
-        part_of_part (u16_at bytes 16) 20 PORT_BYTES 0 20 bytes (omega arith) refl, part_of_part (u16_at bytes 18) (20 + MAX_HELD) PORT_BYTES 0 (20 + MAX_HELD) bytes (omega arith) refl)
+    rw (
+      u16_at-take PORT_BYTES 16 bytes (omega arith),
+      u16_at-take PORT_BYTES 18 bytes (omega arith),
+      u64_at-take PORT_BYTES 0 bytes (omega arith),
+      u64_at-take PORT_BYTES 8 bytes (omega arith),
+      part_of_part (u16_at bytes 16) 20 PORT_BYTES 0 20 bytes (omega arith) refl,
+      part_of_part (u16_at bytes 18) (20 + MAX_HELD) PORT_BYTES 0 (20 + MAX_HELD) bytes (omega arith) refl,
+    )
     refl
 
 test_same : (base : ℕ) (bytes : List ℕ) → u16_at bytes 16 ≤ MAX_HELD → u16_at bytes 18 ≤ MAX_HELD → is_port_at base (take PORT_BYTES bytes) ≡ is_port_at base bytes
@@ -170,12 +175,12 @@ port_with-take base bytes =
     elim (cases_lt MAX_HELD (u16_at bytes 16)) [
       | inl many ↦ many_none base front (inl (omega arith)) ∙ sym (many_none base bytes (inl many))
       | inr few ↦ elim (cases_lt MAX_HELD (u16_at bytes 18)) [
-          | inl many ↦ many_none base front (inr (omega arith)) ∙ sym (many_none base bytes (inr many))
-          | inr few_shown ↦
-              ap (λ t. cond t (Some (port_at front)) None) (test_same base bytes few few_shown)
-              ∙ ap (λ p. cond (is_port_at base bytes) (Some p) None) (same_port bytes few few_shown)
-          ]
+        | inl many ↦ many_none base front (inr (omega arith)) ∙ sym (many_none base bytes (inr many))
+        | inr few_shown ↦
+            ap (λ t. cond t (Some (port_at front)) None) (test_same base bytes few few_shown)
+            ∙ ap (λ p. cond (is_port_at base bytes) (Some p) None) (same_port bytes few few_shown)
       ]
+    ]
 
 -- ## Reading
 

@@ -1,5 +1,5 @@
 -- Cuts that were read.
-use Rattle.std.specs.Prelude.{ℕ, ◌+◌, ◌*◌, List, map, length, drop, Option, Result, Ok}
+use Rattle.std.specs.Prelude.{ℕ, List, map, drop, Option, Result, Ok}
 use Rattle.tp_model.specs.declared.link.Token.{Token}
 use Rattle.tp_model.specs.declared.opening.OpenFault.{OpenFault}
 use Rattle.tp_model.specs.declared.wire.WireEnd.{WireEnd}

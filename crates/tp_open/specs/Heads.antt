@@ -1,7 +1,7 @@
 -- A device's head by its first bytes, and by how many bytes the device has.
-use Rattle.std.specs.Prelude.{ℕ, Bool, not, ◌&&◌, ◌==◌, if◌then◌else◌, List, take, Option, Some, None, Result, Ok, Err, bytes_eq}
+use Rattle.std.specs.Prelude.{ℕ, Bool, not, ◌&&◌, ◌==◌, if◌then◌else◌, List, take, Option, Some, None, Result, Err, bytes_eq}
 use Rattle.tp_model.specs.declared.opening.OpenFault.{OpenFault}
-use Rattle.tp_model.specs.declared.opening.OpenFault.TheVariants.{NotFormatted, BadVersion, Damaged}
+use Rattle.tp_model.specs.declared.opening.OpenFault.TheVariants.{NotFormatted, BadVersion}
 use Rattle.tp_model.specs.declared.limits.TheConstants.{HEAD_VERSION}
 use Rattle.tp_model.specs.Bytes.{u8_at}
 use Rattle.tp_model.specs.CutImage.{or_damaged}

@@ -9,7 +9,10 @@ use std::alloc::Global;
 use tp_disk::Disk;
 
 /// Reads `N` bytes from a place on.
-pub(crate) fn read_array<D: Disk, const N: usize>(disk: &mut D, at: u64) -> Result<[u8; N], Unopened>
+pub(crate) fn read_array<D: Disk, const N: usize>(
+    disk: &mut D,
+    at: u64,
+) -> Result<[u8; N], Unopened>
     requires { at + N ≤ D.size_of disk.old }
     ensures counts { Counts (has_read result) (D.size_of disk.old) (D.size_of disk.new) (D.failures_of disk.old) (D.failures_of disk.new) }
     ensures kept { D.keeps → IsKept result (D.state disk.old).now (D.state disk.new).now }
@@ -23,7 +26,12 @@ pub(crate) fn read_array<D: Disk, const N: usize>(disk: &mut D, at: u64) -> Resu
 }
 
 /// Reads so many bytes from a place on.
-pub(crate) fn read_bytes<D: Disk>(alloc: Global, disk: &mut D, at: u64, count: usize) -> Result<Vec<u8>, Unopened>
+pub(crate) fn read_bytes<D: Disk>(
+    alloc: Global,
+    disk: &mut D,
+    at: u64,
+    count: usize,
+) -> Result<Vec<u8>, Unopened>
     requires { at + count ≤ D.size_of disk.old }
     ensures counts { Counts (has_read result) (D.size_of disk.old) (D.size_of disk.new) (D.failures_of disk.old) (D.failures_of disk.new) }
     ensures kept { D.keeps → IsKept result (D.state disk.old).now (D.state disk.new).now }

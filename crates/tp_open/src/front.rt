@@ -31,10 +31,7 @@ fn front_of(bytes: &[u8], wanted: u64, at: u64) -> Result<CutFront, OpenFault>
 {
     let generation = u64_at(bytes, 0);
     let base = u64_at(bytes, 12);
-    if u64::from(u32_at(bytes, 8)) == wanted
-        && generation < NUMBER_LIMIT
-        && base < NUMBER_LIMIT
-    {
+    if u64::from(u32_at(bytes, 8)) == wanted && generation < NUMBER_LIMIT && base < NUMBER_LIMIT {
         Ok(CutFront { generation, base })
     } else {
         Err(OpenFault::Damaged(at))

@@ -12,8 +12,8 @@ ghost use Rattle.tp_open.specs.Reading.{has_read, Answers, IsKept};
 ghost use Rattle.tp_open.specs.Heads.{fields_in, head_in, is_whole};
 
 use crate::device::read_array;
-use crate::spelling::{MAGIC, head_bytes};
 use crate::number::{u16_at, u64_at};
+use crate::spelling::{MAGIC, head_bytes};
 use crate::topology::{MAX_LINES, Topology};
 use crate::unopened::Unopened;
 use arrayvec::ArrayVec;

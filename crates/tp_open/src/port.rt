@@ -74,12 +74,7 @@ fn copied(alloc: Global, bytes: &[u8]) -> Result<Vec<u8>, AllocError>
 }
 
 /// The port of a record that says that so many bytes are held, and so many outputs are shown.
-fn parts_of(
-    alloc: Global,
-    held: usize,
-    shown: usize,
-    bytes: &[u8],
-) -> Result<PortParts, AllocError>
+fn parts_of(alloc: Global, held: usize, shown: usize, bytes: &[u8]) -> Result<PortParts, AllocError>
     requires whole { length bytes.now ≡ PORT_BYTES }
     requires few { held ≤ MAX_HELD }
     requires few_outputs { shown ≤ MAX_HELD }
@@ -110,7 +105,12 @@ fn port_in(alloc: Global, base: u64, bytes: &[u8]) -> Result<Option<PortParts>, 
 }
 
 /// Reads the port of a cut of so many entries, whose record stands here.
-fn read_port<D: Disk>(alloc: Global, disk: &mut D, at: u64, base: u64) -> Result<PortParts, Unopened>
+fn read_port<D: Disk>(
+    alloc: Global,
+    disk: &mut D,
+    at: u64,
+    base: u64,
+) -> Result<PortParts, Unopened>
     requires { at + PORT_BYTES ≤ D.size_of disk.old }
     ensures counts { Counts (has_read result) (D.size_of disk.old) (D.size_of disk.new) (D.failures_of disk.old) (D.failures_of disk.new) }
     ensures kept { D.keeps → IsKept result (D.state disk.old).now (D.state disk.new).now }

@@ -1,5 +1,3 @@
-use Rattle.std.proofs.Common.{◌≡◌, take, drop, Ok, ap, ◌∙◌, sym}
-use Rattle.tp_open.specs.Fronts.{area_front}
 use Rattle.tp_open.proofs.Areas.{area_front-part}
 use Rattle.tp_open.proofs.choice.read_area_front.Goals as goal
 

@@ -100,8 +100,9 @@ pub returns-in-Ok-clause-sound : goal.returns-in-Ok-clause-sound
 returns-in-Ok-clause-sound g c =
     let t = c.args.head.now.topology in
     let shape = has_shape t c.topology-topology.ensures.valid in
-    let wires : c.wires-2.result.now ≡ t.wires = c.wires-2.ensures.value ∙ ap (λ s. s.wires) c.topology-topology.ensures.value in
-    (c.of-places.result.lines,
-     ap (λ n. flights_in t414_ends (cut_network t.wires c.in_ok-cut.cut) c.of-places.result.lines 0 n) (sym shape.lines)
-     ∙ ap (λ ws. flights_in t414_ends (cut_network ws c.in_ok-cut.cut) c.of-places.result.lines 0 (length ws)) (sym wires)
-     ∙ sym c.check_flights.ensures ∙ c.in-Ok.is)
+    let wires : c.wires-2.result.now ≡ t.wires = c.wires-2.ensures.value ∙ ap (λ s. s.wires) c.topology-topology.ensures.value in (
+      c.of-places.result.lines,
+      ap (λ n. flights_in t414_ends (cut_network t.wires c.in_ok-cut.cut) c.of-places.result.lines 0 n) (sym shape.lines)
+          ∙ ap (λ ws. flights_in t414_ends (cut_network ws c.in_ok-cut.cut) c.of-places.result.lines 0 (length ws)) (sym wires)
+          ∙ sym c.check_flights.ensures ∙ c.in-Ok.is,
+    )

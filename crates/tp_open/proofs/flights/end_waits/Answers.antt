@@ -18,8 +18,8 @@ returns-then-line-links c =
     let nodes = c.args.parts.nodes.now in
     let n = c.index-parts-line.result in
     c.waits.ensures ∙ ap (λ m. t414_ends.waits m.live (c.args.line % 4)) (sym c.index-parts-line.is) ∙ sym (end_waits-link t414_ends (network_in c.args.parts) c.args.line n.live
-        (omega (arith, length-map nodes (λ m. m.live), c.if-line-links.true))
-        (slice_get-map (λ m. m.live) nodes (c.args.line / 4) ∙ ap (option_map (λ m. m.live)) (slice_get_read nodes (length nodes) (c.args.line / 4) n refl (omega (arith, c.if-line-links.true)) c.index-parts-line.is)))
+    (omega (arith, length-map nodes (λ m. m.live), c.if-line-links.true))
+    (slice_get-map (λ m. m.live) nodes (c.args.line / 4) ∙ ap (option_map (λ m. m.live)) (slice_get_read nodes (length nodes) (c.args.line / 4) n refl (omega (arith, c.if-line-links.true)) c.index-parts-line.is)))
 
 pub returns-else-line-links : goal.returns-else-line-links
 returns-else-line-links c =

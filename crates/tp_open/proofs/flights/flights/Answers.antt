@@ -31,8 +31,8 @@ returns-then-not-is_in_one_place c =
     let many = length c.args.parts.wires.now in
     let line = c.loop-line.line in
     sym (sym c.loop-line.invariant
-      ∙ left t414_ends s (c.args.at + LINE_BYTES * line) line (many - line) (many - line - 1) (omega (arith, c.loop-line-test.true))
-      ∙ flights_in-fault t414_ends s (c.args.at + LINE_BYTES * line) line (many - line - 1) (sym c.is_in_one_place.ensures ∙ c.if-not-is_in_one_place.true))
+    ∙ left t414_ends s (c.args.at + LINE_BYTES * line) line (many - line) (many - line - 1) (omega (arith, c.loop-line-test.true))
+    ∙ flights_in-fault t414_ends s (c.args.at + LINE_BYTES * line) line (many - line - 1) (sym c.is_in_one_place.ensures ∙ c.if-not-is_in_one_place.true))
 
 pub loop-line-preserved : goal.loop-line-preserved
 loop-line-preserved c =

@@ -1,7 +1,7 @@
-use Rattle.std.proofs.Common.{◌≡◌, ◌∙◌, ap, sym, arith, inl, inr, drop, take, length}
+use Rattle.std.proofs.Common.{◌∙◌, sym, arith, inl, inr}
 use Rattle.std.proofs.lemmas.Bool.{cond-true, cond-false}
-use Rattle.std.specs.Prelude.{Some, None}
-use Rattle.tp_open.proofs.Heads.{fields_in-many, fields_in-whole, head_at-fields, head_at-parts, whole_is}
+use Rattle.std.specs.Prelude.{None}
+use Rattle.tp_open.proofs.Heads.{fields_in-many, fields_in-whole, head_at-parts}
 use Rattle.tp_open.proofs.head.fields_in.Goals as goal
 use Rattle.tp_open.proofs.head.fields_in.Goals.{then-from-gt-MAX_NODES-via-then-from-gt-MAX_NODES, then-from-gt-MAX_NODES-via-else-from-gt-MAX_NODES+then-from-gt-MAX_PORTS}
 
@@ -10,7 +10,7 @@ returns-then-from-gt-MAX_NODES-clause-value c =
     elim c.then-from-gt-MAX_NODES.branch [
       | then-from-gt-MAX_NODES-via-then-from-gt-MAX_NODES w ↦ fields_in-many c.args.len c.args.bytes.now (inl (omega arith))
       | then-from-gt-MAX_NODES-via-else-from-gt-MAX_NODES+then-from-gt-MAX_PORTS w ↦ fields_in-many c.args.len c.args.bytes.now (inr (omega arith))
-      ]
+    ]
 
 pub returns-then-is_whole-clause-value : goal.returns-then-is_whole-clause-value
 returns-then-is_whole-clause-value c =

@@ -1,6 +1,5 @@
-use Rattle.std.proofs.Common.{◌∙◌, sym, arith, refl, Ok, ◌≡◌, take, drop}
-use Rattle.tp_model.specs.Head.{Head, head_of}
-use Rattle.tp_open.specs.Heads.{head_in}
+use Rattle.std.proofs.Common.{◌∙◌, sym, arith}
+use Rattle.tp_model.specs.Head.{head_of}
 use Rattle.tp_open.proofs.Passing.{told_value, told_fault, found_is}
 use Rattle.tp_open.proofs.Heads.{head_of-short, head_of-read}
 use Rattle.tp_open.proofs.head.read_head.Goals as goal
@@ -17,4 +16,4 @@ returns-clause-is g c k =
     elim c.match-head_in.branch [
       | in-Ok w ↦ told_value (λ head. head) (head_of xs) _ _ (read ∙ sym c.head_in.ensures.value ∙ w.in-Ok.is) w.result-is
       | in-Err w ↦ told_fault (λ head. head) (head_of xs) _ _ (read ∙ sym c.head_in.ensures.value ∙ w.in-Err.is) w.result-is
-      ]
+    ]

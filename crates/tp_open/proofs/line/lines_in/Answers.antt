@@ -1,5 +1,5 @@
-use Rattle.std.proofs.Common.{◌≡◌, ◌∙◌, arith}
-use Rattle.tp_open.proofs.Records.{lines_in-step, lines_in-fault, lines_in-end, behind-none}
+use Rattle.std.proofs.Common.{arith}
+use Rattle.tp_open.proofs.Records.{lines_in-step, lines_in-fault, lines_in-end}
 use Rattle.tp_open.proofs.line.lines_in.Goals as goal
 
 pub returns-in_default-clause-is : goal.returns-in_default-clause-is

@@ -1,7 +1,6 @@
-use Rattle.std.proofs.Common.{◌≡◌, ◌*◌, ◌∙◌, ap, sym, length, subst, arith, drop, map, Vec, Global}
+use Rattle.std.proofs.Common.{◌≡◌, ◌*◌, ◌∙◌, ap, sym, length, arith, drop}
 use Rattle.tp_model.specs.declared.limits.TheConstants.{LINE_BYTES}
 use Rattle.tp_model.specs.CutImage.{lines_in}
-use Rattle.tp_open.specs.Reading.{Answers}
 use Rattle.tp_open.proofs.Passing.{found_is, still_kept, still_counts}
 use Rattle.tp_open.proofs.Records.{lines_in-take}
 use Rattle.tp_open.proofs.line.read_lines.Goals as goal

@@ -1,4 +1,4 @@
-use Rattle.std.proofs.Common.{◌≡◌, ◌∙◌, sym, ap, length, take, drop, subst}
+use Rattle.std.proofs.Common.{◌∙◌, sym, ap, length, take, drop, subst}
 use Rattle.tp_open.specs.Nodes.{live}
 use Rattle.tp_open.specs.Reading.{Answers}
 use Rattle.tp_open.proofs.Passing.{found_is, still_kept, still_counts}

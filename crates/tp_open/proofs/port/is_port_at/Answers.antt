@@ -1,4 +1,4 @@
-use Rattle.std.proofs.Common.{◌≡◌, ◌∙◌, inl, inr, arith}
+use Rattle.std.proofs.Common.{◌∙◌, inl, inr, arith}
 use Rattle.tp_open.proofs.Ports.{is_port_at-rules, said_many}
 use Rattle.tp_open.proofs.port.is_port_at.Goals as goal
 use Rattle.tp_open.proofs.port.is_port_at.Goals.{then-held-gt-MAX_HELD-via-then-held-gt-MAX_HELD, then-held-gt-MAX_HELD-via-else-held-gt-MAX_HELD+then-shown-gt-MAX_HELD}
@@ -8,7 +8,7 @@ returns-then-held-gt-MAX_HELD c =
     elim c.then-held-gt-MAX_HELD.branch [
       | then-held-gt-MAX_HELD-via-then-held-gt-MAX_HELD w ↦ said_many c.args.base c.args.bytes.now (inl (omega arith))
       | then-held-gt-MAX_HELD-via-else-held-gt-MAX_HELD+then-shown-gt-MAX_HELD w ↦ said_many c.args.base c.args.bytes.now (inr (omega arith))
-      ]
+    ]
 
 pub returns : goal.returns
 returns c =

@@ -1,6 +1,6 @@
-use Rattle.std.proofs.Common.{◌≡◌, ◌∙◌, sym}
+use Rattle.std.proofs.Common.{◌∙◌, sym}
 use Rattle.tp_book.specs.Parts.{port_of}
-use Rattle.tp_open.proofs.Ports.{port_with-copied, port_with-none, held_few, shown_few}
+use Rattle.tp_open.proofs.Ports.{port_with-copied, held_few, shown_few}
 use Rattle.tp_open.proofs.port.port_in.Goals as goal
 
 pub parts_of-requires-clause-few : goal.parts_of-requires-clause-few

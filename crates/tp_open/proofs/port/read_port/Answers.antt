@@ -1,4 +1,4 @@
-use Rattle.std.proofs.Common.{◌≡◌, ◌∙◌, sym, ap, arith, length}
+use Rattle.std.proofs.Common.{◌∙◌, sym, ap, length}
 use Rattle.std.specs.Option.{option_map}
 use Rattle.tp_book.specs.Parts.{port_of}
 use Rattle.tp_model.specs.CutImage.{or_damaged}

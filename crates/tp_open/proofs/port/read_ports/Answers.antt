@@ -1,4 +1,4 @@
-use Rattle.std.proofs.Common.{◌≡◌, ◌+◌, ◌∙◌, length, ap, sym, arith, map, rules, Err}
+use Rattle.std.proofs.Common.{◌≡◌, ◌+◌, ◌∙◌, length, ap, arith, map, rules, Err}
 use Rattle.std.proofs.lemmas.List.{length_push, map_push}
 use Rattle.tp_book.specs.Parts.{port_of}
 use Rattle.tp_open.proofs.Ports.{ports_in-step, ports_in-error, ports_in-end}
