@@ -11,3 +11,7 @@ pub mod SameBytes
 pub mod Topologies
 pub mod Wires
 mod LineEnds
+pub mod CutsAreFlat
+pub mod CutsAreSound
+pub mod HeldPorts
+pub mod UnmarkedLines
