@@ -15,3 +15,4 @@ pub mod CutsAreFlat
 pub mod CutsAreSound
 pub mod HeldPorts
 pub mod UnmarkedLines
+pub mod ReplayedCuts
