@@ -14,5 +14,6 @@ mod LineEnds
 pub mod CutsAreFlat
 pub mod CutsAreSound
 pub mod HeldPorts
-pub mod UnmarkedLines
+pub mod PartsAgain
 pub mod ReplayedCuts
+pub mod UnmarkedLines
