@@ -14,3 +14,10 @@ pub mod Room
 pub mod SameBytes
 pub mod Topologies
 pub mod Wires
+mod LineEnds
+pub mod CutsAreFlat
+pub mod CutsAreSound
+pub mod HeldPorts
+pub mod PartsAgain
+pub mod ReplayedCuts
+pub mod UnmarkedLines

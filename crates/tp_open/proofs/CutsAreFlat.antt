@@ -1,0 +1,97 @@
+-- A network that a cut image can hold can be replayed from.
+use Rattle.std.proofs.Common.{◌≡◌, ℕ, zero, suc, ◌+◌, ◌<◌, ◌≤◌, true, List, [], ◌∷◌, length, subst, ◌∙◌, arith, Some, slice_get, Ok}
+use Rattle.std.specs.Prelude.{◌&&◌, nat_le}
+use Rattle.std.specs.List.{AllByRecursion}
+use Rattle.std.proofs.lemmas.Bool.{and_parts, leb-true}
+use Rattle.tp_model.specs.declared.limits.TheConstants.{MAX_HELD, NUMBER_LIMIT}
+use Rattle.tp_model.specs.NodeState.{NodeState}
+use Rattle.tp_model.specs.Node.{t414_ends}
+use Rattle.tp_model.specs.Image.{IsNode}
+use Rattle.tp_model.specs.Network.{Port, Network}
+use Rattle.tp_model.specs.Sound.{Ends}
+use Rattle.tp_model.specs.Topology.{Topology, is_topology}
+use Rattle.tp_model.specs.CutImage.{is_port_of}
+use Rattle.tp_model.specs.Spelling.{IsCut}
+use Rattle.tp_model.specs.Opening.{base_of, has_front, cut_in}
+use Rattle.tp_laws.proofs.Numbers.{AreBytes}
+use Rattle.tp_areas.proofs.ReadCuts.{cut_read}
+use Rattle.tp_book.specs.Kept.{IsCounted, AreCounted}
+use Rattle.tp_replay.specs.Flat.{IsFlat}
+use Rattle.tp_replay.proofs.Imaged.{image_inside}
+use Rattle.tp_open.proofs.Topologies.{has_shape}
+use Rattle.tp_open.proofs.UnmarkedLines.{lines_unmarked}
+use Rattle.tp_open.proofs.CutsAreSound.{cut_nodes, cut_wires, cut_lines, cut_sound}
+use Rattle.tp_open.proofs.HeldPorts.{EachPort, IsHeld}
+
+-- what is so of each element
+each_at : {A : Type 0} (P : A → Type 0) (xs : List A) → AllByRecursion P xs → (i : ℕ) (x : A) → slice_get xs i ≡ Some x → P x
+each_at P [] all i x at = cc
+each_at P (y ∷ ys) all zero x at = let same : y ≡ x = cc in subst P same all.0
+each_at P (y ∷ ys) all (suc i) x at = each_at P ys all.1 i x at
+
+-- ## A network in one thread
+
+pub cut_flat : (t : Topology) (base : ℕ) (s : Network NodeState) → is_topology t ≡ true → IsCut t414_ends t base s → IsFlat s
+cut_flat t base s topology C =
+    let shape = has_shape t topology in
+    let nodes = cut_nodes t414_ends t base s topology C in
+    let wires = cut_wires t414_ends t base s topology C in
+    record {
+      sound = cut_sound t414_ends t base s topology C;
+      shaped = record {
+        wires = wires;
+        lines = cut_lines t414_ends t base s topology C ∙ wires;
+        few_nodes = omega (arith, shape.few_nodes, nodes);
+        few_ports = omega (arith, shape.few_ports, C.count);
+      };
+      marked = λ line. omega (arith, lines_unmarked t.wires s.lines C.lines line);
+      inside = λ i node at. image_inside node (each_at IsNode s.nodes C.nodes i node at);
+    }
+
+-- ## Ports
+
+-- what a port of a cut keeps
+record PortKeeps (base : ℕ) (port : Port) : Type 0 where
+  counted : IsCounted base port
+  held : IsHeld port
+
+port_keeps : (base : ℕ) (port : Port) → is_port_of base port ≡ true → PortKeeps base port
+port_keeps base port h =
+    let all = and_parts (nat_le (length port.pending) MAX_HELD && nat_le (length port.outputs) MAX_HELD) (nat_le port.in_base base && nat_le (port.out_base + length port.outputs) base) h in
+    let few = and_parts (nat_le (length port.pending) MAX_HELD) (nat_le (length port.outputs) MAX_HELD) all.0 in
+    let low = and_parts (nat_le port.in_base base) (nat_le (port.out_base + length port.outputs) base) all.1 in
+    record {
+      counted = record { inputs = leb-true port.in_base base low.0; outputs = leb-true (port.out_base + length port.outputs) base low.1 };
+      held = record { pending = leb-true (length port.pending) MAX_HELD few.0; outputs = leb-true (length port.outputs) MAX_HELD few.1 };
+    }
+
+cut_ports : (E : Ends NodeState) (t : Topology) (base : ℕ) (s : Network NodeState) → IsCut E t base s → EachPort (PortKeeps base) s.ports
+cut_ports E t base s C p port at = port_keeps base port (each_at (λ x. is_port_of base x ≡ true) s.ports C.ports p port at)
+
+-- What a port of a cut has counted is no more than there are entries in it.
+pub cut_counted : (E : Ends NodeState) (t : Topology) (base : ℕ) (s : Network NodeState) → IsCut E t base s → AreCounted base s.ports
+cut_counted E t base s C p port at = (cut_ports E t base s C p port at).counted
+
+-- It holds no more than it has room for.
+pub cut_held : (E : Ends NodeState) (t : Topology) (base : ℕ) (s : Network NodeState) → IsCut E t base s → EachPort IsHeld s.ports
+cut_held E t base s C p port at = (cut_ports E t base s C p port at).held
+
+-- ## A cut that was read
+
+-- The network that is read as a cut, where the fields in front of it are right.
+pub read_is_cut : (E : Ends NodeState) (t : Topology) (at : ℕ) (content : List ℕ) (s : Network NodeState) → is_topology t ≡ true → AreBytes content → 20 ≤ length content
+    → has_front t content ≡ true → cut_in E t at content ≡ Ok s → IsCut E t (base_of content) s
+read_is_cut E t at content s topology bytes long front is =
+    (cut_read E t at content s (has_shape t topology).lines bytes long front is).cut
+
+-- It can be replayed from, and each of its ports has counted no more than its entries.
+pub record CanReplay (base : ℕ) (s : Network NodeState) : Type 0 where
+  pub flat : IsFlat s
+  pub counted : AreCounted base s.ports
+  pub few : base < NUMBER_LIMIT
+
+pub read_can_replay : (t : Topology) (at : ℕ) (content : List ℕ) (s : Network NodeState) → is_topology t ≡ true → AreBytes content → 20 ≤ length content
+    → has_front t content ≡ true → cut_in t414_ends t at content ≡ Ok s → CanReplay (base_of content) s
+read_can_replay t at content s topology bytes long front is =
+    let C = read_is_cut t414_ends t at content s topology bytes long front is in
+    record { flat = cut_flat t (base_of content) s topology C; counted = cut_counted t414_ends t (base_of content) s C; few = C.base_fits }
