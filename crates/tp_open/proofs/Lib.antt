@@ -1,4 +1,3 @@
-mod LineEnds
 pub mod Areas
 pub mod GroupsRead
 pub mod Cuts
@@ -14,10 +13,10 @@ pub mod Room
 pub mod SameBytes
 pub mod Topologies
 pub mod Wires
-mod LineEnds
 pub mod CutsAreFlat
 pub mod CutsAreSound
 pub mod HeldPorts
 pub mod PartsAgain
 pub mod ReplayedCuts
 pub mod UnmarkedLines
+mod LineEnds
