@@ -1,6 +1,6 @@
 //! A network in one thread.
 
-ghost use Rattle.std.specs.Prelude.{◌≡◌, ◌≤◌, ◌+◌, ◌*◌, length};
+ghost use Rattle.std.specs.Prelude.{◌≡◌, ◌≤◌, ◌+◌, ◌*◌, length, map};
 ghost use Rattle.tp_replay.specs.Flat.{IsFlat, AreThawed, network_of};
 
 use std::marker::Model;
@@ -56,6 +56,20 @@ impl FlatNetwork {
         ensures { IsFlat self.now }
     {
         let _lines = &self.lines;
+    }
+
+    /// The nodes, none of which is frozen.
+    pub fn nodes(&self) -> &[Node]
+        ensures { map (λ node. node.live) result.now ≡ self.now.nodes }
+    {
+        self.nodes.as_slice()
+    }
+
+    /// The ports.
+    pub fn ports(&self) -> &[HostPort]
+        ensures { map (λ port. port.port) result.now ≡ self.now.ports }
+    {
+        self.ports.as_slice()
     }
 
     /// The line that a port sends.

@@ -1,8 +1,10 @@
 -- The lines that are printed of a device.
-use Rattle.std.specs.Prelude.{ℕ, ◌+◌, List, [], ◌∷◌, ◌++◌, length, codes}
+use Rattle.std.specs.Prelude.{ℕ, ◌+◌, Bool, if◌then◌else◌, List, [], ◌∷◌, ◌++◌, map, length, codes}
 use Rattle.std.specs.Fmt.{decimal}
-use Rattle.tpnet.specs.declared.shown.Picture.{Picture}
-use Rattle.tpnet.specs.declared.shown.PortPicture.{PortPicture}
+use Rattle.tp_model.specs.NodeState.{NodeState}
+use Rattle.tp_model.specs.Image.{halt_byte}
+use Rattle.tp_model.specs.Network.{Port, Network}
+use Rattle.tpnet.specs.declared.shown.Front.{Front}
 
 -- how many nodes and ports there are, and how many bytes an area has
 abbrev pub head_line : ℕ → ℕ → ℕ → List ℕ
@@ -18,25 +20,29 @@ open_line area generation base entries next =
 abbrev pub node_line : ℕ → ℕ → List ℕ
 node_line node halt = codes "node " ++ (decimal node ++ (codes " halt " ++ (decimal halt ++ 10 ∷ [])))
 
-abbrev pub node_lines : ℕ → List ℕ → List ℕ
-node_lines node [] = []
-node_lines node (halt ∷ halts) = node_line node halt ++ node_lines (node + 1) halts
+abbrev pub node_lines : ℕ → List NodeState → List ℕ
+node_lines number [] = []
+node_lines number (node ∷ nodes) = node_line number (halt_byte node.cpu.halt) ++ node_lines (number + 1) nodes
 
 -- a port's inputs that were taken off and are pending, its outputs that are confirmed and that aren't
-abbrev pub port_line : ℕ → ℕ → ℕ → ℕ → ℕ → List ℕ
-port_line port in_base pending out_base unconfirmed =
-    codes "port " ++ (decimal port ++ (codes " in " ++ (decimal in_base ++ (codes " pending " ++ (decimal pending ++ (codes " out " ++ (decimal out_base ++ (codes " unconfirmed " ++ (decimal unconfirmed ++ 10 ∷ [])))))))))
+abbrev pub port_line : ℕ → Port → List ℕ
+port_line number port =
+    codes "port " ++ (decimal number ++ (codes " in " ++ (decimal port.in_base ++ (codes " pending " ++ (decimal (length port.pending) ++ (codes " out " ++ (decimal port.out_base ++ (codes " unconfirmed " ++ (decimal (length port.outputs) ++ 10 ∷ [])))))))))
 
-abbrev pub port_lines : ℕ → List PortPicture → List ℕ
-port_lines port [] = []
-port_lines port (p ∷ ports) = port_line port p.in_base p.pending p.out_base p.unconfirmed ++ port_lines (port + 1) ports
+abbrev pub port_lines : ℕ → List Port → List ℕ
+port_lines number [] = []
+port_lines number (port ∷ ports) = port_line number port ++ port_lines (number + 1) ports
 
--- all that is shown
-abbrev pub shown_text : Picture → List ℕ
-shown_text p =
-    head_line (length p.halts.items) (length p.ports.items) p.area
-    ++ (open_line p.open p.generation p.base p.entries p.next
-    ++ (node_lines 0 p.halts.items ++ port_lines 0 p.ports.items))
+-- the number of an area
+abbrev pub area_number : Bool → ℕ
+area_number second = if second then 1 else 0
+
+-- all that is shown of a device whose front is this and whose network after the last entry is that
+abbrev pub shown_text : Front → Network NodeState → List ℕ
+shown_text front now =
+    head_line (length now.nodes) (length now.ports) front.area
+    ++ (open_line (area_number front.second) front.generation front.base front.entries front.next
+    ++ (node_lines 0 now.nodes ++ port_lines 0 now.ports))
 
 -- what is printed of a device that was recovered
 abbrev pub next_line : ℕ → List ℕ

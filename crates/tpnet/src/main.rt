@@ -10,8 +10,6 @@ mod formatting;
 mod refusal;
 mod shown;
 #[cfg(test)]
-mod shown_tests;
-#[cfg(test)]
 mod tests;
 
 use args::{Asked, read_args};

@@ -1,110 +1,122 @@
 //! What is printed of a device.
 
-ghost use Rattle.std.specs.Prelude.{◌≡◌, ◌++◌, IfOk, OnOk, string_bytes, length};
-ghost use Rattle.tpnet.specs.Shown.{head_line, open_line, node_line, node_lines, port_line, port_lines, shown_text, next_line};
+ghost use Rattle.std.specs.Prelude.{◌≡◌, ◌++◌, IfOk, OnOk, string_bytes, length, map};
+ghost use Rattle.tp_model.specs.Image.{halt_byte};
+ghost use Rattle.tpnet.specs.Shown.{area_number, head_line, next_line, node_line, node_lines, open_line, port_line, port_lines, shown_text};
 
 use std::alloc::{AllocError, Global};
 use std::fmt::Write;
+use tp_book::HostPort;
+use tp_model::Fault;
+use tp_node::Node;
+use tp_replay::FlatNetwork;
 
-/// A port: how many inputs were taken off and are pending, how many outputs are confirmed and aren't.
+/// What is said of a device beside its network: the bytes of an area, which one is open, its generation, the entries in its
+/// cut and in its groups, and the number of the next entry.
 #[derive(Clone, Copy, Debug, PartialEq, Eq)]
-pub struct PortPicture {
-    pub in_base: u64,
-    pub pending: usize,
-    pub out_base: u64,
-    pub unconfirmed: usize,
-}
-
-/// A device: the bytes of an area, which area is open and its generation, the entries in its cut and in its groups, the
-/// next entry's number, each node's halt code, and the ports.
-#[derive(Drop)]
-pub struct Picture {
+pub struct Front {
     pub area: u64,
-    pub open: u8,
+    pub second: bool,
     pub generation: u64,
     pub base: u64,
-    pub entries: u64,
+    pub entries: usize,
     pub next: u64,
-    pub halts: Vec<u8>,
-    pub ports: Vec<PortPicture>,
 }
 
-fn push_head(text: &mut String, nodes: usize, ports: usize, area: u64) -> Result<(), AllocError>
+fn area_number(second: bool) -> u8
+    ensures { result ≡ area_number second }
+{
+    if second { 1 } else { 0 }
+}
+
+fn halt_code(halt: Option<Fault>) -> u8
+    ensures { result ≡ halt_byte halt }
+{
+    match halt {
+        None => 0,
+        Some(Fault::BadAddress) => 1,
+        Some(Fault::UnknownOp) => 2,
+        Some(Fault::LongPrefix) => 3,
+        Some(Fault::LinkBusy) => 4,
+    }
+}
+
+fn push_head(
+    text: &mut String,
+    nodes: usize,
+    ports: usize,
+    area: u64,
+) -> Result<(), AllocError>
     ensures { OnOk result (string_bytes text.new ≡ string_bytes text.old ++ head_line nodes ports area) }
 {
     write!(text, "nodes {nodes} ports {ports} area {area}\n")
 }
 
-fn push_open(text: &mut String, picture: &Picture) -> Result<(), AllocError>
-    ensures { OnOk result (string_bytes text.new ≡ string_bytes text.old ++ open_line picture.now.open picture.now.generation picture.now.base picture.now.entries picture.now.next) }
+fn push_open(text: &mut String, front: Front) -> Result<(), AllocError>
+    ensures { OnOk result (string_bytes text.new ≡ string_bytes text.old ++ open_line (area_number front.second) front.generation front.base front.entries front.next) }
 {
-    let Picture {
-        open,
+    let open = area_number(front.second);
+    let Front {
         generation,
         base,
         entries,
         next,
         ..
-    } = picture;
+    } = front;
     write!(
         text,
         "open {open} generation {generation} base {base} entries {entries} next {next}\n"
     )
 }
 
-fn push_node(text: &mut String, node: usize, halt: u8) -> Result<(), AllocError>
-    ensures { OnOk result (string_bytes text.new ≡ string_bytes text.old ++ node_line node halt) }
+fn push_node(text: &mut String, number: usize, node: &Node) -> Result<(), AllocError>
+    ensures { OnOk result (string_bytes text.new ≡ string_bytes text.old ++ node_line number (halt_byte node.now.live.cpu.halt)) }
 {
-    write!(text, "node {node} halt {halt}\n")
+    let halt = halt_code(node.halt());
+    write!(text, "node {number} halt {halt}\n")
 }
 
-fn push_port(text: &mut String, port: usize, picture: PortPicture) -> Result<(), AllocError>
-    ensures { OnOk result (string_bytes text.new ≡ string_bytes text.old ++ port_line port picture.in_base picture.pending picture.out_base picture.unconfirmed) }
+fn push_port(text: &mut String, number: usize, port: &HostPort) -> Result<(), AllocError>
+    ensures { OnOk result (string_bytes text.new ≡ string_bytes text.old ++ port_line number port.now.port) }
 {
-    let PortPicture {
-        in_base,
-        pending,
-        out_base,
-        unconfirmed,
-    } = picture;
+    let in_base = port.in_base();
+    let pending = port.pending().len();
+    let out_base = port.out_base();
+    let unconfirmed = port.outputs().len();
     write!(
         text,
-        "port {port} in {in_base} pending {pending} out {out_base} unconfirmed {unconfirmed}\n"
+        "port {number} in {in_base} pending {pending} out {out_base} unconfirmed {unconfirmed}\n"
     )
 }
 
-fn push_nodes(text: &mut String, halts: &[u8]) -> Result<(), AllocError>
-    ensures { OnOk result (string_bytes text.new ≡ string_bytes text.old ++ node_lines 0 halts.now) }
+fn push_nodes(text: &mut String, nodes: &[Node]) -> Result<(), AllocError>
+    ensures { OnOk result (string_bytes text.new ≡ string_bytes text.old ++ node_lines 0 (map (λ node. node.live) nodes.now)) }
 {
-    for (node, halt) in halts.iter().enumerate() {
-        push_node(text, node, *halt)?;
+    for (number, node) in nodes.iter().enumerate() {
+        push_node(text, number, node)?;
     }
     Ok(())
 }
 
-fn push_ports(text: &mut String, ports: &[PortPicture]) -> Result<(), AllocError>
-    ensures { OnOk result (string_bytes text.new ≡ string_bytes text.old ++ port_lines 0 ports.now) }
+fn push_ports(text: &mut String, ports: &[HostPort]) -> Result<(), AllocError>
+    ensures { OnOk result (string_bytes text.new ≡ string_bytes text.old ++ port_lines 0 (map (λ port. port.port) ports.now)) }
 {
-    for (port, picture) in ports.iter().enumerate() {
-        push_port(text, port, *picture)?;
+    for (number, port) in ports.iter().enumerate() {
+        push_port(text, number, port)?;
     }
     Ok(())
 }
 
 /// All that is shown of a device.
-pub fn shown_text(alloc: Global, picture: &Picture) -> Result<String, AllocError>
-    ensures { IfOk result (λ text. string_bytes text ≡ shown_text picture.now) }
+pub fn shown_text(alloc: Global, front: Front, now: &FlatNetwork) -> Result<String, AllocError>
+    ensures { IfOk result (λ text. string_bytes text ≡ shown_text front now.now) }
 {
+    let (nodes, ports) = (now.nodes(), now.ports());
     let mut text = String::new(alloc);
-    push_head(
-        &mut text,
-        picture.halts.len(),
-        picture.ports.len(),
-        picture.area,
-    )?;
-    push_open(&mut text, picture)?;
-    push_nodes(&mut text, picture.halts.as_slice())?;
-    push_ports(&mut text, picture.ports.as_slice())?;
+    push_head(&mut text, nodes.len(), ports.len(), front.area)?;
+    push_open(&mut text, front)?;
+    push_nodes(&mut text, nodes)?;
+    push_ports(&mut text, ports)?;
     Ok(text)
 }
 

@@ -1,7 +1,8 @@
-use Rattle.std.proofs.Common.{◌≡◌, ◌++◌, string_bytes, drop}
+use Rattle.std.proofs.Common.{◌≡◌, ◌++◌, string_bytes, drop, map}
 use Rattle.tpnet.specs.Shown.{node_lines}
 use Rattle.tpnet.proofs.shown.push_nodes.Given as goal
 
-abbrev pub invariant-loop-node : goal.invariant-loop-node
-invariant-loop-node l =
-    string_bytes l.text ++ node_lines l.node (drop l.node l.halts) ≡ string_bytes l.fn.text ++ node_lines 0 l.fn.halts
+abbrev pub invariant-loop-number : goal.invariant-loop-number
+invariant-loop-number l =
+    string_bytes l.text ++ node_lines l.number (map (λ node. node.live) (drop l.number l.nodes))
+    ≡ string_bytes l.fn.text ++ node_lines 0 (map (λ node. node.live) l.fn.nodes)
