@@ -14,6 +14,10 @@ pub enum Asked {
     Try { image: String, turns: u32 },
     /// A new device.
     Format(Wanted),
+    /// Opens a device and says what the next entry's number is.
+    Recover { device: String },
+    /// Opens a device and says what it holds.
+    Show { device: String },
 }
 
 /// A device that is wanted: its file, the file of its topology, the folder of the images, and the bytes of an area.
@@ -128,11 +132,19 @@ fn format_command<'a>(alloc: Global) -> Result<Command<'a>, AllocError> {
 
 /// The commands that there are so far.
 fn command<'a>(alloc: Global) -> Result<Command<'a>, AllocError> {
+    let recover = Command::new(alloc, "recover")
+        .about("Opens a device, writes nothing, and prints the number of the next entry")
+        .arg(word(alloc, "DEVICE", "the device's file"))?;
+    let show = Command::new(alloc, "show")
+        .about("Opens a device, writes nothing, and prints what it holds")
+        .arg(word(alloc, "DEVICE", "the device's file"))?;
     Command::new(alloc, "tpnet")
         .about("A network of transputers whose computations survive any crash")
         .subcommand_required(true)
         .subcommand(try_command(alloc)?)?
-        .subcommand(format_command(alloc)?)
+        .subcommand(format_command(alloc)?)?
+        .subcommand(recover)?
+        .subcommand(show)
 }
 
 fn turns_of(found: &ArgMatches) -> Result<u32, ArgFault> {
@@ -187,6 +199,12 @@ pub fn read_args(alloc: Global, words: &[String]) -> Result<Asked, ArgFault>
             turns: turns_of(found)?,
         }),
         Some(("format", found)) => asked_format(alloc, found),
+        Some(("recover", found)) => Ok(Asked::Recover {
+            device: text_of(alloc, found, "DEVICE")?,
+        }),
+        Some(("show", found)) => Ok(Asked::Show {
+            device: text_of(alloc, found, "DEVICE")?,
+        }),
         _ => Err(ArgFault::Missing),
     }
 }

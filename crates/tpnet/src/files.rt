@@ -6,6 +6,7 @@ ghost use Rattle.tpnet.specs.declared.args.TheConstants.{MAX_AREA};
 use crate::args::Wanted;
 use crate::commands::{refuse, try_on};
 use crate::formatting::format_on;
+use crate::opening::{recover_on, show_on};
 use crate::refusal::Refusal;
 use std::fs::{File, Files};
 use std::io::Write;
@@ -106,5 +107,31 @@ pub fn format_file<R: Files<File = File> + AllocGlobal, O: Write, E: Write>(
             err,
         ),
         Err(refusal) => refuse(err, refusal),
+    }
+}
+
+/// `tpnet recover`, on a device's file.
+pub fn recover_file<R: Files<File = File> + AllocGlobal, O: Write, E: Write>(
+    rt: &R,
+    device: &str,
+    out: &mut O,
+    err: &mut E,
+) -> u8 {
+    match FileDisk::open(rt, device) {
+        Ok(mut disk) => recover_on(rt.alloc(), &mut disk, out, err),
+        Err(_) => refuse(err, Refusal::ReadFailed),
+    }
+}
+
+/// `tpnet show`, on a device's file.
+pub fn show_file<R: Files<File = File> + AllocGlobal, O: Write, E: Write>(
+    rt: &R,
+    device: &str,
+    out: &mut O,
+    err: &mut E,
+) -> u8 {
+    match FileDisk::open(rt, device) {
+        Ok(mut disk) => show_on(rt.alloc(), &mut disk, out, err),
+        Err(_) => refuse(err, Refusal::ReadFailed),
     }
 }

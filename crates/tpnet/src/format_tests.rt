@@ -14,7 +14,7 @@ use std::test::Fail;
 use tp_disk::{Fault, MemDisk};
 use tp_net::Topology;
 
-const AREA: u64 = 16_384;
+pub(crate) const AREA: u64 = 16_384;
 
 /// The least area for one node of four pages and one port.
 const LEAST: u64 = 13_034;
@@ -23,15 +23,15 @@ const TEXT: &[u8] = b"node a 4\nport h\nwire a.0 h\n";
 
 /// What came of a format: the status, the device's bytes, and both outputs.
 #[derive(Drop)]
-struct Made {
-    status: u8,
-    bytes: Vec<u8>,
+pub(crate) struct Made {
+    pub(crate) status: u8,
+    pub(crate) bytes: Vec<u8>,
     out: Vec<u8>,
     err: Vec<u8>,
 }
 
 /// Formats a device in memory.
-fn format_in_memory(
+pub(crate) fn format_in_memory(
     alloc: Global,
     disk: MemDisk,
     images: &[Vec<u8>],
@@ -66,7 +66,7 @@ fn part(bytes: &[u8], at: usize, count: usize) -> &[u8] {
 }
 
 /// One image, in a list.
-fn images_of(alloc: Global, image: Vec<u8>) -> Result<Vec<Vec<u8>>, Fail> {
+pub(crate) fn images_of(alloc: Global, image: Vec<u8>) -> Result<Vec<Vec<u8>>, Fail> {
     let mut images = Vec::new(alloc);
     images.push(image)?;
     Ok(images)

@@ -7,13 +7,16 @@ mod files;
 #[cfg(test)]
 mod format_tests;
 mod formatting;
+mod opening;
+#[cfg(test)]
+mod opening_tests;
 mod refusal;
 mod shown;
 #[cfg(test)]
 mod tests;
 
 use args::{Asked, read_args};
-use files::{format_file, try_file};
+use files::{format_file, recover_file, show_file, try_file};
 use std::env;
 use std::io::Write;
 use std::process::ExitCode;
@@ -40,6 +43,8 @@ fn main(rt: HostRuntime) -> ExitCode {
     let status = match &asked {
         Asked::Try { image, turns } => { try_file(&rt, image.as_str(), *turns, &mut out, &mut err) }
         Asked::Format(wanted) => format_file(&rt, wanted, &mut out, &mut err),
+        Asked::Recover { device } => recover_file(&rt, device.as_str(), &mut out, &mut err),
+        Asked::Show { device } => show_file(&rt, device.as_str(), &mut out, &mut err),
     };
     ExitCode::from(status)
 }

@@ -2,7 +2,8 @@
 
 use std::fmt;
 use tp_area::FormatFault;
-use tp_model::NetFault;
+use tp_model::{NetFault, OpenFault};
+use tp_open::Unopened;
 
 /// The program then ends with status 1 and this name on standard error.
 #[derive(Clone, Copy, Debug, PartialEq, Eq)]
@@ -23,6 +24,14 @@ pub enum Refusal {
     UnknownNode,
     /// There are more nodes or ports than a network may have.
     TooMany,
+    /// The file isn't a device.
+    NotFormatted,
+    /// The device is of a version that isn't known.
+    BadVersion,
+    /// No area of the device is open.
+    NoOpenArea,
+    /// The device's record at this place breaks a rule.
+    Damaged(u64),
     /// Memory was refused.
     Memory,
 }
@@ -38,6 +47,10 @@ impl fmt::Display for Refusal {
             Refusal::TwoWires => write!(f, "TwoWires"),
             Refusal::UnknownNode => write!(f, "UnknownNode"),
             Refusal::TooMany => write!(f, "TooMany"),
+            Refusal::NotFormatted => write!(f, "NotFormatted"),
+            Refusal::BadVersion => write!(f, "BadVersion"),
+            Refusal::NoOpenArea => write!(f, "NoOpenArea"),
+            Refusal::Damaged(at) => write!(f, "Damaged {at}"),
             Refusal::Memory => write!(f, "Memory"),
         }
     }
@@ -62,6 +75,19 @@ impl From<FormatFault> for Refusal {
             FormatFault::AreaFull => Refusal::AreaFull,
             FormatFault::Memory => Refusal::Memory,
             FormatFault::BadImage => Refusal::BadImage,
+        }
+    }
+}
+
+impl From<Unopened> for Refusal {
+    fn from(unopened: Unopened) -> Refusal {
+        match unopened {
+            Unopened::Fault(OpenFault::NotFormatted) => Refusal::NotFormatted,
+            Unopened::Fault(OpenFault::BadVersion) => Refusal::BadVersion,
+            Unopened::Fault(OpenFault::NoOpenArea) => Refusal::NoOpenArea,
+            Unopened::Fault(OpenFault::Damaged(at)) => Refusal::Damaged(at),
+            Unopened::ReadFailed => Refusal::ReadFailed,
+            Unopened::Memory => Refusal::Memory,
         }
     }
 }
