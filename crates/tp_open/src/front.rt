@@ -6,7 +6,7 @@ ghost use Rattle.tp_model.specs.DiskHistory.{Counts};
 ghost use Rattle.tp_model.specs.Journal.{cut_length};
 ghost use Rattle.tp_model.specs.Topology.{Topology};
 ghost use Rattle.tp_open.specs.Fronts.{front_given};
-ghost use Rattle.tp_open.specs.Reading.{has_read, Answers, IsKept};
+ghost use Rattle.tp_open.specs.Reading.{has_read, Answers, IsKept, TakesNone};
 
 use crate::choice::area_start;
 use crate::device::read_array;
@@ -41,6 +41,7 @@ fn front_of(bytes: &[u8], wanted: u64, at: u64) -> Result<CutFront, OpenFault>
 /// Reads the fields in front of an area's node images.
 pub fn read_front<D: Disk>(disk: &mut D, head: &Head, second: bool) -> Result<CutFront, Unopened>
     requires { HEAD_BYTES + 2 * head.now.area ≤ D.size_of disk.old }
+    ensures takes_none { TakesNone result }
     ensures counts { Counts (has_read result) (D.size_of disk.old) (D.size_of disk.new) (D.failures_of disk.old) (D.failures_of disk.new) }
     ensures kept { D.keeps → IsKept result (D.state disk.old).now (D.state disk.new).now }
     ensures is { D.keeps → Answers (λ front. front) (front_given head.now.topology (area_start head.now.area second) (content_of head.now.area second (D.state disk.old).now.bytes)) result }
