@@ -14,6 +14,7 @@ mod LineEnds
 pub mod CutsAreFlat
 pub mod CutsAreSound
 pub mod HeldPorts
+pub mod OpenedAreas
 pub mod PartsAgain
 pub mod ReplayedCuts
 pub mod UnmarkedLines
