@@ -9,6 +9,7 @@ pub mod Parts
 pub mod Passing
 pub mod Ports
 pub mod Records
+mod ReadParts
 pub mod Room
 pub mod SameBytes
 pub mod Topologies
