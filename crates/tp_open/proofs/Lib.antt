@@ -9,7 +9,10 @@ pub mod Parts
 pub mod Passing
 pub mod Ports
 pub mod Records
+mod Leading
 mod ReadParts
+mod Starts
+mod Openings
 pub mod Room
 pub mod SameBytes
 pub mod Topologies
