@@ -1,20 +1,23 @@
 -- A network that a cut image can hold can be replayed from.
-use Rattle.std.proofs.Common.{◌≡◌, ℕ, zero, suc, ◌+◌, ◌<◌, ◌≤◌, true, List, [], ◌∷◌, length, subst, ◌∙◌, arith, Some, slice_get, Ok}
-use Rattle.std.specs.Prelude.{◌&&◌, nat_le}
+use Rattle.std.proofs.Common.{◌≡◌, ℕ, zero, suc, ◌+◌, ◌<◌, ◌≤◌, inl, inr, true, List, [], ◌∷◌, length, take, drop, subst, ◌∙◌, arith, length-drop, length-take, Some, slice_get, Ok}
+use Rattle.std.specs.Prelude.{◌==◌, ◌&&◌, nat_le}
 use Rattle.std.specs.List.{AllByRecursion}
-use Rattle.std.proofs.lemmas.Bool.{and_parts, leb-true}
-use Rattle.tp_model.specs.declared.limits.TheConstants.{MAX_HELD, NUMBER_LIMIT}
+use Rattle.std.proofs.lemmas.Bool.{and_parts, leb-true, cases_lt}
+use Rattle.tp_model.specs.declared.limits.TheConstants.{MAX_HELD, NUMBER_LIMIT, IMAGE_HEAD_BYTES}
 use Rattle.tp_model.specs.NodeState.{NodeState}
 use Rattle.tp_model.specs.Node.{t414_ends}
-use Rattle.tp_model.specs.Image.{IsNode}
+use Rattle.tp_model.specs.Image.{page_count, node_of, IsNode}
 use Rattle.tp_model.specs.Network.{Port, Network}
 use Rattle.tp_model.specs.Sound.{Ends}
-use Rattle.tp_model.specs.Topology.{Topology, is_topology}
-use Rattle.tp_model.specs.CutImage.{is_port_of}
+use Rattle.tp_model.specs.Topology.{Topology, node_count, is_topology}
+use Rattle.tp_model.specs.Journal.{image_length}
+use Rattle.tp_model.specs.CutImage.{is_port_of, node_with, or_damaged, nodes_in}
 use Rattle.tp_model.specs.Spelling.{IsCut}
-use Rattle.tp_model.specs.Opening.{base_of, has_front, cut_in}
+use Rattle.tp_model.specs.Opening.{base_of, has_front, nodes_place, cut_in}
 use Rattle.tp_laws.proofs.Numbers.{AreBytes}
+use Rattle.tp_areas.proofs.Faults.{bind_ok, or_damaged_ok, tested}
 use Rattle.tp_areas.proofs.ReadCuts.{cut_read}
+use Rattle.tp_node.proofs.Images.{node_of-short}
 use Rattle.tp_book.specs.Kept.{IsCounted, AreCounted}
 use Rattle.tp_replay.specs.Flat.{IsFlat}
 use Rattle.tp_replay.proofs.Imaged.{image_inside}
@@ -78,11 +81,31 @@ cut_held E t base s C p port at = (cut_ports E t base s C p port at).held
 
 -- ## A cut that was read
 
+-- there is an image to read
+images_long : (at : ℕ) (pages xs : List ℕ) (nodes : List NodeState) → 1 ≤ length pages → nodes_in at pages xs ≡ Ok nodes → IMAGE_HEAD_BYTES ≤ length xs
+unfolding nodes_in
+images_long at [] xs nodes some is = absurd (omega (arith, some))
+images_long at (pages ∷ more) xs nodes some is =
+    let long = image_length pages in
+    let first = bind_ok (or_damaged at (node_with pages xs)) _ nodes is in
+    let found = tested (λ n. page_count n.memory == pages) (node_of (take long xs)) first.0 (or_damaged_ok at (node_with pages xs) first.0 first.1) in
+    elim (cases_lt (length (take long xs)) IMAGE_HEAD_BYTES) [
+      | inl short ↦ let none = node_of-short (take long xs) short in let one = found.0 in absurd (cc)
+      | inr whole ↦ omega (arith, whole, length-take long xs)
+    ]
+
+read_long : (E : Ends NodeState) (t : Topology) (at : ℕ) (content : List ℕ) (s : Network NodeState) → 1 ≤ node_count t → cut_in E t at content ≡ Ok s → 20 ≤ length content
+unfolding cut_in
+read_long E t at content s some is =
+    let first = bind_ok (nodes_in (at + nodes_place) t.pages (drop nodes_place content)) _ s is in
+    omega (arith, images_long (at + nodes_place) t.pages (drop nodes_place content) first.0 some first.1, length-drop nodes_place content)
+
 -- The network that is read as a cut, where the fields in front of it are right.
-pub read_is_cut : (E : Ends NodeState) (t : Topology) (at : ℕ) (content : List ℕ) (s : Network NodeState) → is_topology t ≡ true → AreBytes content → 20 ≤ length content
+pub read_is_cut : (E : Ends NodeState) (t : Topology) (at : ℕ) (content : List ℕ) (s : Network NodeState) → is_topology t ≡ true → AreBytes content
     → has_front t content ≡ true → cut_in E t at content ≡ Ok s → IsCut E t (base_of content) s
-read_is_cut E t at content s topology bytes long front is =
-    (cut_read E t at content s (has_shape t topology).lines bytes long front is).cut
+read_is_cut E t at content s topology bytes front is =
+    let shape = has_shape t topology in
+    (cut_read E t at content s shape.lines bytes (read_long E t at content s shape.some_nodes is) front is).cut
 
 -- It can be replayed from, and each of its ports has counted no more than its entries.
 pub record CanReplay (base : ℕ) (s : Network NodeState) : Type 0 where
@@ -90,8 +113,8 @@ pub record CanReplay (base : ℕ) (s : Network NodeState) : Type 0 where
   pub counted : AreCounted base s.ports
   pub few : base < NUMBER_LIMIT
 
-pub read_can_replay : (t : Topology) (at : ℕ) (content : List ℕ) (s : Network NodeState) → is_topology t ≡ true → AreBytes content → 20 ≤ length content
+pub read_can_replay : (t : Topology) (at : ℕ) (content : List ℕ) (s : Network NodeState) → is_topology t ≡ true → AreBytes content
     → has_front t content ≡ true → cut_in t414_ends t at content ≡ Ok s → CanReplay (base_of content) s
-read_can_replay t at content s topology bytes long front is =
-    let C = read_is_cut t414_ends t at content s topology bytes long front is in
+read_can_replay t at content s topology bytes front is =
+    let C = read_is_cut t414_ends t at content s topology bytes front is in
     record { flat = cut_flat t (base_of content) s topology C; counted = cut_counted t414_ends t (base_of content) s C; few = C.base_fits }

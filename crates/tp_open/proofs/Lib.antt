@@ -9,6 +9,10 @@ pub mod Parts
 pub mod Passing
 pub mod Ports
 pub mod Records
+mod Leading
+mod ReadParts
+mod Starts
+mod Openings
 pub mod Room
 pub mod SameBytes
 pub mod Topologies
@@ -16,6 +20,7 @@ pub mod Wires
 pub mod CutsAreFlat
 pub mod CutsAreSound
 pub mod HeldPorts
+pub mod OpenedAreas
 pub mod PartsAgain
 pub mod ReplayedCuts
 pub mod UnmarkedLines

@@ -4,6 +4,8 @@ pub mod Fronts
 pub mod Heads
 pub mod Lines
 pub mod Nodes
+pub mod Opens
 pub mod Parts
 pub mod Ports
 pub mod Reading
+pub mod Starts

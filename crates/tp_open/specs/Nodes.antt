@@ -1,5 +1,7 @@
 -- Nodes that were read.
-use Rattle.std.specs.Prelude.{◌≡◌, List, [], ◌∷◌, None}
+use Rattle.std.specs.Prelude.{◌≡◌, ℕ, List, [], ◌∷◌, None, map}
+use Rattle.std.specs.List.{AllByRecursion}
+use Rattle.tp_model.specs.Image.{page_count, IsNode}
 use Rattle.tp_model.specs.NodeState.{NodeState}
 use Rattle.tp_node.specs.NodeContents.{NodeContents}
 
@@ -10,3 +12,13 @@ live node = node.live
 abbrev pub AreThawed : List NodeContents → Type 0
 AreThawed [] = Unit {0}
 AreThawed (node ∷ nodes) = (node.frozen ≡ None) × AreThawed nodes
+
+-- it has an image, and so many pages
+pub record HasImage (pages : ℕ) (node : NodeState) : Type 0 where
+  pub image : IsNode node
+  pub count : page_count node.memory ≡ pages
+
+-- each has an image, and so many pages each
+pub record HaveImages (pages : List ℕ) (nodes : List NodeState) : Type 0 where
+  pub images : AllByRecursion IsNode nodes
+  pub counts : map (λ n. page_count n.memory) nodes ≡ pages

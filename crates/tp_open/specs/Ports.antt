@@ -1,8 +1,9 @@
 -- The record of a port, of which nothing is claimed.
-use Rattle.std.specs.Prelude.{ℕ, ◌+◌, ◌-◌, Bool, ◌&&◌, ◌==◌, nat_le, List, take, drop, bytes_eq}
-use Rattle.std.specs.List.{list_all}
+use Rattle.std.specs.Prelude.{◌≡◌, true, ℕ, ◌+◌, ◌-◌, Bool, ◌&&◌, ◌==◌, nat_le, List, take, drop, bytes_eq}
+use Rattle.std.specs.List.{list_all, AllByRecursion}
 use Rattle.tp_model.specs.declared.limits.TheConstants.{MAX_HELD, PORT_BYTES}
 use Rattle.tp_model.specs.Bytes.{u64_at}
+use Rattle.tp_model.specs.Network.{Port}
 use Rattle.tp_model.specs.CutImage.{is_port_of, port_at, port_bytes}
 
 -- a record stands in front of these bytes, of a port of a cut of so many entries
@@ -18,3 +19,7 @@ keeps_rules base held shown bytes =
     list_all is_zero (take (MAX_HELD - held) (drop (20 + held) bytes))
     && (list_all is_zero (drop (20 + MAX_HELD + shown) bytes)
     && (nat_le (u64_at bytes 0) base && nat_le (u64_at bytes 8 + shown) base))
+
+-- each is a port of a cut of so many entries
+abbrev pub ArePorts : ℕ → List Port → Type 0
+ArePorts base ports = AllByRecursion (λ port. is_port_of base port ≡ true) ports

@@ -29,3 +29,10 @@ Answers view given (Err Memory) = Unit {0}
 -- a value that stands there whatever the bytes are
 abbrev pub found : {A : Type 0} → A → Result A OpenFault
 found x = Ok x
+
+-- memory was not wanting, since none is taken
+abbrev pub TakesNone : {A : Type 0} → Result A Unopened → Type 0
+TakesNone (Ok x) = Unit {0}
+TakesNone (Err (Fault fault)) = Unit {0}
+TakesNone (Err ReadFailed) = Unit {0}
+TakesNone (Err Memory) = ⊥

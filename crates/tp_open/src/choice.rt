@@ -4,7 +4,7 @@ ghost use Rattle.std.specs.Prelude.{◌≡◌, ◌+◌, ◌*◌, ◌^◌, ◌<�
 ghost use Rattle.tp_model.specs.DiskHistory.{Counts};
 ghost use Rattle.tp_model.specs.Device.{area_start};
 ghost use Rattle.tp_model.specs.Opening.{choice, chosen_area};
-ghost use Rattle.tp_open.specs.Reading.{has_read, found, Answers, IsKept};
+ghost use Rattle.tp_open.specs.Reading.{has_read, found, Answers, IsKept, TakesNone};
 ghost use Rattle.tp_open.specs.Fronts.{area_front};
 
 use crate::device::read_array;
@@ -35,6 +35,7 @@ pub(crate) fn area_start(area: u64, second: bool) -> u64
 
 fn read_area_front<D: Disk>(disk: &mut D, start: u64) -> Result<AreaFront, Unopened>
     requires { start + 9 ≤ D.size_of disk.old }
+    ensures takes_none { TakesNone result }
     ensures counts { Counts (has_read result) (D.size_of disk.old) (D.size_of disk.new) (D.failures_of disk.old) (D.failures_of disk.new) }
     ensures kept { D.keeps → IsKept result (D.state disk.old).now (D.state disk.new).now }
     ensures is { D.keeps → Answers (λ front. front) (found (area_front start (D.state disk.old).now.bytes)) result }
@@ -73,6 +74,7 @@ pub fn read_choice<D: Disk>(disk: &mut D, area: u64) -> Result<bool, Unopened>
     requires some { 9 ≤ area }
     requires inside { HEAD_BYTES + 2 * area ≤ D.size_of disk.old }
     requires counted { HEAD_BYTES + area < 2 ^ 64 }
+    ensures takes_none { TakesNone result }
     ensures counts { Counts (has_read result) (D.size_of disk.old) (D.size_of disk.new) (D.failures_of disk.old) (D.failures_of disk.new) }
     ensures kept { D.keeps → IsKept result (D.state disk.old).now (D.state disk.new).now }
     ensures is { D.keeps → Answers (λ second. second) (chosen_area area (D.state disk.old).now.bytes) result }

@@ -1,16 +1,20 @@
 //! The cut of an area.
 
-ghost use Rattle.std.specs.Prelude.{◌≡◌, ◌+◌, ◌*◌, ◌≤◌, ◌<◌, ◌^◌, ℕ, Ok, IfOk, map, length, sum_by};
+ghost use Rattle.std.specs.Prelude.{◌≡◌, ◌+◌, ◌*◌, ◌≤◌, ◌<◌, ◌^◌, ℕ, true, Ok, IfOk, map, length, sum_by};
 ghost use Rattle.tp_model.specs.Device.{area_start, content_of};
 ghost use Rattle.tp_model.specs.DiskHistory.{Counts};
 ghost use Rattle.tp_model.specs.Flight.{flights_in};
 ghost use Rattle.tp_model.specs.Journal.{image_length};
 ghost use Rattle.tp_model.specs.Node.{t414_ends};
 ghost use Rattle.tp_model.specs.Opening.{base_of, cut_in, lines_place, nodes_place, ports_place};
+ghost use Rattle.tp_model.specs.Spelling.{are_lines, IsCut};
 ghost use Rattle.tp_model.specs.Topology.{line_count};
+ghost use Rattle.tp_model.specs.declared.limits.TheConstants.{NUMBER_LIMIT};
+ghost use Rattle.tp_book.specs.Parts.{port_of};
 ghost use Rattle.tp_open.specs.Cuts.{cut_network, records_at};
 ghost use Rattle.tp_open.specs.Lines.{tokens_on};
-ghost use Rattle.tp_open.specs.Nodes.{AreThawed};
+ghost use Rattle.tp_open.specs.Nodes.{live, AreThawed, HaveImages};
+ghost use Rattle.tp_open.specs.Ports.{ArePorts};
 ghost use Rattle.tp_open.specs.Reading.{has_read, Answers, IsKept};
 
 use crate::choice::area_start;
@@ -112,6 +116,9 @@ fn read_records<D: Disk>(
     ensures nodes { IfOk result (λ cut. length cut.nodes.items ≡ length pages.now) }
     ensures ports { IfOk result (λ cut. length cut.ports.items ≡ ports) }
     ensures thawed { IfOk result (λ cut. AreThawed cut.nodes.items) }
+    ensures images { IfOk result (λ cut. HaveImages pages.now (map live cut.nodes.items)) }
+    ensures lines { IfOk result (λ cut. are_lines wires.now (map (λ line. line.items) cut.lines.items) ≡ true) }
+    ensures reached { IfOk result (λ cut. ArePorts base (map port_of cut.ports.items)) }
     ensures is { D.keeps → Answers (cut_network wires.now) (records_at pages.now wires.now ports base places (D.state disk.old).now.bytes) result }
 {
     let nodes = read_nodes(alloc, disk, places.nodes, pages)?;
@@ -160,6 +167,7 @@ pub fn read_cut<D: Disk>(
     ensures nodes { IfOk result (λ cut. length cut.nodes.items ≡ length head.now.topology.pages) }
     ensures ports { IfOk result (λ cut. length cut.ports.items ≡ head.now.topology.ports) }
     ensures sound { IfOk result (λ cut. (at : ℕ) × (flights_in t414_ends (cut_network head.now.topology.wires cut) at 0 (line_count head.now.topology) ≡ Ok tt)) }
+    ensures cut { base < NUMBER_LIMIT → IfOk result (λ cut. IsCut t414_ends head.now.topology base (cut_network head.now.topology.wires cut)) }
     ensures thawed { IfOk result (λ cut. AreThawed cut.nodes.items) }
     ensures is { D.keeps → base ≡ base_of (content_of head.now.area second (D.state disk.old).now.bytes)
         → Answers (cut_network head.now.topology.wires) (cut_in t414_ends head.now.topology (area_start head.now.area second + 1) (content_of head.now.area second (D.state disk.old).now.bytes)) result }

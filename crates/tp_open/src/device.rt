@@ -2,7 +2,7 @@
 
 ghost use Rattle.std.specs.Prelude.{◌≡◌, ◌+◌, ◌≤◌, length, take, drop, IfOk};
 ghost use Rattle.tp_model.specs.DiskHistory.{Counts};
-ghost use Rattle.tp_open.specs.Reading.{has_read, found, Answers, IsKept};
+ghost use Rattle.tp_open.specs.Reading.{has_read, found, Answers, IsKept, TakesNone};
 
 use crate::unopened::Unopened;
 use std::alloc::Global;
@@ -14,6 +14,7 @@ pub(crate) fn read_array<D: Disk, const N: usize>(
     at: u64,
 ) -> Result<[u8; N], Unopened>
     requires { at + N ≤ D.size_of disk.old }
+    ensures takes_none { TakesNone result }
     ensures counts { Counts (has_read result) (D.size_of disk.old) (D.size_of disk.new) (D.failures_of disk.old) (D.failures_of disk.new) }
     ensures kept { D.keeps → IsKept result (D.state disk.old).now (D.state disk.new).now }
     ensures bytes { D.keeps → Answers (λ bytes. bytes) (found (take N (drop at (D.state disk.old).now.bytes))) result }

@@ -8,7 +8,7 @@ ghost use Rattle.tp_model.specs.Device.{fits};
 ghost use Rattle.tp_model.specs.Journal.{is_roomy, reserve};
 ghost use Rattle.tp_model.specs.Topology.{end_of, is_topology};
 ghost use Rattle.tp_model.specs.DiskHistory.{Counts};
-ghost use Rattle.tp_open.specs.Reading.{has_read, Answers, IsKept};
+ghost use Rattle.tp_open.specs.Reading.{has_read, Answers, IsKept, TakesNone};
 ghost use Rattle.tp_open.specs.Heads.{fields_in, head_in, is_whole};
 
 use crate::device::read_array;
@@ -269,6 +269,7 @@ pub fn head_in(bytes: &[u8], len: u64) -> Result<Head, OpenFault>
 
 /// Reads the head of a device.
 pub fn read_head<D: Disk>(disk: &mut D) -> Result<Head, Unopened>
+    ensures takes_none { TakesNone result }
     ensures counts { Counts (has_read result) (D.size_of disk.old) (D.size_of disk.new) (D.failures_of disk.old) (D.failures_of disk.new) }
     ensures kept { D.keeps → IsKept result (D.state disk.old).now (D.state disk.new).now }
     ensures inside { IfOk result (λ head. HEAD_BYTES + 2 * head.area ≤ D.size_of disk.old) }

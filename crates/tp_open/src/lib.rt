@@ -11,8 +11,10 @@ mod head;
 mod line;
 mod node;
 mod number;
+mod opening;
 mod port;
 mod spelling;
+mod start;
 mod topology;
 mod unopened;
 
@@ -22,6 +24,7 @@ pub use front::{CutFront, read_front};
 pub use groups::replay_area;
 pub use head::{Head, head_in, read_head};
 pub use line::LineTokens;
+pub use opening::{Opened, open};
 pub use spelling::head_bytes;
 pub use topology::{MAX_LINES, Topology};
 pub use unopened::Unopened;

@@ -1,9 +1,10 @@
 //! The lines of a cut.
 
-ghost use Rattle.std.specs.Prelude.{◌≡◌, ◌*◌, ◌+◌, ◌<◌, ◌≤◌, ◌^◌, true, map, length, drop};
+ghost use Rattle.std.specs.Prelude.{◌≡◌, ◌*◌, ◌+◌, ◌<◌, ◌≤◌, ◌^◌, true, map, length, drop, IfOk};
 ghost use Rattle.std.specs.Option.{option_map};
 ghost use Rattle.tp_model.specs.DiskHistory.{Counts};
 ghost use Rattle.tp_model.specs.CutImage.{is_line_of, line_bytes, line_with, lines_in, tokens_of};
+ghost use Rattle.tp_model.specs.Spelling.{are_lines};
 ghost use Rattle.tp_model.specs.declared.opening.OpenFault.{OpenFault};
 ghost use Rattle.tp_open.specs.declared.unopened.Unopened.{Unopened};
 ghost use Rattle.tp_open.specs.Lines.{tokens_on};
@@ -86,6 +87,7 @@ pub(crate) fn lines_in(
     requires whole { length bytes.now ≡ LINE_BYTES * length wires.now }
     requires there { at + LINE_BYTES * length wires.now < 2 ^ 64 }
     ensures read { has_read result ≡ true }
+    ensures lines { IfOk result (λ lines. are_lines wires.now (map tokens_on lines.items) ≡ true) }
     ensures is { Answers (λ lines. map tokens_on lines.items) (lines_in at wires.now bytes.now) result }
 {
     let mut lines = Vec::new(alloc);
@@ -123,6 +125,7 @@ pub(crate) fn read_lines<D: Disk>(
     requires counted { at + LINE_BYTES * length wires.now < 2 ^ 64 }
     ensures counts { Counts (has_read result) (D.size_of disk.old) (D.size_of disk.new) (D.failures_of disk.old) (D.failures_of disk.new) }
     ensures kept { D.keeps → IsKept result (D.state disk.old).now (D.state disk.new).now }
+    ensures lines { IfOk result (λ lines. are_lines wires.now (map tokens_on lines.items) ≡ true) }
     ensures is { D.keeps → Answers (λ lines. map tokens_on lines.items) (lines_in at wires.now (drop at (D.state disk.old).now.bytes)) result }
 {
     let bytes = read_bytes(alloc, disk, at, LINE_BYTES * wires.len())?;

@@ -4,7 +4,7 @@ ghost use Rattle.std.specs.Prelude.{◌≡◌, ◌+◌, ◌≤◌, ◌<◌, ◌^
 ghost use Rattle.tp_model.specs.CutImage.{node_with, nodes_in, or_damaged};
 ghost use Rattle.tp_model.specs.DiskHistory.{Counts};
 ghost use Rattle.tp_model.specs.Journal.{image_length};
-ghost use Rattle.tp_open.specs.Nodes.{live, AreThawed};
+ghost use Rattle.tp_open.specs.Nodes.{live, AreThawed, HasImage, HaveImages};
 ghost use Rattle.tp_open.specs.Reading.{has_read, Answers, IsKept};
 
 use crate::device::read_bytes;
@@ -20,6 +20,7 @@ fn node_in(alloc: Global, at: u64, pages: u16, bytes: &[u8]) -> Result<Node, Uno
     requires { length bytes.now ≡ image_length pages }
     ensures read { has_read result ≡ true }
     ensures thawed { IfOk result (λ node. node.frozen ≡ None) }
+    ensures image { IfOk result (λ node. HasImage pages node.live) }
     ensures is { Answers live (or_damaged at (node_with pages bytes.now)) result }
 {
     match Node::from_image(alloc, bytes, usize::from(pages)) {
@@ -35,6 +36,7 @@ fn read_node<D: Disk>(alloc: Global, disk: &mut D, at: u64, pages: u16) -> Resul
     ensures counts { Counts (has_read result) (D.size_of disk.old) (D.size_of disk.new) (D.failures_of disk.old) (D.failures_of disk.new) }
     ensures kept { D.keeps → IsKept result (D.state disk.old).now (D.state disk.new).now }
     ensures thawed { IfOk result (λ node. node.frozen ≡ None) }
+    ensures image { IfOk result (λ node. HasImage pages node.live) }
     ensures is { D.keeps → Answers live (or_damaged at (node_with pages (drop at (D.state disk.old).now.bytes))) result }
 {
     let bytes = read_bytes(alloc, disk, at, image_length(pages))?;
@@ -54,6 +56,7 @@ pub(crate) fn read_nodes<D: Disk>(
     ensures kept { D.keeps → IsKept result (D.state disk.old).now (D.state disk.new).now }
     ensures len { IfOk result (λ nodes. length nodes.items ≡ length pages.now) }
     ensures thawed { IfOk result (λ nodes. AreThawed nodes.items) }
+    ensures images { IfOk result (λ nodes. HaveImages pages.now (map live nodes.items)) }
     ensures is { D.keeps → Answers (λ nodes. map live nodes.items) (nodes_in at pages.now (drop at (D.state disk.old).now.bytes)) result }
 {
     let mut nodes = Vec::new(alloc);

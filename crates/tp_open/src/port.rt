@@ -1,13 +1,13 @@
 //! The ports of a cut.
 
-ghost use Rattle.std.specs.Prelude.{◌≡◌, ◌*◌, ◌+◌, ◌≤◌, ◌<◌, ◌^◌, ◌&&◌, IfOk, map, length, take, drop, nat_le};
+ghost use Rattle.std.specs.Prelude.{◌≡◌, true, ◌*◌, ◌+◌, ◌≤◌, ◌<◌, ◌^◌, ◌&&◌, IfOk, map, length, take, drop, nat_le};
 ghost use Rattle.std.specs.List.{list_all};
 ghost use Rattle.std.specs.Option.{option_map};
 ghost use Rattle.tp_book.specs.Parts.{port_of};
 ghost use Rattle.tp_model.specs.Bytes.{u64_at};
-ghost use Rattle.tp_model.specs.CutImage.{or_damaged, port_with, ports_in};
+ghost use Rattle.tp_model.specs.CutImage.{is_port_of, or_damaged, port_with, ports_in};
 ghost use Rattle.tp_model.specs.DiskHistory.{Counts};
-ghost use Rattle.tp_open.specs.Ports.{is_port_at, is_zero, keeps_rules};
+ghost use Rattle.tp_open.specs.Ports.{ArePorts, is_port_at, is_zero, keeps_rules};
 ghost use Rattle.tp_open.specs.Reading.{has_read, Answers, IsKept};
 
 use crate::device::read_bytes;
@@ -114,6 +114,7 @@ fn read_port<D: Disk>(
     requires { at + PORT_BYTES ≤ D.size_of disk.old }
     ensures counts { Counts (has_read result) (D.size_of disk.old) (D.size_of disk.new) (D.failures_of disk.old) (D.failures_of disk.new) }
     ensures kept { D.keeps → IsKept result (D.state disk.old).now (D.state disk.new).now }
+    ensures port { IfOk result (λ port. is_port_of base (port_of port) ≡ true) }
     ensures is { D.keeps → Answers port_of (or_damaged at (port_with base (drop at (D.state disk.old).now.bytes))) result }
 {
     let bytes = read_bytes(alloc, disk, at, PORT_BYTES)?;
@@ -137,6 +138,7 @@ pub(crate) fn read_ports<D: Disk>(
     ensures counts { Counts (has_read result) (D.size_of disk.old) (D.size_of disk.new) (D.failures_of disk.old) (D.failures_of disk.new) }
     ensures kept { D.keeps → IsKept result (D.state disk.old).now (D.state disk.new).now }
     ensures len { IfOk result (λ ports. length ports.items ≡ count) }
+    ensures ports { IfOk result (λ ports. ArePorts base (map port_of ports.items)) }
     ensures is { D.keeps → Answers (λ ports. map port_of ports.items) (ports_in base at count (drop at (D.state disk.old).now.bytes)) result }
 {
     let mut ports = Vec::new(alloc);

@@ -1,4 +1,7 @@
-use Rattle.std.proofs.Common.{◌≡◌, ◌+◌, ◌∙◌, ap, sym, subst, arith, rules, length, true, Ok, Err}
+use Rattle.std.proofs.Common.{◌≡◌, ◌+◌, ◌∙◌, ap, sym, subst, arith, rules, length, map, true, Ok, Err}
+use Rattle.tp_model.specs.Spelling.{are_lines}
+use Rattle.tp_book.specs.Parts.{port_of}
+use Rattle.std.proofs.lemmas.List.{length-map}
 use Rattle.tp_model.specs.Device.{area_start, content_of}
 use Rattle.tp_model.specs.Flight.{flights_in}
 use Rattle.tp_model.specs.Node.{t414_ends}
@@ -7,6 +10,8 @@ use Rattle.tp_model.specs.Results.{◌>>=◌}
 use Rattle.tp_model.specs.Topology.{is_topology, line_count}
 use Rattle.tp_open.specs.Cuts.{cut_network, records_at}
 use Rattle.tp_open.proofs.Cuts.{cut_in-records, cut_ok, cut_fault, cut_error, tested}
+use Rattle.tp_open.specs.Nodes.{live, HaveImages}
+use Rattle.tp_open.proofs.ReadParts.{parts_cut}
 use Rattle.tp_open.proofs.Room.{area_room}
 use Rattle.tp_open.proofs.Topologies.{HasShape, has_shape}
 use Rattle.tp_open.proofs.cut.read_cut.Given as given
@@ -106,3 +111,19 @@ returns-in-Ok-clause-sound g c =
           ∙ ap (λ ws. flights_in t414_ends (cut_network ws c.in_ok-cut.cut) c.of-places.result.lines 0 (length ws)) (sym wires)
           ∙ sym c.check_flights.ensures ∙ c.in-Ok.is,
     )
+
+pub returns-in-Ok-clause-cut : goal.returns-in-Ok-clause-cut
+returns-in-Ok-clause-cut g c few =
+    let t = c.args.head.now.topology in
+    let shape = has_shape t c.topology-topology.ensures.valid in
+    let wires = wires_are g (goal.at.returns-in-Ok-clause-cut g c).After-wires-2 in
+    let cut = c.in_ok-cut.cut in
+    parts_cut t414_ends t c.args.base c.of-places.result.lines (map live cut.nodes.items) (map (λ line. line.items) cut.lines.items) (map port_of cut.ports.items)
+    (subst (λ pages. HaveImages pages (map live cut.nodes.items)) (c.pages.ensures.value ∙ ap (λ s. s.pages) c.topology-topology.ensures.value) c.in_ok-cut.ensures.images)
+    (ap (λ ws. are_lines ws (map (λ line. line.items) cut.lines.items)) (sym wires.0) ∙ c.in_ok-cut.ensures.lines)
+    (length-map cut.ports.items port_of ∙ c.in_ok-cut.ensures.ports ∙ c.ports.ensures ∙ ap (λ s. s.ports) c.topology-topology.ensures.value)
+    c.in_ok-cut.ensures.reached
+    (ap (λ n. flights_in t414_ends (cut_network t.wires cut) c.of-places.result.lines 0 n) (sym shape.lines)
+    ∙ ap (λ ws. flights_in t414_ends (cut_network ws cut) c.of-places.result.lines 0 (length ws)) (sym wires.1)
+    ∙ sym c.check_flights.ensures ∙ c.in-Ok.is)
+    few

@@ -1,5 +1,6 @@
 use Rattle.std.proofs.Common.{◌≡◌, ◌∙◌, ap, sym, rules, Err, Ok, drop, map}
 use Rattle.tp_model.specs.CutImage.{nodes_in, lines_in, ports_in}
+use Rattle.tp_model.specs.Spelling.{are_lines}
 use Rattle.tp_book.specs.Parts.{port_of}
 use Rattle.tp_open.specs.Cuts.{cut_network, wired}
 use Rattle.tp_open.specs.Lines.{tokens_on}
@@ -49,3 +50,7 @@ returns-in-Ok-clause-is g c k =
     (c.in_ok-nodes.ensures.is k)
     (sym (lines_then c.args.places.lines c.args.wires.now old then (c.in_ok-nodes.ensures.kept k)) ∙ c.in_ok-found.ensures.is k ∙ ap Ok (sym (c.in-Ok.ensures ∙ ap (map tokens_on) c.deref.ensures.value)))
     (sym (ports_then c.args.base c.args.places.ports c.args.ports old now (c.in_ok-found.ensures.kept k ∙ c.in_ok-nodes.ensures.kept k)) ∙ c.in_ok-ports.ensures.is k)
+
+pub returns-in-Ok-clause-lines : goal.returns-in-Ok-clause-lines
+returns-in-Ok-clause-lines g c =
+    ap (are_lines c.args.wires.now) (c.in-Ok.ensures ∙ ap (map tokens_on) c.deref.ensures.value) ∙ c.in_ok-found.ensures.lines

@@ -21,7 +21,7 @@ is_front g c k =
     front_given-read t (area_start area c.args.second) area c.args.second c.area_start-start.result xs c.in_ok-bytes.bytes
     (omega (arith, area_room t area c.area.ensures.roomy)) start (sym (found_is _ _ (c.in_ok-bytes.ensures.bytes k)))
     ∙ ap (λ s. front_given t s c.in_ok-bytes.bytes) (sym start)
-    ∙ sym (c.front_of.ensures t wanted)
+    ∙ sym (c.front_of.ensures.is t wanted)
 
 pub returns-in-Ok-clause-is : goal.returns-in-Ok-clause-is
 returns-in-Ok-clause-is g c k = is_front g (goal.at.returns-in-Ok-clause-is g c).After-front_of k ∙ c.in-Ok.is

@@ -1,4 +1,6 @@
-use Rattle.std.proofs.Common.{arith}
+use Rattle.std.proofs.Common.{arith, map}
+use Rattle.tp_areas.proofs.ReadCuts.{lines_read}
+use Rattle.tp_open.specs.Lines.{tokens_on}
 use Rattle.tp_open.proofs.Records.{lines_in-step, lines_in-fault, lines_in-end}
 use Rattle.tp_open.proofs.line.lines_in.Goals as goal
 
@@ -19,3 +21,8 @@ loop-line-preserved c = record {
 pub returns-clause-is : goal.returns-clause-is
 returns-clause-is c =
     lines_in-end c.args.at c.loop-line.line c.args.wires.now _ c.loop-line.rest.now c.loop-line.lines.items c.loop-line-test.false c.loop-line.invariant.read
+
+pub returns-clause-lines : goal.returns-clause-lines
+returns-clause-lines c =
+    (lines_read c.args.at c.args.wires.now c.args.bytes.now (map tokens_on c.loop-line.lines.items)
+    (lines_in-end c.args.at c.loop-line.line c.args.wires.now _ c.loop-line.rest.now c.loop-line.lines.items c.loop-line-test.false c.loop-line.invariant.read)).are_lines

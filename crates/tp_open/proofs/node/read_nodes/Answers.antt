@@ -2,6 +2,7 @@ use Rattle.std.proofs.Common.{◌≡◌, ◌+◌, ◌∙◌, ap, sym, arith, len
 use Rattle.std.proofs.lemmas.List.{length_push, map_push}
 use Rattle.tp_open.specs.Nodes.{live, AreThawed}
 use Rattle.tp_open.proofs.Nodes.{nodes_in-step, nodes_in-error, nodes_in-end, place_more, place_inside, thawed_push}
+use Rattle.tp_open.proofs.ReadParts.{imaged_more, imaged_all}
 use Rattle.tp_open.proofs.node.read_nodes.Goals as goal
 
 pub returns-in_err-read-clause-is : goal.returns-in_err-read-clause-is
@@ -24,6 +25,9 @@ loop-count-preserved g c = record {
   place = ap (λ n. c.loop-count.place + n) c.image_length.ensures ∙ place_more c.args.at c.loop-count.place c.loop-count.count-index c.args.pages.now c.loop-count-test.true c.loop-count.invariant.place;
   count = ap length c.in-Ok.ensures.items ∙ length_push c.loop-count.nodes.items c.in_ok-read.read ∙ ap (λ n. n + 1) c.loop-count.invariant.count;
   thawed = subst AreThawed (sym c.in-Ok.ensures.items) (thawed_push c.loop-count.nodes.items c.in_ok-read.read c.loop-count.invariant.thawed c.in_ok-read.ensures.thawed);
+  images =
+      imaged_more c.loop-count.count-index c.args.pages.now (map live c.loop-count.nodes.items) (map live c.push.new.self.items) (live c.in_ok-read.read) c.loop-count-test.true c.loop-count.invariant.images c.in_ok-read.ensures.image
+      (ap (map live) c.in-Ok.ensures.items ∙ map_push live c.loop-count.nodes.items c.in_ok-read.read);
   read = λ k.
       nodes_in-step c.args.at c.loop-count.place (c.loop-count.place + c.image_length.result) c.loop-count.count-index c.args.pages.now (g.D.Disk.state c.args.disk.now).now (g.D.Disk.state c.loop-count.disk).now
       (map live c.loop-count.nodes.items) (map live c.push.new.self.items) (live c.in_ok-read.read)
@@ -35,3 +39,6 @@ loop-count-preserved g c = record {
 pub returns-clause-is : goal.returns-clause-is
 returns-clause-is g c k =
     nodes_in-end c.args.at c.loop-count.place c.loop-count.count-index c.args.pages.now (g.D.Disk.state c.args.disk.now).now.bytes (map live c.loop-count.nodes.items) c.loop-count-test.false (c.loop-count.invariant.read k)
+
+pub returns-clause-images : goal.returns-clause-images
+returns-clause-images g c = imaged_all c.loop-count.count-index c.args.pages.now (map live c.loop-count.nodes.items) c.loop-count-test.false c.loop-count.invariant.images

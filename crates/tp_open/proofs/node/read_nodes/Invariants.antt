@@ -4,7 +4,7 @@ use Rattle.std.specs.Prelude.{sum_by}
 use Rattle.tp_model.specs.CutImage.{nodes_in}
 use Rattle.tp_model.specs.DiskHistory.{Counts}
 use Rattle.tp_model.specs.Journal.{image_length}
-use Rattle.tp_open.specs.Nodes.{live, AreThawed}
+use Rattle.tp_open.specs.Nodes.{live, AreThawed, HaveImages}
 use Rattle.tp_open.proofs.Records.{behind}
 use Rattle.tp_open.proofs.node.read_nodes.Given as goal
 
@@ -15,6 +15,7 @@ invariant-loop-count g l = record {
   place : l.place ≡ l.at + sum_by image_length (take l.count-index l.pages);
   count : length l.nodes.items ≡ l.count-index;
   thawed : AreThawed l.nodes.items;
+  images : HaveImages (take l.count-index l.pages) (map live l.nodes.items);
   read : g.D.Disk.keeps → nodes_in l.at l.pages (drop l.at (g.D.Disk.state l.fn.disk).now.bytes)
       ≡ behind (map live l.nodes.items) (nodes_in l.place (drop l.count-index l.pages) (drop l.place (g.D.Disk.state l.fn.disk).now.bytes));
 }

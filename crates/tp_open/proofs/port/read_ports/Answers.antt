@@ -2,6 +2,7 @@ use Rattle.std.proofs.Common.{◌≡◌, ◌+◌, ◌∙◌, length, ap, arith, 
 use Rattle.std.proofs.lemmas.List.{length_push, map_push}
 use Rattle.tp_book.specs.Parts.{port_of}
 use Rattle.tp_open.proofs.Ports.{ports_in-step, ports_in-error, ports_in-end}
+use Rattle.tp_open.proofs.ReadParts.{reached_more}
 use Rattle.tp_open.proofs.port.read_ports.Goals as goal
 
 pub returns-in_err-read-clause-is : goal.returns-in_err-read-clause-is
@@ -18,6 +19,9 @@ loop-port-preserved g c = record {
   };
   kept = λ k. c.in_ok-read.ensures.kept k ∙ c.loop-port.invariant.kept k;
   count = ap length c.in-Ok.ensures.items ∙ length_push c.loop-port.ports.items c.in_ok-read.read ∙ ap (λ n. n + 1) c.loop-port.invariant.count;
+  ports =
+      reached_more c.args.base (map port_of c.loop-port.ports.items) (map port_of c.push.new.self.items) (port_of c.in_ok-read.read) c.loop-port.invariant.ports c.in_ok-read.ensures.port
+      (ap (map port_of) c.in-Ok.ensures.items ∙ map_push port_of c.loop-port.ports.items c.in_ok-read.read);
   read = λ k.
       ports_in-step c.args.base c.args.at c.loop-port.port c.args.count (g.D.Disk.state c.args.disk.now).now (g.D.Disk.state c.loop-port.disk).now (map port_of c.loop-port.ports.items) (map port_of c.push.new.self.items) (port_of c.in_ok-read.read)
       (omega arith) (c.loop-port.invariant.read k) (c.loop-port.invariant.kept k) (c.in_ok-read.ensures.is k)

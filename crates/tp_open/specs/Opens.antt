@@ -1,0 +1,25 @@
+-- What an opened device's fields stand for, and what they keep.
+use Rattle.tp_model.specs.Node.{t414_ends}
+use Rattle.tp_model.specs.Opening.{Opened}
+use Rattle.tp_model.specs.Replay.{replay_from}
+use Rattle.tp_model.specs.Spelling.{IsCut}
+use Rattle.tp_open.specs.declared.opening.Opened.TheInside.{Inside}
+use Rattle.tp_open.specs.AfterGroups.{LeadsTo}
+
+abbrev pub opened_of : Inside → Opened
+opened_of o = record {
+  head = o.head;
+  second = o.second;
+  generation = o.generation;
+  base = o.base;
+  cut = o.cut.value;
+  kept = o.replay.kept;
+  now = o.replay.now;
+  end = o.end;
+}
+
+-- What is true of whatever was opened, also on a device that doesn't keep the model: the cut is one of the head's topology,
+-- and entries lead from it to what was replayed.
+pub record IsInside (o : Inside) : Type 0 where
+  pub cut : IsCut t414_ends o.head.topology o.base o.cut.value
+  pub leads : LeadsTo (replay_from o.cut.value o.base) o.replay
