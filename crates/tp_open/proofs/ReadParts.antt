@@ -43,9 +43,6 @@ node_imaged pages bytes node fit is =
       count = eqb-true (page_count node.memory) pages found.1;
     }
 
-pub none_imaged : HaveImages [] []
-none_imaged = record { images = tt; counts = λ i. [] }
-
 pub imaged_more : (i : ℕ) (pages : List ℕ) (nodes new : List NodeState) (node : NodeState) → i < length pages → HaveImages (take i pages) nodes → HasImage (get_or pages i 0) node
     → new ≡ nodes ++ node ∷ [] → HaveImages (take (i + 1) pages) new
 imaged_more i pages nodes new node lt are is push =

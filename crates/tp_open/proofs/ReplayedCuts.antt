@@ -94,7 +94,7 @@ replayed_holds t base s rows r topology C is = replayed_rows (replay_from s base
 -- ## A state that opening leaves
 
 -- the ports' parts hold as much as the ports
-parts_held : (parts : List PortParts) → EachPort IsHeld (map port_of parts) → (k : ℕ) (d : PortParts) → k < length parts → IsHeld (port_of (get_or parts k d))
+pub parts_held : (parts : List PortParts) → EachPort IsHeld (map port_of parts) → (k : ℕ) (d : PortParts) → k < length parts → IsHeld (port_of (get_or parts k d))
 parts_held parts held k d below =
     held k (port_of (get_or parts k d)) (slice_get-map port_of parts k ∙ ap (option_map port_of) (slice_get-get_or parts k d below))
 

@@ -3,8 +3,6 @@ use Rattle.std.proofs.Common.{◌≡◌, ℕ, zero, suc, ◌+◌, ◌<◌, ◌�
 use Rattle.std.specs.Prelude.{All, Bool, ◌&&◌, Vec, vec_len, Result, Ok, Err}
 use Rattle.std.specs.declared.alloc.Global.{Global}
 use Rattle.std.proofs.lemmas.Bool.{and_parts, false≢true}
-use Rattle.std.proofs.lemmas.Option.{slice_get-map, slice_get-get_or}
-use Rattle.std.specs.Option.{option_map}
 use Rattle.tp_model.specs.declared.link.Token.{Token}
 use Rattle.tp_model.specs.declared.link.Token.TheVariants.{Data, Ack, Marker}
 use Rattle.tp_model.specs.declared.limits.TheConstants.{MAX_HELD}
@@ -26,6 +24,7 @@ use Rattle.tp_open.specs.Cuts.{cut_network, wired}
 use Rattle.tp_open.specs.Nodes.{live, AreThawed}
 use Rattle.tp_open.proofs.CutsAreFlat.{cut_flat, cut_held}
 use Rattle.tp_open.proofs.HeldPorts.{EachPort, IsHeld}
+use Rattle.tp_open.proofs.ReplayedCuts.{parts_held}
 
 -- ## Room
 
@@ -56,15 +55,11 @@ line_few (wire ∷ wires) (line ∷ lines) h (suc k) d low =
 pub lines_few : (wires : List (Option WireEnd)) (lines : List (Vec Token Global)) → are_lines wires (map (λ line. line.items) lines) ≡ true → All (λ line. vec_len line ≤ 3) lines
 lines_few wires lines h k d low = omega (arith, line_few wires lines h k d low, (get_or lines k d).ok.0)
 
-port_held : (parts : List PortParts) → EachPort IsHeld (map port_of parts) → (k : ℕ) (d : PortParts) → k < length parts → IsHeld (port_of (get_or parts k d))
-port_held parts held k d below =
-    held k (port_of (get_or parts k d)) (slice_get-map port_of parts k ∙ ap (option_map port_of) (slice_get-get_or parts k d below))
-
 pub pending_few : (parts : List PortParts) → EachPort IsHeld (map port_of parts) → All (λ port. vec_len port.pending ≤ MAX_HELD) parts
-pending_few parts held k d below = let part = port_held parts held k d below in omega (arith, part.pending, (get_or parts k d).pending.ok.0)
+pending_few parts held k d below = let part = parts_held parts held k d below in omega (arith, part.pending, (get_or parts k d).pending.ok.0)
 
 pub outputs_few : (parts : List PortParts) → EachPort IsHeld (map port_of parts) → All (λ port. vec_len port.outputs ≤ MAX_HELD) parts
-outputs_few parts held k d below = let part = port_held parts held k d below in omega (arith, part.outputs, (get_or parts k d).outputs.ok.0)
+outputs_few parts held k d below = let part = parts_held parts held k d below in omega (arith, part.outputs, (get_or parts k d).outputs.ok.0)
 
 -- ## The network
 

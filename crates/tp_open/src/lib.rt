@@ -1,4 +1,4 @@
-//! Reading a device: its head, the choice of an area, the cut, and the groups behind it.
+//! Opening a device: its head, the choice of an area, the cut, and the groups behind it.
 #![tactic(auto)]
 
 mod choice;
