@@ -10,7 +10,12 @@ use tp_disk::{Fault, MemDisk};
 /// A device that was just formatted.
 fn fresh(alloc: Global) -> Result<Vec<u8>, Fail> {
     let images = images_of(alloc, letter(alloc)?)?;
-    let made = format_in_memory(alloc, MemDisk::zeroed(alloc, 33_280)?, images.as_slice(), AREA)?;
+    let made = format_in_memory(
+        alloc,
+        MemDisk::zeroed(alloc, 33_280)?,
+        images.as_slice(),
+        AREA,
+    )?;
     Ok(made.bytes)
 }
 
@@ -46,11 +51,15 @@ fn recovered(alloc: Global, bytes: Vec<u8>) -> Result<(Vec<u8>, Vec<u8>), Fail> 
 #[test]
 fn a_fresh_device(rt: HostRuntime) -> Result<(), Fail> {
     let alloc = rt.alloc();
-    assert_eq!(rt; recovered(alloc, fresh(alloc)?)?.0.as_slice(), b"next 0\n".as_slice());
+    assert_eq!(rt;
+        recovered(alloc, fresh(alloc)?)?.0.as_slice(),
+        b"next 0\n".as_slice()
+    );
     let mut disk = MemDisk::of_bytes(fresh(alloc)?);
     let (mut out, mut err) = (Vec::new(alloc), Vec::new(alloc));
     assert_eq!(rt; show_on(alloc, &mut disk, &mut out, &mut err), 0);
-    let wanted = b"nodes 1 ports 1 area 16384\nopen 0 generation 1 base 0 entries 0 next 0\nnode 0 halt 0\nport 0 in 0 pending 0 out 0 unconfirmed 0\n";
+    let wanted =
+        b"nodes 1 ports 1 area 16384\nopen 0 generation 1 base 0 entries 0 next 0\nnode 0 halt 0\nport 0 in 0 pending 0 out 0 unconfirmed 0\n";
     assert_eq!(rt; out.as_slice(), wanted.as_slice());
     assert!(rt; err.is_empty());
     Ok(())
@@ -59,11 +68,15 @@ fn a_fresh_device(rt: HostRuntime) -> Result<(), Fail> {
 #[test]
 fn a_device_with_a_group(rt: HostRuntime) -> Result<(), Fail> {
     let alloc = rt.alloc();
-    assert_eq!(rt; recovered(alloc, grown(alloc)?)?.0.as_slice(), b"next 4\n".as_slice());
+    assert_eq!(rt;
+        recovered(alloc, grown(alloc)?)?.0.as_slice(),
+        b"next 4\n".as_slice()
+    );
     let mut disk = MemDisk::of_bytes(grown(alloc)?);
     let (mut out, mut err) = (Vec::new(alloc), Vec::new(alloc));
     assert_eq!(rt; show_on(alloc, &mut disk, &mut out, &mut err), 0);
-    let wanted = b"nodes 1 ports 1 area 16384\nopen 0 generation 1 base 0 entries 4 next 4\nnode 0 halt 0\nport 0 in 0 pending 0 out 0 unconfirmed 1\n";
+    let wanted =
+        b"nodes 1 ports 1 area 16384\nopen 0 generation 1 base 0 entries 4 next 4\nnode 0 halt 0\nport 0 in 0 pending 0 out 0 unconfirmed 1\n";
     assert_eq!(rt; out.as_slice(), wanted.as_slice());
     Ok(())
 }
@@ -74,7 +87,11 @@ const DAMAGED: &[(usize, &[u8], &str)] = &[
     (7, &[9], "tpnet: BadVersion\n"),
     (10, &[1], "tpnet: Damaged 0\n"),
     (512, &[0], "tpnet: NoOpenArea\n"),
-    (16_896, &[0xA5, 1, 0, 0, 0, 0, 0, 0, 0], "tpnet: Damaged 16896\n"),
+    (
+        16_896,
+        &[0xA5, 1, 0, 0, 0, 0, 0, 0, 0],
+        "tpnet: Damaged 16896\n",
+    ),
     (521, &[0xDD], "tpnet: Damaged 512\n"),
     (533, &[2], "tpnet: Damaged 533\n"),
     (4_801, &[3], "tpnet: Damaged 4801\n"),
@@ -138,7 +155,10 @@ fn a_group_behind_a_closed_gate(rt: HostRuntime) -> Result<(), Fail> {
                 place(&mut device, 13_033, &GROUP[..torn]);
             }
             place(&mut device, 13_033, &[gate]);
-            assert_eq!(rt; recovered(alloc, device)?.0.as_slice(), b"next 0\n".as_slice());
+            assert_eq!(rt;
+                recovered(alloc, device)?.0.as_slice(),
+                b"next 0\n".as_slice()
+            );
         }
     }
     Ok(())

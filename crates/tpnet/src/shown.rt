@@ -41,12 +41,7 @@ fn halt_code(halt: Option<Fault>) -> u8
     }
 }
 
-fn push_head(
-    text: &mut String,
-    nodes: usize,
-    ports: usize,
-    area: u64,
-) -> Result<(), AllocError>
+fn push_head(text: &mut String, nodes: usize, ports: usize, area: u64) -> Result<(), AllocError>
     ensures { OnOk result (string_bytes text.new ≡ string_bytes text.old ++ head_line nodes ports area) }
 {
     write!(text, "nodes {nodes} ports {ports} area {area}\n")

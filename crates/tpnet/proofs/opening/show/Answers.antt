@@ -1,0 +1,22 @@
+use Rattle.std.proofs.Common.{◌≡◌, ◌∙◌, ap, subst, Ok, Err, Result, OnOk}
+use Rattle.std.specs.Io.KnownBytes.{Appends}
+use Rattle.tpnet.specs.Shown.{shown_text}
+use Rattle.tpnet.specs.Opens.{front_of, shown}
+use Rattle.tpnet.proofs.opening.show.Goals as goal
+
+on_ok : {T E : Type 0} (P Q : Type 0) (r : Result T E) → (P → Q) → OnOk r P → OnOk r Q
+on_ok P Q (Ok x) turn h = turn h
+on_ok P Q (Err e) turn h = h
+
+pub returns : goal.returns
+returns g c keeps =
+    let opened = c.in_ok-opened.opened in
+    let text = c.as_bytes.ensures.value ∙ c.in-Ok.ensures
+    ∙ ap (λ front. shown_text front c.network.result.now) c.front_of.ensures
+    ∙ ap (shown_text (front_of opened)) c.network.ensures in
+    on_ok _ _ c.put.result (λ appended. record {
+      opened = opened;
+      is = c.in_ok-opened.ensures.is keeps;
+      printed = subst (λ bytes. Appends (g.O.Write.contents c.args.out.now) (g.O.Write.contents c.put.new.out) bytes) text appended;
+    })
+    c.put.ensures.written
