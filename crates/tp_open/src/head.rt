@@ -13,11 +13,11 @@ ghost use Rattle.tp_open.specs.Heads.{fields_in, head_in, is_whole};
 
 use crate::device::read_array;
 use crate::number::{u16_at, u64_at};
-use crate::spelling::{MAGIC, head_bytes};
 use crate::topology::{MAX_LINES, Topology};
 use crate::unopened::Unopened;
 use arrayvec::ArrayVec;
 use std::marker::Model;
+use tp_area::{MAGIC, head_bytes};
 use tp_disk::Disk;
 use tp_model::limits::{
     AREA_HEAD_BYTES, ENTRY_BYTES, GROUP_HEAD_BYTES, HEAD_BYTES, HEAD_NODES, HEAD_VERSION,
@@ -217,7 +217,8 @@ fn spells(bytes: &[u8], topology: &Topology, area: u64) -> bool
     requires { is_topology topology.now ≡ true }
     ensures { result ≡ bytes_eq bytes.now (head_bytes topology.now area) }
 {
-    bytes == head_bytes(topology, area).as_slice()
+    let head = head_bytes(topology.pages(), topology.ports(), topology.wires(), area);
+    bytes == head.as_slice()
 }
 
 /// Whether the bytes are those of a head, and a device of so many bytes has room for what it says.
