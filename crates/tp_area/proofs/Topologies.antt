@@ -42,6 +42,15 @@ has_shape t h =
       wires = last.1;
     }
 
+-- a topology is its parts
+pub parts_again : (t : Topology) (pages : List ℕ) (ports : ℕ) (wires : List (Option WireEnd)) → pages ≡ t.pages → ports ≡ t.ports → wires ≡ t.wires
+    → t ≡ record { pages = pages; ports = ports; wires = wires }
+parts_again t pages ports wires p h w =
+    let q = sym p in
+    let k = sym h in
+    let v = sym w in
+    λ i. record { pages = q i; ports = k i; wires = v i }
+
 -- each wire leads back
 leads_back_at : (N H line i : ℕ) (wires ends : List (Option WireEnd)) → all_lead_back N H wires line ends ≡ true → i < length ends
     → leads_back N H wires (line + i) (get_or ends i None) ≡ true

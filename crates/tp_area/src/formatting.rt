@@ -143,7 +143,8 @@ pub fn format<D: Disk>(
     if !is_large_enough(disk.size(), topology, lengths.cut, area) {
         return Err(FormatFault::AreaFull);
     }
-    let head = head_bytes(topology, area);
+    let ports = topology.port_count() as u8;
+    let head = head_bytes(topology.pages(), ports, topology.wires(), area);
     let Ok(()) = write_all(disk, head.as_slice(), area, images, lengths) else {
         return Err(FormatFault::DeviceFailed);
     };

@@ -16,7 +16,7 @@ use Rattle.tp_model.specs.Flight.{is_in_one_place}
 use Rattle.tp_model.specs.Spelling.{IsCut}
 use Rattle.tp_order.proofs.Sound.{unwired-back, wired-back}
 use Rattle.tp_open.proofs.LineEnds.{end_holds-port}
-use Rattle.tp_open.proofs.Topologies.{HasShape, has_shape, wire_leads_back}
+use Rattle.tp_area.proofs.Topologies.{HasShape, has_shape, wire_leads_back}
 use Rattle.tp_open.proofs.UnmarkedLines.{line_of_each, unwired_empty}
 
 -- ## Wires
