@@ -1,28 +1,28 @@
 -- The bytes that a device is formatted with.
-use Rattle.std.proofs.Common.{◌≡◌, ℕ, zero, suc, ◌+◌, ◌-◌, ◌*◌, ◌<◌, ◌≤◌, ◌⊎◌, inl, inr, Bool, true, false, cond, List, [], ◌∷◌, ◌++◌, length, take, drop, get_or, map, refl, sym, ap, subst, ◌∙◌, arith, append_assoc, append-nil, length-append, length-drop, length-take, add-zero, Option, Some, None, Result, Ok, Err}
+use Rattle.std.proofs.Common.{◌≡◌, ℕ, zero, suc, ◌+◌, ◌-◌, ◌*◌, ◌<◌, ◌≤◌, ◌⊎◌, inl, inr, Bool, true, false, List, [], ◌∷◌, ◌++◌, length, take, drop, get_or, map, refl, sym, ap, subst, ◌∙◌, arith, append_assoc, length-append, add-zero, Option, Some, None, Ok, Err}
 use Rattle.std.specs.Prelude.{◌&&◌, ◌==◌, nat_le, flat_map, sum_by, replicate}
 use Rattle.std.specs.Option.{option_map}
-use Rattle.std.specs.List.{AllByRecursion, concat}
+use Rattle.std.specs.List.{concat}
 use Rattle.std.proofs.lemmas.Bool.{and_parts, leb-true, eqb-true}
 use Rattle.std.proofs.lemmas.Option.{cond_some}
-use Rattle.std.proofs.lemmas.List.{take_at, drop_at, drop-drop, length-replicate, replicate-append-replicate, get_or_append_left, get_or-append_right, get_or-drop}
+use Rattle.std.proofs.lemmas.List.{take_at, drop-drop, length-replicate, replicate-append-replicate, get_or-drop}
 use Rattle.std.proofs.Math.Seq.{take-append-add}
 use Rattle.std.proofs.lemmas.List.Sums.{sum_by-cons}
-use Rattle.tp_model.specs.declared.limits.TheConstants.{GATE_OPEN, GATE_CLOSED, HEAD_BYTES, MAX_HELD}
-use Rattle.tp_model.specs.Bytes.{u16_bytes, u32_bytes, u64_bytes, zeros, padded}
+use Rattle.tp_model.specs.declared.limits.TheConstants.{GATE_OPEN, GATE_CLOSED, HEAD_BYTES}
+use Rattle.tp_model.specs.Bytes.{u16_bytes, u32_bytes, u64_bytes, zeros}
 use Rattle.tp_model.specs.NodeState.{NodeState}
 use Rattle.tp_model.specs.Network.{◌>>=◌, Network}
-use Rattle.tp_model.specs.Topology.{Topology, line_count, is_topology}
-use Rattle.tp_model.specs.Journal.{image_length, images_length, cut_length, is_roomy, room, reserve, entry_room}
+use Rattle.tp_model.specs.Topology.{Topology, line_count}
+use Rattle.tp_model.specs.Journal.{image_length, cut_length, is_roomy, room, reserve, entry_room}
 use Rattle.tp_model.specs.Disk.{Moment, SameOutside, Write, Sync, written}
 use Rattle.tp_model.specs.DiskHistory.{State, IsSynced, LeavesOnly}
-use Rattle.tp_model.specs.Device.{area_start, gate_of, content_of, fits}
+use Rattle.tp_model.specs.Device.{fits}
 use Rattle.tp_model.specs.Head.{head_bytes}
 use Rattle.tp_model.specs.Image.{page_count, image, node_of, has_idle_links}
 use Rattle.tp_model.specs.CutImage.{line_bytes, port_bytes, cut_bytes, only_if}
 use Rattle.tp_model.specs.Opening.{network_of}
 use Rattle.tp_model.specs.Spelling.{front_bytes}
-use Rattle.tp_model.specs.Format.{fresh_node, fresh_nodes, fresh_port, start_of, IsFormatted}
+use Rattle.tp_model.specs.Format.{fresh_node, fresh_nodes, fresh_port, IsFormatted}
 use Rattle.tp_laws.proofs.Images.{image-node_of}
 use Rattle.tp_disk.proofs.Moments.{length-written, written_same_outside}
 use Rattle.tp_disk.proofs.Agree.{same_apart}
@@ -33,7 +33,7 @@ use Rattle.tp_area.specs.Formatting.{Checks, Answers, area_front, first_area, wi
 use Rattle.tp_area.specs.Puts.{ButFor}
 use Rattle.tp_area.proofs.PutLaws.{but_for_may}
 use Rattle.tp_area.proofs.FormatCalls.{length-area_front}
-use Rattle.tp_area.proofs.FreshImages.{IsImageOf, image_is}
+use Rattle.tp_area.proofs.FreshImages.{image_is}
 use Rattle.tp_area.proofs.Frames.{drop_written}
 
 -- ## Images

@@ -1,5 +1,5 @@
 -- The area that isn't open may hold anything, as long as its gate is closed.
-use Rattle.std.proofs.Common.{◌≡◌, ℕ, ◌+◌, ◌-◌, ◌*◌, ◌<◌, ◌≤◌, inl, inr, Bool, true, false, List, [], ◌∷◌, ◌++◌, length, take, drop, get_or, refl, sym, ap, subst, ◌∙◌, arith, add-zero, Option, Some, None, Result, Ok, Err, OnOk, OnErr}
+use Rattle.std.proofs.Common.{◌≡◌, ℕ, ◌+◌, ◌-◌, ◌*◌, ◌<◌, ◌≤◌, inl, inr, Bool, true, false, List, [], ◌∷◌, length, take, drop, get_or, refl, sym, ap, subst, ◌∙◌, arith, add-zero, Some, None, Result, Ok, Err, OnOk, OnErr}
 use Rattle.std.specs.Prelude.{not, nat_lt, if◌then◌else◌}
 use Rattle.std.proofs.lemmas.Bool.{cond-false, ne_eqb, eq-eqb}
 use Rattle.std.proofs.lemmas.Option.{cond_some}
@@ -12,7 +12,7 @@ use Rattle.tp_model.specs.Node.{t414, t414_ends}
 use Rattle.tp_model.specs.Device.{area_start, gate_of, content_of, is_open, generation_of}
 use Rattle.tp_model.specs.Disk.{Moment, MayBe, Write, Sync, Read, SameOutside, IsWithin, written, done, within}
 use Rattle.tp_model.specs.DiskHistory.{State, Goes, Fails, IsSynced, LeavesOnly}
-use Rattle.tp_model.specs.StoreCalls.{all_done, Called, Broke, clear_calls, put_calls, switch_calls}
+use Rattle.tp_model.specs.StoreCalls.{all_done, Called, Broke, clear_calls, switch_calls}
 use Rattle.tp_model.specs.Areas.{Held, gate_closed}
 use Rattle.tp_model.specs.Opening.{Opened, held_of, area_in, chosen_area, choice, opening, verdict, base_of}
 use Rattle.tp_model.specs.DeviceAreas.{device_areas, open_other_of, spare_of, other_of, if_newer, other_is_open, other_start, other_content}
@@ -22,12 +22,12 @@ use Rattle.tp_disk.proofs.Moments.{written_same_outside}
 use Rattle.tp_disk.proofs.Agree.{same_apart}
 use Rattle.tp_disk.proofs.Calls.{called_one, called_then, broke_one, broke_first, broke_later, weaker, call_leaves, calls_leave}
 use Rattle.tp_area.specs.declared.place.Place.{Place}
-use Rattle.tp_area.specs.Places.{area_field, cut_field, listed, place_in, place_at}
+use Rattle.tp_area.specs.Places.{cut_field, listed, place_in, place_at}
 use Rattle.tp_area.specs.Other.{other_gate, if_open, OtherIsClosed, Cleared, PutBehind, Switched}
 use Rattle.tp_area.specs.Crashes.{OpensTo, OpensToEither, RestsAs}
-use Rattle.tp_area.proofs.SameFront.{SameFront, front_of_range, u64_same}
+use Rattle.tp_area.proofs.SameFront.{front_of_range, u64_same}
 use Rattle.tp_area.proofs.Frames.{drop_written}
-use Rattle.tp_area.proofs.Placed.{IsPlaced, content_at, found_at, is_placed, place_is}
+use Rattle.tp_area.proofs.Placed.{content_at, found_at, is_placed, place_is}
 use Rattle.tp_area.proofs.OpenedPlace.{opening_place}
 use Rattle.tp_area.proofs.StoreCrashes.{keep, held_ok, rests_cleared, within_clear, within_switch}
 

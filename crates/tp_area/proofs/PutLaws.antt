@@ -1,12 +1,12 @@
 -- Pieces that are put one behind the other are put as one.
 use Rattle.std.proofs.Common.{◌≡◌, ℕ, ◌+◌, ◌-◌, ◌≤◌, List, [], ◌∷◌, ◌++◌, length, take, drop, refl, sym, ap, subst, ◌∙◌, arith, add-zero, append_assoc, append-nil, length-append, length-drop, get_or, ◌<◌, inl, inr, Result, OnOk, OnErr}
-use Rattle.std.specs.Prelude.{map, flat_map}
+use Rattle.std.specs.Prelude.{flat_map}
 use Rattle.std.specs.List.{AllByRecursion}
 use Rattle.std.proofs.lemmas.Bool.{cases_lt}
 use Rattle.std.proofs.lemmas.Grind.{flat_map-append}
 use Rattle.std.proofs.lemmas.List.Folds.{length-flat_map-take}
-use Rattle.std.proofs.lemmas.List.{take_more, replicate-append-replicate, take-replicate, length-replicate, take_at, take-append-drop, drop-drop, length-take-le, get_or-take, get_or-drop}
-use Rattle.tp_model.specs.Disk.{Moment, MayBe, Call, Write, IsWithin, SameOutside, written, done, within}
+use Rattle.std.proofs.lemmas.List.{take_more, replicate-append-replicate, length-replicate, take_at, take-append-drop, drop-drop, length-take-le, get_or-take, get_or-drop}
+use Rattle.tp_model.specs.Disk.{Moment, MayBe, Write, IsWithin, SameOutside, written, done, within}
 use Rattle.tp_model.specs.DiskHistory.{State, Goes, Fails, LeavesOnly}
 use Rattle.tp_model.specs.StoreCalls.{Called, put_calls}
 use Rattle.tp_disk.proofs.Moments.{written_same_outside, outside_last}

@@ -1,5 +1,5 @@
 -- What a crash leaves within each of the calls that the store makes, and how the device rests after them.
-use Rattle.std.proofs.Common.{◌≡◌, ℕ, ◌+◌, ◌⊎◌, inl, inr, List, [], ◌∷◌, length, Option, Some, None, Result, Ok, Err, refl}
+use Rattle.std.proofs.Common.{◌≡◌, ℕ, ◌+◌, ◌⊎◌, inl, inr, List, [], Option, Some, None, Result, Ok, Err, refl}
 use Rattle.std.specs.Option.{option_map}
 use Rattle.std.specs.Result.{result_ok}
 use Rattle.tp_model.specs.declared.entry.Entry.{Entry}
@@ -7,7 +7,7 @@ use Rattle.tp_model.specs.declared.opening.OpenFault.{OpenFault}
 use Rattle.tp_model.specs.NodeState.{NodeState}
 use Rattle.tp_model.specs.Network.{Machine}
 use Rattle.tp_model.specs.Node.{t414, t414_ends}
-use Rattle.tp_model.specs.Disk.{Moment, MayBe, Write, Sync, done}
+use Rattle.tp_model.specs.Disk.{Moment, Write, Sync, done}
 use Rattle.tp_model.specs.DiskHistory.{State, LeavesOnly}
 use Rattle.tp_model.specs.StoreCalls.{all_done, group_calls, clear_calls, switch_calls}
 use Rattle.tp_model.specs.Areas.{Areas, AreasHold, Held, ArePossible, with_more, gate_open, gate_closed}

@@ -1,5 +1,5 @@
 -- The area that isn't open, and what is done to it.
-use Rattle.std.specs.Prelude.{◌≡◌, ℕ, ◌+◌, Bool, true, false, not, if◌then◌else◌, List, [], ◌∷◌, length, Option, Some, None, Ok}
+use Rattle.std.specs.Prelude.{◌≡◌, ℕ, ◌+◌, false, not, if◌then◌else◌, List, [], ◌∷◌, length, Option, Some, None, Ok}
 use Rattle.tp_model.specs.Bytes.{u8_at}
 use Rattle.tp_model.specs.Device.{area_start, gate_of, is_open}
 use Rattle.tp_model.specs.Disk.{IsWithin}

@@ -1,4 +1,4 @@
-use Rattle.std.proofs.Common.{◌≡◌, ◌+◌, ◌*◌, ◌≤◌, arith, ◌++◌, ◌∷◌, [], OnOk}
+use Rattle.std.proofs.Common.{◌+◌, ◌*◌, arith, ◌++◌, ◌∷◌, []}
 use Rattle.std.specs.Prelude.{flat_map}
 use Rattle.tp_model.specs.Bytes.{zeros}
 use Rattle.tp_model.specs.Disk.{Write, Sync}

@@ -1,9 +1,4 @@
-use Rattle.std.proofs.Common.{◌≡◌, ◌≤◌, ◌<◌, ◌++◌, ◌∷◌, ◌*◌, [], ap, ◌∙◌, sym, arith, length, take, refl, subst, length-take}
-use Rattle.std.specs.Prelude.{None, List, Option}
-use Rattle.std.specs.List.{flat_map}
-use Rattle.tp_model.specs.declared.wire.WireEnd.{WireEnd}
-use Rattle.tp_model.specs.Bytes.{u16_bytes}
-use Rattle.tp_model.specs.Topology.{node_count}
+use Rattle.std.proofs.Common.{◌++◌, ◌*◌, ap, ◌∙◌, arith, length, length-take}
 use Rattle.tp_area.proofs.Topologies.{has_shape, end_byte-bound}
 use Rattle.tp_area.proofs.HeadBytes.{head_bytes-put}
 use Rattle.tp_area.proofs.head.head_bytes.Goals as goal

@@ -11,5 +11,5 @@ invariant-loop-image g l = record {
   failures : g.D.Disk.failures_of l.disk ≡ g.D.Disk.failures_of l.initial.disk;
   put : g.D.Disk.keeps → Puts l.at (flat_map (λ image. image.items) (take l.image-index l.images)) (g.D.Disk.state l.initial.disk) (g.D.Disk.state l.disk);
   leaves : g.D.Disk.keeps → LeavesOnly (g.D.Disk.state l.initial.disk) (g.D.Disk.state l.disk)
-  (ButFor l.at (length (flat_map (λ image. image.items) l.images)) (g.D.Disk.state l.initial.disk).now);
+      (ButFor l.at (length (flat_map (λ image. image.items) l.images)) (g.D.Disk.state l.initial.disk).now);
 }

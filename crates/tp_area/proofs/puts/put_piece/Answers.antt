@@ -1,5 +1,4 @@
-use Rattle.std.proofs.Common.{◌+◌, ◌≤◌, length, arith, OnOk}
-use Rattle.tp_model.specs.Disk.{Write, done}
+use Rattle.std.proofs.Common.{◌+◌, ◌≤◌, length, arith}
 use Rattle.tp_area.proofs.Results.{from_ok}
 use Rattle.tp_area.proofs.PutLaws.{puts_one, write_leaves}
 use Rattle.tp_area.proofs.puts.put_piece.Goals as goal

@@ -1,4 +1,4 @@
-use Rattle.std.proofs.Common.{◌≡◌, ◌+◌, ◌<◌, ◌≤◌, length, subst, arith, OnOk, OnErr}
+use Rattle.std.proofs.Common.{◌<◌, length, subst, arith, OnOk, OnErr}
 use Rattle.tp_model.specs.StoreCalls.{Called, Broke, clear_calls}
 use Rattle.tp_area.specs.Other.{if_open, other_gate}
 use Rattle.tp_area.proofs.OtherArea.{some_area, gate_inside, cleared_by, cleared_place, clear_leaves}

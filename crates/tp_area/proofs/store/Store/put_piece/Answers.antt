@@ -1,4 +1,4 @@
-use Rattle.std.proofs.Common.{◌≡◌, ◌+◌, ◌≤◌, [], ◌∷◌, length, ap, subst, ◌∙◌, arith, OnOk, OnErr}
+use Rattle.std.proofs.Common.{◌≡◌, ◌+◌, ◌≤◌, length, ap, subst, ◌∙◌, arith, OnOk, OnErr}
 use Rattle.tp_model.specs.Disk.{Write, done}
 use Rattle.tp_model.specs.DiskHistory.{Fails}
 use Rattle.tp_disk.proofs.Calls.{broke_one}
