@@ -1,8 +1,8 @@
 -- Images that a device may be formatted with.
-use Rattle.std.proofs.Common.{◌≡◌, ℕ, zero, suc, ◌+◌, ◌-◌, ◌*◌, ◌/◌, ◌<◌, ◌≤◌, ◌≢◌, Bool, true, false, cond, List, [], ◌∷◌, ◌++◌, length, take, drop, get_or, map, refl, sym, ap, subst, ◌∙◌, arith, length-drop, Option, Some, None, Result, Ok, Err}
-use Rattle.std.specs.Prelude.{◌&&◌, ◌==◌, nat_le, is_some, IsSome, bytes_eq}
+use Rattle.std.proofs.Common.{◌≡◌, ℕ, suc, ◌+◌, ◌-◌, ◌*◌, ◌<◌, ◌≤◌, ◌≢◌, Bool, true, false, cond, List, [], ◌∷◌, length, take, drop, get_or, refl, sym, ap, subst, ◌∙◌, arith, length-drop, Option, Some, None, Ok, Err}
+use Rattle.std.specs.Prelude.{◌&&◌, ◌==◌, nat_le, is_some, bytes_eq}
 use Rattle.std.specs.List.{list_all}
-use Rattle.std.proofs.lemmas.Bool.{and_parts, and_from, leb-true, eqb-true, ne_eqb, eq-eqb, true≢false, cond-true, cond-false}
+use Rattle.std.proofs.lemmas.Bool.{and_parts, leb-true, eqb-true, ne_eqb, eq-eqb, true≢false}
 use Rattle.std.proofs.lemmas.Option.{cond_some}
 use Rattle.std.proofs.lemmas.List.{get_or-take, take_rest, drop_all, drop_more}
 use Rattle.tp_model.specs.NodeState.{NodeState}
@@ -14,7 +14,6 @@ use Rattle.tp_model.specs.EndBytes.{out_end_at, in_end_at, ends_at, is_idle_out,
 use Rattle.tp_model.specs.Image.{page_count, is_memory, is_node, node_at, node_of, image_head, has_idle_links}
 use Rattle.tp_model.specs.CutImage.{only_if}
 use Rattle.tp_model.specs.Format.{fresh_node, fresh_nodes}
-use Rattle.tp_node.specs.declared.fault.ImageFault.{ImageFault}
 use Rattle.tp_node.specs.NodeContents.{NodeContents}
 use Rattle.tp_node.specs.FromImage.{ReadsImage}
 use Rattle.tp_area.specs.declared.fault.FormatFault.{FormatFault}

@@ -7,6 +7,7 @@ pub mod Placed
 pub mod Frames
 pub mod Behind
 pub mod OpenedPlace
+pub mod StoreCrashes
 pub mod Appends
 pub mod PutLaws
 pub mod FreshImages

@@ -5,9 +5,9 @@ use Rattle.std.specs.List.{AllByRecursion, concat}
 use Rattle.std.proofs.lemmas.Bool.{and_parts, false≢true}
 use Rattle.std.proofs.lemmas.List.{length-map}
 use Rattle.tp_model.specs.declared.entry.Entry.{Entry}
-use Rattle.tp_model.specs.declared.limits.TheConstants.{GATE_OPEN, GATE_CLOSED, NUMBER_LIMIT}
+use Rattle.tp_model.specs.declared.limits.TheConstants.{GATE_OPEN, GATE_CLOSED}
 use Rattle.tp_model.specs.EntryBytes.{IsSpelt, is_in_range, entry_bytes}
-use Rattle.tp_model.specs.Group.{header, rows_of, rows_behind, group_body, group_bytes, group_length, group_at, or_bad}
+use Rattle.tp_model.specs.Group.{header, rows_of, rows_behind, group_body, group_length, or_bad}
 use Rattle.tp_model.specs.Replay.{Listing, listing, placed, with_group, at_open_gate}
 use Rattle.tp_model.specs.Spelling.{IsGroup}
 use Rattle.tp_entry.specs.ReadBack.{Rise}

@@ -7,7 +7,7 @@ use Rattle.tp_model.specs.Bytes.{u16_at}
 use Rattle.tp_model.specs.Group.{rows_at, rows_behind, header, rises, group_length}
 use Rattle.tp_entry.specs.Counts.{count_at}
 use Rattle.tp_entry.proofs.Rows.{are_of, rows_behind-none, rows_behind-some, count_at_is, length-rows_at}
-use Rattle.tp_area.proofs.SameFront.{SameFront, front_less, front_drop, front_take, u16_same}
+use Rattle.tp_area.proofs.SameFront.{SameFront, front_drop, front_take, u16_same}
 
 rows_at_same : (k : ℕ) (old new : List ℕ) → SameFront (16 * k) old new → rows_at k new ≡ rows_at k old
 unfolding rows_at

@@ -7,7 +7,7 @@ use Rattle.tp_model.specs.Topology.{Topology, is_topology}
 use Rattle.tp_model.specs.Format.{fresh_nodes}
 use Rattle.tp_model.specs.Device.{fits}
 use Rattle.tp_area.proofs.Topologies.{has_shape, parts_again}
-use Rattle.tp_area.proofs.FormatBytes.{start_with, checked_length, formatted_by, answers_done}
+use Rattle.tp_area.proofs.FormatBytes.{start_with, checked_length, formatted_by, format_leaves, early_leaves, answers_done}
 use Rattle.tp_area.proofs.formatting.format.Goals as goal
 
 abbrev items : Vec ℕ Global → List ℕ
@@ -51,3 +51,21 @@ returns-clause-formatted g c k =
     (sym (parts_again t c.pages-2.result.now c.port_count-ports.result c.wires.result.now c.pages-2.ensures.value c.port_count-ports.ensures.value c.wires.ensures.value)))
     (ap length c.as_slice.ensures.value ∙ c.head_bytes-head.ensures.len)
     c.lengths_of-lengths.ensures.cut c.lengths_of-lengths.ensures.rest (c.in-Ok.ensures.wrote k)
+
+pub returns-in_err-check_images-clause-leaves : goal.returns-in_err-check_images-clause-leaves
+returns-in_err-check_images-clause-leaves g c k = early_leaves c.args.topology.now (map items c.args.images.now) c.args.area (g.D.Disk.state c.args.disk.now)
+
+pub returns-then-not-is_large_enough-clause-leaves : goal.returns-then-not-is_large_enough-clause-leaves
+returns-then-not-is_large_enough-clause-leaves g c k = early_leaves c.args.topology.now (map items c.args.images.now) c.args.area (g.D.Disk.state c.args.disk.now)
+
+pub returns-in_default-clause-leaves : goal.returns-in_default-clause-leaves
+returns-in_default-clause-leaves g c k =
+    format_leaves items c.args.topology.now c.args.images.now c.pages.result.now c.args.area c.lengths_of-lengths.result.cut c.lengths_of-lengths.result.rest
+    (g.D.Disk.state c.args.disk.now) (g.D.Disk.state c.write_all.new.disk) c.pages.ensures.value c.in_ok-check_images.ensures
+    c.lengths_of-lengths.ensures.cut c.lengths_of-lengths.ensures.rest (c.write_all.ensures.leaves k)
+
+pub returns-clause-leaves : goal.returns-clause-leaves
+returns-clause-leaves g c k =
+    format_leaves items c.args.topology.now c.args.images.now c.pages.result.now c.args.area c.lengths_of-lengths.result.cut c.lengths_of-lengths.result.rest
+    (g.D.Disk.state c.args.disk.now) (g.D.Disk.state c.write_all.new.disk) c.pages.ensures.value c.in_ok-check_images.ensures
+    c.lengths_of-lengths.ensures.cut c.lengths_of-lengths.ensures.rest (c.write_all.ensures.leaves k)

@@ -17,7 +17,7 @@ pub returns-in_err-write_at-clause-broke : goal.returns-in_err-write_at-clause-b
 returns-in_err-write_at-clause-broke g c k =
     let s = g.D.Disk.state c.args.disk.now in
     let t = g.D.Disk.state c.write_at.new.self in
-    on_err c.from_residual.result _ (write_broke c.args.at c.args.bytes.now s t (c.in_err-write_at.ensures.failed k))
+    on_err c.from_residual.result _ (write_broke c.args.at c.args.bytes.now s t (c.write_at.ensures.goes k) (c.in_err-write_at.ensures.failed k))
 
 pub returns-in_err-write_at-clause-any_moment : goal.returns-in_err-write_at-clause-any_moment
 returns-in_err-write_at-clause-any_moment g c k =
@@ -32,7 +32,7 @@ returns-clause-broke g c k =
     let t = g.D.Disk.state c.write_at.new.self in
     let u = g.D.Disk.state c.sync.new.self in
     from_err c.sync.result (Fails Sync t u) _
-    (sync_broke c.args.at c.args.bytes.now s t u (c.in_ok-write_at.ensures.after k) (c.write_at.ensures.goes k))
+    (sync_broke c.args.at c.args.bytes.now s t u (c.in_ok-write_at.ensures.after k) (c.write_at.ensures.goes k) (c.sync.ensures.goes k))
     (c.sync.ensures.failed k)
 
 pub returns-clause-any_moment : goal.returns-clause-any_moment
