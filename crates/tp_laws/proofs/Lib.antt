@@ -1,7 +1,9 @@
 pub mod EndImages
+pub mod Faults
 pub mod Images
 pub mod LinkEnds
 pub mod LinkLaws
 pub mod Numbers
 pub mod Partial
 pub mod Requests
+pub mod Rows

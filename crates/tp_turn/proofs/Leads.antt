@@ -1,20 +1,17 @@
 -- An entry that a book journals is possible in the network that the book and its agreed nodes are, Markers and all.
-use Rattle.std.proofs.Common.{◌≡◌, ℕ, ◌+◌, ◌*◌, Bool, true, false, List, [], ◌∷◌, length, set, get_or, refl, sym, ap, subst, ◌∙◌, Option, Some, None, slice_get}
+use Rattle.std.proofs.Common.{◌≡◌, ℕ, ◌+◌, ◌*◌, Bool, true, false, List, [], ◌∷◌, set, get_or, refl, sym, ap, subst, ◌∙◌, Option, Some, None, slice_get}
 use Rattle.std.specs.Prelude.{is_none, Ok}
 use Rattle.tp_model.specs.declared.link.Token.{Token}
 use Rattle.tp_model.specs.declared.link.Token.TheVariants.{Data, Ack, Marker}
 use Rattle.tp_model.specs.declared.wire.WireEnd.TheVariants.{Link}
-use Rattle.tp_model.specs.declared.entry.Entry.{Entry}
 use Rattle.tp_model.specs.declared.entry.Entry.TheVariants.{Take}
 use Rattle.tp_model.specs.NodeState.{NodeState}
 use Rattle.tp_model.specs.Node.{t414, took, on_link}
-use Rattle.tp_model.specs.Network.{Port, Network, Own, OfNode, OfHost, own, put, receiver, has_wire, on_line, is_first, taken, sent}
-use Rattle.tp_model.specs.Entries.{process, takes, does, next}
+use Rattle.tp_model.specs.Network.{receiver, on_line, is_first, sent}
+use Rattle.tp_model.specs.Entries.{next}
 use Rattle.tp_model.specs.Order.{after}
 use Rattle.tp_model.specs.Markers.{is_marker}
-use Rattle.tp_model.specs.Halves.{BookState, live, with_entry}
 use Rattle.tp_order.proofs.Lines.{same_token-self}
-use Rattle.tp_order.proofs.Local.{Step, next_from, process_same, takes_same}
 use Rattle.tp_order.proofs.Reorder.{after_one}
 use Rattle.tp_laws.proofs.Partial.{slice_get-set_same}
 use Rattle.tp_book.specs.Book.{BookValue, agreed}
@@ -22,48 +19,11 @@ use Rattle.tp_book.specs.Kept.{Keeps}
 use Rattle.tp_book.specs.Calls.{on_lines, sends_on, answer_from, front_of, with_ready, after_take, TakeIsAgreed, HasTaken}
 use Rattle.tp_book.specs.Refusals.{takeable_of, else_if, entry_refusal, ready_refusal, IsAnswer}
 use Rattle.tp_book.specs.declared.refusal.Refusal.TheVariants.{NothingToTake, StoreBroken}
-use Rattle.tp_book.proofs.Commit.{Change, agreed_after, length-agreed, without_taken}
+use Rattle.tp_book.proofs.Commit.{Change, change_leads}
 use Rattle.tp_book.proofs.Changes.{take_change}
 use Rattle.tp_node.specs.Takes.{Takes}
 use Rattle.tp_turn.specs.Turns.{TookSo}
 use Rattle.tp_turn.specs.Books.{network_of, Grew, Did}
-
--- another state of a process, on other lines
-put-on : (s : Network NodeState) (lines : List (List Token)) (p : ℕ) (now : Own NodeState) → put (record s { lines = lines }) p now ≡ record (put s p now) { lines = lines }
-unfolding put
-put-on s lines p (OfNode n) = refl
-put-on s lines p (OfHost ports) = refl
-
-module _ (b : BookState NodeState) (K : Keeps b) (e : Entry) (ports : List Port) (nodes : List NodeState) (sends : List (ℕ × Token)) (C : Change b e ports nodes sends) where
-  abbrev old : Network NodeState
-  old = live b (agreed b)
-
-  as_many : length old.nodes ≡ length b.start.nodes
-  as_many = length-agreed b K
-
-  process_old : process old e ≡ process b.start e
-  process_old = process_same b.start old refl as_many e
-
-  abbrev with_lines : List (List Token) → Network NodeState
-  with_lines lines = record (live b nodes) { ports = ports; lines = lines }
-
-  step : Step t414 old e (live (with_entry b e ports sends) nodes)
-  step = record {
-    out = C.out;
-    takes_out = ap (λ ms. taken old.lines ms) (takes_same b.start old e) ∙ C.takes_out;
-    was = C.was;
-    own_was = ap (own old) process_old ∙ C.own_was;
-    now = C.now;
-    sends = sends;
-    change = ap (λ N. does t414 b.start.wires N e C.was) as_many ∙ C.change;
-    makes =
-        put-on old (sent (has_wire b.start.wires) C.out sends) (process old e) C.now
-        ∙ ap (λ (s : Network NodeState). record s { lines = sent (has_wire b.start.wires) C.out sends }) (ap (λ p. put old p C.now) process_old ∙ C.makes)
-        ∙ ap (λ lines. with_lines (sent (has_wire b.start.wires) lines sends)) (sym (without_taken b.lines (takes b.start e) C.out C.takes_out));
-  }
-
-  pub change_leads : next t414 old e ≡ Some (live (with_entry b e ports sends) (agreed (with_entry b e ports sends)))
-  change_leads = next_from t414 old e (live (with_entry b e ports sends) nodes) step ∙ ap (λ given. Some (live (with_entry b e ports sends) given)) (sym (agreed_after b K e ports nodes sends C))
 
 -- ## A node's take
 

@@ -23,7 +23,7 @@ use Rattle.tp_node.specs.declared.run.Why.{Why}
 use Rattle.tp_node.specs.declared.run.Why.TheVariants.{Full, Idle, NoFrame, Halted}
 use Rattle.tp_turn.specs.Turns.{RanOn}
 use Rattle.tp_turn.specs.Books.{network_of, Grew, Did}
-use Rattle.tp_turn.proofs.Leads.{change_leads}
+use Rattle.tp_book.proofs.Commit.{change_leads}
 
 -- a halted node has no step
 halted_rests : (node : NodeState) → is_some node.cpu.halt ≡ true → node_step node ≡ None
