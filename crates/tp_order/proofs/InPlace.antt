@@ -1,8 +1,8 @@
 -- A network in which each flight is in one place is sound; what is seen of the ends that send its lines.
-use Rattle.std.proofs.Common.{◌≡◌, ℕ, zero, suc, ◌+◌, ◌-◌, ◌*◌, ◌/◌, ◌%◌, ◌<◌, ◌≤◌, Bool, true, false, not, inl, inr, [], length, refl, sym, ap, ◌∙◌, arith, Some, None, slice_get, eqb-true}
+use Rattle.std.proofs.Common.{◌≡◌, ℕ, zero, suc, ◌+◌, ◌-◌, ◌*◌, ◌/◌, ◌%◌, ◌<◌, ◌≤◌, true, false, inl, inr, [], length, refl, sym, ap, ◌∙◌, arith, Some, None, slice_get, eqb-true}
 use Rattle.std.specs.Prelude.{Ok, ◌==◌}
 use Rattle.std.specs.Option.{option_map}
-use Rattle.std.proofs.lemmas.Bool.{cases_lt, true≢false, lt-ltb, le-ltb}
+use Rattle.std.proofs.lemmas.Bool.{not-true, cases_lt, true≢false, lt-ltb, le-ltb}
 use Rattle.std.proofs.lemmas.List.{get_or_past}
 use Rattle.tp_model.specs.declared.opening.OpenFault.TheVariants.{Damaged}
 use Rattle.tp_model.specs.declared.limits.TheConstants.{LINE_BYTES}
@@ -51,10 +51,6 @@ flights_found E s at line (suc count) is k low high =
       | inr here ↦ let same : k ≡ line = omega arith in ap (λ j. is_in_one_place E s j (back s j)) same ∙ first.0
     ]
 
-not_true : (b : Bool) → not b ≡ true → b ≡ false
-not_true true e = cc
-not_true false e = refl
-
 wire_below : {Node : Type 0} (s : Network Node) (x : ℕ) → has_wire s.wires x ≡ true → x < length s.wires
 wire_below s x wired = elim (cases_lt x (length s.wires)) [
   | inl below ↦ below
@@ -75,6 +71,6 @@ sound_in_place E s wired as_long shaped empty placed = record {
   where
     held : (x : ℕ) → back s x ≡ None → end_holds E s x ≡ false
     held x b = elim (cases_lt x (length s.wires)) [
-      | inl below ↦ not_true (end_holds E s x) (ap (is_in_one_place E s x) (sym b) ∙ placed x below)
+      | inl below ↦ not-true (end_holds E s x) (ap (is_in_one_place E s x) (sym b) ∙ placed x below)
       | inr past ↦ end_holds-port E s x (omega (arith, past, as_long, shaped))
     ]

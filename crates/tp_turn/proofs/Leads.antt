@@ -1,5 +1,5 @@
 -- An entry that a book journals is possible in the network that the book and its agreed nodes are, Markers and all.
-use Rattle.std.proofs.Common.{◌≡◌, ℕ, ◌+◌, ◌*◌, Bool, true, false, List, [], ◌∷◌, set, get_or, refl, sym, ap, subst, ◌∙◌, Option, Some, None, slice_get}
+use Rattle.std.proofs.Common.{◌≡◌, ℕ, Bool, true, false, List, [], ◌∷◌, set, get_or, refl, sym, ap, subst, ◌∙◌, Option, Some, None, slice_get}
 use Rattle.std.specs.Prelude.{is_none, Ok}
 use Rattle.tp_model.specs.declared.link.Token.{Token}
 use Rattle.tp_model.specs.declared.link.Token.TheVariants.{Data, Ack, Marker}
@@ -7,21 +7,20 @@ use Rattle.tp_model.specs.declared.wire.WireEnd.TheVariants.{Link}
 use Rattle.tp_model.specs.declared.entry.Entry.TheVariants.{Take}
 use Rattle.tp_model.specs.NodeState.{NodeState}
 use Rattle.tp_model.specs.Node.{t414, took, on_link}
-use Rattle.tp_model.specs.Network.{receiver, on_line, is_first, sent}
+use Rattle.tp_model.specs.Network.{receiver, on_line, is_first}
 use Rattle.tp_model.specs.Entries.{next}
-use Rattle.tp_model.specs.Order.{after}
 use Rattle.tp_model.specs.Markers.{is_marker}
 use Rattle.tp_order.proofs.Lines.{same_token-self}
 use Rattle.tp_order.proofs.Reorder.{after_one}
 use Rattle.tp_laws.proofs.Partial.{slice_get-set_same}
 use Rattle.tp_book.specs.Book.{BookValue, agreed}
 use Rattle.tp_book.specs.Kept.{Keeps}
-use Rattle.tp_book.specs.Calls.{on_lines, sends_on, answer_from, front_of, with_ready, after_take, TakeIsAgreed, HasTaken}
+use Rattle.tp_book.specs.Calls.{on_lines, answer_from, front_of, with_ready, after_take, TakeIsAgreed, HasTaken}
 use Rattle.tp_book.specs.Refusals.{takeable_of, else_if, entry_refusal, ready_refusal, IsAnswer}
 use Rattle.tp_book.specs.declared.refusal.Refusal.TheVariants.{NothingToTake, StoreBroken}
 use Rattle.tp_book.proofs.Commit.{Change, change_leads}
+use Rattle.tp_book.proofs.Sending.{answer_on}
 use Rattle.tp_book.proofs.Changes.{take_change}
-use Rattle.tp_node.specs.Takes.{Takes}
 use Rattle.tp_turn.specs.Turns.{TookSo}
 use Rattle.tp_turn.specs.Books.{network_of, Grew, Did}
 
@@ -44,15 +43,6 @@ ready_some b line x = go (is_none (takeable_of (on_line b.state.lines line)))
     go true h = absurd h
     go false h = refl
 
--- what a node took, it did
-pub takes_did : (o : Option (NodeState × List (ℕ × Token))) (cause : Type 0) (link : ℕ) (before now : NodeState) (sent : Option Token) → Takes o cause link before (Ok sent) now → o ≡ Some (now, on_link link sent)
-takes_did None cause link before now sent h = absurd h
-takes_did (Some after) cause link before now sent h = rw (h.0, h.1) refl
-
-answer_on : (number link : ℕ) (answer : Option Token) → on_lines number (on_link link answer) ≡ sends_on (4 * number + link) answer
-answer_on number link None = refl
-answer_on number link (Some token) = refl
-
 pub has_taken : (b r : BookValue) (line number link : ℕ) (before now : NodeState) (answer : Option Token) → r ≡ with_ready b line → receiver b.state.start.wires line ≡ Some (Link number link)
     → slice_get (agreed b.state) number ≡ Some before → took before link (front_of b line) ≡ Some (now, on_link link answer) → HasTaken r line answer
 has_taken b r line number link before now answer is_ready goes there did =
@@ -68,7 +58,7 @@ module _ (b r new : BookValue) (line number link : ℕ) (before now : NodeState)
   front = let F = takeable_front (on_line b.state.lines line) some in ap (λ ts. is_first ts (front_of b line)) F.1 ∙ same_token-self (front_of b line)
 
   sends_same : on_lines number (on_link link answer) ≡ answer_from (receiver b.state.start.wires line) answer
-  sends_same = answer_on number link answer ∙ sym (ap (λ end. answer_from end answer) goes)
+  sends_same = sym (answer_on number link answer) ∙ sym (ap (λ end. answer_from end answer) goes)
 
   changed : Change b.state (Take line (front_of b line)) b.state.ports (set (agreed b.state) number now) (answer_from (receiver b.state.start.wires line) answer)
   changed =
