@@ -1,8 +1,6 @@
 pub mod Results
 pub mod Numbered
 pub mod SameFront
-pub mod SameRows
-pub mod Listings
 pub mod Placed
 pub mod Frames
 pub mod Behind

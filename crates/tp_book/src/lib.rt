@@ -27,4 +27,5 @@ pub use parts::{NetParts, PortParts};
 pub use port::HostPort;
 pub use receipt::Receipt;
 pub use refusal::Refusal;
+pub use send::{send_all, send_some};
 pub use state::NetState;

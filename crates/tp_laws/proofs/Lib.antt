@@ -1,7 +1,12 @@
+pub mod Bits
 pub mod EndImages
+pub mod Faults
+pub mod Idle
 pub mod Images
 pub mod LinkEnds
 pub mod LinkLaws
+pub mod Moments
 pub mod Numbers
 pub mod Partial
 pub mod Requests
+pub mod ReplayedRows

@@ -22,4 +22,3 @@ pub mod OpenedAreas
 pub mod PartsAgain
 pub mod ReplayedCuts
 pub mod UnmarkedLines
-mod LineEnds

@@ -3,16 +3,18 @@ use Rattle.std.proofs.Common.{◌≡◌, ℕ, ◌+◌, Bool, true, false, cond, 
 use Rattle.std.specs.List.{AllByRecursion}
 use Rattle.std.proofs.lemmas.Bool.{cases_Bool, cases_lt}
 use Rattle.std.proofs.lemmas.List.{map-set, get_or_past}
-use Rattle.std.proofs.Math.ListN.{get_or-map}
 use Rattle.tp_model.specs.declared.link.Token.{Token}
 use Rattle.tp_model.specs.Network.{on_line, is_first, taken, pushed, sent, for_line}
 use Rattle.tp_model.specs.Markers.{is_marker, plain, markers}
 use Rattle.tp_order.proofs.Lines.{first_is, same_token-self, cons_taken, taken_cons, on_taken, on_sent, on_sent_past}
-use Rattle.tp_order.proofs.Room.{markers-for_line}
+use Rattle.tp_order.proofs.Room.{markers-for_line, on_line-plain}
 
 -- none of the tokens is a Marker
 abbrev pub AreUnmarked : List (ℕ × Token) → Type 0
 AreUnmarked = AllByRecursion (λ m. is_marker m.1 ≡ false)
+
+abbrev pub HasNoMarker : List Token → Type 0
+HasNoMarker = AllByRecursion (λ t. is_marker t ≡ false)
 
 pub markers-append : (us vs : List Token) → markers (us ++ vs) ≡ markers us + markers vs
 markers-append [] vs = omega arith
@@ -43,7 +45,7 @@ taken_plain lines [] out all e = let same : lines ≡ out = cc in ap (λ ls. Som
 taken_plain lines (m ∷ ms) out all e =
     let T = taken_cons lines m ms out e in
     let F = first_plain (on_line lines m.0) m.1 all.0 T.0 in
-    let at : on_line (map plain lines) m.0 ≡ plain (on_line lines m.0) = get_or-map plain lines m.0 [] in
+    let at = on_line-plain lines m.0 in
     cons_taken (map plain lines) m ms (ap (λ ts. is_first ts m.1) at ∙ F.0)
     ∙ ap (λ ls. taken ls ms)
     (ap (λ ts. set (map plain lines) m.0 (drop 1 ts)) at
@@ -56,7 +58,7 @@ unfolding pushed
 pushed_plain on lines k t n = elim (cases_Bool (on k)) [
   | inl y ↦ rw y (
       map-set plain lines k (on_line lines k ++ t ∷ [])
-      ∙ ap (λ ts. set (map plain lines) k ts) (plain-append (on_line lines k) (t ∷ []) ∙ ap (λ b. plain (on_line lines k) ++ cond b [] (t ∷ [])) n ∙ ap (λ ts. ts ++ t ∷ []) (sym (get_or-map plain lines k [])))
+      ∙ ap (λ ts. set (map plain lines) k ts) (plain-append (on_line lines k) (t ∷ []) ∙ ap (λ b. plain (on_line lines k) ++ cond b [] (t ∷ [])) n ∙ ap (λ ts. ts ++ t ∷ []) (sym (on_line-plain lines k)))
       )
   | inr shut ↦ rw shut
 ]

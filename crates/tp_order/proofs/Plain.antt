@@ -1,8 +1,7 @@
 -- A step over lines with Markers is a step over the lines without them.
-use Rattle.std.proofs.Common.{◌≡◌, ℕ, zero, suc, ◌+◌, ◌*◌, false, List, [], ◌∷◌, ◌++◌, length, map, refl, sym, ap, subst, ◌∙◌, Option, Some, None}
+use Rattle.std.proofs.Common.{◌≡◌, ℕ, ◌+◌, ◌*◌, false, List, [], ◌∷◌, length, map, refl, sym, ap, subst, ◌∙◌, Option, Some, None}
 use Rattle.std.specs.Prelude.{nat_lt, nat_le, ◌&&◌}
 use Rattle.std.specs.Option.{option_map}
-use Rattle.std.specs.List.{AllByRecursion}
 use Rattle.tp_model.specs.declared.link.Token.{Token}
 use Rattle.tp_model.specs.declared.link.Token.TheVariants.{Data, Ack, Marker}
 use Rattle.tp_model.specs.declared.wire.WireEnd.{WireEnd}
@@ -10,22 +9,15 @@ use Rattle.tp_model.specs.declared.wire.WireEnd.TheVariants.{Link, Port as AtPor
 use Rattle.tp_model.specs.declared.entry.Entry.{Entry}
 use Rattle.tp_model.specs.declared.entry.Entry.TheVariants.{Run, Take, HostIn, Confirm}
 use Rattle.tp_model.specs.declared.limits.TheConstants.{MAX_STEPS, MAX_HELD}
-use Rattle.tp_model.specs.Network.{Machine, steps, Port, Network, Own, OfNode, OfHost, own, put, receiver, has_wire, taken, sent}
-use Rattle.tp_model.specs.Entries.{process, takes, acked, port_took, first_only, handed_in, confirmed, of_node, of_port, receives, does, next}
-use Rattle.tp_model.specs.Markers.{is_marker, plain, plain_network, NeverMarks}
-use Rattle.tp_order.proofs.Partial.{bind_some, map_some, cond_some}
-use Rattle.tp_order.proofs.Local.{Step, step_of, next_from, port_step, process_same, takes_same}
-use Rattle.tp_snap.proofs.Marks.{AreUnmarked, taken_plain, sent_plain}
+use Rattle.tp_model.specs.Network.{Machine, steps, Port, Network, Own, OfNode, OfHost, own, put, receiver, has_wire, on_line, taken, sent}
+use Rattle.tp_model.specs.Entries.{process, takes, acked, port_took, first_only, handed_in, confirmed, of_node, of_port, receives, does, next, HasFourLinks}
+use Rattle.tp_model.specs.Markers.{is_marker, plain, markers, plain_network, NeverMarks}
+use Rattle.tp_order.proofs.Partial.{map_some, cond_some}
+use Rattle.tp_order.proofs.Local.{Step, step_of, next_from, step_lines, port_step, process_same, takes_same}
+use Rattle.tp_order.proofs.Room.{steps_unmarked, own-plain}
+use Rattle.tp_order.proofs.Marks.{AreUnmarked, HasNoMarker, taken_plain, sent_plain, markers-taken, markers-sent}
 
 -- ## No Marker is sent by a process, and none is taken
-
--- none of the tokens is a Marker
-abbrev HasNoMarker : List Token → Type 0
-HasNoMarker = AllByRecursion (λ t. is_marker t ≡ false)
-
-unmarked_append : (ms ns : List (ℕ × Token)) → AreUnmarked ms → AreUnmarked ns → AreUnmarked (ms ++ ns)
-unmarked_append [] ns a b = b
-unmarked_append (m ∷ ms) ns a b = (a.0, unmarked_append ms ns a.1 b)
 
 unmarked_shifted : (base : ℕ) (ms : List (ℕ × Token)) → AreUnmarked ms → AreUnmarked (map (λ m. (base + m.0, m.1)) ms)
 unmarked_shifted base [] a = tt
@@ -34,17 +26,6 @@ unmarked_shifted base (m ∷ ms) a = (a.0, unmarked_shifted base ms a.1)
 unmarked_on : (l : ℕ) (ts : List Token) → HasNoMarker ts → AreUnmarked (map (λ t. (l, t)) ts)
 unmarked_on l [] a = tt
 unmarked_on l (t ∷ ts) a = (a.0, unmarked_on l ts a.1)
-
-steps_unmarked : {Node : Type 0} (M : Machine Node) → NeverMarks M → (k : ℕ) (n : Node) (r : Node × List (ℕ × Token)) → steps M k n ≡ Some r → AreUnmarked r.1
-unfolding steps
-steps_unmarked {Node} M never zero n r e =
-    let is : ◌≡◌ {A = Node × List (ℕ × Token)} (n, []) r = cc in
-    subst (λ x. AreUnmarked x.1) is tt
-steps_unmarked {Node} M never (suc k) n r e =
-    let F = bind_some (M.step n) _ r e in
-    let R = bind_some (steps M k F.0.0) _ r F.2 in
-    let is : ◌≡◌ {A = Node × List (ℕ × Token)} (R.0.0, F.0.1 ++ R.0.1) r = cc in
-    subst (λ x. AreUnmarked x.1) is (unmarked_append F.0.1 R.0.1 (never.step n F.0 F.1) (steps_unmarked M never k F.0.0 R.0 R.1))
 
 took_unmarked : (t : Token) (port : Port) (r : Port × List Token) → port_took t port ≡ Some r → (is_marker t ≡ false) × HasNoMarker r.1
 took_unmarked (Data b) port r e =
@@ -108,7 +89,7 @@ unfolding does takes
 does_unmarked M never s (Run i k) (OfNode n) r e =
     let C = cond_some (nat_lt 0 k && nat_le k MAX_STEPS) (option_map (of_node i) (steps M k n)) r e in
     let Q = map_some (of_node i) (steps M k n) r C.1 in
-    (tt, subst (λ y. AreUnmarked y.1) Q.2 (unmarked_shifted (4 * i) Q.0.1 (steps_unmarked M never k n Q.0 Q.1)))
+    (tt, subst (λ y. AreUnmarked y.1) Q.2 (unmarked_shifted (4 * i) Q.0.1 (steps_unmarked never k n Q.0 Q.1)))
 does_unmarked M never s (Run i k) (OfHost ports) r e = cc
 does_unmarked M never s (Take l t) x r e =
     let R = receives_unmarked M never (length s.nodes) (receiver s.wires l) t x r e in
@@ -119,10 +100,6 @@ does_unmarked M never s (Confirm p upto) (OfHost ports) r e = (tt, port_unmarked
 does_unmarked M never s (Confirm p upto) (OfNode n) r e = cc
 
 -- ## The step without Markers
-
-own-plain : {Node : Type 0} (s : Network Node) (p : ℕ) → own (plain_network s) p ≡ own s p
-unfolding own
-own-plain s p = refl
 
 put-plain : {Node : Type 0} (s : Network Node) (p : ℕ) (x : Own Node) → put (plain_network s) p x ≡ plain_network (put s p x)
 unfolding put
@@ -138,6 +115,13 @@ module _ {Node : Type 0} (M : Machine Node) (never : NeverMarks M) (s : Network 
 
   pub step_sends_unmarked : (S : Step M s e t) → AreUnmarked S.sends
   step_sends_unmarked S = (does_unmarked M never s e S.was (S.now, S.sends) S.change).1
+
+  -- An entry leaves as many Markers on each line.
+  pub step_markers : HasFourLinks M → (S : Step M s e t) → (l : ℕ) → markers (on_line t.lines l) ≡ markers (on_line s.lines l)
+  step_markers four S l =
+      ap (λ lines. markers (on_line lines l)) (step_lines M four s e t S)
+      ∙ markers-sent (has_wire s.wires) S.out S.sends (step_sends_unmarked S) l
+      ∙ markers-taken s.lines (takes s e) S.out (step_takes_unmarked S) S.takes_out l
 
   -- An entry that is possible over lines with Markers is possible over the lines without them, and does the same.
   pub plain_step : next M s e ≡ Some t → next M (plain_network s) e ≡ Some (plain_network t)
