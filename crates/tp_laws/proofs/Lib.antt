@@ -1,7 +1,16 @@
 pub mod EndImages
+pub mod Imaged
 pub mod Images
 pub mod LinkEnds
 pub mod LinkLaws
+pub mod LinkMessages
+pub mod Memories
+pub mod Nodes
 pub mod Numbers
+pub mod Outcomes
 pub mod Partial
+pub mod Processors
 pub mod Requests
+pub mod Rows
+pub mod Taking
+pub mod Words

@@ -7,4 +7,6 @@ pub mod examples;
 mod machine;
 
 pub use bytes::{images_determine_nodes, numbers_determine_images};
-pub use machine::{links_keep_flight, machine_has_four_links, machine_never_marks};
+pub use machine::{
+    links_keep_flight, machine_has_four_links, machine_never_marks, nodes_stay_nodes,
+};
