@@ -1,6 +1,6 @@
 -- What an instruction asks of an end of a link leaves a processor of words, a memory of bytes, and the end's message inside
 -- memory.
-use Rattle.std.proofs.Common.{◌≡◌, ℕ, ◌+◌, ◌-◌, ◌%◌, ◌^◌, ◌<◌, ◌≤◌, Bool, true, false, cond, List, [], ◌∷◌, length, refl, sym, ap, ◌∙◌, arith, Option, Some, None}
+use Rattle.std.proofs.Common.{◌≡◌, ℕ, ◌+◌, ◌-◌, ◌^◌, ◌<◌, ◌≤◌, Bool, true, false, cond, List, [], ◌∷◌, length, refl, sym, ◌∙◌, arith, Option, Some, None}
 use Rattle.std.specs.Prelude.{◌==◌, nat_le}
 use Rattle.std.proofs.lemmas.Bool.{ltb-true, leb-true, le-leb, and_parts, ne_eqb, eqb-false}
 use Rattle.tp_model.specs.declared.processor.Cpu.{Cpu}

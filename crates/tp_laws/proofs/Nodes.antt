@@ -1,6 +1,6 @@
 -- A node of words and bytes stays one, with its messages inside memory, whatever it does and takes.
-use Rattle.std.proofs.Common.{◌≡◌, ℕ, zero, suc, ◌%◌, ◌^◌, ◌<◌, ◌≤◌, Bool, true, false, cond, List, [], ◌∷◌, ◌++◌, length, set, length-set, refl, subst, ◌∙◌, arith, Option, Some, None, slice_get}
-use Rattle.std.specs.Prelude.{◌==◌, nat_lt, is_some, ◌&&◌}
+use Rattle.std.proofs.Common.{◌≡◌, ℕ, zero, suc, ◌^◌, ◌<◌, ◌≤◌, Bool, true, false, cond, List, [], ◌∷◌, ◌++◌, length, set, length-set, refl, subst, ◌∙◌, Option, Some, None, slice_get}
+use Rattle.std.specs.Prelude.{◌==◌, nat_lt, is_some}
 use Rattle.std.specs.Option.{option_map}
 use Rattle.std.specs.List.{AllByRecursion, list_all}
 use Rattle.std.proofs.lemmas.Bool.{and_parts}
@@ -9,7 +9,6 @@ use Rattle.tp_model.specs.declared.processor.Fault.{Fault}
 use Rattle.tp_model.specs.declared.processor.Fault.TheVariants.{BadAddress}
 use Rattle.tp_model.specs.declared.link.Token.{Token}
 use Rattle.tp_model.specs.declared.link.Token.TheVariants.{Data, Ack, Marker}
-use Rattle.tp_model.specs.declared.link.Transfer.{Transfer}
 use Rattle.tp_model.specs.declared.link.OutEnd.{OutEnd}
 use Rattle.tp_model.specs.declared.link.OutEnd.TheVariants.{Idle as NoOutput, Waits}
 use Rattle.tp_model.specs.declared.link.InEnd.{InEnd}
@@ -21,7 +20,7 @@ use Rattle.tp_model.specs.Memory.{byte_at, word_at, stored}
 use Rattle.tp_model.specs.Processor.{workspace, state_at, queue_writes, queued, past}
 use Rattle.tp_model.specs.Alternative.{waiting, ready_writes}
 use Rattle.tp_model.specs.EndBytes.{is_out_end, is_in_end, FitsOutEnd, FitsInEnd}
-use Rattle.tp_model.specs.Image.{is_memory, IsNode}
+use Rattle.tp_model.specs.Image.{is_memory}
 use Rattle.tp_model.specs.LinkEnd.{advanced, has_more, filled, next_pointer, out_acked, in_arrived}
 use Rattle.tp_model.specs.LinkStep.{LinkOutcome, Did, Fails, begin_output, begin_input}
 use Rattle.tp_model.specs.Outcome.{Outcome, Next, Halts, Rests, Sends, Receives}
@@ -30,9 +29,9 @@ use Rattle.tp_model.specs.NodeState.{NodeState}
 use Rattle.tp_model.specs.Network.{◌>>=◌, steps}
 use Rattle.tp_model.specs.Node.{halted, on_link, after_output, after_input, ended, node_step, bad_address, with_memory, wake, make_ready, signal_state, tell, placed, took_token, took, t414}
 use Rattle.tp_laws.specs.NodeOfBytes.{CarriesByte, HoldsByte, IsNodeOfBytes, CarryBytes}
-use Rattle.tp_laws.proofs.Imaged.{Rules, rules_of, rules_hold, pages_hold}
+use Rattle.tp_laws.proofs.Imaged.{rules_of, rules_hold, pages_hold}
 use Rattle.tp_laws.proofs.LinkMessages.{OutFits, InFits, out_fits, in_fits, waits_fits, no_output_fits, byte_fits, advanced_fits, filled_fits, MayCarryByte, LinkKeeps, begin_output_keeps, begin_input_keeps}
-use Rattle.tp_laws.proofs.Memories.{Holds, HoldsIf, IsBelow, same_holds, stored_holds, byte_holds, byte_read, word_read}
+use Rattle.tp_laws.proofs.Memories.{Holds, HoldsIf, IsBelow, same_holds, stored_holds, byte_holds, byte_read}
 use Rattle.tp_laws.proofs.Outcomes.{Keeps, step_keeps}
 use Rattle.tp_laws.proofs.Partial.{bind_some, all_at, all_set, all_append}
 use Rattle.tp_laws.proofs.Processors.{IsCpu, halted_cpu, past_cpu, queued_cpu}
@@ -338,3 +337,9 @@ pub node_took : (node : NodeState) (k : ℕ) (token : Token) (after : NodeState 
 node_took node k token after N low e =
     let leaves = took_leaves node k token after (whole_of node N) low e in
     (of_bytes (length node.memory) after.0 leaves.whole, leaves.carried)
+
+-- by what a token's type says
+pub carries : (token : Token) → ((byte : ℕ) → token ≡ Data byte → byte < 256) → CarriesByte token
+carries (Data byte) small = small byte refl
+carries Ack small = tt
+carries Marker small = tt

@@ -16,22 +16,20 @@ use Rattle.tp_model.specs.declared.processor.State.{State}
 use Rattle.tp_model.specs.declared.processor.State.TheVariants.{Idle, High, Low}
 use Rattle.tp_model.specs.declared.request.ChannelWord.{ChannelWord}
 use Rattle.tp_model.specs.declared.request.ChannelWord.TheVariants.{Output, Input, Internal}
-use Rattle.tp_model.specs.declared.request.OutRequest.{OutRequest}
-use Rattle.tp_model.specs.declared.request.InRequest.{InRequest}
 use Rattle.tp_model.specs.declared.request.Wish.{Wish}
 use Rattle.tp_model.specs.declared.request.Wish.TheVariants.{Message, Enable, Disable}
 use Rattle.tp_model.specs.Word.{wrap, less, not_process, signed, bit}
 use Rattle.tp_model.specs.Memory.{offset, byte_at, word_at, is_inside, byte_stored, stored, copied, changed}
 use Rattle.tp_model.specs.Coding.{operand_of, op_of, decoded}
-use Rattle.tp_model.specs.Registers.{push, pop, op_row, fun_row}
+use Rattle.tp_model.specs.Registers.{op_row, fun_row}
 use Rattle.tp_model.specs.Outcome.{Outcome, Next, Halts, Rests, Sends, Receives, ◌>>=◌, leaves}
-use Rattle.tp_model.specs.Processor.{workspace, state_at, saved_at, is_low, descriptor_of, with_regs, with_a, with_wptr, goto, queue_writes, queued, rest_of_queue, started, dispatch_high, dispatch_low, save_writes, stopped, stop, past, must_slice, slice_writes, sliced, arrive, jump, kept_at, interrupt_writes, interrupt, restore}
-use Rattle.tp_model.specs.Alternative.{enabling, waiting, ready, is_alternative, none_chosen, signal_writes, signalled, alt, enbs, altwt, choice_writes, chosen, choose, passed_over, diss}
+use Rattle.tp_model.specs.Processor.{workspace, state_at, saved_at, is_low, descriptor_of, queue_writes, rest_of_queue, started, dispatch_high, dispatch_low, save_writes, stop, past, must_slice, slice_writes, arrive, jump, kept_at, interrupt_writes, interrupt, restore}
+use Rattle.tp_model.specs.Alternative.{enabling, waiting, ready, is_alternative, none_chosen, signal_writes, altwt, choice_writes, choose}
 use Rattle.tp_model.specs.Channel.{channel_at, wait_writes, waits_first, meets, waits_for_alternative, input, output, input_at, output_at, output_word_at, enable, enable_at, disable, disable_at}
-use Rattle.tp_model.specs.Step.{local, call_writes, call, ret, startp, runp, endp, lend, by_row, operate, operation, effect, executed, instruction, idle, in_state, step_of}
+use Rattle.tp_model.specs.Step.{local, call_writes, call, ret, startp, endp, lend, by_row, operate, operation, effect, executed, instruction, idle, in_state, step_of}
 use Rattle.tp_laws.proofs.Memories.{Holds, HoldsIf, stored_holds, byte_holds, copied_holds, changed_holds, byte_read, word_read}
 use Rattle.tp_laws.proofs.Processors.{IsCpu, IsQueue, IsWorkspace, is_workspace, with_regs_cpu, with_a_cpu, without_b_cpu, passed_over_cpu, chosen_cpu, with_wptr_cpu, goto_cpu, state_cpu, past_cpu, stopped_cpu, sliced_cpu, queued_cpu, signalled_cpu, started_cpu, high_cpu, low_cpu, restored_cpu, RestsQueue, rest_is_queue}
-use Rattle.tp_laws.proofs.Rows.{KeepsWords, pushed, popped, put_a, op_words, fun_words}
+use Rattle.tp_laws.proofs.Rows.{KeepsWords, pushed, popped, op_words, fun_words}
 use Rattle.tp_laws.proofs.Words.{bit_below, less_below, reads_word}
 
 -- what is asked of a link: the message's pointer and length, and where the process goes on

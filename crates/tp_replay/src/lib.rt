@@ -15,8 +15,6 @@ mod send;
 mod take;
 
 pub use fault::{NotPossible, ReplayFault, RowFault};
-pub use laws::{
-    cuts_are_sound, entries_keep_flat, messages_stay_inside, rows_are_history, rows_in_parts,
-};
+pub use laws::{cuts_are_sound, entries_keep_flat, rows_are_history, rows_in_parts};
 pub use network::FlatNetwork;
 pub use replaying::Replay;
