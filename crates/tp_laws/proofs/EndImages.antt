@@ -12,6 +12,7 @@ use Rattle.tp_model.specs.declared.link.InEnd.{InEnd}
 use Rattle.tp_model.specs.declared.link.InEnd.TheVariants.{Idle as InIdle, Inputs, Enabled}
 use Rattle.tp_model.specs.EndBytes.{transfer_at, out_end_bytes, in_end_bytes, out_end_at, in_end_at, ends_at, IsTransfer, FitsOutEnd, FitsInEnd}
 use Rattle.tp_model.specs.Bytes.{u32_bytes, u8_at, u32_at}
+use Rattle.tp_laws.specs.NodeOfBytes.{HoldsByte}
 use Rattle.tp_laws.proofs.Numbers.{AreBytes, byte_below, are_bytes-drop}
 
 -- ## The ends of a node, read back
@@ -85,6 +86,15 @@ in_end_fits bytes h = go (u8_at bytes 0 == 0) (u8_at bytes 0 == 1)
     go true c = tt
     go false true = transfer_fits bytes h
     go false false = word_below bytes h 4
+
+pub in_end_holds : (bytes : List ℕ) → AreBytes bytes → HoldsByte (in_end_at bytes)
+in_end_holds bytes h = go (u8_at bytes 0 == 0) (u8_at bytes 0 == 1) (u8_at bytes 1 == 0)
+  where
+    go : (b c d : Bool) → HoldsByte (if b then InIdle (if d then None else Some (u8_at bytes 2)) else if c then Inputs (transfer_at bytes) else Enabled (u32_at bytes 4))
+    go true c true = tt
+    go true c false = byte_below bytes h 2
+    go false true d = tt
+    go false false d = tt
 
 pub ends_fit : {End : Type 0} (Fits : End → Type 0) (read : List ℕ → End) → ((bytes : List ℕ) → AreBytes bytes → Fits (read bytes))
     → (count : ℕ) (bytes : List ℕ) → AreBytes bytes → AllByRecursion Fits (ends_at read count bytes)

@@ -19,9 +19,10 @@ use Rattle.tp_model.specs.declared.limits.TheConstants.{SLICE}
 use Rattle.tp_model.specs.Word.{bit}
 use Rattle.tp_model.specs.NodeState.{NodeState}
 use Rattle.tp_model.specs.EndBytes.{out_end_bytes, in_end_bytes, out_end_at, in_end_at, ends_at, FitsOutEnd, FitsInEnd}
+use Rattle.tp_laws.specs.NodeOfBytes.{HoldsByte, IsNodeOfBytes}
 use Rattle.tp_laws.proofs.Numbers.{AreBytes, are_bytes-drop}
 use Rattle.tp_model.specs.Image.{words_of, image_head, image, halt_byte, halt_of, state_byte, state_of, cpu_at, node_at, is_memory, is_node, node_of, IsNode}
-use Rattle.tp_laws.proofs.EndImages.{out_end_at-bytes, in_end_at-bytes, length-out_end, length-in_end, ends_back, length-ends, word_below, out_end_fits, in_end_fits, ends_fit}
+use Rattle.tp_laws.proofs.EndImages.{out_end_at-bytes, in_end_at-bytes, length-out_end, length-in_end, ends_back, length-ends, word_below, out_end_fits, in_end_fits, in_end_holds, ends_fit}
 
 -- ## Single fields
 
@@ -175,3 +176,22 @@ unfolding node_of
 is_node-node_of bytes n h e =
     let found = cond_some (is_node (node_at bytes) && bytes_eq (take 172 bytes) (image_head (node_at bytes))) (node_at bytes) n e in
     subst IsNode found.1 (node_at_is bytes h (and_parts (is_node (node_at bytes)) _ found.0).0)
+
+node_at_held : (bytes : List ℕ) → AreBytes bytes → AllByRecursion HoldsByte (node_at bytes).inputs
+unfolding node_at ends_at
+node_at_held bytes h = ends_fit HoldsByte in_end_at in_end_holds 4 (drop 108 bytes) (are_bytes-drop 108 bytes h)
+
+node_at_memory : (bytes : List ℕ) → AreBytes bytes → AreBytes (node_at bytes).memory
+unfolding node_at
+node_at_memory bytes h = are_bytes-drop 172 bytes h
+
+-- What it holds are bytes.
+pub node_of_bytes : (bytes : List ℕ) (n : NodeState) → AreBytes bytes → node_of bytes ≡ Some n → IsNodeOfBytes n
+unfolding node_of
+node_of_bytes bytes n h e =
+    let found = cond_some (is_node (node_at bytes) && bytes_eq (take 172 bytes) (image_head (node_at bytes))) (node_at bytes) n e in
+    subst IsNodeOfBytes found.1 (record {
+      image = node_at_is bytes h (and_parts (is_node (node_at bytes)) _ found.0).0;
+      memory = node_at_memory bytes h;
+      held = node_at_held bytes h;
+    })

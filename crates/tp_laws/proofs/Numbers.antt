@@ -1,9 +1,10 @@
 -- Lists of bytes, and their numbers: a number tells how many bytes there are, and which.
-use Rattle.std.proofs.Common.{◌≡◌, ℕ, zero, suc, ◌+◌, ◌*◌, ◌^◌, ◌<◌, ◌≤◌, List, [], ◌∷◌, length, get_or, drop, refl, sym, ap, ◌∙◌, mul_assoc, mul_comm, arith, inl, inr}
+use Rattle.std.proofs.Common.{◌≡◌, ℕ, zero, suc, ◌+◌, ◌*◌, ◌^◌, ◌<◌, ◌≤◌, List, [], ◌∷◌, ◌++◌, length, get_or, take, drop, refl, sym, ap, ◌∙◌, mul_assoc, mul_comm, arith, inl, inr}
 use Rattle.std.proofs.lemmas.Bool.{cases_order}
 use Rattle.std.proofs.Math.Nat.{pow-suc, pow-le-pow_right, mul-le-mul}
 use Rattle.std.specs.List.{AllByRecursion}
 use Rattle.tp_model.specs.Bytes.{numeral, number}
+use Rattle.tp_laws.proofs.Partial.{all_append}
 
 abbrev pub AreBytes : List ℕ → Type 0
 AreBytes bytes = AllByRecursion (λ byte. byte < 256) bytes
@@ -22,6 +23,14 @@ pub are_bytes-drop : (k : ℕ) (bytes : List ℕ) → AreBytes bytes → AreByte
 are_bytes-drop zero bytes h = h
 are_bytes-drop (suc k) [] h = tt
 are_bytes-drop (suc k) (byte ∷ bytes) h = are_bytes-drop k bytes h.1
+
+pub are_bytes-take : (k : ℕ) (bytes : List ℕ) → AreBytes bytes → AreBytes (take k bytes)
+are_bytes-take zero bytes h = tt
+are_bytes-take (suc k) [] h = tt
+are_bytes-take (suc k) (byte ∷ bytes) h = (h.0, are_bytes-take k bytes h.1)
+
+pub are_bytes-append : (front rest : List ℕ) → AreBytes front → AreBytes rest → AreBytes (front ++ rest)
+are_bytes-append front rest h k = all_append (λ byte. byte < 256) front rest h k
 
 -- one digit more
 more_power : (a k : ℕ) → a * 256 ^ suc k ≡ 256 * (a * 256 ^ k)

@@ -1,6 +1,7 @@
 pub mod BothWays
 pub mod Choosing
 pub mod Meeting
+pub mod NodeOfBytes
 pub mod OneDevice
 pub mod OneGroup
 pub mod OneNode

@@ -1,10 +1,13 @@
-//! Laws of bytes: images and nodes, images and numbers. The functions do nothing; their contracts are the laws.
+//! Laws of bytes: images and nodes, images and numbers, tokens. The functions do nothing; their contracts are the laws.
 
 ghost use Rattle.std.specs.Prelude.{◌≡◌, ◌<◌, ℕ, List};
 ghost use Rattle.std.specs.List.{AllByRecursion};
 ghost use Rattle.tp_model.specs.Bytes.{number};
 ghost use Rattle.tp_model.specs.NodeState.{NodeState};
 ghost use Rattle.tp_model.specs.Image.{image, node_of, IsNode};
+ghost use Rattle.tp_model.specs.declared.link.Token.TheVariants.{Data};
+
+use tp_model::Token;
 
 /// A node that has an image is the one that its image spells; bytes that spell a node are its image; and every node
 /// that bytes spell has an image.
@@ -18,3 +21,18 @@ pub fn images_determine_nodes()
 pub fn numbers_determine_images()
     ensures { (b c : List ℕ) → AllByRecursion (λ byte. byte < 256) b → AllByRecursion (λ byte. byte < 256) c → number b ≡ number c → b ≡ c }
 {}
+
+/// A byte is below 256, as its type says.
+fn is_byte(byte: u8)
+    ensures { byte < 256 }
+{}
+
+/// What a token carries is a byte, as its type says.
+pub fn carries_byte(token: Token)
+    ensures { (byte : ℕ) → token ≡ Data byte → byte < 256 }
+{
+    match token {
+        Token::Data(byte) => is_byte(byte),
+        Token::Ack | Token::Marker => {}
+    }
+}

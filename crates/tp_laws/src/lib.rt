@@ -6,5 +6,7 @@ mod bytes;
 pub mod examples;
 mod machine;
 
-pub use bytes::{images_determine_nodes, numbers_determine_images};
-pub use machine::{links_keep_flight, machine_has_four_links, machine_never_marks};
+pub use bytes::{carries_byte, images_determine_nodes, numbers_determine_images};
+pub use machine::{
+    links_keep_flight, machine_has_four_links, machine_never_marks, nodes_stay_nodes,
+};

@@ -6,36 +6,33 @@ use Rattle.std.proofs.lemmas.Bool.{and_parts, leb-true, cases_lt}
 use Rattle.tp_model.specs.declared.limits.TheConstants.{MAX_HELD, NUMBER_LIMIT, IMAGE_HEAD_BYTES}
 use Rattle.tp_model.specs.NodeState.{NodeState}
 use Rattle.tp_model.specs.Node.{t414_ends}
-use Rattle.tp_model.specs.Image.{page_count, node_of, IsNode}
+use Rattle.tp_model.specs.Image.{page_count, node_of}
 use Rattle.tp_model.specs.Network.{Port, Network}
 use Rattle.tp_model.specs.Sound.{Ends}
-use Rattle.tp_model.specs.Topology.{Topology, node_count, is_topology}
+use Rattle.tp_model.specs.Topology.{Topology, node_count, line_count, is_topology}
 use Rattle.tp_model.specs.Journal.{image_length}
-use Rattle.tp_model.specs.CutImage.{is_port_of, node_with, or_damaged, nodes_in}
+use Rattle.tp_model.specs.CutImage.{is_port_of, node_with, or_damaged, nodes_in, lines_in, ports_in}
+use Rattle.tp_model.specs.Flight.{flights_in}
 use Rattle.tp_model.specs.Spelling.{IsCut}
-use Rattle.tp_model.specs.Opening.{base_of, has_front, nodes_place, cut_in}
-use Rattle.tp_laws.proofs.Numbers.{AreBytes}
+use Rattle.tp_model.specs.Opening.{base_of, has_front, network_of, nodes_place, lines_place, ports_place, cut_in}
+use Rattle.tp_laws.specs.NodeOfBytes.{IsNodeOfBytes}
+use Rattle.tp_laws.proofs.Images.{node_of_bytes}
+use Rattle.tp_laws.proofs.Numbers.{AreBytes, are_bytes-drop}
+use Rattle.tp_laws.proofs.Partial.{all_at}
 use Rattle.tp_areas.proofs.Faults.{bind_ok, or_damaged_ok, tested}
-use Rattle.tp_areas.proofs.ReadCuts.{cut_read}
+use Rattle.tp_areas.proofs.ReadCuts.{are_bytes-take, cut_read}
 use Rattle.tp_node.proofs.Images.{node_of-short}
 use Rattle.tp_book.specs.Kept.{IsCounted, AreCounted}
 use Rattle.tp_replay.specs.Flat.{IsFlat}
-use Rattle.tp_replay.proofs.Imaged.{image_inside}
 use Rattle.tp_area.proofs.Topologies.{has_shape}
 use Rattle.tp_open.proofs.UnmarkedLines.{lines_unmarked}
 use Rattle.tp_open.proofs.CutsAreSound.{cut_nodes, cut_wires, cut_lines, cut_sound}
 use Rattle.tp_open.proofs.HeldPorts.{EachPort, IsHeld}
 
--- what is so of each element
-each_at : {A : Type 0} (P : A → Type 0) (xs : List A) → AllByRecursion P xs → (i : ℕ) (x : A) → slice_get xs i ≡ Some x → P x
-each_at P [] all i x at = cc
-each_at P (y ∷ ys) all zero x at = let same : y ≡ x = cc in subst P same all.0
-each_at P (y ∷ ys) all (suc i) x at = each_at P ys all.1 i x at
-
 -- ## A network in one thread
 
-pub cut_flat : (t : Topology) (base : ℕ) (s : Network NodeState) → is_topology t ≡ true → IsCut t414_ends t base s → IsFlat s
-cut_flat t base s topology C =
+pub cut_flat : (t : Topology) (base : ℕ) (s : Network NodeState) → is_topology t ≡ true → IsCut t414_ends t base s → AllByRecursion IsNodeOfBytes s.nodes → IsFlat s
+cut_flat t base s topology C bytes =
     let shape = has_shape t topology in
     let nodes = cut_nodes t414_ends t base s topology C in
     let wires = cut_wires t414_ends t base s topology C in
@@ -48,7 +45,7 @@ cut_flat t base s topology C =
         few_ports = omega (arith, shape.few_ports, C.count);
       };
       marked = λ line. omega (arith, lines_unmarked t.wires s.lines C.lines line);
-      inside = λ i node at. image_inside node (each_at IsNode s.nodes C.nodes i node at);
+      nodes = λ i node at. all_at IsNodeOfBytes s.nodes i node bytes at;
     }
 
 -- ## Ports
@@ -69,7 +66,7 @@ port_keeps base port h =
     }
 
 cut_ports : (E : Ends NodeState) (t : Topology) (base : ℕ) (s : Network NodeState) → IsCut E t base s → EachPort (PortKeeps base) s.ports
-cut_ports E t base s C p port at = port_keeps base port (each_at (λ x. is_port_of base x ≡ true) s.ports C.ports p port at)
+cut_ports E t base s C p port at = port_keeps base port (all_at (λ x. is_port_of base x ≡ true) s.ports p port C.ports at)
 
 -- What a port of a cut has counted is no more than there are entries in it.
 pub cut_counted : (E : Ends NodeState) (t : Topology) (base : ℕ) (s : Network NodeState) → IsCut E t base s → AreCounted base s.ports
@@ -107,6 +104,31 @@ read_is_cut E t at content s topology bytes front is =
     let shape = has_shape t topology in
     (cut_read E t at content s shape.lines bytes (read_long E t at content s shape.some_nodes is) front is).cut
 
+nodes_of_bytes : (at : ℕ) (pages xs : List ℕ) (nodes : List NodeState) → AreBytes xs → nodes_in at pages xs ≡ Ok nodes → AllByRecursion IsNodeOfBytes nodes
+unfolding nodes_in
+nodes_of_bytes at [] xs nodes h is = let none : [] ≡ nodes = cc in subst (AllByRecursion IsNodeOfBytes) none tt
+nodes_of_bytes at (pages ∷ more) xs nodes h is =
+    let long = image_length pages in
+    let first = bind_ok (or_damaged at (node_with pages xs)) _ nodes is in
+    let rest = bind_ok (nodes_in (at + long) more (drop long xs)) _ nodes first.2 in
+    let found = tested (λ n. page_count n.memory == pages) (node_of (take long xs)) first.0 (or_damaged_ok at (node_with pages xs) first.0 first.1) in
+    let all : first.0 ∷ rest.0 ≡ nodes = let both = rest.2 in cc in
+    subst (AllByRecursion IsNodeOfBytes) all
+    (node_of_bytes (take long xs) first.0 (are_bytes-take long xs h) found.0, nodes_of_bytes (at + long) more (drop long xs) rest.0 (are_bytes-drop long xs h) rest.1)
+
+-- Its nodes are of bytes, as the content is.
+pub read_of_bytes : (E : Ends NodeState) (t : Topology) (at : ℕ) (content : List ℕ) (s : Network NodeState) → AreBytes content → cut_in E t at content ≡ Ok s → AllByRecursion IsNodeOfBytes s.nodes
+unfolding cut_in
+read_of_bytes E t at content s h is =
+    let a = bind_ok (nodes_in (at + nodes_place) t.pages (drop nodes_place content)) _ s is in
+    let b = bind_ok (lines_in (at + lines_place t) t.wires (drop (lines_place t) content)) _ s a.2 in
+    let c = bind_ok (ports_in (base_of content) (at + ports_place t) t.ports (drop (ports_place t) content)) _ s b.2 in
+    let network = network_of t a.0 b.0 c.0 in
+    let d = bind_ok (flights_in E network (at + lines_place t) 0 (line_count t)) _ s c.2 in
+    let same : network ≡ s = let both = d.2 in cc in
+    subst (λ (n : Network NodeState). AllByRecursion IsNodeOfBytes n.nodes) same
+    (nodes_of_bytes (at + nodes_place) t.pages (drop nodes_place content) a.0 (are_bytes-drop nodes_place content h) a.1)
+
 -- It can be replayed from, and each of its ports has counted no more than its entries.
 pub record CanReplay (base : ℕ) (s : Network NodeState) : Type 0 where
   pub flat : IsFlat s
@@ -117,4 +139,4 @@ pub read_can_replay : (t : Topology) (at : ℕ) (content : List ℕ) (s : Networ
     → has_front t content ≡ true → cut_in t414_ends t at content ≡ Ok s → CanReplay (base_of content) s
 read_can_replay t at content s topology bytes front is =
     let C = read_is_cut t414_ends t at content s topology bytes front is in
-    record { flat = cut_flat t (base_of content) s topology C; counted = cut_counted t414_ends t (base_of content) s C; few = C.base_fits }
+    record { flat = cut_flat t (base_of content) s topology C (read_of_bytes t414_ends t at content s bytes is); counted = cut_counted t414_ends t (base_of content) s C; few = C.base_fits }

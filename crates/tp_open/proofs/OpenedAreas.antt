@@ -16,7 +16,7 @@ use Rattle.tp_book.specs.Opened.{IsOpened}
 use Rattle.tp_replay.specs.PartsOf.{ArePartsOf}
 use Rattle.tp_replay.specs.Replaying.{numbered}
 use Rattle.tp_replay.proofs.History.{history_of}
-use Rattle.tp_open.proofs.CutsAreFlat.{read_is_cut}
+use Rattle.tp_open.proofs.CutsAreFlat.{read_is_cut, read_of_bytes}
 use Rattle.tp_open.proofs.PartsAgain.{HasOwnImage, parts_opened}
 
 -- The state has these parts: the cut, the network after the entries, each of its nodes with an image that spells it, the
@@ -40,7 +40,8 @@ area_opened head second content o n topology bytes is S =
     let cut : A.cut ≡ o.cut = ap (λ (p : Opened). p.cut) A.is in
     let kept : A.replay.kept ≡ o.kept = ap (λ (p : Opened). p.kept) A.is in
     let now : A.replay.now ≡ o.now = ap (λ (p : Opened). p.now) A.is in
-    parts_opened head.topology (base_of content) A.cut rows A.replay n topology C A.leads
+    parts_opened head.topology (base_of content) A.cut rows A.replay n topology C
+    (read_of_bytes t414_ends head.topology (area_start head.area second + 1) content A.cut bytes A.cut_is) A.leads
     (subst (ArePartsOf n.cut.value) (sym cut) S.cut)
     (subst (ArePartsOf n.net) (sym now) S.now)
     (subst (λ s. AllByRecursion HasOwnImage s.nodes) (sym now) S.images)

@@ -1,5 +1,5 @@
 -- Parts of a network are that network again, where each node's image spells it.
-use Rattle.std.proofs.Common.{◌≡◌, ℕ, List, [], ◌∷◌, map, take, true, refl, sym, ap, ◌∙◌}
+use Rattle.std.proofs.Common.{◌≡◌, ℕ, suc, List, [], ◌∷◌, map, take, true, refl, sym, ap, ◌∙◌, Some, slice_get}
 use Rattle.std.specs.Prelude.{Ok, ◌&&◌, bytes_eq, Vec}
 use Rattle.std.specs.List.{AllByRecursion}
 use Rattle.std.specs.declared.alloc.Global.{Global}
@@ -13,11 +13,13 @@ use Rattle.tp_model.specs.Sound.{Ends}
 use Rattle.tp_model.specs.Topology.{Topology, is_topology}
 use Rattle.tp_model.specs.Replay.{Replay, after_rows, replay_from}
 use Rattle.tp_model.specs.Spelling.{IsCut}
+use Rattle.tp_laws.specs.NodeOfBytes.{IsNodeOfBytes}
 use Rattle.tp_laws.proofs.Images.{node_of-image}
 use Rattle.tp_book.specs.declared.parts.NetParts.{NetParts}
 use Rattle.tp_book.specs.declared.state.NetState.{NetState}
 use Rattle.tp_book.specs.Parts.{network_of}
 use Rattle.tp_book.specs.Opened.{IsOpened}
+use Rattle.tp_replay.specs.Flat.{IsFlat}
 use Rattle.tp_replay.specs.PartsOf.{ArePartsOf}
 use Rattle.tp_replay.specs.Replaying.{numbered}
 use Rattle.tp_open.proofs.ReplayedCuts.{replayed_opened}
@@ -35,6 +37,15 @@ image_again node N =
 images_again : (nodes : List NodeState) → AllByRecursion IsNode nodes → AllByRecursion HasOwnImage nodes
 images_again [] all = tt
 images_again (node ∷ nodes) all = (image_again node all.0, images_again nodes all.1)
+
+-- What is so by place is so of each.
+all_from : {A : Type 0} (P : A → Type 0) (xs : List A) → ((i : ℕ) (x : A) → slice_get xs i ≡ Some x → P x) → AllByRecursion P xs
+all_from P [] h = tt
+all_from P (x ∷ xs) h = (h 0 x refl, all_from P xs (λ i y at. h (suc i) y at))
+
+-- So it is of each node of a network in one thread.
+pub flat_images : (s : Network NodeState) → IsFlat s → AllByRecursion HasOwnImage s.nodes
+flat_images s F = all_from HasOwnImage s.nodes (λ i node at. image_again node (F.nodes i node at).image)
 
 nodes_again : (nodes : List NodeState) → AllByRecursion HasOwnImage nodes → map (λ node. node_at (image node)) nodes ≡ nodes
 nodes_again [] all = refl
@@ -61,7 +72,7 @@ cut_parts_again E t base s parts C P = parts_again parts s P (images_again s.nod
 
 -- What opening leaves, by its parts: those of the cut, and those of the network that the replay led to.
 pub parts_opened : (t : Topology) (base : ℕ) (s : Network NodeState) (rows : List (ℕ × List ℕ)) (r : Replay NodeState) (o : NetState) → is_topology t ≡ true → IsCut t414_ends t base s
-    → after_rows t414 (replay_from s base) rows ≡ Ok r → ArePartsOf o.cut.value s → ArePartsOf o.net r.now → AllByRecursion HasOwnImage r.now.nodes
+    → AllByRecursion IsNodeOfBytes s.nodes → after_rows t414 (replay_from s base) rows ≡ Ok r → ArePartsOf o.cut.value s → ArePartsOf o.net r.now → AllByRecursion HasOwnImage r.now.nodes
     → map numbered o.kept.items ≡ r.kept → o.base ≡ base → o.next ≡ r.next → IsOpened o
-parts_opened t base s rows r o topology C is cut now spelt kept base_is next_is =
-    replayed_opened t base s rows r o topology C is (cut_parts_again t414_ends t base s o.cut.value C cut) (parts_again o.net r.now now spelt) kept base_is next_is
+parts_opened t base s rows r o topology C bytes is cut now spelt kept base_is next_is =
+    replayed_opened t base s rows r o topology C bytes is (cut_parts_again t414_ends t base s o.cut.value C cut) (parts_again o.net r.now now spelt) kept base_is next_is

@@ -19,7 +19,8 @@ use Rattle.tp_order.proofs.InPlace.{flights_found}
 use Rattle.tp_areas.proofs.Faults.{tested}
 use Rattle.tp_areas.proofs.ReadCuts.{are_bytes-take}
 use Rattle.tp_laws.proofs.Numbers.{AreBytes, are_bytes}
-use Rattle.tp_laws.proofs.Images.{is_node-node_of}
+use Rattle.tp_laws.specs.NodeOfBytes.{IsNodeOfBytes}
+use Rattle.tp_laws.proofs.Images.{node_of_bytes}
 use Rattle.tp_open.specs.Cuts.{wired}
 use Rattle.tp_open.specs.Nodes.{HasImage, HaveImages}
 use Rattle.tp_open.specs.Ports.{ArePorts}
@@ -38,7 +39,7 @@ node_imaged pages bytes node fit is =
     let part = take (image_length pages) bytes in
     let found = tested (λ n. page_count n.memory == pages) (node_of part) node is in
     record {
-      image = is_node-node_of part node (are_bytes-take (image_length pages) bytes are) found.0;
+      image = node_of_bytes part node (are_bytes-take (image_length pages) bytes are) found.0;
       count = eqb-true (page_count node.memory) pages found.1;
     }
 
@@ -46,7 +47,7 @@ pub imaged_more : (i : ℕ) (pages : List ℕ) (nodes new : List NodeState) (nod
     → new ≡ nodes ++ node ∷ [] → HaveImages (take (i + 1) pages) new
 imaged_more i pages nodes new node lt are is push =
     subst (HaveImages (take (i + 1) pages)) (sym push) (record {
-      images = all_pushed IsNode nodes node are.images is.image;
+      images = all_pushed IsNodeOfBytes nodes node are.images is.image;
       counts = map_push (λ n. page_count n.memory) nodes node ∙ ap (λ ps. ps ++ page_count node.memory ∷ []) are.counts
           ∙ ap (λ p. take i pages ++ p ∷ []) is.count ∙ sym (take_more pages i 0 lt);
     })
@@ -67,13 +68,17 @@ reached_more base ports new port are is push = subst (ArePorts base) (sym push) 
 
 -- ## The cut
 
+have_images : (nodes : List NodeState) → AllByRecursion IsNodeOfBytes nodes → AllByRecursion IsNode nodes
+have_images [] all = tt
+have_images (node ∷ nodes) all = (all.0.image, have_images nodes all.1)
+
 -- Parts that passed the tests are a cut.
 pub parts_cut : (E : Ends NodeState) (t : Topology) (base at : ℕ) (nodes : List NodeState) (lines : List (List Token)) (ports : List Port) → HaveImages t.pages nodes → are_lines t.wires lines ≡ true
     → length ports ≡ t.ports → ArePorts base ports → flights_in E (wired t.wires nodes lines ports) at 0 (line_count t) ≡ Ok tt → base < NUMBER_LIMIT
     → IsCut E t base (wired t.wires nodes lines ports)
 parts_cut E t base at nodes lines ports imaged tokens count reached flights few = record {
   wires = λ i. t.wires;
-  nodes = imaged.images;
+  nodes = have_images nodes imaged.images;
   pages = imaged.counts;
   lines = tokens;
   count = count;

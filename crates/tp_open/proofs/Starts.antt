@@ -22,7 +22,7 @@ use Rattle.tp_replay.specs.Flat.{IsFlat, network_of}
 use Rattle.tp_open.specs.declared.cut.Cut.{Cut}
 use Rattle.tp_open.specs.Cuts.{cut_network, wired}
 use Rattle.tp_open.specs.Nodes.{live, AreThawed}
-use Rattle.tp_open.proofs.CutsAreFlat.{cut_flat, cut_held}
+use Rattle.tp_open.proofs.CutsAreFlat.{cut_held}
 use Rattle.tp_open.proofs.HeldPorts.{EachPort, IsHeld}
 use Rattle.tp_open.proofs.ReplayedCuts.{parts_held}
 

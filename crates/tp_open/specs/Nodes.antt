@@ -1,8 +1,9 @@
 -- Nodes that were read.
 use Rattle.std.specs.Prelude.{◌≡◌, ℕ, List, [], ◌∷◌, None, map}
 use Rattle.std.specs.List.{AllByRecursion}
-use Rattle.tp_model.specs.Image.{page_count, IsNode}
+use Rattle.tp_model.specs.Image.{page_count}
 use Rattle.tp_model.specs.NodeState.{NodeState}
+use Rattle.tp_laws.specs.NodeOfBytes.{IsNodeOfBytes}
 use Rattle.tp_node.specs.NodeContents.{NodeContents}
 
 abbrev pub live : NodeContents → NodeState
@@ -15,10 +16,10 @@ AreThawed (node ∷ nodes) = (node.frozen ≡ None) × AreThawed nodes
 
 -- it has an image, and so many pages
 pub record HasImage (pages : ℕ) (node : NodeState) : Type 0 where
-  pub image : IsNode node
+  pub image : IsNodeOfBytes node
   pub count : page_count node.memory ≡ pages
 
 -- each has an image, and so many pages each
 pub record HaveImages (pages : List ℕ) (nodes : List NodeState) : Type 0 where
-  pub images : AllByRecursion IsNode nodes
+  pub images : AllByRecursion IsNodeOfBytes nodes
   pub counts : map (λ n. page_count n.memory) nodes ≡ pages

@@ -1,6 +1,8 @@
 //! The cut of an area.
 
 ghost use Rattle.std.specs.Prelude.{◌≡◌, ◌+◌, ◌*◌, ◌≤◌, ◌<◌, ◌^◌, ℕ, true, Ok, IfOk, map, length, sum_by};
+ghost use Rattle.std.specs.List.{AllByRecursion};
+ghost use Rattle.tp_laws.specs.NodeOfBytes.{IsNodeOfBytes};
 ghost use Rattle.tp_model.specs.Device.{area_start, content_of};
 ghost use Rattle.tp_model.specs.DiskHistory.{Counts};
 ghost use Rattle.tp_model.specs.Flight.{flights_in};
@@ -168,6 +170,7 @@ pub fn read_cut<D: Disk>(
     ensures ports { IfOk result (λ cut. length cut.ports.items ≡ head.now.topology.ports) }
     ensures sound { IfOk result (λ cut. (at : ℕ) × (flights_in t414_ends (cut_network head.now.topology.wires cut) at 0 (line_count head.now.topology) ≡ Ok tt)) }
     ensures cut { base < NUMBER_LIMIT → IfOk result (λ cut. IsCut t414_ends head.now.topology base (cut_network head.now.topology.wires cut)) }
+    ensures images { IfOk result (λ cut. AllByRecursion IsNodeOfBytes (map live cut.nodes.items)) }
     ensures thawed { IfOk result (λ cut. AreThawed cut.nodes.items) }
     ensures is { D.keeps → base ≡ base_of (content_of head.now.area second (D.state disk.old).now.bytes)
         → Answers (cut_network head.now.topology.wires) (cut_in t414_ends head.now.topology (area_start head.now.area second + 1) (content_of head.now.area second (D.state disk.old).now.bytes)) result }

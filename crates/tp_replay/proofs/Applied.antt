@@ -21,7 +21,7 @@ use Rattle.tp_book.specs.Room.{HasRoom}
 use Rattle.tp_replay.specs.declared.network.FlatNetwork.TheInside.{Inside}
 use Rattle.tp_replay.specs.declared.fault.NotPossible.{NotPossible}
 use Rattle.tp_replay.specs.Answers.{Applies}
-use Rattle.tp_replay.specs.Flat.{IsFlat, AreThawed}
+use Rattle.tp_replay.specs.Flat.{IsFlat, AreThawed, TakesByte}
 use Rattle.tp_replay.specs.Inside.{state_of, IsInside}
 use Rattle.tp_replay.proofs.Flat.{flat_step, room_step}
 use Rattle.tp_replay.proofs.Steps.{Made, on_port, node_after, port_after}
@@ -93,8 +93,8 @@ module _ (n : Inside) (I : IsInside n) where
         ap (λ ports. record (state_of n) { ports = ports; lines = lines }) (map-set (λ port. port.port) n.ports.items p port)
         ∙ ap (λ given. record (state_of n) { ports = set (state_of n).ports p port.port; lines = given }) on
 
-    pub port_inside : IsInside (record n { ports = with_item n.ports p port; lines = lines })
-    port_inside = record { flat = subst IsFlat (sym port_state) (flat_step (state_of n) I.flat e (port_after (state_of n) out p port.port tokens) M.step); thawed = I.thawed }
+    pub port_inside : TakesByte e → IsInside (record n { ports = with_item n.ports p port; lines = lines })
+    port_inside low = record { flat = subst IsFlat (sym port_state) (flat_step (state_of n) I.flat e (port_after (state_of n) out p port.port tokens) M.step low); thawed = I.thawed }
 
     pub port_next : next t414 (state_of n) e ≡ Some (state_of (record n { ports = with_item n.ports p port; lines = lines }))
     port_next = next_from t414 (state_of n) e (port_after (state_of n) out p port.port tokens) M.step ∙ ap Some (sym port_state)
@@ -117,8 +117,8 @@ module _ (n : Inside) (I : IsInside n) where
         ap (λ nodes. record (state_of n) { nodes = nodes; lines = lines }) (map-set (λ node. node.live) n.nodes.items i node)
         ∙ ap (λ given. record (state_of n) { nodes = set (state_of n).nodes i node.live; lines = given }) on
 
-    pub node_inside : IsInside (record n { nodes = with_item n.nodes i node; lines = lines })
-    node_inside = record { flat = subst IsFlat (sym node_state) (flat_step (state_of n) I.flat e (node_after (state_of n) out i node.live tokens) M.step); thawed = still_thawed i old node there thawed }
+    pub node_inside : TakesByte e → IsInside (record n { nodes = with_item n.nodes i node; lines = lines })
+    node_inside low = record { flat = subst IsFlat (sym node_state) (flat_step (state_of n) I.flat e (node_after (state_of n) out i node.live tokens) M.step low); thawed = still_thawed i old node there thawed }
 
     pub node_next : next t414 (state_of n) e ≡ Some (state_of (record n { nodes = with_item n.nodes i node; lines = lines }))
     node_next = next_from t414 (state_of n) e (node_after (state_of n) out i node.live tokens) M.step ∙ ap Some (sym node_state)

@@ -11,12 +11,12 @@ use Rattle.tp_model.specs.Sound.{datas, acks, owner, end_waits, end_holds}
 use Rattle.tp_model.specs.Word.{bit}
 use Rattle.std.specs.Option.{option_map}
 use Rattle.std.proofs.lemmas.Bool.{true≢false}
+use Rattle.tp_laws.proofs.Taking.{takes_data, takes_ack}
 use Rattle.tp_order.proofs.Lines.{first_is}
 use Rattle.tp_laws.proofs.Bits.{bit_none, bit_some, bit_small}
 use Rattle.tp_order.proofs.Local.{owner_of_link}
 use Rattle.tp_order.proofs.Sound.{end_waits_is, end_holds_is}
 use Rattle.tp_replay.specs.Flat.{IsFlat}
-use Rattle.tp_replay.proofs.Messages.{takes_data, takes_ack}
 use Rattle.tp_replay.proofs.Steps.{own_there}
 
 module _ (s : Network NodeState) (F : IsFlat s) (line i k : ℕ) (n : NodeState) (to : receiver s.wires line ≡ Some (Link i k)) (at : slice_get s.nodes i ≡ Some n) where
@@ -39,7 +39,7 @@ module _ (s : Network NodeState) (F : IsFlat s) (line i k : ℕ) (n : NodeState)
       let most = bit_small (end_waits t414_ends s line) in
       let none : bit (end_holds t414_ends s (4 * i + k)) ≡ 0 = omega arith in
       let free : holds n k ≡ false = ap (holds n) (sym link) ∙ sym (end_holds_is t414_ends s (length s.nodes) (4 * i + k) (OfNode n) refl own_end) ∙ bit_none (end_holds t414_ends s (4 * i + k)) none in
-      takes_data n k byte (F.inside i n at) ends.1 free
+      takes_data n k byte (F.nodes i n at).image ends.1 free
 
   ack_front : is_first (on_line s.lines line) Ack ≡ true → IsSome (took n k Ack)
   ack_front front =
@@ -47,7 +47,7 @@ module _ (s : Network NodeState) (F : IsFlat s) (line i k : ℕ) (n : NodeState)
       let flight = F.sound.flight (4 * i + k) line (F.sound.wires.both_ways line (4 * i + k) comes_back) in
       let some : 1 ≤ bit (end_waits t414_ends s (4 * i + k)) = omega arith in
       let stands : waits n k ≡ true = ap (waits n) (sym link) ∙ sym (end_waits_is t414_ends s (length s.nodes) (4 * i + k) (OfNode n) refl own_end) ∙ bit_some (end_waits t414_ends s (4 * i + k)) some in
-      takes_ack n k (F.inside i n at) ends.1 stands
+      takes_ack n k (F.nodes i n at).image ends.1 stands
 
   -- so any token but a Marker is taken
   pub front_taken : (token : Token) → is_marker token ≡ false → is_first (on_line s.lines line) token ≡ true → IsSome (took n k token)

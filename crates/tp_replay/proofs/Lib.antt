@@ -3,11 +3,7 @@ pub mod Counted
 pub mod Flat
 pub mod Fronts
 pub mod History
-pub mod Imaged
 pub mod Impossible
-pub mod Length
-pub mod LinkMessages
-pub mod Messages
 pub mod Pages
 pub mod Ran
 pub mod Rows

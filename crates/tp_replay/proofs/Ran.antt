@@ -84,7 +84,7 @@ module _ (n : Inside) (I : IsInside n) (i : ℕ) (node new : NodeContents) (ther
       where
         go : (k : ℕ) → count ≡ k → IsInside (record n { nodes = with_item n.nodes i new; lines = lines })
         go zero none = record { flat = subst IsFlat (sym (ran_none none)) I.flat; thawed = still_thawed n I i node new there kept }
-        go (suc k) some = node_inside n I (Run i count) n.lines i node new there kept tokens (step (omega arith)) lines on
+        go (suc k) some = node_inside n I (Run i count) n.lines i node new there kept tokens (step (omega arith)) lines on tt
 
   -- fewer steps than were asked for are all that it can make
   pub ran_short : (max : ℕ) → node_step new.live ≡ None → count < max → steps t414 max node.live ≡ None

@@ -2,15 +2,17 @@
 use Rattle.std.specs.Prelude.{◌≡◌, ◌≤◌, ◌<◌, ℕ, ◌+◌, ◌*◌, ◌^◌, List, length, map, Option, Some, None, slice_get}
 use Rattle.tp_model.specs.declared.link.Token.{Token}
 use Rattle.tp_model.specs.declared.wire.WireEnd.{WireEnd}
+use Rattle.tp_model.specs.declared.entry.Entry.{Entry}
+use Rattle.tp_model.specs.declared.entry.Entry.TheVariants.{Run, Take, HostIn, Confirm}
 use Rattle.tp_model.specs.NodeState.{NodeState}
 use Rattle.tp_model.specs.Node.{t414_ends}
 use Rattle.tp_model.specs.Network.{Network, Port, on_line}
 use Rattle.tp_model.specs.Sound.{Sound}
 use Rattle.tp_model.specs.Markers.{markers}
 use Rattle.tp_model.specs.declared.limits.TheConstants.{MAX_NODES, MAX_PORTS}
+use Rattle.tp_laws.specs.NodeOfBytes.{CarriesByte, IsNodeOfBytes}
 use Rattle.tp_node.specs.NodeContents.{NodeContents}
 use Rattle.tp_book.specs.Ports.{PortValue}
-use Rattle.tp_replay.specs.Messages.{MessagesInside}
 
 -- A line for each link and each port, and no more nodes and ports than a network may have.
 pub record IsShaped (s : Network NodeState) : Type 0 where
@@ -19,12 +21,19 @@ pub record IsShaped (s : Network NodeState) : Type 0 where
   pub few_nodes : length s.nodes ≤ MAX_NODES
   pub few_ports : length s.ports ≤ MAX_PORTS
 
--- It is sound and shaped, no line has two Markers, and the messages under way at each node lie inside its memory.
+-- It is sound and shaped, no line has two Markers, and each node has an image.
 pub record IsFlat (s : Network NodeState) : Type 0 where
   pub sound : Sound t414_ends s
   pub shaped : IsShaped s
   pub marked : (line : ℕ) → markers (on_line s.lines line) ≤ 1
-  pub inside : (i : ℕ) (node : NodeState) → slice_get s.nodes i ≡ Some node → MessagesInside node
+  pub nodes : (i : ℕ) (node : NodeState) → slice_get s.nodes i ≡ Some node → IsNodeOfBytes node
+
+-- what an entry takes carries a byte
+abbrev pub TakesByte : Entry → Type 0
+TakesByte (Run node count) = Unit {0}
+TakesByte (Take line token) = CarriesByte token
+TakesByte (HostIn port byte) = Unit {0}
+TakesByte (Confirm port upto) = Unit {0}
 
 -- the network of these nodes and ports, with these wires and lines
 abbrev pub network_of : List (Option WireEnd) → List NodeContents → List (List Token) → List PortValue → Network NodeState

@@ -2,7 +2,6 @@ pub mod Answers
 pub mod Flat
 pub mod History
 pub mod Inside
-pub mod Messages
 pub mod PartsOf
 pub mod Replaying
 pub mod Rows

@@ -14,8 +14,6 @@ mod run;
 mod take;
 
 pub use fault::{NotPossible, ReplayFault, RowFault};
-pub use laws::{
-    cuts_are_sound, entries_keep_flat, messages_stay_inside, rows_are_history, rows_in_parts,
-};
+pub use laws::{cuts_are_sound, entries_keep_flat, rows_are_history, rows_in_parts};
 pub use network::FlatNetwork;
 pub use replaying::Replay;

@@ -1,7 +1,8 @@
 //! Tokens that are taken.
 
-ghost use Rattle.std.specs.Prelude.{◌≡◌, ◌<◌, Some, false, true, length, OnErr};
+ghost use Rattle.std.specs.Prelude.{◌≡◌, ◌<◌, ℕ, Some, false, true, length, OnErr};
 ghost use Rattle.tp_model.specs.declared.entry.Entry.TheVariants.{Take};
+ghost use Rattle.tp_model.specs.declared.link.Token.TheVariants.{Data};
 ghost use Rattle.tp_model.specs.declared.wire.WireEnd.TheVariants.{Link, Port};
 ghost use Rattle.tp_model.specs.Entries.{next};
 ghost use Rattle.tp_model.specs.Markers.{is_marker};
@@ -14,6 +15,7 @@ use crate::fault::NotPossible;
 use crate::front::{can_take, stands_in_front};
 use crate::network::FlatNetwork;
 use tp_book::send_some;
+use tp_laws::carries_byte;
 use tp_model::{Token, WireEnd};
 use tp_node::NoFrame;
 
@@ -31,6 +33,7 @@ impl FlatNetwork {
         if !stands_in_front(self.lines.front(at), token) {
             return Err(NotPossible);
         }
+        carries_byte(token);
         match self.wires[at] {
             None => Err(NotPossible),
             Some(WireEnd::Link(node, link)) => {
@@ -46,6 +49,7 @@ impl FlatNetwork {
         requires goes { receiver self.old.wires line ≡ Some (Link node link) }
         requires front { is_first (on_line self.old.lines line) token ≡ true }
         requires plain { is_marker token ≡ false }
+        requires byte { (byte : ℕ) → token ≡ Data byte → byte < 256 }
         ensures { next t414 self.old (Take line token) ≡ Some self.new }
     {
         let i = node as usize;
@@ -62,6 +66,7 @@ impl FlatNetwork {
         requires counted { CanCount self.old }
         requires goes { receiver self.old.wires line ≡ Some (Port port) }
         requires front { is_first (on_line self.old.lines line) token ≡ true }
+        requires byte { (byte : ℕ) → token ≡ Data byte → byte < 256 }
         ensures applies { Applies (next t414 self.old (Take line token)) result self.new }
         ensures err { OnErr result (self.new ≡ self.old) }
     {

@@ -1,5 +1,3 @@
-pub mod Long
-pub mod Fits
 pub mod Possible
 pub mod Leads
 pub mod Grown

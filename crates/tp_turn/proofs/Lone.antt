@@ -2,15 +2,14 @@
 use Rattle.std.proofs.Common.{◌≡◌, ℕ, zero, suc, ◌*◌, ◌%◌, ◌<◌, ◌≤◌, Bool, true, false, cond, List, [], ◌∷◌, ◌++◌, length, refl, sym, ap, subst, ◌∙◌, arith, Option, Some, None, slice_get}
 use Rattle.std.specs.Prelude.{◌==◌, ◌&&◌, nat_le, is_some, IsSome, Err}
 use Rattle.std.specs.List.{list_all}
-use Rattle.std.proofs.lemmas.Bool.{and_parts, eqb-true, leb-true}
+use Rattle.std.proofs.lemmas.Bool.{and_parts}
 use Rattle.tp_model.specs.declared.link.OutEnd.{OutEnd}
 use Rattle.tp_model.specs.declared.link.OutEnd.TheVariants.{Waits, Idle as NoOutput}
 use Rattle.tp_model.specs.declared.link.InEnd.{InEnd}
 use Rattle.tp_model.specs.declared.link.InEnd.TheVariants.{Inputs, Enabled, Idle}
 use Rattle.tp_model.specs.declared.wire.WireEnd.TheVariants.{Link}
-use Rattle.tp_model.specs.declared.limits.TheConstants.{PAGE_BYTES, MIN_PAGES, MAX_PAGES}
-use Rattle.tp_model.specs.EndBytes.{is_idle_out, is_idle_in, ends_at}
-use Rattle.tp_model.specs.Image.{page_count, is_memory, is_node, node_at, node_of, has_idle_links}
+use Rattle.tp_model.specs.EndBytes.{is_idle_out, is_idle_in}
+use Rattle.tp_model.specs.Image.{is_node, node_at, node_of, has_idle_links}
 use Rattle.tp_model.specs.NodeState.{NodeState}
 use Rattle.tp_model.specs.Node.{t414_ends}
 use Rattle.tp_model.specs.Network.{Network, Port, Own, OfNode, OfHost, own, receiver, has_wire, back, on_line}
@@ -27,37 +26,13 @@ use Rattle.tp_turn.specs.declared.trial.Tried.{Tried}
 use Rattle.tp_turn.proofs.Turned.{turns_lead}
 use Rattle.tp_model.specs.CutImage.{only_if}
 use Rattle.tp_laws.proofs.Idle.{none_waits, none_holds}
+use Rattle.tp_laws.proofs.Images.{node_of_bytes}
+use Rattle.tp_laws.proofs.Numbers.{AreBytes}
 use Rattle.tp_laws.proofs.Partial.{cond_some, map_some}
 use Rattle.tp_node.specs.NodeContents.{NodeContents}
 use Rattle.tp_node.specs.FromImage.{ReadsImage}
 use Rattle.tp_node.specs.declared.fault.ImageFault.TheVariants.{Memory as NoMemory}
 use Rattle.tp_turn.specs.Tried.{fresh_image, lone_network, IsTried}
-use Rattle.tp_turn.specs.Fits.{OutFits, InFits, Fits}
-
--- ## Idle links
-
-idle_out_fits : (size : ℕ) (ends : List OutEnd) (k : ℕ) (end : OutEnd) → list_all is_idle_out ends ≡ true → slice_get ends k ≡ Some end → OutFits size end
-idle_out_fits size [] k end e at = cc
-idle_out_fits size (one ∷ ends) zero end e at =
-    let same : one ≡ end = cc in
-    subst (OutFits size) same (fits one (and_parts (is_idle_out one) (list_all is_idle_out ends) e).0)
-  where
-    fits : (end : OutEnd) → is_idle_out end ≡ true → OutFits size end
-    fits NoOutput e = tt
-    fits (Waits t) e = cc
-idle_out_fits size (one ∷ ends) (suc k) end e at = idle_out_fits size ends k end (and_parts (is_idle_out one) (list_all is_idle_out ends) e).1 at
-
-idle_in_fits : (size : ℕ) (ends : List InEnd) (k : ℕ) (end : InEnd) → list_all is_idle_in ends ≡ true → slice_get ends k ≡ Some end → InFits size end
-idle_in_fits size [] k end e at = cc
-idle_in_fits size (one ∷ ends) zero end e at =
-    let same : one ≡ end = cc in
-    subst (InFits size) same (fits one (and_parts (is_idle_in one) (list_all is_idle_in ends) e).0)
-  where
-    fits : (end : InEnd) → is_idle_in end ≡ true → InFits size end
-    fits (Idle held) e = tt
-    fits (Inputs t) e = cc
-    fits (Enabled process) e = tt
-idle_in_fits size (one ∷ ends) (suc k) end e at = idle_in_fits size ends k end (and_parts (is_idle_in one) (list_all is_idle_in ends) e).1 at
 
 -- ## The node of an image
 
@@ -97,27 +72,6 @@ fresh_none bytes busy = go (node_of bytes) refl
 pub reads_memory : (bytes : List ℕ) (o : Option NodeState) → node_of bytes ≡ o → ReadsImage o (Err NoMemory) → has_idle_links (node_at bytes) ≡ true → IsSome (fresh_image bytes)
 reads_memory bytes None e h idle = absurd h
 reads_memory bytes (Some n) e h idle = ap is_some (fresh_some bytes n e idle)
-
-four_inputs : (bytes : List ℕ) → length (node_at bytes).inputs ≡ 4
-unfolding node_at ends_at
-four_inputs bytes = refl
-
-pub node_fits : (bytes : List ℕ) (n : NodeState) → node_of bytes ≡ Some n → has_idle_links n ≡ true → Fits (length n.memory) n
-unfolding is_node
-node_fits bytes n e idle =
-    let is = node_of_is bytes n e in
-    let rule = and_parts (is_memory n.memory) _ is.1 in
-    let whole = and_parts (length n.memory == PAGE_BYTES * page_count n.memory) _ rule.0 in
-    let many : length n.memory ≡ PAGE_BYTES * page_count n.memory = eqb-true (length n.memory) (PAGE_BYTES * page_count n.memory) whole.0 in
-    let most : page_count n.memory ≤ MAX_PAGES = leb-true (page_count n.memory) MAX_PAGES (and_parts (nat_le MIN_PAGES (page_count n.memory)) (nat_le (page_count n.memory) MAX_PAGES) whole.1).1 in
-    let ends = and_parts (list_all is_idle_out n.outputs) (list_all is_idle_in n.inputs) idle in
-    record {
-      small = omega (arith, many, most);
-      long = record { many = refl; whole = omega (arith, many) };
-      four = ap (λ (m : NodeState). length m.inputs) (sym is.0) ∙ four_inputs bytes;
-      outs = λ k end at. idle_out_fits (length n.memory) n.outputs k end ends.0 at;
-      ins = λ k end at. idle_in_fits (length n.memory) n.inputs k end ends.1 at;
-    }
 
 -- ## The network
 
@@ -208,14 +162,13 @@ first_agreed s = refl
 
 -- ## A trial
 
-pub lone_agrees : (image : List ℕ) (node : NodeContents) (b : BookValue) → fresh_image image ≡ Some node.live → node.frozen ≡ None → b ≡ first_book (lone_network (node_at image)) None → Agrees b 0 node
-lone_agrees image node b fresh thawed is =
+pub lone_agrees : (image : List ℕ) (node : NodeContents) (b : BookValue) → AreBytes image → fresh_image image ≡ Some node.live → node.frozen ≡ None → b ≡ first_book (lone_network (node_at image)) None → Agrees b 0 node
+lone_agrees image node b bytes fresh thawed is =
     let F = fresh_is image node.live fresh in
     let same = (node_of_is image node.live F.0).0 in
     record {
       there = ap (λ (x : BookValue). slice_get (agreed x.state) 0) is ∙ ap (λ ns. slice_get ns 0) (first_agreed (lone_network (node_at image))) ∙ ap Some same;
-      size = length node.live.memory;
-      fits = node_fits image node.live F.0 F.1;
+      image = node_of_bytes image node.live bytes F.0;
       thawed = thawed;
     }
 

@@ -11,7 +11,7 @@ mod trial;
 mod turn;
 
 pub use host::host_turn;
-pub use law::{messages_stay_inside, tried_images_are_formatted};
+pub use law::tried_images_are_formatted;
 pub use run::run_quantum;
 pub use take::{TAKES, take_links};
 pub use trial::{Tried, TryFault, try_turns};

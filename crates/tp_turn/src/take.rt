@@ -9,6 +9,7 @@ ghost use Rattle.tp_turn.specs.Turns.{TookAll, TookIn, InOrder};
 
 use crate::back::back;
 use tp_book::{Book, Refusal};
+use tp_laws::carries_byte;
 use tp_model::WireEnd;
 use tp_node::Node;
 
@@ -32,6 +33,7 @@ pub(crate) fn take_one(
     book.known();
     match book.ready_take(line) {
         Ok(token) => {
+            carries_byte(token);
             let Ok(sent) = node.take(link, token) else {
                 unreachable!()
             };

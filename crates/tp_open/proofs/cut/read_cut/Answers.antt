@@ -101,6 +101,9 @@ returns-in-Ok-clause-nodes g c =
 pub returns-in-Ok-clause-ports : goal.returns-in-Ok-clause-ports
 returns-in-Ok-clause-ports g c = c.in_ok-cut.ensures.ports ∙ c.ports.ensures ∙ ap (λ s. s.ports) c.topology-topology.ensures.value
 
+pub returns-in-Ok-clause-images : goal.returns-in-Ok-clause-images
+returns-in-Ok-clause-images g c = c.in_ok-cut.ensures.images.images
+
 pub returns-in-Ok-clause-sound : goal.returns-in-Ok-clause-sound
 returns-in-Ok-clause-sound g c =
     let t = c.args.head.now.topology in

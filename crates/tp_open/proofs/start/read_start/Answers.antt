@@ -13,7 +13,7 @@ pub flat_network-requires-clause-flat : goal.flat_network-requires-clause-flat
 flat_network-requires-clause-flat g c =
     let t = c.args.head.now.topology in
     subst (λ wires. IsFlat (cut_network wires c.in_ok-cut.cut)) (sym (c.wires.ensures.value ∙ ap (λ s. s.wires) c.topology.ensures.value))
-    (cut_flat t c.in_ok-front.front.base (cut_network t.wires c.in_ok-cut.cut) c.topology.ensures.valid (c.in_ok-cut.ensures.cut c.in_ok-front.ensures.few))
+    (cut_flat t c.in_ok-front.front.base (cut_network t.wires c.in_ok-cut.cut) c.topology.ensures.valid (c.in_ok-cut.ensures.cut c.in_ok-front.ensures.few) c.in_ok-cut.ensures.images)
 
 pub flat_network-requires-clause-few : goal.flat_network-requires-clause-few
 flat_network-requires-clause-few g c = lines_few c.args.head.now.topology.wires c.in_ok-cut.cut.lines.items (c.in_ok-cut.ensures.cut c.in_ok-front.ensures.few).lines

@@ -3,7 +3,7 @@ use Rattle.std.specs.Prelude.{is_some, IsSome}
 use Rattle.std.proofs.lemmas.Bool.{true≢false}
 use Rattle.tp_model.specs.Network.{steps}
 use Rattle.tp_model.specs.Node.{t414, node_step}
-use Rattle.tp_turn.proofs.Fits.{steps_fit}
+use Rattle.tp_laws.proofs.Nodes.{node_steps}
 use Rattle.tp_node.proofs.Answered.{why_most, why_fewer}
 use Rattle.tp_turn.proofs.Ran.{has_run, run_agrees, run_done}
 use Rattle.tp_turn.proofs.run.run_quantum.Goals as goal
@@ -33,7 +33,6 @@ returns-clause-agrees c =
     record {
       there = run_agrees c.args.book.now c.reserve_run.new.self c.commit_run-note.new.self c.args.number c.count.result c.args.node.now.live c.run-ran.new.self.live c.as_slice.result.now
           c.in_ok-reserve_run.ensures.ok c.requires.agrees.there made c.commit_run-note.ensures.agreed;
-      size = c.requires.agrees.size;
-      fits = steps_fit c.requires.agrees.size c.count.result c.args.node.now.live (c.run-ran.new.self.live, c.as_slice.result.now) c.requires.agrees.fits made;
+      image = (node_steps c.count.result c.args.node.now.live (c.run-ran.new.self.live, c.as_slice.result.now) c.requires.agrees.image made).0;
       thawed = c.run-ran.ensures.kept ∙ c.requires.agrees.thawed;
     }

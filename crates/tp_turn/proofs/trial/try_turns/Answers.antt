@@ -1,7 +1,8 @@
-use Rattle.std.proofs.Common.{None, sym, ap, subst, ◌∙◌}
+use Rattle.std.proofs.Common.{None, sym, ap, subst, ◌∙◌, arith}
 use Rattle.std.specs.Prelude.{Ok}
 use Rattle.tp_book.specs.Parts.{network_of}
 use Rattle.tp_book.specs.Start.{first_book}
+use Rattle.tp_laws.proofs.Numbers.{are_bytes}
 use Rattle.tp_turn.specs.Tried.{TriedAs}
 use Rattle.tp_turn.proofs.Lone.{lone_begins, lone_agrees, lone_tried}
 use Rattle.tp_turn.proofs.trial.try_turns.Goals as goal
@@ -11,7 +12,7 @@ start-requires-clause-fresh c = lone_begins c.args.image.now c.in_ok-node.node.l
 
 pub lone_turns-requires-clause-agrees : goal.lone_turns-requires-clause-agrees
 lone_turns-requires-clause-agrees c =
-    lone_agrees c.args.image.now c.in_ok-node.node c.in-Ok-start.book c.in_ok-node.ensures.0 c.in_ok-node.ensures.1 (c.in-Ok-start.ensures ∙ ap (λ s. first_book s None) c.in-Ok.ensures)
+    lone_agrees c.args.image.now c.in_ok-node.node c.in-Ok-start.book (are_bytes c.args.image.now (λ i. let fit = c.type_inv.image i in omega arith)) c.in_ok-node.ensures.0 c.in_ok-node.ensures.1 (c.in-Ok-start.ensures ∙ ap (λ s. first_book s None) c.in-Ok.ensures)
 
 pub returns-in-Ok-tried_in : goal.returns-in-Ok-tried_in
 returns-in-Ok-tried_in c =

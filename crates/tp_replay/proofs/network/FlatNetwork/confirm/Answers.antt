@@ -27,7 +27,7 @@ invariant_of-self c =
     let n = c.self.inside in
     let at = port_at n c.self.invariant c.args.port c.index_mut.result.now (omega (arith, n.ports.ok.0)) c.index_mut.ensures.value in
     let S = confirm_step (state_of n) c.args.port c.args.upto c.index_mut.result.now.port c.confirm.new.self.port [] at c.confirm.ensures.confirmed in
-    port_inside n c.self.invariant (Confirm c.args.port c.args.upto) n.lines c.args.port c.confirm.new.self [] S n.lines refl
+    port_inside n c.self.invariant (Confirm c.args.port c.args.upto) n.lines c.args.port c.confirm.new.self [] S n.lines refl tt
 
 pub returns-clause-applies : goal.returns-clause-applies
 unfolding sent

@@ -48,7 +48,7 @@ invariant_of-self c =
     let S = hand_in_step (state_of n) c.args.port c.args.byte c.index_mut.result.now.port c.hand_in-token.new.self.port (option_to_list c.hand_in-token.result) at c.hand_in-token.ensures.handed in
     let line : c.port_line-line.result ≡ 4 * length (state_of n).nodes + c.args.port = rw (← c.self.view_is) at c.port_line-line.ensures in
     let on = rw (c.deref.ensures.value, line, sends_on-tokens _ c.hand_in-token.result) at c.send_some.ensures in
-    port_inside n c.self.invariant (HostIn c.args.port c.args.byte) n.lines c.args.port c.hand_in-token.new.self (option_to_list c.hand_in-token.result) S c.send_some.new.lines on
+    port_inside n c.self.invariant (HostIn c.args.port c.args.byte) n.lines c.args.port c.hand_in-token.new.self (option_to_list c.hand_in-token.result) S c.send_some.new.lines on tt
 
 pub returns-clause-applies : goal.returns-clause-applies
 returns-clause-applies c =

@@ -4,6 +4,7 @@ use Rattle.std.proofs.lemmas.Bool.{true≢false}
 use Rattle.std.proofs.lemmas.Option.{slice_get_read}
 use Rattle.tp_model.specs.declared.entry.Entry.TheVariants.{Take}
 use Rattle.tp_model.specs.Node.{on_link}
+use Rattle.tp_laws.proofs.Nodes.{carries}
 use Rattle.tp_replay.specs.Inside.{state_of}
 use Rattle.tp_replay.proofs.Applied.{node_count, node_at, room, node_inside, node_next}
 use Rattle.tp_replay.proofs.Fronts.{front_taken}
@@ -56,6 +57,7 @@ invariant_of-self c =
     let M = node_takes (state_of n) c.args.line c.args.node c.args.link c.args.token c.index_mut.result.now.live c.take.new.self.live (on_link c.args.link c.in-Ok.answer) to front at did in
     let on = rw (c.deref.ensures.value, c.pop.ensures.after, answer_on c.args.node c.args.link c.in-Ok.answer) at c.send_some.ensures in
     node_inside n c.self.invariant (Take c.args.line c.args.token) (without_front n.lines c.args.line) c.args.node c.index_mut.result.now c.take.new.self there c.in-Ok.ensures.kept (on_link c.args.link c.in-Ok.answer) M c.send_some.new.lines on
+    (carries c.args.token c.requires.byte)
 
 pub returns : goal.returns
 returns c =

@@ -2,6 +2,7 @@ use Rattle.std.proofs.Common.{◌≡◌, ◌+◌, ◌*◌, ◌<◌, length, opti
 use Rattle.tp_model.specs.declared.entry.Entry.TheVariants.{Take}
 use Rattle.tp_model.specs.Entries.{port_took}
 use Rattle.tp_book.proofs.Sending.{sends_on-tokens}
+use Rattle.tp_laws.proofs.Nodes.{carries}
 use Rattle.tp_replay.specs.Inside.{state_of}
 use Rattle.tp_replay.proofs.Applied.{refused, applied, nowhere, cannot, there_is, same_item, port_count, port_at, room, port_inside, port_next}
 use Rattle.tp_replay.proofs.Impossible.{port_takes_none}
@@ -59,6 +60,7 @@ invariant_of-self c =
     let line : c.port_line-back.result ≡ 4 * length (state_of n).nodes + c.args.port = rw (← c.self.view_is) at c.port_line-back.ensures in
     let on = rw (c.deref.ensures.value, c.pop.ensures.after, line, sends_on-tokens _ c.take-answer.result) at c.send_some.ensures in
     port_inside n c.self.invariant (Take c.args.line c.args.token) (without_front n.lines c.args.line) c.args.port c.take-answer.new.self (option_to_list c.take-answer.result) M c.send_some.new.lines on
+    (carries c.args.token c.requires.byte)
 
 pub returns-clause-applies : goal.returns-clause-applies
 returns-clause-applies c =
