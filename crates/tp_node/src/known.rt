@@ -1,6 +1,6 @@
 //! What the types of a node's fields say of it.
 
-ghost use Rattle.std.specs.Prelude.{◌≡◌, ◌<◌, ◌^◌, length};
+ghost use Rattle.std.specs.Prelude.{◌≡◌, ℕ, ◌<◌, ◌^◌, length, slice_index};
 ghost use Rattle.std.specs.List.{AllByRecursion};
 ghost use Rattle.tp_model.specs.EndBytes.{IsTransfer, FitsOutEnd, FitsInEnd};
 ghost use Rattle.tp_model.specs.Image.{words_of};
@@ -15,6 +15,12 @@ fn known_transfer(_transfer: Transfer)
 fn known_word(_word: u32)
     ensures { _word < 2 ^ 32 }
 {}
+
+fn known_words(words: &[u32])
+    ensures { (k : ℕ) → slice_index words.now k < 2 ^ 32 }
+{
+    let _words = words;
+}
 
 fn known_out_end(end: OutEnd)
     ensures { FitsOutEnd end }
@@ -45,7 +51,7 @@ impl Head {
         ensures outputs { AllByRecursion FitsOutEnd self.now.outputs }
         ensures inputs { AllByRecursion FitsInEnd self.now.inputs }
     {
-        let _words = words_of(&self.cpu);
+        known_words(&words_of(&self.cpu));
         let _slice = self.cpu.slice;
         known_out_end(self.outputs[0].end());
         known_out_end(self.outputs[1].end());

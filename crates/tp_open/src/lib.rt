@@ -15,6 +15,7 @@ mod opening;
 mod port;
 mod spelling;
 mod start;
+mod state;
 mod topology;
 mod unopened;
 
