@@ -16,6 +16,7 @@ mod port;
 mod spelling;
 mod start;
 mod state;
+mod store;
 mod topology;
 mod unopened;
 
@@ -27,5 +28,6 @@ pub use head::{Head, head_in, read_head};
 pub use line::LineTokens;
 pub use opening::{Opened, open};
 pub use spelling::head_bytes;
+pub use store::open_store;
 pub use topology::{MAX_LINES, Topology};
 pub use unopened::Unopened;
