@@ -1,4 +1,4 @@
-use Rattle.std.proofs.Common.{◌≡◌, ◌++◌, ap, ◌∙◌}
+use Rattle.std.proofs.Common.{◌++◌, ap, ◌∙◌}
 use Rattle.tp_model.specs.Image.{image, node_at}
 use Rattle.tp_laws.proofs.Images.{FitsImage, node_at-image}
 use Rattle.tp_replay.proofs.image.image_of.Goals as goal
