@@ -3,6 +3,7 @@
 
 mod book;
 mod confirm;
+mod cut;
 mod fill;
 mod full;
 mod host;
@@ -21,6 +22,7 @@ mod state;
 mod take;
 
 pub use book::Book;
+pub use cut::CutNetwork;
 pub use fill::{lines_with, ports_with};
 pub use note::{Note, Numbered};
 pub use parts::{NetParts, PortParts};

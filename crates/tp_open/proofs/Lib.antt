@@ -18,7 +18,5 @@ pub mod Wires
 pub mod CutsAreFlat
 pub mod CutsAreSound
 pub mod HeldPorts
-pub mod OpenedAreas
-pub mod PartsAgain
 pub mod ReplayedCuts
 pub mod UnmarkedLines

@@ -14,6 +14,7 @@ mod number;
 mod opening;
 mod port;
 mod start;
+mod state;
 mod store;
 mod topology;
 mod unopened;
