@@ -22,7 +22,7 @@ proved=$work/crates/bench_journal/out/bench_journal
 
 "$top/tools/make-image" "$top/examples/letter.txt" "$work/a.img"
 printf 'node a 4\nport h\nwire a.0 h\n' > "$work/topology"
-"$tpnet" format "$work/device" "$work/topology" "$work" $((1 << 25))
+"$tpnet" format "$work/device" "$work/topology" "$work" $((1 << 26))
 python3 - "$proved" "$work/raw" "$work/device" "$rounds" "${folders[@]}" <<'PY'
 import os, statistics, subprocess, sys, tempfile, time
 proved, raw, device, rounds = sys.argv[1:5]
@@ -37,7 +37,7 @@ def seconds(program, file, groups, entries):
 
 for folder in sys.argv[5:]:
     kind = subprocess.run(["stat", "-f", "-c", "%T", folder], capture_output=True, text=True, check=True).stdout.strip()
-    groups = 20000 if kind == "tmpfs" else 500
+    groups = 60000 if kind == "tmpfs" else 2000
     with tempfile.TemporaryDirectory(prefix="bench-journal-", dir=folder) as place:
         file = os.path.join(place, "device")
         for entries in (1, 64):
