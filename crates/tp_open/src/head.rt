@@ -273,6 +273,7 @@ pub fn read_head<D: Disk>(disk: &mut D) -> Result<Head, Unopened>
     ensures counts { Counts (has_read result) (D.size_of disk.old) (D.size_of disk.new) (D.failures_of disk.old) (D.failures_of disk.new) }
     ensures kept { D.keeps → IsKept result (D.state disk.old).now (D.state disk.new).now }
     ensures inside { IfOk result (λ head. HEAD_BYTES + 2 * head.area ≤ D.size_of disk.old) }
+    ensures counted { IfOk result (λ head. D.size_of disk.old < 2 ^ 64) }
     ensures is { D.keeps → Answers (λ head. head) (head_of (D.state disk.old).now.bytes) result }
 {
     let len = disk.size();

@@ -15,6 +15,7 @@ mod opening;
 mod port;
 mod spelling;
 mod start;
+mod store;
 mod topology;
 mod unopened;
 
@@ -26,5 +27,6 @@ pub use head::{Head, head_in, read_head};
 pub use line::LineTokens;
 pub use opening::{Opened, open};
 pub use spelling::head_bytes;
+pub use store::open_store;
 pub use topology::{MAX_LINES, Topology};
 pub use unopened::Unopened;
