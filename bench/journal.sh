@@ -37,7 +37,7 @@ def seconds(program, file, groups, entries):
 
 for folder in sys.argv[5:]:
     kind = subprocess.run(["stat", "-f", "-c", "%T", folder], capture_output=True, text=True, check=True).stdout.strip()
-    groups = 60000 if kind == "tmpfs" else 2000
+    groups = 60000 if kind == "tmpfs" else 500
     with tempfile.TemporaryDirectory(prefix="bench-journal-", dir=folder) as place:
         file = os.path.join(place, "device")
         for entries in (1, 64):
@@ -45,8 +45,8 @@ for folder in sys.argv[5:]:
             for _ in range(int(rounds)):
                 ours.append(seconds(proved, file, groups, entries))
                 plain.append(seconds(raw, file, groups, entries))
-            best, middle = (min(ours), min(plain)), (statistics.median(ours), statistics.median(plain))
-            print("%s (%s), groups of %2d: best %.0f entries a second, raw %.0f, ratio %.2f; median %.0f, raw %.0f, ratio %.2f" % (
-                folder, kind, entries, groups * entries / best[0], groups * entries / best[1], best[1] / best[0],
-                groups * entries / middle[0], groups * entries / middle[1], middle[1] / middle[0]), flush=True)
+            print("%s (%s), groups of %2d:" % (folder, kind, entries))
+            for name, mine, other in (("best", min(ours), min(plain)), ("median", statistics.median(ours), statistics.median(plain))):
+                print("    %-6s %9.0f entries a second, raw %9.0f, ratio %.2f; %.2f us more a group" % (
+                    name, groups * entries / mine, groups * entries / other, other / mine, 1e6 * (mine - other) / groups), flush=True)
 PY
