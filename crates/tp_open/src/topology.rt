@@ -20,6 +20,8 @@ use tp_model::limits::{
 pub const MAX_LINES: usize = 4 * MAX_NODES + MAX_PORTS;
 
 /// The pages of each node, how many ports there are, and for each line the end that receives it, if it has a wire.
+///
+/// It is what a head says before it is tested, and takes no memory. `tp_net::Topology` keeps its rules, and takes some.
 #[derive(Drop)]
 pub struct Topology {
     pub(crate) pages: ArrayVec<u16, MAX_NODES>,
