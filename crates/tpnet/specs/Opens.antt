@@ -1,6 +1,7 @@
 -- What `recover` and `show` do.
 use Rattle.std.specs.Prelude.{◌≡◌, ℕ, List, length, Option, Ok}
 use Rattle.std.specs.Io.KnownBytes.{Appends}
+use Rattle.tp_model.specs.Disk.{Moment, Sync, done}
 use Rattle.tp_model.specs.Opening.{Opened, verdict, next_of}
 use Rattle.tpnet.specs.declared.shown.Front.{Front}
 use Rattle.tpnet.specs.Shown.{shown_text, next_line}
@@ -28,3 +29,7 @@ pub record Prints (text : Opened → List ℕ) (bytes : List ℕ) (was now : Opt
   pub opened : Opened
   pub is : verdict bytes ≡ Ok opened
   pub printed : Appends was now (text opened)
+
+-- Nothing was written: where no call of the device failed, a read gives the same bytes as before, and all of them are synced.
+abbrev pub IsUnwritten : ℕ → ℕ → Moment → Moment → Type 0
+IsUnwritten failures_before failures_after old new = failures_after ≡ failures_before → new ≡ done Sync old

@@ -30,7 +30,9 @@ pub fn try_file<R: Files + AllocGlobal, O: Write, E: Write>(
     turns: u32,
     out: &mut O,
     err: &mut E,
-) -> u8 {
+) -> u8
+    ensures { result ≤ 1 }
+{
     match fs::read(rt, image) {
         Ok(bytes) => try_on(rt.alloc(), bytes.as_slice(), turns, out, err),
         Err(error) => refuse(err, read_refusal(&error)),
@@ -86,6 +88,7 @@ pub fn format_file<R: Files<File = File> + AllocGlobal, O: Write, E: Write>(
     err: &mut E,
 ) -> u8
     requires { wanted.now.area ≤ MAX_AREA }
+    ensures { result ≤ 1 }
 {
     let text = match read_file(rt, wanted.topology.as_str()) {
         Ok(text) => text,
@@ -116,7 +119,9 @@ pub fn recover_file<R: Files<File = File> + AllocGlobal, O: Write, E: Write>(
     device: &str,
     out: &mut O,
     err: &mut E,
-) -> u8 {
+) -> u8
+    ensures { result ≤ 1 }
+{
     match FileDisk::open(rt, device) {
         Ok(mut disk) => recover_on(rt.alloc(), &mut disk, out, err),
         Err(_) => refuse(err, Refusal::ReadFailed),
@@ -129,7 +134,9 @@ pub fn show_file<R: Files<File = File> + AllocGlobal, O: Write, E: Write>(
     device: &str,
     out: &mut O,
     err: &mut E,
-) -> u8 {
+) -> u8
+    ensures { result ≤ 1 }
+{
     match FileDisk::open(rt, device) {
         Ok(mut disk) => show_on(rt.alloc(), &mut disk, out, err),
         Err(_) => refuse(err, Refusal::ReadFailed),

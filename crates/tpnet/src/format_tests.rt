@@ -55,7 +55,7 @@ pub(crate) fn format_in_memory(
 }
 
 /// The bytes from a place on.
-fn part(bytes: &[u8], at: usize, count: usize) -> &[u8] {
+pub(crate) fn part(bytes: &[u8], at: usize, count: usize) -> &[u8] {
     match bytes.get(at..) {
         Some(rest) => match rest.get(..count) {
             Some(part) => part,

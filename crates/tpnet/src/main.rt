@@ -10,6 +10,9 @@ mod formatting;
 mod opening;
 #[cfg(test)]
 mod opening_tests;
+mod program;
+#[cfg(test)]
+mod program_tests;
 mod refusal;
 mod shown;
 #[cfg(test)]
@@ -17,10 +20,8 @@ mod tests;
 #[cfg(test)]
 mod two_nodes_tests;
 
-use args::{Asked, read_args};
-use files::{format_file, recover_file, show_file, try_file};
+use program::answer;
 use std::env;
-use std::io::Write;
 use std::process::ExitCode;
 use std::rt::Env;
 
@@ -35,18 +36,5 @@ fn main(rt: HostRuntime) -> ExitCode {
     let Some(words) = words_of(&rt) else {
         return ExitCode::from(2);
     };
-    let asked = match read_args(rt.alloc(), words.as_slice()) {
-        Ok(asked) => asked,
-        Err(fault) => {
-            let _ = write!(&mut err, "{fault}");
-            return ExitCode::from(2);
-        }
-    };
-    let status = match &asked {
-        Asked::Try { image, turns } => { try_file(&rt, image.as_str(), *turns, &mut out, &mut err) }
-        Asked::Format(wanted) => format_file(&rt, wanted, &mut out, &mut err),
-        Asked::Recover { device } => recover_file(&rt, device.as_str(), &mut out, &mut err),
-        Asked::Show { device } => show_file(&rt, device.as_str(), &mut out, &mut err),
-    };
-    ExitCode::from(status)
+    ExitCode::from(answer(&rt, words.as_slice(), &mut out, &mut err))
 }

@@ -1,7 +1,8 @@
 //! `tpnet recover` and `tpnet show`, over any device.
 
-ghost use Rattle.std.specs.Prelude.{◌≡◌, ◌≤◌, OnOk};
-ghost use Rattle.tpnet.specs.Opens.{Prints, front_of, recovered, shown};
+ghost use Rattle.std.specs.Prelude.{◌≡◌, ◌≤◌, IsErr, OnOk};
+ghost use Rattle.tp_model.specs.Opening.{verdict};
+ghost use Rattle.tpnet.specs.Opens.{IsUnwritten, Prints, front_of, recovered, shown};
 
 use crate::commands::{put, refuse};
 use crate::refusal::Refusal;
@@ -26,7 +27,9 @@ fn front_of(opened: &Opened) -> Front
 }
 
 fn recover<D: Disk, O: Write>(alloc: Global, disk: &mut D, out: &mut O) -> Result<(), Refusal>
-    ensures { D.keeps → OnOk result (Prints recovered (D.state disk.old).now.bytes (O.contents out.old) (O.contents out.new)) }
+    ensures done { D.keeps → OnOk result (Prints recovered (D.state disk.old).now.bytes (O.contents out.old) (O.contents out.new)) }
+    ensures kept { D.keeps → IsUnwritten (D.failures_of disk.old) (D.failures_of disk.new) (D.state disk.old).now (D.state disk.new).now }
+    ensures refused { D.keeps → IsErr (verdict (D.state disk.old).now.bytes) → (IsErr result) × (O.contents out.new ≡ O.contents out.old) }
 {
     let opened = open(alloc, disk)?;
     let Ok(text) = next_line(alloc, opened.next()) else {
@@ -36,7 +39,9 @@ fn recover<D: Disk, O: Write>(alloc: Global, disk: &mut D, out: &mut O) -> Resul
 }
 
 fn show<D: Disk, O: Write>(alloc: Global, disk: &mut D, out: &mut O) -> Result<(), Refusal>
-    ensures { D.keeps → OnOk result (Prints shown (D.state disk.old).now.bytes (O.contents out.old) (O.contents out.new)) }
+    ensures done { D.keeps → OnOk result (Prints shown (D.state disk.old).now.bytes (O.contents out.old) (O.contents out.new)) }
+    ensures kept { D.keeps → IsUnwritten (D.failures_of disk.old) (D.failures_of disk.new) (D.state disk.old).now (D.state disk.new).now }
+    ensures refused { D.keeps → IsErr (verdict (D.state disk.old).now.bytes) → (IsErr result) × (O.contents out.new ≡ O.contents out.old) }
 {
     let opened = open(alloc, disk)?;
     let Ok(text) = shown_text(alloc, front_of(&opened), opened.network()) else {
@@ -46,6 +51,7 @@ fn show<D: Disk, O: Write>(alloc: Global, disk: &mut D, out: &mut O) -> Result<(
 }
 
 /// `tpnet recover`, on a device. Answers the program's status: 0 where the device opens and exactly its line was printed, else 1.
+/// Nothing is written to the device. Of one that doesn't open nothing is printed.
 pub fn recover_on<D: Disk, O: Write, E: Write>(
     alloc: Global,
     disk: &mut D,
@@ -54,6 +60,8 @@ pub fn recover_on<D: Disk, O: Write, E: Write>(
 ) -> u8
     ensures status { result ≤ 1 }
     ensures done { D.keeps → result ≡ 0 → Prints recovered (D.state disk.old).now.bytes (O.contents out.old) (O.contents out.new) }
+    ensures kept { D.keeps → IsUnwritten (D.failures_of disk.old) (D.failures_of disk.new) (D.state disk.old).now (D.state disk.new).now }
+    ensures refused { D.keeps → IsErr (verdict (D.state disk.old).now.bytes) → (result ≡ 1) × (O.contents out.new ≡ O.contents out.old) }
 {
     match recover(alloc, disk, out) {
         Ok(()) => 0,
@@ -62,6 +70,7 @@ pub fn recover_on<D: Disk, O: Write, E: Write>(
 }
 
 /// `tpnet show`, on a device. Answers the program's status: 0 where the device opens and exactly its lines were printed, else 1.
+/// Nothing is written to the device. Of one that doesn't open nothing is printed.
 pub fn show_on<D: Disk, O: Write, E: Write>(
     alloc: Global,
     disk: &mut D,
@@ -70,6 +79,8 @@ pub fn show_on<D: Disk, O: Write, E: Write>(
 ) -> u8
     ensures status { result ≤ 1 }
     ensures done { D.keeps → result ≡ 0 → Prints shown (D.state disk.old).now.bytes (O.contents out.old) (O.contents out.new) }
+    ensures kept { D.keeps → IsUnwritten (D.failures_of disk.old) (D.failures_of disk.new) (D.state disk.old).now (D.state disk.new).now }
+    ensures refused { D.keeps → IsErr (verdict (D.state disk.old).now.bytes) → (result ≡ 1) × (O.contents out.new ≡ O.contents out.old) }
 {
     match show(alloc, disk, out) {
         Ok(()) => 0,

@@ -8,8 +8,8 @@ on_ok : {T E : Type 0} (P Q : Type 0) (r : Result T E) → (P → Q) → OnOk r 
 on_ok P Q (Ok x) turn h = turn h
 on_ok P Q (Err e) turn h = h
 
-pub returns : goal.returns
-returns g c keeps =
+pub returns-clause-done : goal.returns-clause-done
+returns-clause-done g c keeps =
     let opened = c.in_ok-opened.opened in
     let text = c.as_bytes.ensures.value ∙ c.in-Ok.ensures
     ∙ ap (λ front. shown_text front c.network.result.now) c.front_of.ensures

@@ -1,0 +1,46 @@
+//! What the program does for the words of its command line.
+
+ghost use Rattle.std.specs.Prelude.{◌≡◌, ◌≤◌};
+ghost use Rattle.tpnet.specs.Args.{IsInRange};
+
+use crate::args::{Asked, read_args};
+use crate::files::{format_file, recover_file, show_file, try_file};
+use std::fs::{File, Files};
+use std::io::Write;
+
+/// Does what was asked for. Answers the program's status: 0 where it was done, 1 where it was refused.
+fn carry_out<R: Files<File = File> + AllocGlobal, O: Write, E: Write>(
+    rt: &R,
+    asked: &Asked,
+    out: &mut O,
+    err: &mut E,
+) -> u8
+    requires { IsInRange asked.now }
+    ensures { result ≤ 1 }
+{
+    match asked {
+        Asked::Try { image, turns } => try_file(rt, image.as_str(), *turns, out, err),
+        Asked::Format(wanted) => format_file(rt, wanted, out, err),
+        Asked::Recover { device } => recover_file(rt, device.as_str(), out, err),
+        Asked::Show { device } => show_file(rt, device.as_str(), out, err),
+    }
+}
+
+/// Does what the words of a command line ask for, the program's name first. Answers the program's status: that of the
+/// command, or 2 where the words ask for nothing; no file is opened then.
+pub fn answer<R: Files<File = File> + AllocGlobal, O: Write, E: Write>(
+    rt: &R,
+    words: &[String],
+    out: &mut O,
+    err: &mut E,
+) -> u8
+    ensures { result ≤ 2 }
+{
+    match read_args(rt.alloc(), words) {
+        Ok(asked) => carry_out(rt, &asked, out, err),
+        Err(fault) => {
+            let _ = write!(err, "{fault}");
+            2
+        }
+    }
+}
