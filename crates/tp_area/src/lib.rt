@@ -17,6 +17,6 @@ mod store;
 
 pub use fault::{FormatFault, StoreFault};
 pub use formatting::format;
-pub use laws::open_devices_say_their_place;
+pub use laws::{open_devices_say_their_place, resting_devices_open_alike};
 pub use place::Place;
 pub use store::Store;
