@@ -18,7 +18,7 @@ mod store;
 pub use fault::{FormatFault, StoreFault};
 pub use formatting::format;
 pub use head::{MAGIC, head_bytes};
-pub use laws::open_devices_say_their_place;
+pub use laws::{open_devices_say_their_place, resting_devices_open_alike};
 pub use place::{Place, area_start};
 pub use room::{has_room, images_length};
 pub use store::Store;
