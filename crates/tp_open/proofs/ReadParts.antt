@@ -1,14 +1,13 @@
 -- The parts of a cut that were read: what the tests of each record say.
-use Rattle.std.proofs.Common.{◌≡◌, ℕ, zero, suc, ◌+◌, ◌<◌, ◌≤◌, List, [], ◌∷◌, ◌++◌, length, take, drop, map, get_or, sym, ap, subst, ◌∙◌, arith, inl, inr, true, Some, Result, Ok, Fits, w8}
+use Rattle.std.proofs.Common.{◌≡◌, ℕ, zero, suc, ◌+◌, ◌<◌, ◌≤◌, List, [], ◌∷◌, ◌++◌, length, take, get_or, sym, ap, subst, ◌∙◌, arith, inl, inr, true, Some, Ok, Fits, w8}
 use Rattle.std.specs.Prelude.{◌==◌, ◌&&◌, bytes_eq}
 use Rattle.std.specs.List.{AllByRecursion}
 use Rattle.std.proofs.lemmas.Bool.{and_parts, cases_lt, eqb-true}
 use Rattle.std.proofs.lemmas.List.{map_push, take_more, take_all}
 use Rattle.tp_model.specs.declared.link.Token.{Token}
 use Rattle.tp_model.specs.declared.limits.TheConstants.{PORT_BYTES, NUMBER_LIMIT, LINE_BYTES}
-use Rattle.tp_model.specs.declared.opening.OpenFault.{OpenFault}
 use Rattle.tp_model.specs.declared.opening.OpenFault.TheVariants.{Damaged}
-use Rattle.tp_model.specs.CutImage.{is_port_of, node_with, or_damaged, port_at, port_bytes, port_with}
+use Rattle.tp_model.specs.CutImage.{is_port_of, node_with, port_at, port_bytes, port_with}
 use Rattle.tp_model.specs.Flight.{is_in_one_place, flights_in}
 use Rattle.tp_model.specs.Image.{page_count, node_of, IsNode}
 use Rattle.tp_model.specs.Journal.{image_length}
