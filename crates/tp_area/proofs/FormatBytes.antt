@@ -1,37 +1,39 @@
 -- The bytes that a device is formatted with.
-use Rattle.std.proofs.Common.{◌≡◌, ℕ, zero, suc, ◌+◌, ◌-◌, ◌*◌, ◌<◌, ◌≤◌, inl, inr, Bool, true, false, cond, List, [], ◌∷◌, ◌++◌, length, take, drop, get_or, map, refl, sym, ap, subst, ◌∙◌, arith, append_assoc, append-nil, length-append, length-drop, length-take, add-zero, Option, Some, None, Result, Ok, Err}
+use Rattle.std.proofs.Common.{◌≡◌, ℕ, zero, suc, ◌+◌, ◌-◌, ◌*◌, ◌<◌, ◌≤◌, ◌⊎◌, inl, inr, Bool, true, false, List, [], ◌∷◌, ◌++◌, length, take, drop, get_or, map, refl, sym, ap, subst, ◌∙◌, arith, append_assoc, length-append, add-zero, Option, Some, None, Ok, Err}
 use Rattle.std.specs.Prelude.{◌&&◌, ◌==◌, nat_le, flat_map, sum_by, replicate}
 use Rattle.std.specs.Option.{option_map}
-use Rattle.std.specs.List.{AllByRecursion, concat}
+use Rattle.std.specs.List.{concat}
 use Rattle.std.proofs.lemmas.Bool.{and_parts, leb-true, eqb-true}
 use Rattle.std.proofs.lemmas.Option.{cond_some}
-use Rattle.std.proofs.lemmas.List.{take_at, drop_at, drop-drop, length-replicate, replicate-append-replicate, get_or_append_left, get_or-append_right, get_or-drop}
+use Rattle.std.proofs.lemmas.List.{take_at, drop-drop, length-replicate, replicate-append-replicate, get_or-drop}
 use Rattle.std.proofs.Math.Seq.{take-append-add}
 use Rattle.std.proofs.lemmas.List.Sums.{sum_by-cons}
-use Rattle.tp_model.specs.declared.limits.TheConstants.{GATE_OPEN, GATE_CLOSED, MAX_HELD}
-use Rattle.tp_model.specs.Bytes.{u16_bytes, u32_bytes, u64_bytes, zeros, padded}
+use Rattle.tp_model.specs.declared.limits.TheConstants.{GATE_OPEN, GATE_CLOSED, HEAD_BYTES}
+use Rattle.tp_model.specs.Bytes.{u16_bytes, u32_bytes, u64_bytes, zeros}
 use Rattle.tp_model.specs.NodeState.{NodeState}
 use Rattle.tp_model.specs.Network.{◌>>=◌, Network}
-use Rattle.tp_model.specs.Topology.{Topology, line_count, is_topology}
-use Rattle.tp_model.specs.Journal.{image_length, images_length, cut_length, is_roomy, room, reserve, entry_room}
+use Rattle.tp_model.specs.Topology.{Topology, line_count}
+use Rattle.tp_model.specs.Journal.{image_length, cut_length, is_roomy, room, reserve, entry_room}
 use Rattle.tp_model.specs.Disk.{Moment, SameOutside, Write, Sync, written}
-use Rattle.tp_model.specs.DiskHistory.{State, IsSynced}
-use Rattle.tp_model.specs.Device.{area_start, gate_of, content_of, fits}
+use Rattle.tp_model.specs.DiskHistory.{State, IsSynced, LeavesOnly}
+use Rattle.tp_model.specs.Device.{fits}
 use Rattle.tp_model.specs.Head.{head_bytes}
 use Rattle.tp_model.specs.Image.{page_count, image, node_of, has_idle_links}
 use Rattle.tp_model.specs.CutImage.{line_bytes, port_bytes, cut_bytes, only_if}
 use Rattle.tp_model.specs.Opening.{network_of}
 use Rattle.tp_model.specs.Spelling.{front_bytes}
-use Rattle.tp_model.specs.Format.{fresh_node, fresh_nodes, fresh_port, start_of, IsFormatted}
+use Rattle.tp_model.specs.Format.{fresh_node, fresh_nodes, fresh_port, IsFormatted}
 use Rattle.tp_laws.proofs.Images.{image-node_of}
 use Rattle.tp_disk.proofs.Moments.{length-written, written_same_outside}
 use Rattle.tp_disk.proofs.Agree.{same_apart}
-use Rattle.tp_disk.proofs.Calls.{all_done-append}
+use Rattle.tp_disk.proofs.Calls.{all_done-append, started, weaker, synced_stands}
 use Rattle.tp_model.specs.StoreCalls.{put_calls}
 use Rattle.tp_area.specs.declared.fault.FormatFault.{FormatFault}
-use Rattle.tp_area.specs.Formatting.{Checks, Answers, area_front, first_area, Wrote, Formatted}
+use Rattle.tp_area.specs.Formatting.{Checks, Answers, area_front, first_area, with_areas, Wrote, Formatted, IsOldOrNew}
+use Rattle.tp_area.specs.Puts.{ButFor}
+use Rattle.tp_area.proofs.PutLaws.{but_for_may}
 use Rattle.tp_area.proofs.FormatCalls.{length-area_front}
-use Rattle.tp_area.proofs.FreshImages.{IsImageOf, image_is}
+use Rattle.tp_area.proofs.FreshImages.{image_is}
 use Rattle.tp_area.proofs.Frames.{drop_written}
 
 -- ## Images
@@ -223,8 +225,35 @@ formatted_by f t xs pages head area size cut rest old new is_pages checked large
       is = ap (option_map (λ ns. start_with t ns)) nodes.1;
       wrote = both;
       synced = synced_after (first_area t start) (head_bytes t area) area old new both;
-      formatted = formatted_is t area start old.now.bytes new.now.bytes (ap length (sym is_head) ∙ long) (omega arith) (omega arith) both.bytes;
+      formatted = λ left may. subst (IsFormatted t area start) (sym (synced_stands new left (synced_after (first_area t start) (head_bytes t area) area old new both) may))
+          (formatted_is t area start old.now.bytes new.now.bytes (ap length (sym is_head) ∙ long) (omega arith) (omega arith) both.bytes);
     }
+
+-- the same images and area, whatever came of the calls: what a crash leaves
+pub format_leaves : {X : Type 0} (f : X → List ℕ) (t : Topology) (xs : List X) (pages : List ℕ) (area cut rest : ℕ) (old new : State)
+    → pages ≡ t.pages → Checks (fresh_nodes pages (map f xs)) (Ok tt) → cut ≡ cut_length t → rest ≡ 4 * line_count t + 8212 * t.ports + 1
+    → LeavesOnly old new (λ left. ButFor HEAD_BYTES (2 * area) old.now left ⊎ SameOutside 0 HEAD_BYTES (with_areas ((area_front cut ++ flat_map f xs) ++ zeros rest) area old.now.bytes) left)
+    → LeavesOnly old new (IsOldOrNew t (map f xs) area old)
+format_leaves f t xs pages area cut rest old new is_pages checked is_cut is_rest only =
+    let images = map f xs in
+    let nodes = checked_some (fresh_nodes t.pages images) (subst (λ ps. Checks (fresh_nodes ps images) (Ok tt)) is_pages checked) in
+    let start = start_with t nodes.0 in
+    let same : (area_front cut ++ flat_map f xs) ++ zeros rest ≡ first_area t start =
+    ap (λ ys. (area_front cut ++ ys) ++ zeros rest) (sym (concat-map f xs)) ∙ area_is t images nodes.0 cut rest nodes.1 is_cut is_rest in
+    weaker old new (λ left. ButFor HEAD_BYTES (2 * area) old.now left ⊎ SameOutside 0 HEAD_BYTES (with_areas ((area_front cut ++ flat_map f xs) ++ zeros rest) area old.now.bytes) left)
+    (IsOldOrNew t images area old)
+    (λ left either. elim either [
+      | inl before ↦ inl before
+      | inr areas ↦ inr (record {
+        start = start;
+        is = ap (option_map (λ ns. start_with t ns)) nodes.1;
+        same = subst (λ first. SameOutside 0 HEAD_BYTES (with_areas first area old.now.bytes) left) same areas;
+      })
+    ]) only
+
+-- no call yet
+pub early_leaves : (t : Topology) (images : List (List ℕ)) (area : ℕ) (s : State) → LeavesOnly s s (IsOldOrNew t images area s)
+early_leaves t images area s = started s (IsOldOrNew t images area s) (λ left may. inl (but_for_may HEAD_BYTES (2 * area) s.now left may))
 
 -- the answers
 pub answers_done : {A B : Type 0} (o : Option A) (f : A → B) (large : Bool) → Checks o (Ok tt) → large ≡ true → Answers (option_map f o) large (Ok tt)

@@ -1,14 +1,14 @@
 -- The calls of formatting: what they write, and in which order.
-use Rattle.std.proofs.Common.{◌≡◌, ℕ, ◌+◌, ◌≤◌, List, [], ◌∷◌, ◌++◌, length, refl, sym, ap, subst, ◌∙◌, arith, append_assoc, length-append}
+use Rattle.std.proofs.Common.{◌≡◌, ℕ, ◌+◌, ◌*◌, ◌≤◌, ◌⊎◌, inl, inr, Result, OnOk, OnErr, List, [], ◌∷◌, ◌++◌, length, refl, sym, ap, subst, ◌∙◌, arith}
 use Rattle.std.specs.List.{AllByRecursion}
 use Rattle.tp_model.specs.declared.limits.TheConstants.{GATE_CLOSED, HEAD_BYTES}
-use Rattle.tp_model.specs.Disk.{Moment, IsWithin, Write, Sync, written, done}
-use Rattle.tp_model.specs.DiskHistory.{State, Goes}
+use Rattle.tp_model.specs.Disk.{Moment, MayBe, IsWithin, SameOutside, Write, Sync, written, done, within}
+use Rattle.tp_model.specs.DiskHistory.{State, Goes, Fails, LeavesOnly}
 use Rattle.tp_model.specs.StoreCalls.{Called, put_calls}
-use Rattle.tp_disk.proofs.Calls.{called_one, called_then, written_through}
-use Rattle.tp_area.specs.Puts.{Puts}
-use Rattle.tp_area.specs.Formatting.{area_front, Wrote}
-use Rattle.tp_area.proofs.PutLaws.{put_calls-append}
+use Rattle.tp_disk.proofs.Calls.{called_one, called_then, written_through, and_then, weaker, call_leaves, same_outside_write}
+use Rattle.tp_area.specs.Puts.{ButFor, Puts}
+use Rattle.tp_area.specs.Formatting.{area_front, Wrote, with_areas}
+use Rattle.tp_area.proofs.PutLaws.{put_calls-append, wider_leaves, then_leaves}
 
 pub length-area_front : (cut : ℕ) → length (area_front cut) ≡ 21
 unfolding area_front
@@ -42,3 +42,40 @@ wrote_all first head area s t u v w one two synced goes last =
       bytes = (written_through 0 head v w last).0 ∙ ap (λ (m : Moment). written m.bytes 0 head) synced
           ∙ ap (λ bytes. written bytes 0 head) (two.are ∙ ap (λ bytes. written bytes (HEAD_BYTES + area) (GATE_CLOSED ∷ [])) one.are);
     }
+
+-- ## What a crash leaves on the way
+
+-- the first area
+pub first_leaves : (area part : ℕ) (s t : State) → part ≤ area → LeavesOnly s t (ButFor HEAD_BYTES part s.now) → LeavesOnly s t (ButFor HEAD_BYTES (2 * area) s.now)
+first_leaves area part s t low only = wider_leaves (HEAD_BYTES, 2 * area) (HEAD_BYTES, part) s t (omega arith, omega arith) only
+
+-- the second one's gate
+pub second_leaves : (area : ℕ) (s t u : State) → 1 ≤ area → LeavesOnly s t (ButFor HEAD_BYTES (2 * area) s.now) → LeavesOnly t u (ButFor (HEAD_BYTES + area) 1 t.now)
+    → LeavesOnly s u (ButFor HEAD_BYTES (2 * area) s.now)
+second_leaves area s t u some one two = then_leaves (HEAD_BYTES, 2 * area) (HEAD_BYTES + area, 1) s t u (omega arith, omega arith) one two
+
+-- a sync
+pub sync_leaves : {E : Type 0} (r : Result Unit E) (s t u : State) (P : List ℕ → Type 0) → LeavesOnly s t P → Goes t u → OnOk r (u.now ≡ done Sync t.now) → OnErr r (Fails Sync t u)
+    → LeavesOnly s u P
+sync_leaves r s t u P one goes was failed =
+    and_then s t u P one (weaker t u (MayBe t.now) P (λ left may. one.each left (inr may)) (call_leaves r Sync t u tt goes was failed))
+
+-- the areas aren't complete yet
+pub areas_leave : (area : ℕ) (areas : List ℕ) (s t : State) → LeavesOnly s t (ButFor HEAD_BYTES (2 * area) s.now)
+    → LeavesOnly s t (λ left. ButFor HEAD_BYTES (2 * area) s.now left ⊎ SameOutside 0 HEAD_BYTES areas left)
+areas_leave area areas s t only =
+    weaker s t (ButFor HEAD_BYTES (2 * area) s.now) (λ left. ButFor HEAD_BYTES (2 * area) s.now left ⊎ SameOutside 0 HEAD_BYTES areas left) (λ left b. inl b) only
+
+-- they are complete and synced, and the head is written
+pub head_leaves : (first head : List ℕ) (area : ℕ) (s t u v w : State) → length head ≡ HEAD_BYTES → Puts HEAD_BYTES first s t → Puts (HEAD_BYTES + area) (GATE_CLOSED ∷ []) t u
+    → v.now ≡ done Sync u.now → LeavesOnly s v (ButFor HEAD_BYTES (2 * area) s.now) → LeavesOnly v w (MayBe (within (Write 0 head) v.now))
+    → LeavesOnly s w (λ left. ButFor HEAD_BYTES (2 * area) s.now left ⊎ SameOutside 0 HEAD_BYTES (with_areas first area s.now.bytes) left)
+head_leaves first head area s t u v w long one two synced before within_head =
+    let areas : v.now.bytes ≡ with_areas first area s.now.bytes =
+    ap (λ (m : Moment). m.bytes) synced ∙ two.are ∙ ap (λ bytes. written bytes (HEAD_BYTES + area) (GATE_CLOSED ∷ [])) one.are in
+    let P : List ℕ → Type 0 = λ left. ButFor HEAD_BYTES (2 * area) s.now left ⊎ SameOutside 0 HEAD_BYTES (with_areas first area s.now.bytes) left in
+    and_then s v w P (areas_leave area (with_areas first area s.now.bytes) s v before)
+    (weaker v w (MayBe (within (Write 0 head) v.now)) P
+    (λ left may. inr (subst (λ bytes. SameOutside 0 HEAD_BYTES bytes left) areas
+    (subst (λ (n : ℕ). SameOutside 0 n v.now.bytes left) long
+    (same_outside_write v.now 0 head left (ap (λ (m : Moment). m.unsynced) synced) may)))) within_head)

@@ -1,10 +1,8 @@
 -- What stays where a range of an area's groups is written: the head, the gates, the generations, and the other content.
-use Rattle.std.proofs.Common.{◌≡◌, ℕ, ◌+◌, ◌-◌, ◌*◌, ◌<◌, ◌≤◌, ◌⊎◌, inl, inr, Bool, true, false, not, List, [], ◌∷◌, ◌++◌, length, take, drop, get_or, refl, sym, ap, ◌∙◌, arith, append_assoc, length-append, length-drop, Result}
-use Rattle.std.proofs.lemmas.List.{drop_at, drop-drop, drop-take, length-take-le}
+use Rattle.std.proofs.Common.{◌≡◌, ℕ, ◌+◌, ◌-◌, ◌≤◌, inl, inr, Bool, true, false, List, [], ◌∷◌, ◌++◌, length, take, drop, ap, ◌∙◌, arith, append_assoc, length-append}
+use Rattle.std.proofs.lemmas.List.{drop_at, length-take-le}
 use Rattle.std.proofs.Math.Seq.{take-append-add}
-use Rattle.tp_model.specs.declared.opening.OpenFault.{OpenFault}
 use Rattle.tp_model.specs.declared.limits.TheConstants.{GATE_OPEN}
-use Rattle.tp_model.specs.Bytes.{u64_at}
 use Rattle.tp_model.specs.Disk.{SameOutside, written}
 use Rattle.tp_model.specs.Device.{area_start, gate_of, content_of, is_open, generation_of}
 use Rattle.tp_model.specs.Opening.{chosen_area, choice}

@@ -1,8 +1,8 @@
 -- Images that a device may be formatted with.
-use Rattle.std.proofs.Common.{◌≡◌, ℕ, zero, suc, ◌+◌, ◌-◌, ◌*◌, ◌/◌, ◌<◌, ◌≤◌, ◌≢◌, Bool, true, false, cond, List, [], ◌∷◌, ◌++◌, length, take, drop, get_or, map, refl, sym, ap, subst, ◌∙◌, arith, length-drop, Option, Some, None, Result, Ok, Err}
-use Rattle.std.specs.Prelude.{◌&&◌, ◌==◌, nat_le, is_some, IsSome, bytes_eq}
+use Rattle.std.proofs.Common.{◌≡◌, ℕ, suc, ◌+◌, ◌-◌, ◌*◌, ◌<◌, ◌≤◌, ◌≢◌, Bool, true, false, cond, List, [], ◌∷◌, length, take, drop, get_or, refl, sym, ap, subst, ◌∙◌, arith, length-drop, Option, Some, None, Ok, Err}
+use Rattle.std.specs.Prelude.{◌&&◌, ◌==◌, nat_le, is_some, bytes_eq}
 use Rattle.std.specs.List.{list_all}
-use Rattle.std.proofs.lemmas.Bool.{and_parts, and_from, leb-true, eqb-true, ne_eqb, eq-eqb, true≢false, cond-true, cond-false}
+use Rattle.std.proofs.lemmas.Bool.{and_parts, leb-true, eqb-true, ne_eqb, eq-eqb, true≢false}
 use Rattle.std.proofs.lemmas.Option.{cond_some}
 use Rattle.std.proofs.lemmas.List.{get_or-take, take_rest, drop_all, drop_more}
 use Rattle.tp_model.specs.NodeState.{NodeState}
@@ -14,7 +14,7 @@ use Rattle.tp_model.specs.EndBytes.{out_end_at, in_end_at, ends_at, is_idle_out,
 use Rattle.tp_model.specs.Image.{page_count, is_memory, is_node, node_at, node_of, image_head, has_idle_links}
 use Rattle.tp_model.specs.CutImage.{only_if}
 use Rattle.tp_model.specs.Format.{fresh_node, fresh_nodes}
-use Rattle.tp_node.specs.declared.fault.ImageFault.{ImageFault}
+use Rattle.tp_node.proofs.Answered.{image_read}
 use Rattle.tp_node.specs.NodeContents.{NodeContents}
 use Rattle.tp_node.specs.FromImage.{ReadsImage}
 use Rattle.tp_area.specs.declared.fault.FormatFault.{FormatFault}
@@ -131,11 +131,6 @@ image_is bytes n e =
 
 -- ## The answers
 
--- an image that is read is one of a node
-pub read_is : (o : Option NodeState) (node : NodeContents) → ReadsImage o (Ok node) → o ≡ Some node.live
-read_is (Some state) node is = ap (λ (n : NodeContents). Some n.live) (sym is)
-read_is None node is = elim is [ ]
-
 pub good_image : {A : Type 0} (o : Option A) (x : A) → o ≡ Some x → Checks o (Ok tt)
 good_image (Some y) x is = tt
 good_image None x is = cc
@@ -150,7 +145,7 @@ image_checked : (pages count : ℕ) (bytes : List ℕ) (node : NodeContents) (an
     → fresh_node pages bytes ≡ cond ((count == pages) && answer) (Some node.live) None
 image_checked pages count bytes node answer read size has =
     let n = node.live in
-    let found : node_of bytes ≡ Some n = read_is (node_of bytes) node read in
+    let found : node_of bytes ≡ Some n = image_read (node_of bytes) node read in
     let is = image_is bytes n found in
     let k : page_count n.memory ≡ count = omega (arith, size) in
     ap (only_if (λ (m : NodeState). (page_count m.memory == pages) && has_idle_links m)) found
@@ -184,7 +179,7 @@ fresh_image pages count bytes node answer read size same has so =
 
 -- so many bytes, for its head to be there
 pub image_long : (bytes : List ℕ) (node : NodeContents) → ReadsImage (node_of bytes) (Ok node) → 172 ≤ length bytes
-image_long bytes node read = let is = image_is bytes node.live (read_is (node_of bytes) node read) in let size = is.size in omega arith
+image_long bytes node read = let is = image_is bytes node.live (image_read (node_of bytes) node read) in let size = is.size in omega arith
 
 -- a refusal of one image refuses them all
 pub all_refused : {A B : Type 0} (o : Option A) (all : Option B) (fault : FormatFault) → Checks o (Err fault) → (is_some o ≡ false → is_some all ≡ false) → Checks all (Err fault)

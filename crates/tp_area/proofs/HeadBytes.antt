@@ -1,9 +1,9 @@
 -- A head, written field by field.
-use Rattle.std.proofs.Common.{◌≡◌, ℕ, ◌+◌, ◌-◌, ◌*◌, ◌≤◌, List, [], ◌∷◌, ◌++◌, length, take, map, refl, sym, ap, ◌∙◌, arith, append_assoc, length-append}
+use Rattle.std.proofs.Common.{◌≡◌, ℕ, ◌+◌, ◌-◌, ◌*◌, List, [], ◌∷◌, ◌++◌, length, take, map, refl, ap, ◌∙◌, arith, append_assoc, length-append}
 use Rattle.std.specs.Prelude.{Option}
 use Rattle.std.specs.List.{flat_map}
 use Rattle.tp_model.specs.declared.wire.WireEnd.{WireEnd}
-use Rattle.tp_model.specs.declared.limits.TheConstants.{HEAD_BYTES, HEAD_NODES, HEAD_VERSION}
+use Rattle.tp_model.specs.declared.limits.TheConstants.{HEAD_BYTES, HEAD_VERSION}
 use Rattle.tp_model.specs.Bytes.{u16_bytes, u64_bytes, padded, zeros}
 use Rattle.tp_model.specs.Head.{end_byte, head_bytes, magic}
 use Rattle.tp_model.specs.Topology.{Topology, node_count}

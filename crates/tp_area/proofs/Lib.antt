@@ -1,12 +1,11 @@
 pub mod Results
 pub mod Numbered
 pub mod SameFront
-pub mod SameRows
-pub mod Listings
 pub mod Placed
 pub mod Frames
 pub mod Behind
 pub mod OpenedPlace
+pub mod StoreCrashes
 pub mod Appends
 pub mod PutLaws
 pub mod FreshImages

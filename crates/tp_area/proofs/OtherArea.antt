@@ -1,29 +1,35 @@
 -- The area that isn't open may hold anything, as long as its gate is closed.
-use Rattle.std.proofs.Common.{◌≡◌, ℕ, ◌+◌, ◌-◌, ◌*◌, ◌<◌, ◌≤◌, inl, inr, Bool, true, false, List, [], ◌∷◌, ◌++◌, length, take, drop, get_or, refl, sym, ap, subst, ◌∙◌, arith, add-zero, Option, Some, None, Result, Ok, Err}
-use Rattle.std.specs.Prelude.{not, if◌then◌else◌}
+use Rattle.std.proofs.Common.{◌≡◌, ℕ, ◌+◌, ◌-◌, ◌*◌, ◌<◌, ◌≤◌, inl, inr, Bool, true, false, List, [], ◌∷◌, length, take, drop, get_or, refl, sym, ap, subst, ◌∙◌, arith, add-zero, Some, None, Result, Ok, Err, OnOk, OnErr}
+use Rattle.std.specs.Prelude.{not, nat_lt, if◌then◌else◌}
 use Rattle.std.proofs.lemmas.Bool.{cond-false, ne_eqb, eq-eqb}
+use Rattle.std.proofs.lemmas.Option.{cond_some}
 use Rattle.std.proofs.lemmas.List.{drop_more, get_or-drop}
 use Rattle.tp_model.specs.declared.opening.OpenFault.{OpenFault}
 use Rattle.tp_model.specs.declared.limits.TheConstants.{GATE_CLOSED}
 use Rattle.tp_model.specs.Bytes.{u8_at}
+use Rattle.tp_model.specs.NodeState.{NodeState}
 use Rattle.tp_model.specs.Node.{t414, t414_ends}
 use Rattle.tp_model.specs.Device.{area_start, gate_of, content_of, is_open, generation_of}
-use Rattle.tp_model.specs.Disk.{Moment, Write, Sync, Read, SameOutside, IsWithin, written, done}
-use Rattle.tp_model.specs.DiskHistory.{State, Goes, Fails}
-use Rattle.tp_model.specs.StoreCalls.{Called, BrokeIn, clear_calls, put_calls}
-use Rattle.tp_model.specs.Areas.{gate_closed}
-use Rattle.tp_model.specs.Opening.{Opened, chosen_area, choice, opening, verdict, base_of}
-use Rattle.tp_model.specs.DeviceAreas.{device_areas, open_other_of, spare_of, other_is_open, other_start}
+use Rattle.tp_model.specs.Disk.{Moment, MayBe, Write, Sync, Read, SameOutside, IsWithin, written, done, within}
+use Rattle.tp_model.specs.DiskHistory.{State, Goes, Fails, IsSynced, LeavesOnly}
+use Rattle.tp_model.specs.StoreCalls.{all_done, Called, Broke, clear_calls, switch_calls}
+use Rattle.tp_model.specs.Areas.{Held, gate_closed}
+use Rattle.tp_model.specs.Opening.{Opened, held_of, area_in, chosen_area, choice, opening, verdict, base_of}
+use Rattle.tp_model.specs.DeviceAreas.{device_areas, open_other_of, spare_of, other_of, if_newer, other_is_open, other_start, other_content}
+use Rattle.tp_recover.specs.Standing.{Rests}
+use Rattle.tp_recover.proofs.Device.{put_may, put_done}
 use Rattle.tp_disk.proofs.Moments.{written_same_outside}
 use Rattle.tp_disk.proofs.Agree.{same_apart}
-use Rattle.tp_disk.proofs.Calls.{called_one, called_then, broke_one, broke_first, broke_later}
+use Rattle.tp_disk.proofs.Calls.{called_one, called_then, broke_one, broke_first, broke_later, weaker, call_leaves, calls_leave}
 use Rattle.tp_area.specs.declared.place.Place.{Place}
-use Rattle.tp_area.specs.Places.{area_field, cut_field, listed, place_in, place_at}
-use Rattle.tp_area.specs.Other.{other_gate, if_open, OtherIsClosed, Cleared, PutBehind}
-use Rattle.tp_area.proofs.SameFront.{SameFront, front_of_range, u64_same}
+use Rattle.tp_area.specs.Places.{cut_field, listed, place_in, place_at}
+use Rattle.tp_area.specs.Other.{other_gate, if_open, OtherIsClosed, Cleared, PutBehind, Switched}
+use Rattle.tp_area.specs.Crashes.{OpensTo, OpensToEither, RestsAs}
+use Rattle.tp_area.proofs.SameFront.{front_of_range, u64_same}
 use Rattle.tp_area.proofs.Frames.{drop_written}
-use Rattle.tp_area.proofs.Placed.{IsPlaced, content_at, found_at, is_placed, place_is}
+use Rattle.tp_area.proofs.Placed.{content_at, found_at, is_placed, place_is}
 use Rattle.tp_area.proofs.OpenedPlace.{opening_place}
+use Rattle.tp_area.proofs.StoreCrashes.{keep, held_ok, rests_cleared, within_clear, within_switch}
 
 -- ## The choice
 
@@ -139,18 +145,18 @@ looked_open gate found s t u inside was same now goes called =
     subst (λ b. Called (clear_calls (if b then Some gate else None)) s u) (sym (opened_gate gate found s.now.bytes inside was same))
     (called_then (Read ∷ []) (Write gate gate_closed ∷ Sync ∷ []) s t u (called_one Read s t now goes) called)
 
-pub look_broke : (gate : ℕ) (s t : State) → Fails Read s t → BrokeIn (clear_calls (if_open gate s.now.bytes)) s.now t.now
-look_broke gate s t failed = go (is_open (u8_at s.now.bytes gate))
+pub look_broke : (gate : ℕ) (s t : State) → Goes s t → Fails Read s t → Broke (clear_calls (if_open gate s.now.bytes)) s t
+look_broke gate s t goes failed = go (is_open (u8_at s.now.bytes gate))
   where
-    go : (b : Bool) → BrokeIn (clear_calls (if b then Some gate else None)) s.now t.now
-    go true = broke_first (Read ∷ []) (Write gate gate_closed ∷ Sync ∷ []) s.now t.now (broke_one Read s t failed)
-    go false = broke_one Read s t failed
+    go : (b : Bool) → Broke (clear_calls (if b then Some gate else None)) s t
+    go true = broke_first (Read ∷ []) (Write gate gate_closed ∷ Sync ∷ []) s t (broke_one Read s t goes failed)
+    go false = broke_one Read s t goes failed
 
 pub close_broke : (gate : ℕ) (found : List ℕ) (s t u : State) → gate < length s.now.bytes → found ≡ take 1 (drop gate s.now.bytes) → get_or found 0 0 ≡ 165
-    → t.now ≡ done Read s.now → Goes s t → BrokeIn (Write gate gate_closed ∷ Sync ∷ []) t.now u.now → BrokeIn (clear_calls (if_open gate s.now.bytes)) s.now u.now
+    → t.now ≡ done Read s.now → Goes s t → Broke (Write gate gate_closed ∷ Sync ∷ []) t u → Broke (clear_calls (if_open gate s.now.bytes)) s u
 close_broke gate found s t u inside was same now goes broke =
-    subst (λ b. BrokeIn (clear_calls (if b then Some gate else None)) s.now u.now) (sym (opened_gate gate found s.now.bytes inside was same))
-    (broke_later (Read ∷ []) (Write gate gate_closed ∷ Sync ∷ []) s t u.now (called_one Read s t now goes) broke)
+    subst (λ b. Broke (clear_calls (if b then Some gate else None)) s u) (sym (opened_gate gate found s.now.bytes inside was same))
+    (broke_later (Read ∷ []) (Write gate gate_closed ∷ Sync ∷ []) s t u (called_one Read s t now goes) broke)
 
 -- ## After a call
 
@@ -172,16 +178,36 @@ gate_then gate true old new is inside called =
 same_some : {A : Type 0} (x y : A) → Some x ≡ Some y → x ≡ y
 same_some x y h = cc
 
+-- where the areas of an open device say that the other gate is open
+open_other_is : (place : Place) (bytes : List ℕ) → place_in bytes ≡ Some place → (o : Opened) → opening t414 t414_ends bytes ≡ Ok o
+    → device_areas.open_other bytes ≡ if_open (other_gate place) bytes
+unfolding open_other_of
+open_other_is place bytes said o is =
+    let here : place_at o ≡ place = same_some (place_at o) place (sym (opening_place t414 t414_ends bytes o is) ∙ said) in
+    ap (λ r. open_other_of r bytes) is ∙ ap (λ (p : Place). if_open (other_gate p) bytes) here
+
 pub cleared_by : (place : Place) (old new : State) → place_in old.now.bytes ≡ Some place → other_gate place < length old.now.bytes
     → Called (clear_calls (if_open (other_gate place) old.now.bytes)) old new → Cleared place old new
-unfolding verdict open_other_of
+unfolding verdict
 cleared_by place old new said inside called = record {
   called = called;
-  asked = λ o is.
-      let here : place_at o ≡ place = same_some (place_at o) place (sym (opening_place t414 t414_ends old.now.bytes o is) ∙ said) in
-      ap (λ r. open_other_of r old.now.bytes) is ∙ ap (λ (p : Place). if_open (other_gate p) old.now.bytes) here;
+  asked = open_other_is place old.now.bytes said;
   closed = (gate_then (other_gate place) (is_open (u8_at old.now.bytes (other_gate place))) old new refl inside called).0;
+  rests = λ h rests.
+      let o = held_ok (opening t414 t414_ends old.now.bytes) h rests.reads in
+      subst (Rests device_areas h) (sym called.now)
+      (rests_cleared t414 device_areas keep h old.now rests (if_open (other_gate place) old.now.bytes) (open_other_is place old.now.bytes said o.0 o.1));
 }
+
+-- Whatever came of the calls, a crash since they began leaves what opens to what was held.
+pub clear_leaves : {E : Type 0} (r : Result Unit E) (place : Place) (old new : State) → place_in old.now.bytes ≡ Some place
+    → OnOk r (Called (clear_calls (if_open (other_gate place) old.now.bytes)) old new) → OnErr r (Broke (clear_calls (if_open (other_gate place) old.now.bytes)) old new)
+    → (h : Held NodeState) → RestsAs h old → LeavesOnly old new (OpensTo h)
+clear_leaves r place old new said called broke h rests =
+    let o = held_ok (opening t414 t414_ends old.now.bytes) h rests.reads in
+    let found = if_open (other_gate place) old.now.bytes in
+    calls_leave r (clear_calls found) old new (OpensTo h) called broke
+    (within_clear t414 device_areas keep h old.now rests found (open_other_is place old.now.bytes said o.0 o.1))
 
 pub cleared_place : (place : Place) (old new : State) → 1 ≤ place.area → place_in old.now.bytes ≡ Some place → other_gate place < length old.now.bytes
     → Called (clear_calls (if_open (other_gate place) old.now.bytes)) old new → place_in new.now.bytes ≡ Some place
@@ -206,21 +232,90 @@ spare_is : (o : Opened) (bytes : List ℕ) → other_is_open o bytes ≡ false �
 unfolding spare_of
 spare_is o bytes shut = cond-false (other_is_open o bytes) (0, 0) (other_start o + 1, o.head.area - 1) shut
 
+-- where the areas of an open device have room to spare
+lies_spare : (place : Place) (at : ℕ) (bytes : List ℕ) (old : State) → place_in old.now.bytes ≡ Some place → at + length bytes < place.area → OtherIsClosed place old
+    → (o : Opened) → opening t414 t414_ends old.now.bytes ≡ Ok o → IsWithin (device_areas.spare old.now.bytes) (other_gate place + 1 + at, length bytes)
+lies_spare place at bytes old said inside shut o is =
+    let here : place_at o ≡ place = same_some (place_at o) place (sym (opening_place t414 t414_ends old.now.bytes o is) ∙ said) in
+    let P : Place → Type 0 = λ p. OtherIsClosed p old → at + length bytes < p.area → IsWithin (spare_of (Ok o) old.now.bytes) (other_gate p + 1 + at, length bytes) in
+    let own : P (place_at o) = λ closed small. subst (λ range. IsWithin range (other_gate (place_at o) + 1 + at, length bytes)) (sym (spare_is o old.now.bytes closed)) (omega arith, omega arith) in
+    subst (λ r. IsWithin (spare_of r old.now.bytes) (other_gate place + 1 + at, length bytes)) (sym is) (subst P here own shut inside)
+
 pub put_by : (place : Place) (at : ℕ) (bytes : List ℕ) (old new : State) → place_in old.now.bytes ≡ Some place → other_gate place + 1 + at + length bytes ≤ length old.now.bytes
     → at + length bytes < place.area → OtherIsClosed place old → new.now ≡ done (Write (other_gate place + 1 + at) bytes) old.now → Goes old new → PutBehind place at bytes old new
 unfolding verdict
 put_by place at bytes old new said room inside shut was goes = record {
   called = called_one (Write (other_gate place + 1 + at) bytes) old new was goes;
-  spare = λ o is.
-      let here : place_at o ≡ place = same_some (place_at o) place (sym (opening_place t414 t414_ends old.now.bytes o is) ∙ said) in
-      let P : Place → Type 0 = λ p. OtherIsClosed p old → at + length bytes < p.area → IsWithin (spare_of (Ok o) old.now.bytes) (other_gate p + 1 + at, length bytes) in
-      let own : P (place_at o) = λ closed small. subst (λ range. IsWithin range (other_gate (place_at o) + 1 + at, length bytes)) (sym (spare_is o old.now.bytes closed)) (omega arith, omega arith) in
-      subst (λ r. IsWithin (spare_of r old.now.bytes) (other_gate place + 1 + at, length bytes)) (sym is) (subst P here own shut inside);
+  spare = lies_spare place at bytes old said inside shut;
   closed = stays_closed place at bytes old new room was shut;
+  rests = λ h rests.
+      let o = held_ok (opening t414 t414_ends old.now.bytes) h rests.reads in
+      subst (Rests device_areas h) (sym was)
+      (put_done t414 device_areas keep h old.now rests (other_gate place + 1 + at) bytes (lies_spare place at bytes old said inside shut o.0 o.1));
 }
+
+-- Whatever came of the write, a crash since it began leaves what opens to what was held.
+pub put_leaves : {E : Type 0} (r : Result Unit E) (place : Place) (at : ℕ) (bytes : List ℕ) (old new : State) → place_in old.now.bytes ≡ Some place
+    → other_gate place + 1 + at + length bytes ≤ length old.now.bytes → at + length bytes < place.area → OtherIsClosed place old → Goes old new
+    → OnOk r (new.now ≡ done (Write (other_gate place + 1 + at) bytes) old.now) → OnErr r (Fails (Write (other_gate place + 1 + at) bytes) old new)
+    → (h : Held NodeState) → RestsAs h old → LeavesOnly old new (OpensTo h)
+put_leaves r place at bytes old new said room inside shut goes was failed h rests =
+    let o = held_ok (opening t414 t414_ends old.now.bytes) h rests.reads in
+    let there = other_gate place + 1 + at in
+    weaker old new (MayBe (within (Write there bytes) old.now)) (OpensTo h)
+    (λ left may. (put_may t414 device_areas keep h old.now rests there bytes (lies_spare place at bytes old said inside shut o.0 o.1) left may).0)
+    (call_leaves r (Write there bytes) old new room goes was failed)
 
 pub put_place : (place : Place) (at : ℕ) (bytes : List ℕ) (old new : State) → place_in old.now.bytes ≡ Some place → other_gate place + 1 + at + length bytes ≤ length old.now.bytes
     → at + length bytes < place.area → OtherIsClosed place old → new.now ≡ done (Write (other_gate place + 1 + at) bytes) old.now → place_in new.now.bytes ≡ Some place
 put_place place at bytes old new said room inside shut was =
     place_stays place old.now.bytes new.now.bytes (other_gate place + 1 + at) (length bytes) (omega arith) said (record { from = omega arith; upto = omega arith })
     (put_same place at bytes old new room was) (stays_closed place at bytes old new room was shut)
+
+-- ## Opening the gate
+
+if_newer_gate : (o : Opened) (r : Result Opened OpenFault) (gate : ℕ) (k : Held NodeState) → if_newer o r ≡ Some (gate, k) → gate ≡ other_start o
+if_newer_gate o (Err fault) gate k is = cc
+if_newer_gate o (Ok x) gate k is =
+    let there : ℕ × Held NodeState = (other_start o, held_of x) in
+    let asked : ℕ × Held NodeState = (gate, k) in
+    let both = cond_some (nat_lt o.generation x.generation) there asked is in
+    sym (ap (λ (p : ℕ × Held NodeState). p.0) both.1)
+
+other_gate_is : (o : Opened) (bytes : List ℕ) (gate : ℕ) (k : Held NodeState) → other_of t414 t414_ends (Ok o) bytes ≡ Some (gate, k) → gate ≡ other_start o
+unfolding other_of
+other_gate_is o bytes gate k is = go (other_is_open o bytes) is
+  where
+    go : (opened : Bool) → (if opened then None else if_newer o (area_in t414 t414_ends o.head (not o.second) (other_content o bytes))) ≡ Some (gate, k) → gate ≡ other_start o
+    go true here = cc
+    go false here = if_newer_gate o (area_in t414 t414_ends o.head (not o.second) (other_content o bytes)) gate k here
+
+-- the gate that the areas of the device name is this one
+other_is : (place : Place) (bytes : List ℕ) → place_in bytes ≡ Some place → (h k : Held NodeState) (gate : ℕ) → OpensTo h bytes → device_areas.other bytes ≡ Some (gate, k)
+    → device_areas.other bytes ≡ Some (other_gate place, k)
+other_is place bytes said h k gate stands other =
+    let o = held_ok (opening t414 t414_ends bytes) h stands in
+    let here : place_at o.0 ≡ place = same_some (place_at o.0) place (sym (opening_place t414 t414_ends bytes o.0 o.1) ∙ said) in
+    let there : gate ≡ other_gate place =
+    other_gate_is o.0 bytes gate k (ap (λ r. other_of t414 t414_ends r bytes) (sym o.1) ∙ other) ∙ ap (λ (p : Place). other_gate p) here in
+    subst (λ n. device_areas.other bytes ≡ Some (n, k)) there other
+
+pub switched_by : (place : Place) (old new : State) → place_in old.now.bytes ≡ Some place → Called (switch_calls (other_gate place)) old new → Switched place old new
+switched_by place old new said called = record {
+  called = called;
+  synced = ap (λ (m : Moment). m.unsynced) called.now;
+  rests = λ h k gate stands other.
+      let rests : Rests device_areas k (all_done (switch_calls (other_gate place)) old.now) = record {
+        reads = keep.switched old.now.bytes h k (other_gate place) stands (other_is place old.now.bytes said h k gate stands other);
+        loose = tt;
+      } in
+      subst (Rests device_areas k) (sym called.now) rests;
+}
+
+-- Whatever came of the calls, a crash since they began leaves what opens to what was held, or to what the other area holds.
+pub switch_leaves : {E : Type 0} (r : Result Unit E) (place : Place) (old new : State) → place_in old.now.bytes ≡ Some place
+    → OnOk r (Called (switch_calls (other_gate place)) old new) → OnErr r (Broke (switch_calls (other_gate place)) old new)
+    → (h k : Held NodeState) (gate : ℕ) → RestsAs h old → IsSynced old → device_areas.other old.now.bytes ≡ Some (gate, k) → LeavesOnly old new (OpensToEither h k)
+switch_leaves r place old new said called broke h k gate rests synced other =
+    calls_leave r (switch_calls (other_gate place)) old new (OpensToEither h k) called broke
+    (within_switch t414 device_areas keep h old.now k rests (other_gate place) synced (other_is place old.now.bytes said h k gate rests.reads other))

@@ -1,16 +1,19 @@
 -- Pieces that are put one behind the other are put as one.
-use Rattle.std.proofs.Common.{◌≡◌, ℕ, ◌+◌, ◌-◌, ◌≤◌, List, [], ◌∷◌, ◌++◌, length, take, drop, refl, sym, ap, subst, ◌∙◌, arith, add-zero, append_assoc, append-nil, length-append, get_or, ◌<◌}
-use Rattle.std.specs.Prelude.{map, flat_map}
+use Rattle.std.proofs.Common.{◌≡◌, ℕ, ◌+◌, ◌-◌, ◌≤◌, List, [], ◌∷◌, ◌++◌, length, take, drop, refl, sym, ap, subst, ◌∙◌, arith, add-zero, append_assoc, append-nil, length-append, length-drop, get_or, ◌<◌, inl, inr, Result, OnOk, OnErr}
+use Rattle.std.specs.Prelude.{flat_map}
 use Rattle.std.specs.List.{AllByRecursion}
+use Rattle.std.proofs.lemmas.Bool.{cases_lt}
 use Rattle.std.proofs.lemmas.Grind.{flat_map-append}
 use Rattle.std.proofs.lemmas.List.Folds.{length-flat_map-take}
-use Rattle.std.proofs.lemmas.List.{take_more, replicate-append-replicate, take-replicate, length-replicate, take_at, take-append-drop, drop-drop, length-take-le}
-use Rattle.tp_model.specs.Disk.{Moment, Call, Write, IsWithin, written, done}
-use Rattle.tp_model.specs.DiskHistory.{State, Goes}
+use Rattle.std.proofs.lemmas.List.{take_more, replicate-append-replicate, length-replicate, take_at, take-append-drop, drop-drop, length-take-le, get_or-take, get_or-drop}
+use Rattle.tp_model.specs.Disk.{Moment, MayBe, Write, IsWithin, SameOutside, written, done, within}
+use Rattle.tp_model.specs.DiskHistory.{State, Goes, Fails, LeavesOnly}
 use Rattle.tp_model.specs.StoreCalls.{Called, put_calls}
-use Rattle.tp_disk.proofs.Calls.{called_one, called_then}
+use Rattle.tp_disk.proofs.Moments.{written_same_outside, outside_last}
+use Rattle.tp_disk.proofs.Agree.{same_refl, same_sym, same_trans, same_wider, inside_written}
+use Rattle.tp_disk.proofs.Calls.{called_one, called_then, started, and_then, weaker, call_leaves}
 use Rattle.tp_model.specs.Bytes.{zeros}
-use Rattle.tp_area.specs.Puts.{Puts}
+use Rattle.tp_area.specs.Puts.{ButFor, Puts}
 use Rattle.tp_area.proofs.Frames.{drop_behind}
 
 abbrev Within : ℕ → ℕ → List (ℕ × List ℕ) → Type 0
@@ -126,3 +129,76 @@ puts_three at one two three second third s t u v room is_second is_third first n
     let both : Puts at (one ++ two) s u = puts_then at one two s t u room first (subst (λ n. Puts n two t u) is_second next) in
     let there : third ≡ at + length (one ++ two) = omega (arith, length-append one two) in
     puts_then at (one ++ two) three s u v room both (subst (λ n. Puts n three u v) there last)
+
+-- ## What a crash leaves on the way
+
+-- within a write: outside its range the same as what one before it might leave
+but_for_write : (m : Moment) (at : ℕ) (bytes left : List ℕ) → at + length bytes ≤ length m.bytes → MayBe (within (Write at bytes) m) left → ButFor at (length bytes) m left
+but_for_write m at bytes left room may =
+    let part : List ℕ = take (length bytes) (drop at m.bytes) in
+    let size : length part ≡ length bytes = length-take-le (length bytes) (drop at m.bytes) (let dropped = length-drop at m.bytes in omega arith) in
+    let sizes = may.same_length in
+    let fits : at + length part ≤ length left = omega arith in
+    let same : SameOutside at (length part) left (written left at part) = written_same_outside left at part fits in
+    record {
+      before = written left at part;
+      may = record {
+        same_length = same.same_length ∙ sizes;
+        same_outside = λ place out. elim (cases_lt place at) [
+          | inl low ↦ same.same place (inl low) ∙ may.same_outside place (outside_last m.unsynced (at, length bytes) place out (inl low))
+          | inr high ↦ elim (cases_lt place (at + length bytes)) [
+            | inl inside ↦ inside_written left at part place fits high (omega arith) ∙ get_or-take (length bytes) (drop at m.bytes) (place - at) 0 (omega arith)
+                ∙ get_or-drop at m.bytes (place - at) 0 ∙ ap (λ n. get_or m.bytes n 0) (let place_is : at + (place - at) ≡ place = omega arith in place_is)
+            | inr behind ↦ same.same place (inr (omega arith)) ∙ may.same_outside place (outside_last m.unsynced (at, length bytes) place out (inr behind))
+          ]
+        ];
+      };
+      same = same_sym at (length bytes) left (written left at part) (subst (λ (n : ℕ). SameOutside at n left (written left at part)) size same);
+    }
+
+pub write_leaves : {E : Type 0} (r : Result Unit E) (at : ℕ) (bytes : List ℕ) (s t : State) → at + length bytes ≤ length s.now.bytes → Goes s t
+    → OnOk r (t.now ≡ done (Write at bytes) s.now) → OnErr r (Fails (Write at bytes) s t) → LeavesOnly s t (ButFor at (length bytes) s.now)
+write_leaves r at bytes s t room goes was failed =
+    weaker s t (MayBe (within (Write at bytes) s.now)) (ButFor at (length bytes) s.now) (λ left may. but_for_write s.now at bytes left room may) (call_leaves r (Write at bytes) s t room goes was failed)
+
+pub but_for_may : (at count : ℕ) (m : Moment) (left : List ℕ) → MayBe m left → ButFor at count m left
+but_for_may at count m left may = record { before = left; may = may; same = same_refl at count left }
+
+-- no call yet
+pub none_leaves : (at count : ℕ) (s : State) → LeavesOnly s s (ButFor at count s.now)
+none_leaves at count s = started s (ButFor at count s.now) (but_for_may at count s.now)
+
+-- a range in another one
+pub wider_leaves : (outer inner : ℕ × ℕ) (s t : State) → IsWithin outer inner → LeavesOnly s t (ButFor inner.0 inner.1 s.now) → LeavesOnly s t (ButFor outer.0 outer.1 s.now)
+wider_leaves outer inner s t inside only =
+    weaker s t (ButFor inner.0 inner.1 s.now) (ButFor outer.0 outer.1 s.now)
+    (λ left b. record { before = b.before; may = b.may; same = same_wider outer inner b.before left inside b.same }) only
+
+-- and then calls within it
+pub then_leaves : (outer inner : ℕ × ℕ) (s t u : State) → IsWithin outer inner → LeavesOnly s t (ButFor outer.0 outer.1 s.now) → LeavesOnly t u (ButFor inner.0 inner.1 t.now)
+    → LeavesOnly s u (ButFor outer.0 outer.1 s.now)
+then_leaves outer inner s t u inside one two =
+    and_then s t u (ButFor outer.0 outer.1 s.now) one (weaker t u (ButFor inner.0 inner.1 t.now) (ButFor outer.0 outer.1 s.now) both two)
+  where
+    both : (left : List ℕ) → ButFor inner.0 inner.1 t.now left → ButFor outer.0 outer.1 s.now left
+    both left b =
+        let first = one.each b.before (inr b.may) in
+        record {
+          before = first.before;
+          may = first.may;
+          same = same_trans outer.0 outer.1 first.before b.before left first.same (same_wider outer inner b.before left inside b.same);
+        }
+
+pub zeros_leave : (at count left size : ℕ) (piece : List ℕ) (s t u : State) → left ≤ count → size ≤ left → piece ≡ zeros size
+    → LeavesOnly s t (ButFor at count s.now) → LeavesOnly t u (ButFor (at + (count - left)) (length piece) t.now) → LeavesOnly s u (ButFor at count s.now)
+zeros_leave at count left size piece s t u some fits is one two =
+    let len : length piece ≡ size = ap length is ∙ length-replicate size 0 in
+    then_leaves (at, count) (at + (count - left), length piece) s t u (omega arith, omega arith) one two
+
+pub image_leaves : {X : Type 0} (f : X → List ℕ) (xs : List X) (i : ℕ) (x : X) (bytes : List ℕ) (at place : ℕ) (s t u : State) → i < length xs → x ≡ get_or xs i x → bytes ≡ f x
+    → place ≡ at + length (flat_map f (take i xs)) → LeavesOnly s t (ButFor at (length (flat_map f xs)) s.now) → LeavesOnly t u (ButFor place (length bytes) t.now)
+    → LeavesOnly s u (ButFor at (length (flat_map f xs)) s.now)
+image_leaves f xs i x bytes at place s t u lt is same here one two =
+    let fit = image_fits f xs i x lt is in
+    let len = ap length same in
+    then_leaves (at, length (flat_map f xs)) (place, length bytes) s t u (omega arith, omega arith) one two

@@ -1,4 +1,5 @@
 pub mod Places
+pub mod Crashes
 pub mod Appended
 pub mod Puts
 pub mod Formatting

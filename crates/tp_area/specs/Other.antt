@@ -1,13 +1,16 @@
 -- The area that isn't open, and what is done to it.
-use Rattle.std.specs.Prelude.{◌≡◌, ℕ, ◌+◌, Bool, true, false, not, if◌then◌else◌, List, [], ◌∷◌, length, Option, Some, None, Ok}
+use Rattle.std.specs.Prelude.{◌≡◌, ℕ, ◌+◌, false, not, if◌then◌else◌, List, [], ◌∷◌, length, Option, Some, None, Ok}
 use Rattle.tp_model.specs.Bytes.{u8_at}
 use Rattle.tp_model.specs.Device.{area_start, gate_of, is_open}
 use Rattle.tp_model.specs.Disk.{IsWithin}
-use Rattle.tp_model.specs.DiskHistory.{State}
-use Rattle.tp_model.specs.StoreCalls.{Called, clear_calls, put_calls}
+use Rattle.tp_model.specs.DiskHistory.{State, IsSynced}
+use Rattle.tp_model.specs.StoreCalls.{Called, clear_calls, put_calls, switch_calls}
+use Rattle.tp_model.specs.NodeState.{NodeState}
+use Rattle.tp_model.specs.Areas.{Held}
 use Rattle.tp_model.specs.DeviceAreas.{device_areas}
 use Rattle.tp_model.specs.Opening.{Opened, verdict}
 use Rattle.tp_area.specs.declared.place.Place.{Place}
+use Rattle.tp_area.specs.Crashes.{OpensTo, RestsAs}
 
 -- where its gate stands
 abbrev pub other_gate : Place → ℕ
@@ -25,9 +28,17 @@ pub record Cleared (place : Place) (old new : State) : Type 0 where
   pub called : Called (clear_calls (if_open (other_gate place) old.now.bytes)) old new
   pub asked : (o : Opened) → verdict old.now.bytes ≡ Ok o → device_areas.open_other old.now.bytes ≡ if_open (other_gate place) old.now.bytes
   pub closed : OtherIsClosed place new
+  pub rests : (h : Held NodeState) → RestsAs h old → RestsAs h new
 
 -- Bytes were put behind its closed gate, which is where the areas of the device have room to spare. They aren't synced.
 pub record PutBehind (place : Place) (at : ℕ) (bytes : List ℕ) (old new : State) : Type 0 where
   pub called : Called (put_calls ((other_gate place + 1 + at, bytes) ∷ [])) old new
   pub spare : (o : Opened) → verdict old.now.bytes ≡ Ok o → IsWithin (device_areas.spare old.now.bytes) (other_gate place + 1 + at, length bytes)
   pub closed : OtherIsClosed place new
+  pub rests : (h : Held NodeState) → RestsAs h old → RestsAs h new
+
+-- Its gate was opened, and that is synced. Where the areas of the device say what it holds, the device then stands for that.
+pub record Switched (place : Place) (old new : State) : Type 0 where
+  pub called : Called (switch_calls (other_gate place)) old new
+  pub synced : IsSynced new
+  pub rests : (h k : Held NodeState) (gate : ℕ) → OpensTo h old.now.bytes → device_areas.other old.now.bytes ≡ Some (gate, k) → RestsAs k new

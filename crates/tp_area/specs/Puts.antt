@@ -1,7 +1,7 @@
 -- Bytes that are put on a device piece by piece.
 use Rattle.std.specs.Prelude.{◌≡◌, ℕ, List, length}
 use Rattle.std.specs.List.{AllByRecursion}
-use Rattle.tp_model.specs.Disk.{IsWithin, written}
+use Rattle.tp_model.specs.Disk.{Moment, MayBe, IsWithin, SameOutside, written}
 use Rattle.tp_model.specs.DiskHistory.{State}
 use Rattle.tp_model.specs.StoreCalls.{Called, put_calls}
 
@@ -11,3 +11,9 @@ pub record Puts (at : ℕ) (bytes : List ℕ) (old new : State) : Type 0 where
   pub within : AllByRecursion (λ piece. IsWithin (at, length bytes) (piece.0, length piece.1)) pieces
   pub called : Called (put_calls pieces) old new
   pub are : new.now.bytes ≡ written old.now.bytes at bytes
+
+-- Outside this range the same as some content that a crash at that moment might leave.
+pub record ButFor (at count : ℕ) (m : Moment) (left : List ℕ) : Type 0 where
+  pub before : List ℕ
+  pub may : MayBe m before
+  pub same : SameOutside at count before left

@@ -1,15 +1,16 @@
 //! Formatting a device.
 
-ghost use Rattle.std.specs.Prelude.{◌≡◌, ◌+◌, ◌*◌, ◌^◌, ◌<◌, ◌≤◌, ◌++◌, true, map, flat_map, drop, length, is_ok, OnOk};
+ghost use Rattle.std.specs.Prelude.{◌≡◌, ◌⊎◌, ◌+◌, ◌*◌, ◌^◌, ◌<◌, ◌≤◌, ◌++◌, true, map, flat_map, drop, length, is_ok, OnOk};
 ghost use Rattle.tp_model.specs.declared.limits.TheConstants.{HEAD_BYTES, LINE_BYTES, PORT_BYTES};
 ghost use Rattle.tp_model.specs.Bytes.{zeros};
 ghost use Rattle.tp_model.specs.Device.{fits};
-ghost use Rattle.tp_model.specs.DiskHistory.{Counts};
+ghost use Rattle.tp_model.specs.Disk.{SameOutside};
+ghost use Rattle.tp_model.specs.DiskHistory.{Counts, LeavesOnly};
 ghost use Rattle.tp_model.specs.Format.{start_of};
 ghost use Rattle.tp_model.specs.Journal.{cut_length, images_length};
 ghost use Rattle.tp_model.specs.Topology.{is_topology, line_count};
-ghost use Rattle.tp_area.specs.Formatting.{Answers, Formatted, Wrote, area_front, failed_calls, is_early};
-ghost use Rattle.tp_area.specs.Puts.{Puts};
+ghost use Rattle.tp_area.specs.Formatting.{Answers, Formatted, IsOldOrNew, Wrote, area_front, failed_calls, is_early, with_areas};
+ghost use Rattle.tp_area.specs.Puts.{ButFor, Puts};
 
 use crate::fault::FormatFault;
 use crate::head::head_bytes;
@@ -88,6 +89,7 @@ fn put_first_area<D: Disk>(
     ensures counts { Counts (is_ok result) (D.size_of disk.old) (D.size_of disk.new) (D.failures_of disk.old) (D.failures_of disk.new) }
     ensures put { D.keeps → OnOk result (Puts HEAD_BYTES ((area_front lengths.cut ++ flat_map (λ image. image.items) images.now) ++ zeros lengths.rest)
         (D.state disk.old) (D.state disk.new)) }
+    ensures leaves { D.keeps → LeavesOnly (D.state disk.old) (D.state disk.new) (ButFor HEAD_BYTES (FRONT_BYTES + lengths.images + lengths.rest) (D.state disk.old).now) }
 {
     let mut front = [0; FRONT_BYTES];
     put_front(lengths.cut as u32, &mut front);
@@ -115,6 +117,9 @@ fn write_all<D: Disk>(
     ensures counts { Counts (is_ok result) (D.size_of disk.old) (D.size_of disk.new) (D.failures_of disk.old) (D.failures_of disk.new) }
     ensures wrote { D.keeps → OnOk result (Wrote ((area_front lengths.cut ++ flat_map (λ image. image.items) images.now) ++ zeros lengths.rest)
         head.now area (D.state disk.old) (D.state disk.new)) }
+    ensures leaves { D.keeps → LeavesOnly (D.state disk.old) (D.state disk.new) (λ left. ButFor HEAD_BYTES (2 * area) (D.state disk.old).now left
+        ⊎ SameOutside 0 HEAD_BYTES (with_areas ((area_front lengths.cut ++ flat_map (λ image. image.items) images.now) ++ zeros lengths.rest)
+        area (D.state disk.old).now.bytes) left) }
 {
     put_first_area(disk, images, lengths)?;
     put_piece(disk, HEAD_BYTES as u64 + area, &[GATE_CLOSED])?;
@@ -137,13 +142,15 @@ pub fn format<D: Disk>(
     ensures failures { D.failures_of disk.new ≡ D.failures_of disk.old + failed_calls result }
     ensures size { D.size_of disk.new ≡ D.size_of disk.old }
     ensures formatted { D.keeps → OnOk result (Formatted topology.now (map (λ image. image.items) images.now) area (D.state disk.old) (D.state disk.new)) }
+    ensures leaves { D.keeps → LeavesOnly (D.state disk.old) (D.state disk.new) (IsOldOrNew topology.now (map (λ image. image.items) images.now) area (D.state disk.old)) }
 {
     check_images(alloc, topology.pages(), images)?;
     let lengths = lengths_of(topology);
     if !is_large_enough(disk.size(), topology, lengths.cut, area) {
         return Err(FormatFault::AreaFull);
     }
-    let head = head_bytes(topology, area);
+    let ports = topology.port_count() as u8;
+    let head = head_bytes(topology.pages(), ports, topology.wires(), area);
     let Ok(()) = write_all(disk, head.as_slice(), area, images, lengths) else {
         return Err(FormatFault::DeviceFailed);
     };

@@ -9,10 +9,9 @@ ghost use Rattle.tp_model.specs.Topology.{is_topology};
 use arrayvec::ArrayVec;
 use tp_model::WireEnd;
 use tp_model::limits::{HEAD_BYTES, HEAD_NODES, HEAD_VERSION};
-use tp_net::Topology;
 
 /// The bytes that a formatted device begins with.
-const MAGIC: [u8; 7] = *b"TPNET\0\0";
+pub const MAGIC: [u8; 7] = *b"TPNET\0\0";
 
 /// A head, as far as it is written.
 type Written = ArrayVec<u8, HEAD_BYTES>;
@@ -75,15 +74,19 @@ fn put_ends(ends: &[Option<WireEnd>], out: &mut Written)
     }
 }
 
-/// The bytes of a device's head: this topology, and areas of so many bytes.
-pub(crate) fn head_bytes(topology: &Topology, area: u64) -> ArrayVec<u8, HEAD_BYTES>
-    requires { is_topology topology.now ≡ true }
-    ensures bytes { result.items ≡ head_bytes topology.now area }
+/// The bytes of a device's head, by the parts of its topology: so many pages a node, so many ports, these wires; and areas of
+/// so many bytes.
+pub fn head_bytes(
+    pages: &[u16],
+    ports: u8,
+    wires: &[Option<WireEnd>],
+    area: u64,
+) -> ArrayVec<u8, HEAD_BYTES>
+    requires { is_topology (record { pages = pages.now; ports = ports; wires = wires.now }) ≡ true }
+    ensures bytes { result.items ≡ head_bytes (record { pages = pages.now; ports = ports; wires = wires.now }) area }
     ensures len { array_vec_len result ≡ HEAD_BYTES }
 {
-    let pages = topology.pages();
-    let links = &topology.wires()[..4 * pages.len()];
-    let ports = topology.port_count() as u8;
+    let links = &wires[..4 * pages.len()];
     let mut out = ArrayVec::new();
     put(&MAGIC, &mut out);
     put(&[HEAD_VERSION, pages.len() as u8, ports], &mut out);

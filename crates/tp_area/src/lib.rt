@@ -17,6 +17,8 @@ mod store;
 
 pub use fault::{FormatFault, StoreFault};
 pub use formatting::format;
+pub use head::{MAGIC, head_bytes};
 pub use laws::open_devices_say_their_place;
-pub use place::Place;
+pub use place::{Place, area_start};
+pub use room::{has_room, images_length};
 pub use store::Store;

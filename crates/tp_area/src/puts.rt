@@ -2,8 +2,8 @@
 
 ghost use Rattle.std.specs.Prelude.{◌≡◌, ◌+◌, ◌^◌, ◌<◌, ◌≤◌, flat_map, length, is_ok, OnOk};
 ghost use Rattle.tp_model.specs.Bytes.{zeros};
-ghost use Rattle.tp_model.specs.DiskHistory.{Counts};
-ghost use Rattle.tp_area.specs.Puts.{Puts};
+ghost use Rattle.tp_model.specs.DiskHistory.{Counts, LeavesOnly};
+ghost use Rattle.tp_area.specs.Puts.{ButFor, Puts};
 
 use tp_disk::{DeviceFailed, Disk};
 
@@ -15,6 +15,7 @@ pub(crate) fn put_piece<D: Disk>(disk: &mut D, at: u64, bytes: &[u8]) -> Result<
     requires { at + length bytes.now ≤ D.size_of disk.old }
     ensures counts { Counts (is_ok result) (D.size_of disk.old) (D.size_of disk.new) (D.failures_of disk.old) (D.failures_of disk.new) }
     ensures put { D.keeps → OnOk result (Puts at bytes.now (D.state disk.old) (D.state disk.new)) }
+    ensures leaves { D.keeps → LeavesOnly (D.state disk.old) (D.state disk.new) (ButFor at (length bytes.now) (D.state disk.old).now) }
 {
     disk.write_at(at, bytes)
 }
@@ -25,6 +26,7 @@ pub(crate) fn put_zeros<D: Disk>(disk: &mut D, at: u64, count: u64) -> Result<()
     requires fits { D.size_of disk.old < 2 ^ 64 }
     ensures counts { Counts (is_ok result) (D.size_of disk.old) (D.size_of disk.new) (D.failures_of disk.old) (D.failures_of disk.new) }
     ensures put { D.keeps → OnOk result (Puts at (zeros count) (D.state disk.old) (D.state disk.new)) }
+    ensures leaves { D.keeps → LeavesOnly (D.state disk.old) (D.state disk.new) (ButFor at count (D.state disk.old).now) }
 {
     let piece = [0; ZEROS];
     let mut left = count;
@@ -46,6 +48,7 @@ pub(crate) fn put_images<D: Disk>(
     requires fits { D.size_of disk.old < 2 ^ 64 }
     ensures counts { Counts (is_ok result) (D.size_of disk.old) (D.size_of disk.new) (D.failures_of disk.old) (D.failures_of disk.new) }
     ensures put { D.keeps → OnOk result (Puts at (flat_map (λ image. image.items) images.now) (D.state disk.old) (D.state disk.new)) }
+    ensures leaves { D.keeps → LeavesOnly (D.state disk.old) (D.state disk.new) (ButFor at (length (flat_map (λ image. image.items) images.now)) (D.state disk.old).now) }
 {
     let mut place = at;
     for image in images {

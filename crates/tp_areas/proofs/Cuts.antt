@@ -54,10 +54,10 @@ lines_same at (wire ∷ wires) xs ys h =
 -- ## Ports
 
 -- the counts of a port's bytes, as they are read of its record
-pending_count : (p : Port) → length p.pending < 2 ^ 16 → u16_at (port_bytes p) 16 ≡ length p.pending
+pub pending_count : (p : Port) → length p.pending < 2 ^ 16 → u16_at (port_bytes p) 16 ≡ length p.pending
 pending_count p fits = from_le_bytes-to_le_bytes_2 (length p.pending) fits
 
-outputs_count : (p : Port) → length p.outputs < 2 ^ 16 → u16_at (port_bytes p) 18 ≡ length p.outputs
+pub outputs_count : (p : Port) → length p.outputs < 2 ^ 16 → u16_at (port_bytes p) 18 ≡ length p.outputs
 outputs_count p fits = from_le_bytes-to_le_bytes_2 (length p.outputs) fits
 
 -- what is read of a port's record, by its fields

@@ -6,10 +6,6 @@ use Rattle.std.specs.Option.{option_map}
 use Rattle.std.proofs.lemmas.Bool.{and_parts, eqb-true, not_from_false}
 use Rattle.std.proofs.lemmas.List.{length-replicate}
 use Rattle.tp_model.specs.declared.link.Token.{Token}
-use Rattle.tp_model.specs.declared.link.OutEnd.{OutEnd}
-use Rattle.tp_model.specs.declared.link.OutEnd.TheVariants.{Idle as OutIdle, Waits}
-use Rattle.tp_model.specs.declared.link.InEnd.{InEnd}
-use Rattle.tp_model.specs.declared.link.InEnd.TheVariants.{Idle as InIdle, Inputs, Enabled}
 use Rattle.tp_model.specs.declared.wire.WireEnd.{WireEnd}
 use Rattle.tp_model.specs.Word.{bit}
 use Rattle.tp_model.specs.NodeState.{NodeState}
@@ -17,8 +13,7 @@ use Rattle.tp_model.specs.EndBytes.{is_idle_out, is_idle_in}
 use Rattle.tp_model.specs.Image.{page_count, node_of, has_idle_links}
 use Rattle.tp_model.specs.Network.{Network, Own, OfNode, OfHost, own, back, on_line}
 use Rattle.tp_model.specs.Sound.{datas, acks, owner, is_pending, waits_at, holds_at, end_holds}
-use Rattle.tp_model.specs.LinkEnd.{is_waiting, is_holding}
-use Rattle.tp_model.specs.Node.{waits_there, holds_there, t414_ends}
+use Rattle.tp_model.specs.Node.{t414_ends}
 use Rattle.tp_model.specs.Topology.{Topology, line_count}
 use Rattle.tp_model.specs.Flight.{is_in_one_place}
 use Rattle.tp_model.specs.CutImage.{is_port_of}
@@ -26,6 +21,7 @@ use Rattle.tp_model.specs.Format.{fresh_node, fresh_nodes, fresh_port}
 use Rattle.tp_laws.proofs.Images.{image-node_of}
 use Rattle.tp_order.proofs.Partial.{bind_some}
 use Rattle.tp_model.specs.Spelling.{are_lines}
+use Rattle.tp_laws.proofs.Idle.{none_waits, none_holds}
 use Rattle.tp_areas.proofs.SpeltCuts.{IsReadBack, pages_of, ReadsBack}
 use Rattle.tp_areas.proofs.Faults.{tested}
 
@@ -96,26 +92,6 @@ empty_ports zero = tt
 empty_ports (suc count) = (refl, empty_ports count)
 
 -- ## Flights
-
-idle_out : (end : OutEnd) → is_idle_out end ≡ true → is_waiting end ≡ false
-idle_out OutIdle h = refl
-idle_out (Waits t) h = cc
-
-idle_in : (end : InEnd) → is_idle_in end ≡ true → is_holding end ≡ false
-idle_in (InIdle None) h = refl
-idle_in (InIdle (Some byte)) h = cc
-idle_in (Inputs t) h = refl
-idle_in (Enabled process) h = refl
-
-none_waits : (ends : List OutEnd) (k : ℕ) → list_all is_idle_out ends ≡ true → waits_there (slice_get ends k) ≡ false
-none_waits [] k h = refl
-none_waits (end ∷ ends) zero h = idle_out end (and_parts (is_idle_out end) (list_all is_idle_out ends) h).0
-none_waits (end ∷ ends) (suc k) h = none_waits ends k (and_parts (is_idle_out end) (list_all is_idle_out ends) h).1
-
-none_holds : (ends : List InEnd) (k : ℕ) → list_all is_idle_in ends ≡ true → holds_there (slice_get ends k) ≡ false
-none_holds [] k h = refl
-none_holds (end ∷ ends) zero h = idle_in end (and_parts (is_idle_in end) (list_all is_idle_in ends) h).0
-none_holds (end ∷ ends) (suc k) h = none_holds ends k (and_parts (is_idle_in end) (list_all is_idle_in ends) h).1
 
 none_pending : (count p : ℕ) → is_pending (slice_get (replicate count fresh_port) p) ≡ false
 none_pending zero p = refl

@@ -13,7 +13,7 @@ use Rattle.tp_areas.proofs.Faults.{fault_or, or_fault}
 use Rattle.tp_areas.proofs.Fronts.{SameFront, front_shorter, front_part, front_get, u16_front, u64_front}
 use Rattle.tp_areas.proofs.Wires.{limits_of}
 
-length-u16s_at : (count : ℕ) (bytes : List ℕ) → length (u16s_at count bytes) ≡ count
+pub length-u16s_at : (count : ℕ) (bytes : List ℕ) → length (u16s_at count bytes) ≡ count
 unfolding u16s_at
 length-u16s_at zero bytes = refl
 length-u16s_at (suc count) bytes = ap suc (length-u16s_at count (drop 2 bytes))

@@ -10,23 +10,23 @@ use Rattle.std.proofs.lemmas.Slice.Eq.{bytes_eq-Decides}
 use Rattle.tp_model.specs.declared.link.Token.{Token}
 use Rattle.tp_model.specs.declared.link.Token.TheVariants.{Data, Ack}
 use Rattle.tp_model.specs.declared.wire.WireEnd.{WireEnd}
-use Rattle.tp_model.specs.declared.opening.OpenFault.TheVariants.{Damaged}
 use Rattle.tp_model.specs.declared.limits.TheConstants.{NUMBER_LIMIT}
 use Rattle.tp_model.specs.Bytes.{u8_at, u32_at, u64_at, u32_bytes, u64_bytes}
 use Rattle.tp_model.specs.NodeState.{NodeState}
 use Rattle.tp_model.specs.Image.{page_count, image, node_of, IsNode}
-use Rattle.tp_model.specs.Network.{Port, Network, back}
+use Rattle.tp_model.specs.Network.{Port, Network}
 use Rattle.tp_model.specs.Sound.{Ends}
 use Rattle.tp_model.specs.Topology.{Topology, line_count}
 use Rattle.tp_model.specs.Journal.{image_length, images_length, cut_length}
 use Rattle.tp_model.specs.Device.{generation_of}
-use Rattle.tp_model.specs.Flight.{is_in_one_place, flights_in}
+use Rattle.tp_model.specs.Flight.{flights_in}
 use Rattle.tp_model.specs.CutImage.{line_bytes, port_bytes, node_with, tokens_of, tokens_at, is_record, line_with, is_line_of, port_at, is_port_of, port_with, or_damaged, nodes_in, lines_in, ports_in, cut_bytes}
 use Rattle.tp_model.specs.Spelling.{has_record, are_lines, IsCut, front_bytes}
 use Rattle.tp_model.specs.Opening.{base_of, has_front, nodes_place, lines_place, ports_place, groups_place, network_of, cut_in}
 use Rattle.tp_laws.proofs.Numbers.{AreBytes, are_bytes, byte_below, are_bytes-drop}
 use Rattle.tp_laws.proofs.Images.{image-node_of, is_node-node_of}
-use Rattle.tp_areas.proofs.Faults.{bind_ok, or_damaged_ok, or_fault, tested}
+use Rattle.tp_order.proofs.InPlace.{flights_found}
+use Rattle.tp_areas.proofs.Faults.{bind_ok, or_damaged_ok, tested}
 use Rattle.tp_areas.proofs.Fronts.{u32_front, u64_front, whole_front}
 use Rattle.tp_areas.proofs.SpeltCuts.{pages_of}
 
@@ -154,19 +154,6 @@ ports_read base at (suc count) xs ports is =
       are = parts_join (port_bytes port) (flat_map port_bytes rest.0) xs 8212 (8212 * count) front others.are
           ∙ ap (λ k. (port_bytes port ++ flat_map port_bytes rest.0) ++ drop k xs) (omega arith);
     })
-
--- ## Flights
-
-flights_found : (E : Ends NodeState) (s : Network NodeState) (at line count : ℕ) → flights_in E s at line count ≡ Ok tt
-    → (k : ℕ) → line ≤ k → k < line + count → is_in_one_place E s k (back s k) ≡ true
-unfolding flights_in
-flights_found E s at line zero is k low high = absurd (omega arith)
-flights_found E s at line (suc count) is k low high =
-    let first = or_fault (is_in_one_place E s line (back s line)) (flights_in E s (at + 4) (line + 1) count) (Damaged at) tt is in
-    elim (cases_lt line k) [
-      | inl above ↦ flights_found E s (at + 4) (line + 1) count first.1 k (omega arith) (omega arith)
-      | inr here ↦ let same : k ≡ line = omega arith in ap (λ j. is_in_one_place E s j (back s j)) same ∙ first.0
-    ]
 
 -- ## The cut
 

@@ -1,12 +1,11 @@
 -- Entries that are replayed from their bytes.
-use Rattle.std.proofs.Common.{◌≡◌, ℕ, ◌+◌, ◌-◌, ◌<◌, ◌≤◌, true, cond, List, [], ◌∷◌, ◌++◌, length, refl, sym, ap, subst, ◌∙◌, arith, append_assoc, append-nil, Option, Some, None, Result, Ok, Err}
+use Rattle.std.proofs.Common.{◌≡◌, ℕ, ◌+◌, ◌-◌, ◌<◌, ◌≤◌, true, cond, List, [], ◌∷◌, ◌++◌, length, refl, sym, ap, subst, ◌∙◌, arith, append_assoc, append-nil, Option, Some, None, Ok}
 use Rattle.std.specs.Prelude.{◌&&◌, nat_le, nat_lt, map}
 use Rattle.std.specs.Option.{option_map, option_and_then}
 use Rattle.std.specs.List.{AllByRecursion}
 use Rattle.std.proofs.lemmas.Bool.{and_parts, and_from, leb-true, le-leb, lt-ltb}
 use Rattle.std.proofs.lemmas.List.{map_push, length_push}
 use Rattle.tp_model.specs.declared.entry.Entry.{Entry}
-use Rattle.tp_model.specs.declared.opening.OpenFault.{OpenFault}
 use Rattle.tp_model.specs.declared.limits.TheConstants.{NUMBER_LIMIT}
 use Rattle.tp_model.specs.Results.{◌>>=◌}
 use Rattle.tp_model.specs.Network.{Machine, Network}
@@ -21,18 +20,6 @@ use Rattle.tp_entry.proofs.EntryLaws.{entry_at-entry_bytes}
 use Rattle.tp_order.proofs.Partial.{map_some, cond_some}
 use Rattle.tp_order.proofs.Reorder.{after_last, first_possible}
 use Rattle.tp_areas.proofs.Faults.{bind_ok, or_damaged_ok}
-
--- ## Rows behind rows
-
-pub after_rows-append : {Node : Type 0} (M : Machine Node) (r : Replay Node) (xs ys : List (ℕ × List ℕ)) → after_rows M r (xs ++ ys) ≡ (after_rows M r xs >>= λ v. after_rows M v ys)
-unfolding after_rows
-after_rows-append M r [] ys = refl
-after_rows-append {Node} M r (x ∷ xs) ys = go (or_damaged x.0 (after_row M r x.1)) (λ v. after_rows-append M v xs ys)
-  where
-    go : (first : Result (Replay Node) OpenFault) → ((v : Replay Node) → after_rows M v (xs ++ ys) ≡ (after_rows M v xs >>= λ u. after_rows M u ys))
-        → (first >>= λ v. after_rows M v (xs ++ ys)) ≡ ((first >>= λ v. after_rows M v xs) >>= λ u. after_rows M u ys)
-    go (Err fault) h = refl
-    go (Ok v) h = h v
 
 -- ## What a replay keeps
 

@@ -1,5 +1,5 @@
 -- The other area's gate is written closed, and open.
-use Rattle.std.proofs.Common.{◌≡◌, ℕ, ◌+◌, ◌<◌, ◌≤◌, ◌⊎◌, inl, inr, Bool, true, false, not, cond, List, [], ◌∷◌, length, get_or, refl, sym, ap, subst, ◌∙◌, arith, Option, Some, None, Result, Ok, Err}
+use Rattle.std.proofs.Common.{◌≡◌, ℕ, ◌+◌, ◌<◌, ◌≤◌, ◌⊎◌, inl, inr, true, false, not, List, [], ◌∷◌, length, get_or, refl, sym, ap, subst, ◌∙◌, arith, Some, Result, Ok, Err}
 use Rattle.std.specs.Prelude.{nat_lt}
 use Rattle.std.proofs.lemmas.Bool.{cases_Bool, both_ways, ltb-true}
 use Rattle.std.proofs.lemmas.Option.{cond_some}
@@ -13,6 +13,7 @@ use Rattle.tp_model.specs.Device.{area_start, content_of, is_open}
 use Rattle.tp_model.specs.Disk.{MayBe, written}
 use Rattle.tp_model.specs.Opening.{Opened, held_of, area_in, opening}
 use Rattle.tp_model.specs.DeviceAreas.{other_is_open, other_content, spare_of, open_other_of, if_newer, other_of}
+use Rattle.tp_laws.proofs.Faults.{none_or}
 use Rattle.tp_recover.proofs.Moments.{length-written, get_or-written_outside, get_or-written_inside}
 use Rattle.tp_recover.proofs.SmallHolds.{IsOut}
 use Rattle.tp_areas.proofs.Chosen.{open_in}
@@ -107,10 +108,6 @@ record Other (M : Machine NodeState) (E : Ends NodeState) (o : Opened) (bytes : 
   read : area_in M E o.head (not o.second) (content_of o.head.area (not o.second) bytes) ≡ Ok next
   later : o.generation < next.generation
   holds : held_of next ≡ k
-
-none_or : {X : Type 0} (b : Bool) (given : Option X) (y : X) → cond b None given ≡ Some y → (b ≡ false) × (given ≡ Some y)
-none_or true given y is = cc
-none_or false given y is = (refl, is)
 
 newer_found : (o : Opened) (found : Result Opened OpenFault) (at : ℕ) (k : Held NodeState) → if_newer o found ≡ Some (at, k)
     → (next : Opened) × (found ≡ Ok next) × (o.generation < next.generation) × (area_start o.head.area (not o.second) ≡ at) × (held_of next ≡ k)

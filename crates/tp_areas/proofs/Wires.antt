@@ -1,9 +1,9 @@
 -- The wires of a topology are read back of its links' ends.
-use Rattle.std.proofs.Common.{◌≡◌, ℕ, zero, suc, ◌+◌, ◌-◌, ◌*◌, ◌/◌, ◌%◌, ◌<◌, ◌≤◌, inl, inr, Bool, true, false, cond, List, [], ◌∷◌, length, take, get_or, refl, sym, ap, ◌∙◌, arith, length-append, length-take, Option, Some, None}
+use Rattle.std.proofs.Common.{◌≡◌, ℕ, zero, suc, ◌+◌, ◌-◌, ◌*◌, ◌/◌, ◌%◌, ◌<◌, ◌≤◌, inl, inr, true, cond, List, [], ◌∷◌, length, take, get_or, refl, sym, ap, ◌∙◌, arith, length-append, length-take, Option, Some, None}
 use Rattle.std.specs.Prelude.{◌==◌, ◌&&◌, nat_lt, nat_le, map}
 use Rattle.std.specs.Option.{option_map}
 use Rattle.std.specs.List.{list_all, range_with_len, position_or_len}
-use Rattle.std.proofs.lemmas.Bool.{and_parts, cases_lt, ltb-true, lt-ltb, le-ltb, leb-true, eqb-true, cond-true, cond-false, ne_eqb, eq-eqb, false≢true}
+use Rattle.std.proofs.lemmas.Bool.{false_from_ne_true, and_parts, cases_lt, ltb-true, lt-ltb, le-ltb, leb-true, eqb-true, cond-true, cond-false, ne_eqb, eq-eqb, false≢true}
 use Rattle.std.proofs.lemmas.List.{ext_get_or, get_or-map, get_or-take, get_or_append_left, get_or-append_right, length-map}
 use Rattle.std.proofs.lemmas.List.FromFn.{get_or-map-range_with_len, length-range_with_len}
 use Rattle.std.proofs.lemmas.List.Sums.{position_or_len_is}
@@ -158,16 +158,12 @@ module _ (t : Topology) (L : Limits t) where
       absurd (omega arith)
   port_only p (AtPort q) there is = ap AtPort (omega arith)
 
-  not_named : (b : Bool) → (b ≡ true → ⊥) → b ≡ false
-  not_named true h = absurd (h refl)
-  not_named false h = refl
-
   port_wired : (p : ℕ) (found : Option WireEnd) → receiver t.wires (4 * N + p) ≡ found → port_wire N links p ≡ found
   port_wired p None is =
       let size = length-links in
       let place : position_or_len (is_port p) links ≡ length links =
       position_or_len_is (is_port p) links (length links) None (omega arith)
-      (λ k low. not_named (is_port p (get_or links k None)) (λ named.
+      (λ k low. false_from_ne_true (is_port p (get_or links k None)) (λ named.
       let there = port_named p k (receiver t.wires k) refl (ap (is_port p) (sym (link_at k (omega arith))) ∙ named) in
       let both = there.1 in absurd (cc)))
       (λ more. absurd (omega arith)) in
@@ -186,7 +182,7 @@ module _ (t : Topology) (L : Limits t) where
       let names : receiver t.wires (4 * i + k) ≡ Some (AtPort p) = B.is ∙ ap (λ end. Some end) (port_only p B.here here.end B.back) in
       let place : position_or_len (is_port p) links ≡ 4 * i + k =
       position_or_len_is (is_port p) links (4 * i + k) None (omega arith)
-      (λ q before. not_named (is_port p (get_or links q None)) (λ named.
+      (λ q before. false_from_ne_true (is_port p (get_or links q None)) (λ named.
       let there = port_named p q (receiver t.wires q) refl (ap (is_port p) (sym (link_at q (omega arith))) ∙ named) in
       let same : there.0 ≡ Link i k = let e = there.1 in let f = is in cc in
       let line_is : line_of N (Link i k) ≡ q = ap (line_of N) (sym same) ∙ there.2 in

@@ -45,8 +45,6 @@ unfolding taken takes process does put
 confirm_change b K p upto port after at did = record {
   out = b.lines;
   takes_out = refl;
-  takes_unmarked = tt;
-  sends_unmarked = tt;
   was = OfHost b.ports;
   own_was = own_host_agreed b K;
   now = OfHost (set b.ports p after);

@@ -15,6 +15,7 @@ use Rattle.tp_model.specs.Markers.{plain, markers, plain_network}
 use Rattle.tp_book.specs.Book.{agreed}
 use Rattle.tp_book.specs.Kept.{Keeps, IsCounted}
 use Rattle.tp_book.specs.declared.book.Book.TheInside.{Inside}
+use Rattle.tp_book.specs.declared.parts.NetParts.{NetParts}
 use Rattle.tp_book.specs.Parts.{network_of, port_of}
 use Rattle.tp_book.specs.Inside.{state_of, value_of, IsBook}
 use Rattle.tp_book.specs.Start.{IsFresh, IsNetwork, fresh_port, first_book}
@@ -59,56 +60,57 @@ fresh_rising next (suc n) zero ns e =
     subst (IsRising 0 next) same (omega arith)
 fresh_rising next (suc n) (suc p) ns e = fresh_rising next n p ns e
 
-module _ (b : Inside) (F : IsFresh (network_of b.start.value.value)) (N : IsNetwork (network_of b.start.value.value)) (wires : b.wires.items ≡ b.start.value.value.wires.items)
-    (lines : b.lines ≡ replicate (vec_len b.start.value.value.wires) []) (ports : b.ports.items ≡ replicate (vec_len b.start.value.value.ports) fresh_port)
-    (runs : b.runs.items ≡ replicate (vec_len b.start.value.value.images) false) (entries : b.entries.items ≡ []) where
+module _ (b : Inside) (parts : NetParts) (start : b.start.network ≡ network_of parts) (F : IsFresh (network_of parts)) (N : IsNetwork (network_of parts)) (wires : b.wires.items ≡ parts.wires.items)
+    (lines : b.lines ≡ replicate (vec_len parts.wires) []) (ports : b.ports.items ≡ replicate (vec_len parts.ports) fresh_port)
+    (runs : b.runs.items ≡ replicate (vec_len parts.images) false) (entries : b.entries.items ≡ []) where
   abbrev s : Network NodeState
-  s = network_of b.start.value.value
+  s = network_of parts
 
   abbrev fields : Inside
   fields = record b { base = 0; reserved = 0; ready = None; broken = false }
 
-  port_count : vec_len b.start.value.value.ports ≡ length s.ports
-  port_count = b.start.value.value.ports.ok.0 ∙ sym (length-map b.start.value.value.ports.items port_of)
+  port_count : vec_len parts.ports ≡ length s.ports
+  port_count = parts.ports.ok.0 ∙ sym (length-map parts.ports.items port_of)
 
-  node_count : vec_len b.start.value.value.images ≡ length s.nodes
-  node_count = b.start.value.value.images.ok.0 ∙ sym (length-map b.start.value.value.images.items (λ image. node_at image.items))
+  node_count : vec_len parts.images ≡ length s.nodes
+  node_count = parts.images.ok.0 ∙ sym (length-map parts.images.items (λ image. node_at image.items))
 
   these_ports : map (λ p. p.port) b.ports.items ≡ s.ports
-  these_ports = ap (map (λ p. p.port)) ports ∙ map-replicate (λ p. p.port) (vec_len b.start.value.value.ports) fresh_port ∙ ap (λ n. replicate n fresh_port.port) port_count ∙ sym F.ports
+  these_ports = ap (map (λ p. p.port)) ports ∙ map-replicate (λ p. p.port) (vec_len parts.ports) fresh_port ∙ ap (λ n. replicate n fresh_port.port) port_count ∙ sym F.ports
 
   these_lines : b.lines ≡ s.lines
-  these_lines = lines ∙ ap (λ n. replicate n []) b.start.value.value.wires.ok.0 ∙ sym F.lines
+  these_lines = lines ∙ ap (λ n. replicate n []) parts.wires.ok.0 ∙ sym F.lines
 
   these_runs : vec_len b.runs ≡ length s.nodes
-  these_runs = b.runs.ok.0 ∙ ap length runs ∙ length-replicate (vec_len b.start.value.value.images) false ∙ node_count
+  these_runs = b.runs.ok.0 ∙ ap length runs ∙ length-replicate (vec_len parts.images) false ∙ node_count
 
   no_entries : vec_len b.entries ≡ 0
   no_entries = b.entries.ok.0 ∙ ap length entries
 
   first_state : state_of fields ≡ (first_book s None).state
   first_state =
-      ap (λ given. record (state_of fields) { entries = map (λ n. n.entry) given }) entries
-      ∙ ap (λ given. record (state_of fields) { entries = []; ports = given }) these_ports
-      ∙ ap (λ given. record (state_of fields) { entries = []; ports = s.ports; lines = given }) these_lines
+      ap (λ given. record (state_of fields) { start = given }) start
+      ∙ ap (λ given. record (state_of fields) { start = s; entries = map (λ n. n.entry) given }) entries
+      ∙ ap (λ given. record (state_of fields) { start = s; entries = []; ports = given }) these_ports
+      ∙ ap (λ given. record (state_of fields) { start = s; entries = []; ports = s.ports; lines = given }) these_lines
 
   pub first_fields : IsBook fields
   first_fields = record {
     keeps = subst Keeps (sym first_state) (first_kept s F);
     shaped = record {
-      count = sym these_runs;
-      wires = omega (arith, N.wires, these_runs, ap length these_ports);
+      count = ap (λ given. length given.nodes) start ∙ sym these_runs;
+      wires = omega (arith, ap (λ given. length given.wires) start, N.wires, these_runs, ap length these_ports);
       lines = omega (arith, N.wires, these_runs, ap length these_ports, ap length these_lines, ap length F.lines, length-replicate {A = List Token} (length s.wires) []);
       few_nodes = omega (arith, these_runs, N.few_nodes);
       few_ports = omega (arith, ap length these_ports, N.few_ports);
     };
-    wires = wires;
-    reserved = sym (ap (count_by (λ run. run)) runs ∙ none_reserved (vec_len b.start.value.value.images));
+    wires = wires ∙ ap (λ given. given.wires) (sym start);
+    reserved = sym (ap (count_by (λ run. run)) runs ∙ none_reserved (vec_len parts.images));
     space = omega (arith, no_entries);
     numbers = omega (arith, no_entries);
     counted = λ p port at. fresh_counted (0 + vec_len b.entries) (length s.ports) p port (ap (λ given. slice_get given p) (sym (these_ports ∙ F.ports)) ∙ at);
     numbered = subst (λ given. AreNumbered 0 0 (map (λ n. n.number) given)) (sym entries) tt;
-    rising = λ p ns at. fresh_rising (0 + vec_len b.entries) (vec_len b.start.value.value.ports) p ns (ap (λ given. slice_get given p) (sym (ap (map (λ q. q.marks)) ports ∙ map-replicate (λ q. q.marks) (vec_len b.start.value.value.ports) fresh_port)) ∙ at);
+    rising = λ p ns at. fresh_rising (0 + vec_len b.entries) (vec_len parts.ports) p ns (ap (λ given. slice_get given p) (sym (ap (map (λ q. q.marks)) ports ∙ map-replicate (λ q. q.marks) (vec_len parts.ports) fresh_port)) ∙ at);
   }
 
   pub first_value : value_of fields ≡ first_book s b.room
@@ -117,4 +119,4 @@ module _ (b : Inside) (F : IsFresh (network_of b.start.value.value)) (N : IsNetw
       ∙ ap (λ given. record (value_of fields) { state = (first_book s None).state; numbers = map (λ n. n.number) given }) entries
       ∙ ap (λ given. record (value_of fields) { state = (first_book s None).state; numbers = []; runs = given }) (runs ∙ ap (λ n. replicate n false) node_count)
       ∙ ap (λ given. record (value_of fields) { state = (first_book s None).state; numbers = []; runs = replicate (length s.nodes) false; marks = given })
-      (ap (map (λ p. p.marks)) ports ∙ map-replicate (λ p. p.marks) (vec_len b.start.value.value.ports) fresh_port ∙ ap (λ n. replicate n []) port_count)
+      (ap (map (λ p. p.marks)) ports ∙ map-replicate (λ p. p.marks) (vec_len parts.ports) fresh_port ∙ ap (λ n. replicate n []) port_count)

@@ -1,4 +1,3 @@
-pub mod Marks
 pub mod Commit
 pub mod Sending
 pub mod Changes

@@ -27,7 +27,7 @@ use Rattle.tp_book.specs.declared.state.NetState.{NetState}
 use Rattle.tp_book.specs.declared.book.Book.TheInside.{Inside}
 use Rattle.tp_book.specs.Book.{agreed, nodes_in}
 use Rattle.tp_book.specs.Kept.{Keeps, AreCounted}
-use Rattle.tp_book.specs.Parts.{network_of, port_of}
+use Rattle.tp_book.specs.Parts.{port_of}
 use Rattle.tp_book.specs.Ports.{opened_port}
 use Rattle.tp_book.specs.Inside.{state_of, value_of, IsBook}
 use Rattle.tp_book.specs.Opened.{cut_of, now_of, kept_of, numbers_of, IsOpened, opened_book}
@@ -96,7 +96,7 @@ opened_rising next (q ∷ qs) zero ns e =
     subst (IsRising 0 next) same (rising_zeros (length q.outputs) next)
 opened_rising next (q ∷ qs) (suc p) ns e = opened_rising next qs p ns e
 
-module _ (b : Inside) (s : NetState) (O : IsOpened s) (cut : b.start.value ≡ s.cut) (wires : b.wires.items ≡ s.net.wires.items)
+module _ (b : Inside) (s : NetState) (O : IsOpened s) (cut : b.start.network ≡ cut_of s) (wires : b.wires.items ≡ s.net.wires.items)
     (lines : b.lines ≡ map (λ line. line.items) s.net.lines.items) (ports : b.ports.items ≡ map (λ port. opened_port (port_of port)) s.net.ports.items)
     (runs : b.runs.items ≡ replicate (vec_len s.net.images) false) (entries : b.entries.items ≡ s.kept.items) (base : b.base ≡ s.base) where
   abbrev fields : Inside
@@ -106,7 +106,7 @@ module _ (b : Inside) (s : NetState) (O : IsOpened s) (cut : b.start.value ≡ s
   shape = after_shape t414 has_four_links (cut_of s) (now_of s) (kept_of s) O.history
 
   starts : (state_of b).start ≡ cut_of s
-  starts = ap (λ given. network_of given.value) cut
+  starts = cut
 
   these_entries : (state_of b).entries ≡ kept_of s
   these_entries = ap (map (λ n. n.entry)) entries

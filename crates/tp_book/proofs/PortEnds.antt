@@ -1,6 +1,6 @@
 -- What a book keeps of its ports: each answers on a line of its own, and what stands in front of a line that goes to a port
 -- the port can take, where it has room.
-use Rattle.std.proofs.Common.{◌≡◌, ℕ, ◌+◌, ◌*◌, ◌<◌, ◌≤◌, Bool, true, false, cond, List, [], ◌∷◌, ◌++◌, length, get_or, refl, sym, ap, subst, ◌∙◌, arith, Option, Some, None, slice_get}
+use Rattle.std.proofs.Common.{◌≡◌, ℕ, ◌+◌, ◌*◌, ◌<◌, ◌≤◌, true, false, cond, List, [], ◌∷◌, ◌++◌, length, get_or, refl, sym, ap, subst, ◌∙◌, arith, Option, Some, None, slice_get}
 use Rattle.std.specs.Option.{option_map}
 use Rattle.std.proofs.lemmas.Bool.{lt-ltb, leb-false}
 use Rattle.std.proofs.lemmas.List.{length-map}
@@ -17,6 +17,7 @@ use Rattle.tp_model.specs.Entries.{in_flight}
 use Rattle.tp_model.specs.Sound.{acks, is_some_byte, is_pending, waits_at, end_waits}
 use Rattle.tp_model.specs.Markers.{plain, plain_network}
 use Rattle.tp_model.specs.Halves.{BookState, live}
+use Rattle.tp_laws.proofs.Bits.{bit_some}
 use Rattle.tp_order.proofs.Lines.{same_token-self}
 use Rattle.tp_order.proofs.Local.{own-host, owner_of_port}
 use Rattle.tp_order.proofs.Room.{on_line-plain, acks-plain}
@@ -74,10 +75,6 @@ wired_back : (end : Option WireEnd) (N y : ℕ) → option_map (line_of N) end �
 wired_back None N y e = cc
 wired_back (Some end) N y e = refl
 
-some_bit : (b : Bool) → 1 ≤ bit b → b ≡ true
-some_bit true h = refl
-some_bit false h = absurd (omega arith)
-
 module _ (b : BookState NodeState) (K : Keeps b) (line p : ℕ) (goes : receiver b.start.wires line ≡ Some (AtPort p)) where
   abbrev net : Network NodeState
   net = plain_network (live b (agreed b))
@@ -102,7 +99,7 @@ module _ (b : BookState NodeState) (K : Keeps b) (line p : ℕ) (goes : receiver
   is_acked some =
       let flight = K.sound.flight (4 * N + p) line comes_back in
       let same : acks (on_line net.lines line) ≡ acks (on_line b.lines line) = ap acks (on_line-plain b.lines line) ∙ acks-plain (on_line b.lines line) in
-      some_bit (is_pending (slice_get b.ports p)) (omega (arith, flight, same, ap bit waits_is))
+      bit_some (is_pending (slice_get b.ports p)) (omega (arith, flight, same, ap bit waits_is))
 
   -- The port can take the front.
   pub can_take : (token : Token) (port : Port) → takeable_of (on_line b.lines line) ≡ Some token → slice_get b.ports p ≡ Some port

@@ -1,12 +1,15 @@
 -- Room for what is sent.
 use Rattle.std.proofs.Common.{◌≡◌, ℕ, ◌+◌, ◌<◌, ◌≤◌, Bool, true, false, cond, List, [], ◌∷◌, ◌++◌, length, set, drop, get_or, refl, sym, ap, subst, ◌∙◌, arith, add-one, drop-cons, Option, Some, None}
-use Rattle.std.specs.Prelude.{is_some}
+use Rattle.std.specs.Prelude.{is_some, ◌*◌, map, option_to_list}
+use Rattle.std.specs.List.{AllByRecursion}
 use Rattle.std.proofs.lemmas.List.{length-append}
 use Rattle.tp_model.specs.declared.link.Token.{Token}
 use Rattle.tp_model.specs.declared.wire.WireEnd.{WireEnd}
 use Rattle.tp_model.specs.Network.{is_wired, on_line, pushed, sent, for_line}
 use Rattle.tp_order.proofs.Lines.{length_pushed, sent_behind, on_pushed, for_line-here}
+use Rattle.tp_model.specs.Node.{on_link}
 use Rattle.tp_book.specs.Room.{HasRoom, from_line}
+use Rattle.tp_book.specs.Calls.{on_lines, sends_on}
 
 -- There is room for what is sent, where no line is too long in the end.
 pub room_before : (on : ℕ → Bool) (lines : List (List Token)) (ms : List (ℕ × Token)) → ((l : ℕ) → on l ≡ true → l < length lines)
@@ -60,3 +63,19 @@ next_sent on lines final first tokens i d h room leads =
     let now = subst (HasRoom on lines) (rest_from first tokens i d h) room in
     let then = ap (sent on lines) (sym (rest_from first tokens i d h)) ∙ leads in
     record { here = (now.0, tt); behind = now.1; leads = then }
+
+-- ## What goes out on a line
+
+-- of a port, and of a node's link
+pub sends_on-tokens : (line : ℕ) (token : Option Token) → sends_on line token ≡ map (λ t. (line, t)) (option_to_list token)
+sends_on-tokens line None = refl
+sends_on-tokens line (Some token) = refl
+
+pub answer_on : (node link : ℕ) (answer : Option Token) → sends_on (4 * node + link) answer ≡ on_lines node (on_link link answer)
+answer_on node link None = refl
+answer_on node link (Some token) = refl
+
+-- the lines of a node's links are there
+pub all_known : (first n : ℕ) (ms : List (ℕ × Token)) → first + 4 ≤ n → AllByRecursion (λ m. m.0 < 4) ms → AllByRecursion (λ m. first + m.0 < n) ms
+all_known first n [] fits all = tt
+all_known first n (m ∷ ms) fits all = (omega (arith, all.0), all_known first n ms fits all.1)

@@ -18,7 +18,7 @@ use Rattle.tp_book.specs.Book.{BookValue}
 
 -- the kept cut's network, and the network after the kept entries
 abbrev pub cut_of : NetState → Network NodeState
-cut_of s = network_of s.cut.value
+cut_of s = s.cut.network
 
 abbrev pub now_of : NetState → Network NodeState
 now_of s = network_of s.net

@@ -3,6 +3,7 @@
 
 mod book;
 mod confirm;
+mod cut;
 mod fill;
 mod full;
 mod host;
@@ -21,10 +22,12 @@ mod state;
 mod take;
 
 pub use book::Book;
+pub use cut::CutNetwork;
 pub use fill::{lines_with, ports_with};
 pub use note::{Note, Numbered};
 pub use parts::{NetParts, PortParts};
 pub use port::HostPort;
 pub use receipt::Receipt;
 pub use refusal::Refusal;
+pub use send::{send_all, send_some};
 pub use state::NetState;

@@ -7,7 +7,6 @@ use crate::book::Book;
 use crate::fill::{lines_with, ports_with};
 use crate::state::NetState;
 use std::alloc::{AllocError, Global};
-use std::snapshot::Snapshot;
 
 impl Book {
     /// The book of an opened device, on which groups may fill so many bytes; nothing is reserved or made ready.
@@ -16,7 +15,7 @@ impl Book {
         ensures { IfOk result (λ book. book ≡ opened_book state.now room) }
     {
         Ok(Book {
-            start: Snapshot::of(&state.cut),
+            start: state.cut.again(),
             wires: Vec::from_slice(alloc, &state.net.wires)?,
             lines: lines_with(alloc, &state.net.lines)?,
             ports: ports_with(alloc, &state.net.ports)?,

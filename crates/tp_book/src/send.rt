@@ -1,6 +1,6 @@
 //! Tokens onto their lines.
 
-ghost use Rattle.std.specs.Prelude.{◌≡◌, ℕ, ◌*◌, Some, ◌+◌, ◌<◌, ◌≤◌, [], ◌∷◌, length, map};
+ghost use Rattle.std.specs.Prelude.{◌≡◌, ℕ, ◌*◌, Some, ◌+◌, ◌<◌, [], ◌∷◌, length, map};
 ghost use Rattle.std.specs.List.{AllByRecursion};
 ghost use Rattle.tp_model.specs.Network.{has_wire, receiver, sent, pushed};
 ghost use Rattle.tp_model.specs.declared.wire.WireEnd.TheVariants.{Link};
@@ -11,7 +11,7 @@ use tp_model::{Token, WireEnd};
 use tp_net::Lines;
 
 /// Sends a token on a line, where the line has a wire.
-pub(crate) fn send(wires: &[Option<WireEnd>], lines: &mut Lines, line: usize, token: Token)
+fn send(wires: &[Option<WireEnd>], lines: &mut Lines, line: usize, token: Token)
     requires wired { line < length wires.now }
     requires there { line < length lines.old }
     requires room { HasRoom (has_wire wires.now) lines.old ((line, token) ∷ []) }
@@ -22,16 +22,10 @@ pub(crate) fn send(wires: &[Option<WireEnd>], lines: &mut Lines, line: usize, to
     }
 }
 
-/// Sends the tokens that leave a node whose first line is this one, each on the line of its link, in order.
-pub(crate) fn send_all(
-    wires: &[Option<WireEnd>],
-    lines: &mut Lines,
-    first: usize,
-    tokens: &[(u8, Token)],
-)
-    requires wired { first + 4 ≤ length wires.now }
+/// Sends tokens in order, each on the line that lies so many behind the first one.
+pub fn send_all(wires: &[Option<WireEnd>], lines: &mut Lines, first: usize, tokens: &[(u8, Token)])
+    requires known { AllByRecursion (λ m. first + m.0 < length wires.now) tokens.now }
     requires there { length lines.old ≡ length wires.now }
-    requires links { AllByRecursion (λ m. m.0 < 4) tokens.now }
     requires room { HasRoom (has_wire wires.now) lines.old (from_line first tokens.now) }
     ensures { lines.new ≡ sent (has_wire wires.now) lines.old (from_line first tokens.now) }
 {
@@ -68,12 +62,7 @@ pub(crate) fn send_answer(
 
 /// Sends a token on a line, if there is one.
 #[tactic(auto, unfolding(tp_model::specs::Network::sent))]
-pub(crate) fn send_some(
-    wires: &[Option<WireEnd>],
-    lines: &mut Lines,
-    line: usize,
-    token: Option<Token>,
-)
+pub fn send_some(wires: &[Option<WireEnd>], lines: &mut Lines, line: usize, token: Option<Token>)
     requires wired { line < length wires.now }
     requires there { line < length lines.old }
     requires room { HasRoom (has_wire wires.now) lines.old (sends_on line token) }

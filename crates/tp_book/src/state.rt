@@ -1,14 +1,14 @@
 //! The state that opening a device leaves.
 
+use crate::cut::CutNetwork;
 use crate::note::Numbered;
 use crate::parts::NetParts;
-use std::snapshot::Snapshot;
 
 /// What an opened device stands for. It is written once, by opening.
 #[derive(Drop)]
 pub struct NetState {
     /// The kept cut's network. It has no bytes: contracts alone see it.
-    pub cut: Snapshot<NetParts>,
+    pub cut: CutNetwork,
     /// The network after the kept entries.
     pub net: NetParts,
     /// How many entries the kept cut holds.

@@ -139,7 +139,8 @@ may_be_same bytes left range may = record { same_length = may.same_length; same 
 pub same_may_be : (bytes left : List ℕ) (range : ℕ × ℕ) → SameOutside range.0 range.1 bytes left → MayBe (record { bytes = bytes; unsynced = range ∷ [] }) left
 same_may_be bytes left range same = record { same_length = same.same_length; same_outside = λ place out. same.same place out.0 }
 
-inside_written : (old : List ℕ) (at : ℕ) (bytes : List ℕ) (place : ℕ) → at + length bytes ≤ length old → at ≤ place → place < at + length bytes
+-- a place that was written
+pub inside_written : (old : List ℕ) (at : ℕ) (bytes : List ℕ) (place : ℕ) → at + length bytes ≤ length old → at ≤ place → place < at + length bytes
     → get_or (written old at bytes) place 0 ≡ get_or bytes (place - at) 0
 inside_written old at bytes place room low high =
     let front : length (take at old) ≡ at = length-take-le at old (omega arith) in

@@ -1,12 +1,12 @@
 -- Calls in order: where they lead, what breaks, and what a crash on the way may leave.
-use Rattle.std.proofs.Common.{◌≡◌, ℕ, ◌+◌, ◌≤◌, ◌⊎◌, inl, inr, List, [], ◌∷◌, ◌++◌, length, drop, refl, sym, ap, subst, ◌∙◌, arith, append_assoc, length-append, Result, Ok, Err, OnOk, OnErr}
+use Rattle.std.proofs.Common.{◌≡◌, ℕ, ◌+◌, ◌≤◌, ◌⊎◌, inl, inr, List, [], ◌∷◌, ◌++◌, length, drop, refl, sym, ap, subst, ◌∙◌, arith, append_assoc, append-nil, length-append, Result, Ok, Err, OnOk, OnErr}
 use Rattle.std.proofs.lemmas.List.{drop-append-le}
 use Rattle.std.proofs.Math.Seq.{drop-length}
 use Rattle.tp_model.specs.Disk.{Moment, MayBe, IsOutside, Call, Write, Sync, Read, written, done, within, broken, SameOutside}
 use Rattle.tp_model.specs.DiskHistory.{State, Goes, Fails, IsSynced, SomeMay, Since, moment, LeavesOnly}
-use Rattle.tp_model.specs.StoreCalls.{all_done, moments_of, Called, BrokeIn}
+use Rattle.tp_model.specs.StoreCalls.{all_done, moments_of, Called, BrokeIn, Broke}
 use Rattle.tp_disk.specs.Laws.{IsInside}
-use Rattle.tp_disk.proofs.Moments.{outside_each, may_within, write_may, may_write, broken_may}
+use Rattle.tp_disk.proofs.Moments.{outside_each, may_within, write_may, may_write, broken_may, synced_may}
 
 -- ## One call
 
@@ -62,42 +62,64 @@ called_then first second s t u one two = record {
       ∙ ap (λ ms. s.past ++ ms) (sym (moments_of-append first second s.now));
 }
 
-pub broke_one : (call : Call) (s t : State) → Fails call s t → BrokeIn (call ∷ []) s.now t.now
-broke_one call s t failed = record {
-  before = [];
-  call = call;
-  after = [];
-  are = refl;
-  left = t.now.bytes;
-  may = failed.content;
-  is = now_broken call s t failed;
+pub broke_one : (call : Call) (s t : State) → Goes s t → Fails call s t → Broke (call ∷ []) s t
+broke_one call s t goes failed = record {
+  at = record {
+    before = [];
+    call = call;
+    after = [];
+    are = refl;
+    left = t.now.bytes;
+    may = failed.content;
+    is = now_broken call s t failed;
+  };
+  past = goes;
 }
 
 -- one of the first calls broke
-pub broke_first : (first second : List Call) (m n : Moment) → BrokeIn first m n → BrokeIn (first ++ second) m n
-broke_first first second m n broke = record {
-  before = broke.before;
-  call = broke.call;
-  after = broke.after ++ second;
-  are = ap (λ calls. calls ++ second) broke.are ∙ append_assoc broke.before (broke.call ∷ broke.after) second;
-  left = broke.left;
-  may = broke.may;
-  is = broke.is;
-}
+pub broke_first : (first second : List Call) (s t : State) → Broke first s t → Broke (first ++ second) s t
+broke_first first second s t broke =
+    let b = broke.at in
+    record {
+      at = record {
+        before = b.before;
+        call = b.call;
+        after = b.after ++ second;
+        are = ap (λ calls. calls ++ second) b.are ∙ append_assoc b.before (b.call ∷ b.after) second;
+        left = b.left;
+        may = b.may;
+        is = b.is;
+      };
+      past = broke.past;
+    }
+
+-- the moments before two runs of calls, one behind the other
+past_then : (past : List Moment) (first second : List Call) (m : Moment)
+    → (past ++ moments_of first m) ++ moments_of second (all_done first m) ≡ past ++ moments_of (first ++ second) m
+past_then past first second m =
+    append_assoc past (moments_of first m) (moments_of second (all_done first m)) ∙ ap (λ ms. past ++ ms) (sym (moments_of-append first second m))
 
 -- the first calls were done, and one of the second ones broke
-pub broke_later : (first second : List Call) (s t : State) (n : Moment) → Called first s t → BrokeIn second t.now n → BrokeIn (first ++ second) s.now n
-broke_later first second s t n one broke =
-    let same : all_done broke.before t.now ≡ all_done (first ++ broke.before) s.now =
-    ap (all_done broke.before) one.now ∙ sym (all_done-append first broke.before s.now) in
+pub broke_later : (first second : List Call) (s t u : State) → Called first s t → Broke second t u → Broke (first ++ second) s u
+broke_later first second s t u one broke =
+    let b = broke.at in
+    let same : all_done b.before t.now ≡ all_done (first ++ b.before) s.now =
+    ap (all_done b.before) one.now ∙ sym (all_done-append first b.before s.now) in
+    let last : List Call = b.before ++ b.call ∷ [] in
     record {
-      before = first ++ broke.before;
-      call = broke.call;
-      after = broke.after;
-      are = ap (λ calls. first ++ calls) broke.are ∙ sym (append_assoc first broke.before (broke.call ∷ broke.after));
-      left = broke.left;
-      may = subst (λ (m : Moment). MayBe (within broke.call m) broke.left) same broke.may;
-      is = broke.is ∙ ap (broken broke.call broke.left) same;
+      at = record {
+        before = first ++ b.before;
+        call = b.call;
+        after = b.after;
+        are = ap (λ calls. first ++ calls) b.are ∙ sym (append_assoc first b.before (b.call ∷ b.after));
+        left = b.left;
+        may = subst (λ (m : Moment). MayBe (within b.call m) b.left) same b.may;
+        is = b.is ∙ ap (broken b.call b.left) same;
+      };
+      past = broke.past ∙ ap (λ ms. ms ++ moments_of last t.now) one.past
+          ∙ ap (λ (m : Moment). (s.past ++ moments_of first s.now) ++ moments_of last m) one.now
+          ∙ past_then s.past first last s.now
+          ∙ ap (λ calls. s.past ++ moments_of calls s.now) (sym (append_assoc first b.before (b.call ∷ [])));
     }
 
 -- ## What a crash on the way may leave
@@ -187,17 +209,22 @@ pub written_through : (at : ℕ) (bytes : List ℕ) (s t : State) → Called (Wr
     → (t.now.bytes ≡ written s.now.bytes at bytes) × IsSynced t
 written_through at bytes s t called = (ap (λ (m : Moment). m.bytes) called.now, ap (λ (m : Moment). m.unsynced) called.now)
 
+-- where all is synced a crash leaves what stands
+pub synced_stands : (s : State) (left : List ℕ) → IsSynced s → MayBe s.now left → left ≡ s.now.bytes
+synced_stands s left synced may =
+    synced_may s.now.bytes left (subst (λ (ranges : List (ℕ × ℕ)). let m : Moment = record { bytes = s.now.bytes; unsynced = ranges } in MayBe m left) synced may)
+
 -- ## Steps of a write and a sync, over their results
 
 -- a write that failed
-pub write_broke : (at : ℕ) (bytes : List ℕ) (s t : State) → Fails (Write at bytes) s t → BrokeIn (Write at bytes ∷ Sync ∷ []) s.now t.now
-write_broke at bytes s t failed = broke_first (Write at bytes ∷ []) (Sync ∷ []) s.now t.now (broke_one (Write at bytes) s t failed)
+pub write_broke : (at : ℕ) (bytes : List ℕ) (s t : State) → Goes s t → Fails (Write at bytes) s t → Broke (Write at bytes ∷ Sync ∷ []) s t
+write_broke at bytes s t goes failed = broke_first (Write at bytes ∷ []) (Sync ∷ []) s t (broke_one (Write at bytes) s t goes failed)
 
 -- a sync that failed, behind the write
-pub sync_broke : (at : ℕ) (bytes : List ℕ) (s t u : State) → t.now ≡ done (Write at bytes) s.now → Goes s t → Fails Sync t u
-    → BrokeIn (Write at bytes ∷ Sync ∷ []) s.now u.now
-sync_broke at bytes s t u was goes failed =
-    broke_later (Write at bytes ∷ []) (Sync ∷ []) s t u.now (called_one (Write at bytes) s t was goes) (broke_one Sync t u failed)
+pub sync_broke : (at : ℕ) (bytes : List ℕ) (s t u : State) → t.now ≡ done (Write at bytes) s.now → Goes s t → Goes t u → Fails Sync t u
+    → Broke (Write at bytes ∷ Sync ∷ []) s u
+sync_broke at bytes s t u was goes then failed =
+    broke_later (Write at bytes ∷ []) (Sync ∷ []) s t u (called_one (Write at bytes) s t was goes) (broke_one Sync t u then failed)
 
 -- both were done
 pub through_called : (at : ℕ) (bytes : List ℕ) (s t u : State) → t.now ≡ done (Write at bytes) s.now → Goes s t → u.now ≡ done Sync t.now → Goes t u
@@ -216,3 +243,55 @@ through_leaves {E} r at bytes s t u room was goes goes_then then failed =
     let second = call_leaves r Sync t u tt goes_then then failed in
     and_then s t u P first (weaker t u (MayBe t.now) P
     (λ left may. done_may s.now (Write at bytes) left room (subst (λ (m : Moment). MayBe m left) was may)) second)
+
+-- ## Calls in order, with what a crash within each may leave
+
+-- P holds of whatever a crash before the calls, within one of them or after them may leave
+abbrev pub AllWithin : List Call → Moment → (List ℕ → Type 0) → Type 0
+AllWithin [] m P = (left : List ℕ) → MayBe m left → P left
+AllWithin (call ∷ calls) m P = ((left : List ℕ) → MayBe (within call m) left → P left) × AllWithin calls (done call m) P
+
+-- before them
+pub within_start : (calls : List Call) (m : Moment) (P : List ℕ → Type 0) → AllWithin calls m P → (left : List ℕ) → MayBe m left → P left
+within_start [] m P all left may = all left may
+within_start (call ∷ calls) m P all left may = all.0 left (may_within m call left may)
+
+-- after some of them, and within the next
+within_front : (first second : List Call) (m : Moment) (P : List ℕ → Type 0) → AllWithin (first ++ second) m P → AllWithin first m P
+within_front [] second m P all = within_start second m P all
+within_front (call ∷ first) second m P all = (all.0, within_front first second (done call m) P all.1)
+
+within_later : (first second : List Call) (m : Moment) (P : List ℕ → Type 0) → AllWithin (first ++ second) m P → AllWithin second (all_done first m) P
+within_later [] second m P all = all
+within_later (call ∷ first) second m P all = within_later first second (done call m) P all.1
+
+-- they were done
+pub called_leaves : (calls : List Call) (s t : State) (P : List ℕ → Type 0) → Called calls s t → AllWithin calls s.now P → LeavesOnly s t P
+called_leaves [] s t P called all =
+    let past : t.past ≡ s.past = called.past ∙ append-nil s.past in
+    let here : LeavesOnly s s P = started s P all in
+    let now = subst (λ (m : Moment). let u : State = record { now = m; past = s.past } in LeavesOnly s u P) (sym called.now) here in
+    subst (λ (ms : List Moment). let u : State = record { now = t.now; past = ms } in LeavesOnly s u P) (sym past) now
+called_leaves (call ∷ calls) s t P called all =
+    let u : State = record { now = done call s.now; past = s.past ++ s.now ∷ [] } in
+    let first : LeavesOnly s u P = goes_on s s u P (started s P (within_start (call ∷ calls) s.now P all)) refl (within_start calls (done call s.now) P all.1) in
+    let rest : Called calls u t = record { now = called.now; past = called.past ∙ sym (append_assoc s.past (s.now ∷ []) (moments_of calls (done call s.now))) } in
+    and_then s u t P first (called_leaves calls u t P rest all.1)
+
+-- one of them broke
+pub broke_leaves : (calls : List Call) (s t : State) (P : List ℕ → Type 0) → Broke calls s t → AllWithin calls s.now P → LeavesOnly s t P
+broke_leaves calls s t P broke all =
+    let b = broke.at in
+    let u : State = record { now = all_done b.before s.now; past = s.past ++ moments_of b.before s.now } in
+    let each : AllWithin (b.before ++ b.call ∷ b.after) s.now P = subst (λ cs. AllWithin cs s.now P) b.are all in
+    let first : LeavesOnly s u P = called_leaves b.before s u P (record { now = refl; past = refl }) (within_front b.before (b.call ∷ b.after) s.now P each) in
+    let next = within_later b.before (b.call ∷ b.after) s.now P each in
+    let goes : Goes u t = broke.past ∙ sym (past_then s.past b.before (b.call ∷ []) s.now) in
+    goes_on s u t P first goes
+    (λ left may. next.0 left (broken_may u.now b.call b.left left b.may (subst (λ (m : Moment). MayBe m left) b.is may)))
+
+-- each was done, or one of them broke
+pub calls_leave : {T E : Type 0} (r : Result T E) (calls : List Call) (s t : State) (P : List ℕ → Type 0) → OnOk r (Called calls s t) → OnErr r (Broke calls s t)
+    → AllWithin calls s.now P → LeavesOnly s t P
+calls_leave (Ok x) calls s t P called broke all = called_leaves calls s t P called all
+calls_leave (Err e) calls s t P called broke all = broke_leaves calls s t P broke all

@@ -3,7 +3,7 @@
 ghost use Rattle.std.specs.Prelude.{◌+◌, ◌≤◌, [], ◌∷◌, length, is_ok, OnOk, OnErr};
 ghost use Rattle.tp_model.specs.Disk.{MayBe, Write, Sync, within};
 ghost use Rattle.tp_model.specs.DiskHistory.{Counts, LeavesOnly};
-ghost use Rattle.tp_model.specs.StoreCalls.{Called, BrokeIn};
+ghost use Rattle.tp_model.specs.StoreCalls.{Called, Broke};
 
 use crate::disk::{DeviceFailed, Disk};
 
@@ -15,7 +15,7 @@ pub fn write_through<D: Disk>(disk: &mut D, at: u64, bytes: &[u8]) -> Result<(),
     requires { at + length bytes.now ≤ D.size_of disk.old }
     ensures counts { Counts (is_ok result) (D.size_of disk.old) (D.size_of disk.new) (D.failures_of disk.old) (D.failures_of disk.new) }
     ensures called { D.keeps → OnOk result (Called (Write at bytes.now ∷ Sync ∷ []) (D.state disk.old) (D.state disk.new)) }
-    ensures broke { D.keeps → OnErr result (BrokeIn (Write at bytes.now ∷ Sync ∷ []) (D.state disk.old).now (D.state disk.new).now) }
+    ensures broke { D.keeps → OnErr result (Broke (Write at bytes.now ∷ Sync ∷ []) (D.state disk.old) (D.state disk.new)) }
     ensures any_moment { D.keeps → LeavesOnly (D.state disk.old) (D.state disk.new) (MayBe (within (Write at bytes.now) (D.state disk.old).now)) }
 {
     disk.write_at(at, bytes)?;

@@ -81,8 +81,8 @@ begin_output_kept request (Waits t) cpu memory = search outs depth 10
 
 -- ## Inputs
 
-not_holding-filled : (t : Transfer) → is_holding (filled t) ≡ false
-not_holding-filled t = go (has_more t)
+pub is_holding-filled : (t : Transfer) → is_holding (filled t) ≡ false
+is_holding-filled t = go (has_more t)
   where
     go : (b : Bool) → is_holding (if b then Inputs (advanced t) else Idle None) ≡ false
     go true = refl
@@ -95,7 +95,7 @@ in_inputs : (t : Transfer) (cpu : Cpu) (memory : List ℕ) → InKept (Idle None
 in_inputs t cpu memory = record { is = record { sent = refl; no_datas = refl; no_markers = refl } }
 
 in_filled : (byte : ℕ) (t : Transfer) (cpu : Cpu) (memory : List ℕ) → InKept (Idle (Some byte)) (Did cpu memory (filled t) (Some Ack))
-in_filled byte t cpu memory = record { is = record { sent = rw (not_holding-filled t) refl; no_datas = refl; no_markers = refl } }
+in_filled byte t cpu memory = record { is = record { sent = rw (is_holding-filled t) refl; no_datas = refl; no_markers = refl } }
 
 in_enables : (process : ℕ) (cpu : Cpu) (memory : List ℕ) → InKept (Idle None) (Did cpu memory (Enabled process) None)
 in_enables process cpu memory = record { is = record { sent = refl; no_datas = refl; no_markers = refl } }
@@ -160,7 +160,7 @@ in_arrived_kept byte (Idle None) arrived e =
 in_arrived_kept byte (Idle (Some held)) arrived e = cc
 in_arrived_kept byte (Inputs t) arrived e =
     let same : (filled t, record { token = Some Ack; place = Some t.pointer; news = if has_more t then Nobody else Process t.process }) ≡ arrived = cc in
-    subst (λ r. Arrived (Inputs t) r.0 r.1.token) same (record { sent = rw (not_holding-filled t) refl; no_datas = refl; no_markers = refl })
+    subst (λ r. Arrived (Inputs t) r.0 r.1.token) same (record { sent = rw (is_holding-filled t) refl; no_datas = refl; no_markers = refl })
 in_arrived_kept byte (Enabled process) arrived e =
     let same : (Idle (Some byte), record { token = None; place = None; news = Alternative process }) ≡ arrived = cc in
     subst (λ r. Arrived (Enabled process) r.0 r.1.token) same (record { sent = refl; no_datas = refl; no_markers = refl })

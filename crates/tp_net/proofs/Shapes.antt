@@ -1,11 +1,11 @@
 -- What the lines of a text say is a topology, as far as it goes.
-use Rattle.std.proofs.Common.{◌≡◌, ℕ, zero, suc, ◌+◌, ◌-◌, ◌*◌, ◌/◌, ◌%◌, ◌<◌, ◌≤◌, Bool, true, false, cond, List, [], ◌∷◌, ◌++◌, length, get_or, map, refl, sym, ap, subst, ◌∙◌, arith, Option, Some, None, Result, Ok, Err, length-append}
+use Rattle.std.proofs.Common.{◌≡◌, ℕ, zero, suc, ◌+◌, ◌-◌, ◌*◌, ◌/◌, ◌%◌, ◌<◌, ◌≤◌, Bool, true, false, cond, List, [], ◌∷◌, ◌++◌, length, get_or, map, refl, sym, ap, subst, ◌∙◌, arith, Option, Some, None, Result, Ok, Err}
 use Rattle.std.specs.Prelude.{◌&&◌, ◌||◌, ◌==◌, not, nat_lt, nat_le, bytes_eq, codes, IfOk}
 use Rattle.std.specs.List.{list_all, slice_split, range_with_len}
 use Rattle.std.specs.Option.{option_map}
 use Rattle.std.specs.Str.Parse.{digits_value}
 use Rattle.std.proofs.lemmas.Bool.{and_parts, and_from, or_parts, not-false, eq-eqb, ltb-true, ltb-false, lt-ltb, leb-true, leb-false, le-leb, cond-true, cond-false, false≢true, le-ltb, eqb-false}
-use Rattle.std.proofs.lemmas.List.{length-map, map-append}
+use Rattle.std.proofs.lemmas.List.{length_push, length-map, map-append}
 use Rattle.std.proofs.lemmas.List.FromFn.{length-map-range_with_len, get_or-map-range_with_len}
 use Rattle.std.proofs.lemmas.List.Quantifiers.{position-Some}
 use Rattle.tp_model.specs.declared.wire.WireEnd.{WireEnd}
@@ -53,9 +53,6 @@ all_push : {X : Type 0} (p : X → Bool) (x : X) (xs : List X) → list_all p xs
 all_push p x [] all one = and_from (p x) true one refl
 all_push p x (y ∷ ys) all one =
     let parts = and_parts (p y) (list_all p ys) all in and_from (p y) (list_all p (ys ++ x ∷ [])) parts.0 (all_push p x ys parts.1 one)
-
-length_push : {X : Type 0} (xs : List X) (x : X) → length (xs ++ x ∷ []) ≡ length xs + 1
-length_push xs x = length-append xs (x ∷ [])
 
 node_good : (said : Said) (number : ℕ) (name pages : List ℕ) (after : Said) → after_node said number name pages ≡ Ok after → Good said → Good after
 node_good said number name pages after h good =

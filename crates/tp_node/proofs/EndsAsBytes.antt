@@ -7,17 +7,6 @@ use Rattle.tp_model.specs.declared.link.InEnd.{InEnd}
 use Rattle.tp_model.specs.declared.link.InEnd.TheVariants.{Idle as InIdle, Inputs, Enabled}
 use Rattle.tp_model.specs.EndBytes.{out_end_bytes, in_end_bytes, ends_at}
 
--- an end has 16 bytes
-pub length-out_end_bytes : (end : OutEnd) → length (out_end_bytes end) ≡ 16
-length-out_end_bytes OutIdle = refl
-length-out_end_bytes (Waits t) = refl
-
-pub length-in_end_bytes : (end : InEnd) → length (in_end_bytes end) ≡ 16
-length-in_end_bytes (InIdle None) = refl
-length-in_end_bytes (InIdle (Some byte)) = refl
-length-in_end_bytes (Inputs t) = refl
-length-in_end_bytes (Enabled process) = refl
-
 -- four ends stand 16 bytes apart
 pub four_ends_apart : {End : Type 0} (end_at : List ℕ → End) (at : ℕ) (bytes : List ℕ)
     → ends_at end_at 4 (drop at bytes) ≡ end_at (drop at bytes) ∷ end_at (drop (at + 16) bytes) ∷ end_at (drop (at + 32) bytes) ∷ end_at (drop (at + 48) bytes) ∷ []

@@ -1,3 +1,4 @@
+pub mod Answered
 pub mod EndsAsBytes
 pub mod FirstStored
 pub mod Images

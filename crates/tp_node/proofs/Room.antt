@@ -24,7 +24,9 @@ use Rattle.tp_model.specs.declared.link.Started.{Started}
 use Rattle.tp_model.specs.declared.request.OutRequest.{OutRequest}
 use Rattle.tp_model.specs.declared.request.Wish.{Wish}
 use Rattle.tp_model.specs.declared.request.Wish.TheVariants.{Message, Enable, Disable}
-use Rattle.tp_node.proofs.OneMore.{bind_some}
+use Rattle.tp_laws.proofs.Bits.{bit_small}
+use Rattle.tp_laws.proofs.LinkEnds.{is_holding-filled}
+use Rattle.tp_laws.proofs.Partial.{bind_some}
 
 -- an end may send a token
 abbrev pub can_send : OutEnd → ℕ
@@ -53,10 +55,6 @@ within_either f most false x y left right = right
 output_within : (request : OutRequest) (end : OutEnd) (cpu : Cpu) (memory : List ℕ) → Within can_send (can_send end) (begin_output request end cpu memory)
 output_within request OutIdle cpu memory = search (rules, within_found, within_either)
 output_within request (Waits t) cpu memory = search (rules, within_found, within_either)
-
--- an end that takes a byte of a message holds none
-is_holding-filled : (t : Transfer) → is_holding (filled t) ≡ false
-is_holding-filled t = cond_both (has_more t) (Inputs (advanced t)) (Idle None) (λ end. is_holding end ≡ false) (λ _. refl) (λ _. refl)
 
 -- a guard leaves what the end holds, and sends nothing
 enabled_within : (most : ℕ) (guarded : Option (InEnd × Bool)) (cpu : Cpu) (memory : List ℕ) → ((after : InEnd × Bool) → guarded ≡ Some after → can_acknowledge after.0 ≤ most)
@@ -141,15 +139,11 @@ unfolding node_step
 room_step node after is = (ended_within (step_of node.cpu node.memory) node after is).within
 
 -- there is never room for more than one token an end
-bit_few : (b : Bool) → bit b ≤ 1
-bit_few true = omega arith
-bit_few false = omega arith
-
 sum_few : {End : Type 0} (f : End → Bool) (ends : List End) → sum_by (λ end. bit (f end)) ends ≤ length ends
 sum_few f [] = omega arith
 sum_few f (end ∷ ends) =
     let first = sum_by-cons (λ e. bit (f e)) end ends in
-    let one = bit_few (f end) in
+    let one = bit_small (f end) in
     let rest = sum_few f ends in
     omega arith
 

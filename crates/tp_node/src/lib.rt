@@ -9,6 +9,7 @@ mod first;
 mod head;
 mod image;
 mod input;
+mod known;
 mod memory;
 mod node;
 mod number;

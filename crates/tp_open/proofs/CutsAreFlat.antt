@@ -24,7 +24,7 @@ use Rattle.tp_areas.proofs.ReadCuts.{are_bytes-take, cut_read}
 use Rattle.tp_node.proofs.Images.{node_of-short}
 use Rattle.tp_book.specs.Kept.{IsCounted, AreCounted}
 use Rattle.tp_replay.specs.Flat.{IsFlat}
-use Rattle.tp_open.proofs.Topologies.{has_shape}
+use Rattle.tp_area.proofs.Topologies.{has_shape}
 use Rattle.tp_open.proofs.UnmarkedLines.{lines_unmarked}
 use Rattle.tp_open.proofs.CutsAreSound.{cut_nodes, cut_wires, cut_lines, cut_sound}
 use Rattle.tp_open.proofs.HeldPorts.{EachPort, IsHeld}

@@ -1,22 +1,19 @@
 -- A network that a cut image can hold is sound.
-use Rattle.std.proofs.Common.{◌≡◌, ℕ, ◌+◌, ◌*◌, ◌<◌, ◌≤◌, inl, inr, Bool, true, false, List, length, refl, sym, ap, ◌∙◌, arith, Option, Some, None}
-use Rattle.std.specs.Prelude.{◌&&◌, nat_lt, not}
+use Rattle.std.proofs.Common.{◌≡◌, ℕ, ◌+◌, ◌*◌, ◌<◌, inl, inr, true, List, length, refl, sym, ap, ◌∙◌, arith, Option, Some, None}
+use Rattle.std.specs.Prelude.{◌&&◌, nat_lt}
 use Rattle.std.specs.Option.{option_map}
 use Rattle.std.proofs.lemmas.Bool.{and_parts, cases_lt, ltb-true, eqb-true, false≢true}
 use Rattle.std.proofs.lemmas.List.{get_or_past, length-map}
 use Rattle.tp_model.specs.declared.wire.WireEnd.{WireEnd}
 use Rattle.tp_model.specs.declared.wire.WireEnd.TheVariants.{Link}
-use Rattle.tp_model.specs.Word.{bit}
 use Rattle.tp_model.specs.NodeState.{NodeState}
 use Rattle.tp_model.specs.Image.{page_count}
-use Rattle.tp_model.specs.Network.{Network, receiver, is_wired, has_wire, line_of, back, on_line}
-use Rattle.tp_model.specs.Sound.{Ends, Wired, Sound, datas, acks, end_waits, end_holds}
+use Rattle.tp_model.specs.Network.{Network, receiver, has_wire, line_of, back}
+use Rattle.tp_model.specs.Sound.{Ends, Wired, Sound}
 use Rattle.tp_model.specs.Topology.{Topology, node_count, is_end, is_line, joins_link, leads_back, is_topology}
-use Rattle.tp_model.specs.Flight.{is_in_one_place}
 use Rattle.tp_model.specs.Spelling.{IsCut}
-use Rattle.tp_order.proofs.Sound.{unwired-back, wired-back}
-use Rattle.tp_open.proofs.LineEnds.{end_holds-port}
-use Rattle.tp_open.proofs.Topologies.{HasShape, has_shape, wire_leads_back}
+use Rattle.tp_order.proofs.InPlace.{sound_in_place}
+use Rattle.tp_area.proofs.Topologies.{HasShape, has_shape, wire_leads_back}
 use Rattle.tp_open.proofs.UnmarkedLines.{line_of_each, unwired_empty}
 
 -- ## Wires
@@ -49,13 +46,6 @@ leads_inside N H wires x i k h =
     let both = and_parts (nat_lt i N) (nat_lt k 4) ends.0 in
     (ltb-true i N both.0, ltb-true k 4 both.1)
 
-past_wires : (wires : List (Option WireEnd)) (line : ℕ) → length wires ≤ line → has_wire wires line ≡ false
-past_wires wires line past = ap is_wired (get_or_past wires line None past)
-
-not_true : (b : Bool) → not b ≡ true → b ≡ false
-not_true true h = absurd (false≢true h)
-not_true false h = refl
-
 -- ## The cut
 
 module _ (E : Ends NodeState) (t : Topology) (base : ℕ) (s : Network NodeState) (topology : is_topology t ≡ true) (C : IsCut E t base s) where
@@ -83,31 +73,8 @@ module _ (E : Ends NodeState) (t : Topology) (base : ℕ) (s : Network NodeState
         (omega (arith, found.0, cut_nodes), found.1);
   }
 
-  -- a line with a wire is there
-  wired_low : (x : ℕ) → has_wire s.wires x ≡ true → x < length s.wires
-  wired_low x wired = elim (cases_lt x (length s.wires)) [
-    | inl low ↦ low
-    | inr past ↦ absurd (false≢true (sym (past_wires s.wires x past) ∙ wired))
-  ]
-
-  in_place : (x : ℕ) → x < length s.wires → is_in_one_place E s x (back s x) ≡ true
-  in_place x low = C.flights x (omega (arith, low, ap length C.wires, shape.lines))
-
-  one_place : (x y : ℕ) → back s x ≡ Some y → bit (end_waits E s x) ≡ datas (on_line s.lines x) + acks (on_line s.lines y) + bit (end_holds E s y)
-  one_place x y b =
-      let here : is_in_one_place E s x (Some y) ≡ true = ap (is_in_one_place E s x) (sym b) ∙ in_place x (wired_low x (wired-back s x y b)) in
-      eqb-true (bit (end_waits E s x)) (datas (on_line s.lines x) + acks (on_line s.lines y) + bit (end_holds E s y)) here
-
-  none_held : (x : ℕ) → back s x ≡ None → end_holds E s x ≡ false
-  none_held x b = elim (cases_lt x (length s.wires)) [
-    | inl low ↦ not_true (end_holds E s x) (ap (is_in_one_place E s x) (sym b) ∙ in_place x low)
-    | inr past ↦ end_holds-port E s x (omega (arith, past, cut_wires))
-  ]
-
   pub cut_sound : Sound E s
-  cut_sound = record {
-    wires = cut_wired;
-    there = λ x wired. omega (arith, wired_low x wired, cut_lines);
-    flight = one_place;
-    none = λ x b. (unwired_empty t.wires s.lines C.lines x (ap (λ wires. has_wire wires x) (sym C.wires) ∙ unwired-back s x b), none_held x b);
-  }
+  cut_sound =
+      sound_in_place E s cut_wired (sym cut_lines) (cut_lines ∙ cut_wires)
+      (λ x shut. unwired_empty t.wires s.lines C.lines x (ap (λ wires. has_wire wires x) (sym C.wires) ∙ shut))
+      (λ x low. C.flights x (omega (arith, low, ap length C.wires, shape.lines)))

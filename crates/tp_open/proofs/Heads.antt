@@ -12,9 +12,10 @@ use Rattle.tp_model.specs.Head.{Head, all_wires, end_of_byte, head_at, head_byte
 use Rattle.tp_model.specs.Journal.{is_roomy}
 use Rattle.tp_model.specs.Topology.{Topology, is_topology}
 use Rattle.tp_open.specs.Heads.{is_whole, fields_in, head_in}
-use Rattle.tp_open.proofs.Numbers.{length-u16s_at, u16s_at-take}
+use Rattle.tp_areas.proofs.Heads.{length-u16s_at}
+use Rattle.tp_open.proofs.Numbers.{u16s_at-take}
 use Rattle.tp_open.proofs.Parts.{u8_at-take, u64_at-take, part_of_part}
-use Rattle.tp_open.proofs.Topologies.{has_shape}
+use Rattle.tp_area.proofs.Topologies.{has_shape}
 
 -- the head is that of its fields
 pub head_at-fields : (bytes : List ℕ) (t : Topology) (area : ℕ)

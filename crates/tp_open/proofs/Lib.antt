@@ -1,7 +1,6 @@
 pub mod Areas
 pub mod GroupsRead
 pub mod Cuts
-pub mod HeadBytes
 pub mod Heads
 pub mod Nodes
 pub mod Numbers
@@ -15,13 +14,9 @@ mod Starts
 mod Openings
 pub mod Room
 pub mod SameBytes
-pub mod Topologies
 pub mod Wires
 pub mod CutsAreFlat
 pub mod CutsAreSound
 pub mod HeldPorts
-pub mod OpenedAreas
-pub mod PartsAgain
 pub mod ReplayedCuts
 pub mod UnmarkedLines
-mod LineEnds

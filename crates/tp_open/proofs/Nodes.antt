@@ -43,15 +43,7 @@ node_with-take pages bytes =
 pub node_read : (at pages : ℕ) (xs bytes : List ℕ) → bytes ≡ take (image_length pages) (drop at xs) → or_damaged at (node_with pages (drop at xs)) ≡ or_damaged at (node_with pages bytes)
 node_read at pages xs bytes front = ap (or_damaged at) (sym (node_with-take pages (drop at xs)) ∙ ap (node_with pages) (sym front))
 
--- what reading an image answers
-pub image_read : (found : Option NodeState) (node : NodeContents) → ReadsImage found (Ok node) → found ≡ Some node.live
-image_read (Some state) node is = ap (λ n. Some n.live) (sym is)
-image_read None node is = absurd is
-
-pub image_thawed : (found : Option NodeState) (node : NodeContents) → ReadsImage found (Ok node) → node.frozen ≡ None
-image_thawed (Some state) node is = ap (λ n. n.frozen) is
-image_thawed None node is = absurd is
-
+-- an image that is refused
 pub image_refused : (found : Option NodeState) → ReadsImage found (Err BadImage) → found ≡ None
 image_refused (Some state) is = absurd is
 image_refused None is = refl

@@ -1,5 +1,5 @@
 -- Numbers of two bytes that stand one behind the other.
-use Rattle.std.proofs.Common.{◌≡◌, ℕ, zero, suc, ◌+◌, ◌-◌, ◌*◌, ◌<◌, ◌≤◌, List, [], ◌∷◌, ◌++◌, length, take, drop, refl, sym, ap, ◌∙◌, arith, append_assoc}
+use Rattle.std.proofs.Common.{◌≡◌, ℕ, zero, suc, ◌+◌, ◌-◌, ◌*◌, ◌<◌, ◌≤◌, List, [], ◌∷◌, ◌++◌, take, drop, refl, sym, ap, ◌∙◌, arith, append_assoc}
 use Rattle.std.proofs.lemmas.List.{drop-take}
 use Rattle.tp_model.specs.Bytes.{u16_at}
 use Rattle.tp_model.specs.Head.{u16s_at}
@@ -12,11 +12,6 @@ u16s_at-suc m n bytes e = ap (λ k. u16s_at k bytes) e
 pub u16s_at-none : (n : ℕ) (bytes : List ℕ) → n ≡ 0 → u16s_at n bytes ≡ []
 unfolding u16s_at
 u16s_at-none n bytes e = ap (λ k. u16s_at k bytes) e
-
-pub length-u16s_at : (n : ℕ) (bytes : List ℕ) → length (u16s_at n bytes) ≡ n
-unfolding u16s_at
-length-u16s_at zero bytes = refl
-length-u16s_at (suc n) bytes = omega (arith, length-u16s_at n (drop 2 bytes))
 
 -- what was read and what is left are all, also after one more
 pub u16s_at_more : (numbers : List ℕ) (number : ℕ) (rest behind : List ℕ) (n k : ℕ) → k < n → number ≡ u16_at rest 0 → behind ≡ drop 2 rest

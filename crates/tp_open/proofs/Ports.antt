@@ -1,9 +1,9 @@
 -- Records of ports.
-use Rattle.std.proofs.Common.{◌≡◌, ℕ, suc, ◌+◌, ◌-◌, ◌*◌, ◌^◌, ◌<◌, ◌≤◌, List, [], ◌∷◌, ◌++◌, length, take, drop, get_or, refl, sym, ap, ◌∙◌, arith, append_assoc, append-nil, true, false, cond, subst, inl, inr, Fits, w8}
+use Rattle.std.proofs.Common.{◌≡◌, ℕ, suc, ◌+◌, ◌-◌, ◌*◌, ◌<◌, ◌≤◌, List, [], ◌∷◌, ◌++◌, length, take, drop, get_or, refl, sym, ap, ◌∙◌, arith, append_assoc, append-nil, true, false, cond, subst, inl, inr, Fits, w8}
 use Rattle.std.specs.Prelude.{◌&&◌, ◌⊎◌, nat_le, bytes_eq, Option, Some, None, Result, Ok, Err}
 use Rattle.std.specs.List.{list_all}
 use Rattle.std.proofs.lemmas.Bool.{and_parts, leb-true, le-leb, cases_Bool, cases_lt}
-use Rattle.std.proofs.lemmas.Nat.{from_le_bytes-to_le_bytes_2, le_bytes_2, le_bytes_8}
+use Rattle.std.proofs.lemmas.Nat.{le_bytes_2, le_bytes_8}
 use Rattle.std.proofs.lemmas.List.{length-take, length-drop, length-take-le, take-take, take_all, drop-drop, length-replicate, get_or-take, get_or-drop, get_or_past}
 use Rattle.std.proofs.lemmas.Slice.Eq.{bytes_eq-Decides}
 use Rattle.tp_model.specs.declared.limits.TheConstants.{MAX_HELD, PORT_BYTES}
@@ -11,6 +11,7 @@ use Rattle.tp_model.specs.Bytes.{u16_bytes, u64_bytes, u16_at, u64_at, zeros, pa
 use Rattle.tp_model.specs.CutImage.{is_port_of, port_at, port_bytes, port_with, ports_in, or_damaged}
 use Rattle.tp_model.specs.Disk.{Moment}
 use Rattle.tp_model.specs.Results.{◌>>=◌}
+use Rattle.tp_areas.proofs.Cuts.{pending_count, outputs_count}
 use Rattle.tp_open.specs.declared.unopened.Unopened.{Unopened}
 use Rattle.tp_open.specs.Reading.{Answers}
 use Rattle.tp_open.proofs.Records.{behind, with_first, step_read, step_error}
@@ -23,13 +24,6 @@ use Rattle.tp_open.proofs.SameBytes.{and_assoc, piece_same, piece_compared, all_
 pub record AreBytes (bytes : List ℕ) : Type 0 where
   pub each : (i : ℕ) → Fits w8 (get_or bytes i 0)
 
--- the numbers of bytes that a record says
-held_said : (port : Port) → length port.pending < 2 ^ 16 → u16_at (port_bytes port) 16 ≡ length port.pending
-held_said port few = from_le_bytes-to_le_bytes_2 (length port.pending) few
-
-shown_said : (port : Port) → length port.outputs < 2 ^ 16 → u16_at (port_bytes port) 18 ≡ length port.outputs
-shown_said port few = from_le_bytes-to_le_bytes_2 (length port.outputs) few
-
 -- a record says no more than a port may hold
 pub said_few : (base : ℕ) (bytes : List ℕ) → is_port_at base bytes ≡ true → (u16_at bytes 16 ≤ MAX_HELD) × (u16_at bytes 18 ≤ MAX_HELD)
 said_few base bytes h =
@@ -40,8 +34,8 @@ said_few base bytes h =
     let few = and_parts (nat_le (length port.pending) MAX_HELD) (nat_le (length port.outputs) MAX_HELD) rules.0 in
     let held : length port.pending ≤ MAX_HELD = leb-true (length port.pending) MAX_HELD few.0 in
     let shown : length port.outputs ≤ MAX_HELD = leb-true (length port.outputs) MAX_HELD few.1 in
-    let held_is : u16_at bytes 16 ≡ length port.pending = sym (u16_at-take PORT_BYTES 16 bytes (omega arith)) ∙ ap (λ xs. u16_at xs 16) same ∙ held_said port (omega arith) in
-    let shown_is : u16_at bytes 18 ≡ length port.outputs = sym (u16_at-take PORT_BYTES 18 bytes (omega arith)) ∙ ap (λ xs. u16_at xs 18) same ∙ shown_said port (omega arith) in
+    let held_is : u16_at bytes 16 ≡ length port.pending = sym (u16_at-take PORT_BYTES 16 bytes (omega arith)) ∙ ap (λ xs. u16_at xs 16) same ∙ pending_count port (omega arith) in
+    let shown_is : u16_at bytes 18 ≡ length port.outputs = sym (u16_at-take PORT_BYTES 18 bytes (omega arith)) ∙ ap (λ xs. u16_at xs 18) same ∙ outputs_count port (omega arith) in
     (omega arith, omega arith)
 
 -- so where it says more, it is no port's

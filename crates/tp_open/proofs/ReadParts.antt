@@ -1,22 +1,22 @@
 -- The parts of a cut that were read: what the tests of each record say.
-use Rattle.std.proofs.Common.{◌≡◌, ℕ, zero, suc, ◌+◌, ◌<◌, ◌≤◌, List, [], ◌∷◌, ◌++◌, length, take, get_or, sym, ap, subst, ◌∙◌, arith, inl, inr, true, Some, Ok, Fits, w8}
+use Rattle.std.proofs.Common.{◌≡◌, ℕ, ◌+◌, ◌<◌, ◌≤◌, List, [], ◌∷◌, ◌++◌, length, take, get_or, sym, ap, subst, ◌∙◌, arith, true, Some, Ok, Fits, w8}
 use Rattle.std.specs.Prelude.{◌==◌, ◌&&◌, bytes_eq}
 use Rattle.std.specs.List.{AllByRecursion}
-use Rattle.std.proofs.lemmas.Bool.{and_parts, cases_lt, eqb-true}
+use Rattle.std.proofs.lemmas.Bool.{and_parts, eqb-true}
 use Rattle.std.proofs.lemmas.List.{map_push, take_more, take_all}
 use Rattle.tp_model.specs.declared.link.Token.{Token}
-use Rattle.tp_model.specs.declared.limits.TheConstants.{PORT_BYTES, NUMBER_LIMIT, LINE_BYTES}
-use Rattle.tp_model.specs.declared.opening.OpenFault.TheVariants.{Damaged}
+use Rattle.tp_model.specs.declared.limits.TheConstants.{PORT_BYTES, NUMBER_LIMIT}
 use Rattle.tp_model.specs.CutImage.{is_port_of, node_with, port_at, port_bytes, port_with}
-use Rattle.tp_model.specs.Flight.{is_in_one_place, flights_in}
+use Rattle.tp_model.specs.Flight.{flights_in}
 use Rattle.tp_model.specs.Image.{page_count, node_of, IsNode}
 use Rattle.tp_model.specs.Journal.{image_length}
-use Rattle.tp_model.specs.Network.{Network, Port, back}
+use Rattle.tp_model.specs.Network.{Port}
 use Rattle.tp_model.specs.NodeState.{NodeState}
 use Rattle.tp_model.specs.Sound.{Ends}
 use Rattle.tp_model.specs.Spelling.{are_lines, IsCut}
 use Rattle.tp_model.specs.Topology.{Topology, line_count}
-use Rattle.tp_areas.proofs.Faults.{or_fault, tested}
+use Rattle.tp_order.proofs.InPlace.{flights_found}
+use Rattle.tp_areas.proofs.Faults.{tested}
 use Rattle.tp_areas.proofs.ReadCuts.{are_bytes-take}
 use Rattle.tp_laws.proofs.Numbers.{AreBytes, are_bytes}
 use Rattle.tp_laws.specs.NodeOfBytes.{IsNodeOfBytes}
@@ -65,19 +65,6 @@ port_reached base bytes port is =
 
 pub reached_more : (base : ℕ) (ports new : List Port) (port : Port) → ArePorts base ports → is_port_of base port ≡ true → new ≡ ports ++ port ∷ [] → ArePorts base new
 reached_more base ports new port are is push = subst (ArePorts base) (sym push) (all_pushed (λ p. is_port_of base p ≡ true) ports port are is)
-
--- ## Flights
-
-flights_found : (E : Ends NodeState) (s : Network NodeState) (at line count : ℕ) → flights_in E s at line count ≡ Ok tt
-    → (k : ℕ) → line ≤ k → k < line + count → is_in_one_place E s k (back s k) ≡ true
-unfolding flights_in
-flights_found E s at line zero is k low high = absurd (omega arith)
-flights_found E s at line (suc count) is k low high =
-    let first = or_fault (is_in_one_place E s line (back s line)) (flights_in E s (at + LINE_BYTES) (line + 1) count) (Damaged at) tt is in
-    elim (cases_lt line k) [
-      | inl above ↦ flights_found E s (at + LINE_BYTES) (line + 1) count first.1 k (omega arith) (omega arith)
-      | inr here ↦ let same : k ≡ line = omega arith in ap (λ j. is_in_one_place E s j (back s j)) same ∙ first.0
-    ]
 
 -- ## The cut
 

@@ -9,6 +9,7 @@ use Rattle.tp_model.specs.Network.{on_line, has_wire}
 use Rattle.tp_model.specs.Markers.{markers, plain}
 use Rattle.tp_model.specs.CutImage.{is_line_of}
 use Rattle.tp_model.specs.Spelling.{has_record, are_lines}
+use Rattle.tp_snap.proofs.Marks.{plain_unmarked}
 
 -- ## A line
 
@@ -26,12 +27,6 @@ record_unmarked (Ack ∷ Ack ∷ more) h = absurd (false≢true h)
 record_unmarked (Ack ∷ Marker ∷ more) h = absurd (false≢true h)
 record_unmarked (Ack ∷ Data byte ∷ x ∷ more) h = absurd (false≢true h)
 record_unmarked (Marker ∷ x ∷ more) h = absurd (false≢true h)
-
-plain_alone : (tokens : List Token) → markers tokens ≡ 0 → plain tokens ≡ tokens
-plain_alone [] none = refl
-plain_alone (Data byte ∷ more) none = ap (λ ts. Data byte ∷ ts) (plain_alone more none)
-plain_alone (Ack ∷ more) none = ap (λ ts. Ack ∷ ts) (plain_alone more none)
-plain_alone (Marker ∷ more) none = absurd (omega (arith, none))
 
 no_tokens : (tokens : List Token) → is_line_of None tokens ≡ true → tokens ≡ []
 no_tokens [] h = refl
@@ -76,6 +71,6 @@ unwired_empty (wire ∷ wires) (line ∷ lines) h (suc k) none =
 pub plain_lines : (lines : List (List Token)) → ((line : ℕ) → markers (on_line lines line) ≡ 0) → map plain lines ≡ lines
 plain_lines [] none = refl
 plain_lines (line ∷ lines) none =
-    let front = plain_alone line (none 0) in
+    let front = plain_unmarked line (none 0) in
     let rest = plain_lines lines (λ k. none (suc k)) in
     λ i. front i ∷ rest i

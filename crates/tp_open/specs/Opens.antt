@@ -1,4 +1,7 @@
 -- What an opened device's fields stand for, and what they keep.
+use Rattle.std.specs.Prelude.{◌+◌, ◌<◌, ◌≤◌}
+use Rattle.tp_model.specs.declared.limits.TheConstants.{AREA_HEAD_BYTES}
+use Rattle.tp_model.specs.Device.{area_start}
 use Rattle.tp_model.specs.Node.{t414_ends}
 use Rattle.tp_model.specs.Opening.{Opened}
 use Rattle.tp_model.specs.Replay.{replay_from}
@@ -12,14 +15,16 @@ opened_of o = record {
   second = o.second;
   generation = o.generation;
   base = o.base;
-  cut = o.cut.value;
+  cut = o.cut.network;
   kept = o.replay.kept;
   now = o.replay.now;
   end = o.end;
 }
 
 -- What is true of whatever was opened, also on a device that doesn't keep the model: the cut is one of the head's topology,
--- and entries lead from it to what was replayed.
+-- entries lead from it to what was replayed, and the closed gate behind them stands within the open area, behind its head.
 pub record IsInside (o : Inside) : Type 0 where
-  pub cut : IsCut t414_ends o.head.topology o.base o.cut.value
-  pub leads : LeadsTo (replay_from o.cut.value o.base) o.replay
+  pub cut : IsCut t414_ends o.head.topology o.base o.cut.network
+  pub leads : LeadsTo (replay_from o.cut.network o.base) o.replay
+  pub behind : area_start o.head.area o.second + AREA_HEAD_BYTES ≤ o.end
+  pub inside : o.end < area_start o.head.area o.second + o.head.area

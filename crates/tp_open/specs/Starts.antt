@@ -24,7 +24,7 @@ abbrev pub read_as : CutFront → Network NodeState → Read
 read_as front cut = record { front = front; cut = cut }
 
 abbrev pub read_of : Start → Read
-read_of start = read_as start.front start.cut.value
+read_of start = read_as start.front start.cut.network
 
 -- what stands in front of an area's groups
 abbrev pub read_in : Head → Bool → List ℕ → Result Read OpenFault
@@ -35,8 +35,8 @@ read_in head second content = do
 
 -- Nothing is replayed so far, and the cut is one of that head's topology.
 pub record IsStart (head : Head) (start : Start) : Type 0 where
-  pub replay : start.replay ≡ replay_from start.cut.value start.front.base
-  pub cut : IsCut t414_ends head.topology start.front.base start.cut.value
+  pub replay : start.replay ≡ replay_from start.cut.network start.front.base
+  pub cut : IsCut t414_ends head.topology start.front.base start.cut.network
 
 -- what is read of the groups of an area
 abbrev pub groups_of : Head → Bool → List ℕ → Listing

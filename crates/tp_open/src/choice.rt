@@ -10,6 +10,7 @@ ghost use Rattle.tp_open.specs.Fronts.{area_front};
 use crate::device::read_array;
 use crate::number::u64_at;
 use crate::unopened::Unopened;
+use tp_area::area_start;
 use tp_disk::Disk;
 use tp_model::OpenFault;
 use tp_model::limits::{GATE_OPEN, HEAD_BYTES};
@@ -19,18 +20,6 @@ use tp_model::limits::{GATE_OPEN, HEAD_BYTES};
 pub(crate) struct AreaFront {
     pub(crate) is_open: bool,
     pub(crate) generation: u64,
-}
-
-/// Where an area begins.
-pub(crate) fn area_start(area: u64, second: bool) -> u64
-    requires { HEAD_BYTES + area < 2 ^ 64 }
-    ensures { result ≡ area_start area second }
-{
-    if second {
-        HEAD_BYTES as u64 + area
-    } else {
-        HEAD_BYTES as u64
-    }
 }
 
 fn read_area_front<D: Disk>(disk: &mut D, start: u64) -> Result<AreaFront, Unopened>

@@ -19,7 +19,6 @@ ghost use Rattle.tp_open.specs.Nodes.{live, AreThawed, HaveImages};
 ghost use Rattle.tp_open.specs.Ports.{ArePorts};
 ghost use Rattle.tp_open.specs.Reading.{has_read, Answers, IsKept};
 
-use crate::choice::area_start;
 use crate::flights::{CutParts, flights};
 use crate::head::Head;
 use crate::line::{LineTokens, read_lines};
@@ -28,6 +27,7 @@ use crate::port::read_ports;
 use crate::topology::{MAX_LINES, Topology};
 use crate::unopened::Unopened;
 use std::alloc::{AllocError, Global};
+use tp_area::area_start;
 use tp_book::PortParts;
 use tp_disk::Disk;
 use tp_model::limits::{

@@ -1,27 +1,17 @@
 //! Whether a cut is one of a sound network.
 
 ghost use Rattle.std.specs.Prelude.{◌≡◌, ◌+◌, ◌*◌, ◌^◌, ◌<◌, ◌≤◌, length};
-ghost use Rattle.tp_model.specs.Network.{line_of, back, on_line};
+ghost use Rattle.tp_model.specs.Network.{back, on_line};
 ghost use Rattle.tp_model.specs.Node.{t414_ends};
 ghost use Rattle.tp_model.specs.Sound.{datas, acks, end_waits, end_holds};
 ghost use Rattle.tp_model.specs.Flight.{is_in_one_place, flights_in};
 ghost use Rattle.tp_open.specs.Parts.{network_in};
 
+use crate::topology::line_of;
 use tp_book::PortParts;
 use tp_model::limits::{LINE_BYTES, MAX_NODES, MAX_PORTS};
 use tp_model::{OpenFault, Token, WireEnd};
 use tp_node::Node;
-
-/// The line that an end sends, in a network of so many nodes.
-fn line_of(nodes: usize, end: WireEnd) -> usize
-    requires { nodes ≤ MAX_NODES }
-    ensures { result ≡ line_of nodes end }
-{
-    match end {
-        WireEnd::Link(node, link) => 4 * usize::from(node) + usize::from(link),
-        WireEnd::Port(port) => 4 * nodes + usize::from(port),
-    }
-}
 
 /// How many of the tokens are Data.
 fn datas(tokens: &[Token]) -> usize

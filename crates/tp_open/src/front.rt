@@ -8,11 +8,11 @@ ghost use Rattle.tp_model.specs.Topology.{Topology};
 ghost use Rattle.tp_open.specs.Fronts.{front_given};
 ghost use Rattle.tp_open.specs.Reading.{has_read, Answers, IsKept, TakesNone};
 
-use crate::choice::area_start;
 use crate::device::read_array;
 use crate::head::Head;
 use crate::number::{u32_at, u64_at};
 use crate::unopened::Unopened;
+use tp_area::area_start;
 use tp_disk::Disk;
 use tp_model::OpenFault;
 use tp_model::limits::{HEAD_BYTES, NUMBER_LIMIT};

@@ -5,7 +5,7 @@ ghost use Rattle.std.specs.List.{range_with_len};
 ghost use Rattle.arrayvec.specs.ArrayVec.{array_vec_len};
 ghost use Rattle.tp_model.specs.Head.{all_wires, end_of_byte, head_bytes, head_of, is_port, port_wire, u16s_at};
 ghost use Rattle.tp_model.specs.Device.{fits};
-ghost use Rattle.tp_model.specs.Journal.{is_roomy, reserve};
+ghost use Rattle.tp_model.specs.Journal.{is_roomy};
 ghost use Rattle.tp_model.specs.Topology.{end_of, is_topology};
 ghost use Rattle.tp_model.specs.DiskHistory.{Counts};
 ghost use Rattle.tp_open.specs.Reading.{has_read, Answers, IsKept, TakesNone};
@@ -13,16 +13,13 @@ ghost use Rattle.tp_open.specs.Heads.{fields_in, head_in, is_whole};
 
 use crate::device::read_array;
 use crate::number::{u16_at, u64_at};
-use crate::spelling::{MAGIC, head_bytes};
 use crate::topology::{MAX_LINES, Topology};
 use crate::unopened::Unopened;
 use arrayvec::ArrayVec;
 use std::marker::Model;
+use tp_area::{MAGIC, has_room, head_bytes};
 use tp_disk::Disk;
-use tp_model::limits::{
-    AREA_HEAD_BYTES, ENTRY_BYTES, GROUP_HEAD_BYTES, HEAD_BYTES, HEAD_NODES, HEAD_VERSION,
-    MAX_NODES, MAX_PORTS, RESERVED,
-};
+use tp_model::limits::{HEAD_BYTES, HEAD_NODES, HEAD_VERSION, MAX_NODES, MAX_PORTS};
 use tp_model::{OpenFault, WireEnd};
 
 /// What a device's head says: the topology, and how many bytes an area has.
@@ -186,30 +183,12 @@ fn topology_in(nodes: u8, ports: u8, fields: &[u8]) -> Topology
     }
 }
 
-/// How many bytes are kept for a running snapshot, with so many lines.
-fn reserve(lines: usize) -> u64
-    requires { lines < 512 }
-    ensures { result ≡ reserve lines }
-{
-    (RESERVED * (GROUP_HEAD_BYTES + ENTRY_BYTES) * lines) as u64
-}
-
-/// Whether an entry may be made in an area of so many bytes.
-fn is_roomy(topology: &Topology, area: u64) -> bool
-    ensures { result ≡ is_roomy topology.now area }
-{
-    let room = area
-        .saturating_sub(topology.cut_length())
-        .saturating_sub(AREA_HEAD_BYTES as u64 + 1);
-    reserve(topology.line_count()) + (GROUP_HEAD_BYTES + ENTRY_BYTES) as u64 <= room
-}
-
 /// Whether a device of so many bytes has room for both areas, and each of them for what it has to hold.
 fn fits(len: u64, topology: &Topology, area: u64) -> bool
-    requires { HEAD_BYTES ≤ len }
     ensures { result ≡ fits len topology.now area }
 {
-    area <= (len - HEAD_BYTES as u64) / 2 && is_roomy(topology, area)
+    let lines = topology.line_count() as u64;
+    has_room(len, lines, topology.cut_length(), area)
 }
 
 /// Whether the bytes are those of a head.
@@ -217,12 +196,12 @@ fn spells(bytes: &[u8], topology: &Topology, area: u64) -> bool
     requires { is_topology topology.now ≡ true }
     ensures { result ≡ bytes_eq bytes.now (head_bytes topology.now area) }
 {
-    bytes == head_bytes(topology, area).as_slice()
+    let head = head_bytes(topology.pages(), topology.ports(), topology.wires(), area);
+    bytes == head.as_slice()
 }
 
 /// Whether the bytes are those of a head, and a device of so many bytes has room for what it says.
 fn is_whole(len: u64, bytes: &[u8], topology: &Topology, area: u64) -> bool
-    requires { HEAD_BYTES ≤ len }
     ensures { result ≡ is_whole len bytes.now (record { topology = topology.now; area = area }) }
 {
     topology.is_valid() && spells(bytes, topology, area) && fits(len, topology, area)
@@ -230,8 +209,7 @@ fn is_whole(len: u64, bytes: &[u8], topology: &Topology, area: u64) -> bool
 
 /// The head that these bytes are, if they are one and a device of so many bytes has room for what it says.
 fn fields_in(bytes: &[u8], len: u64) -> Option<Head>
-    requires whole { length bytes.now ≡ HEAD_BYTES }
-    requires long { HEAD_BYTES ≤ len }
+    requires { length bytes.now ≡ HEAD_BYTES }
     ensures value { result ≡ fields_in len bytes.now }
     ensures inside { IfSome result (λ head. HEAD_BYTES + 2 * head.area ≤ len) }
 {
@@ -250,8 +228,7 @@ fn fields_in(bytes: &[u8], len: u64) -> Option<Head>
 
 /// The head of a device of so many bytes, which begins with these.
 pub fn head_in(bytes: &[u8], len: u64) -> Result<Head, OpenFault>
-    requires whole { length bytes.now ≡ HEAD_BYTES }
-    requires long { HEAD_BYTES ≤ len }
+    requires { length bytes.now ≡ HEAD_BYTES }
     ensures value { result ≡ head_in len bytes.now }
     ensures inside { IfOk result (λ head. HEAD_BYTES + 2 * head.area ≤ len) }
 {
@@ -273,6 +250,7 @@ pub fn read_head<D: Disk>(disk: &mut D) -> Result<Head, Unopened>
     ensures counts { Counts (has_read result) (D.size_of disk.old) (D.size_of disk.new) (D.failures_of disk.old) (D.failures_of disk.new) }
     ensures kept { D.keeps → IsKept result (D.state disk.old).now (D.state disk.new).now }
     ensures inside { IfOk result (λ head. HEAD_BYTES + 2 * head.area ≤ D.size_of disk.old) }
+    ensures counted { IfOk result (λ head. D.size_of disk.old < 2 ^ 64) }
     ensures is { D.keeps → Answers (λ head. head) (head_of (D.state disk.old).now.bytes) result }
 {
     let len = disk.size();

@@ -13,8 +13,9 @@ mod node;
 mod number;
 mod opening;
 mod port;
-mod spelling;
 mod start;
+mod state;
+mod store;
 mod topology;
 mod unopened;
 
@@ -25,6 +26,6 @@ pub use groups::replay_area;
 pub use head::{Head, head_in, read_head};
 pub use line::LineTokens;
 pub use opening::{Opened, open};
-pub use spelling::head_bytes;
+pub use store::open_store;
 pub use topology::{MAX_LINES, Topology};
 pub use unopened::Unopened;

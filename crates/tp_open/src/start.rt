@@ -17,8 +17,7 @@ use crate::front::{CutFront, read_front};
 use crate::head::Head;
 use crate::unopened::Unopened;
 use std::alloc::{AllocError, Global};
-use std::snapshot::Snapshot;
-use tp_book::{lines_with, ports_with};
+use tp_book::{CutNetwork, lines_with, ports_with};
 use tp_disk::Disk;
 use tp_model::WireEnd;
 use tp_replay::{FlatNetwork, Replay};
@@ -27,7 +26,7 @@ use tp_replay::{FlatNetwork, Replay};
 #[derive(Drop)]
 pub(crate) struct Start {
     pub(crate) front: CutFront,
-    pub(crate) cut: Snapshot<FlatNetwork>,
+    pub(crate) cut: CutNetwork,
     pub(crate) replay: Replay,
 }
 
@@ -50,6 +49,13 @@ fn flat_network(
     Ok(FlatNetwork::new(wires, cut.nodes, lines, ports))
 }
 
+/// The network as contracts see it. It does nothing.
+fn cut_of(network: &FlatNetwork) -> CutNetwork
+    ensures { result.network ≡ network.now }
+{
+    CutNetwork::of(network)
+}
+
 /// Reads what stands in front of an area's groups, and makes its network ready.
 pub(crate) fn read_start<D: Disk>(
     alloc: Global,
@@ -68,7 +74,7 @@ pub(crate) fn read_start<D: Disk>(
     let Ok(network) = flat_network(alloc, head.topology().wires(), cut) else {
         return Err(Unopened::Memory);
     };
-    let cut = Snapshot::of(&network);
+    let cut = cut_of(&network);
     let replay = Replay::start(alloc, network, front.base);
     Ok(Start { front, cut, replay })
 }

@@ -1,6 +1,6 @@
 //! Which nodes and ports there are, and how they are wired.
 
-ghost use Rattle.std.specs.Prelude.{◌≡◌, ◌+◌, ◌*◌, ◌≤◌, ◌<◌, ◌^◌, ◌&&◌, nat_le, length, sum_by};
+ghost use Rattle.std.specs.Prelude.{◌≡◌, ◌+◌, ◌*◌, ◌≤◌, ◌<◌, ◌^◌, ◌&&◌, nat_le, length};
 ghost use Rattle.std.specs.Option.{option_map};
 ghost use Rattle.std.specs.List.{list_all};
 ghost use Rattle.tp_model.specs.Network.{line_of, receiver};
@@ -9,6 +9,7 @@ ghost use Rattle.tp_model.specs.Topology.{all_lead_back, is_end, is_line, is_pag
 
 use arrayvec::ArrayVec;
 use std::marker::Model;
+use tp_area::images_length;
 use tp_model::WireEnd;
 use tp_model::limits::{
     BASE_BYTES, IMAGE_HEAD_BYTES, LINE_BYTES, MAX_NODES, MAX_PAGES, MAX_PORTS, MIN_PAGES,
@@ -123,18 +124,6 @@ pub(crate) fn image_length(pages: u16) -> usize
     ensures { result ≡ image_length pages }
 {
     IMAGE_HEAD_BYTES + PAGE_BYTES * usize::from(pages)
-}
-
-fn images_length(pages: &[u16]) -> u64
-    requires { length pages.now ≤ MAX_NODES }
-    ensures value { result ≡ sum_by image_length pages.now }
-    ensures bound { result < 2 ^ 31 }
-{
-    let mut total = 0;
-    for count in pages {
-        total += image_length(*count) as u64;
-    }
-    total
 }
 
 /// The line that an end sends, with so many nodes.

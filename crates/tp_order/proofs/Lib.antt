@@ -1,9 +1,12 @@
 pub mod Choice
 pub mod Flight
+pub mod InPlace
 pub mod Lines
+pub mod Marks
 pub mod Room
 pub mod Sound
 pub mod Local
 pub mod Partial
+pub mod Plain
 pub mod Reorder
 pub mod Swap

@@ -7,6 +7,7 @@ use Rattle.std.proofs.lemmas.List.{get_or_past, ext_get_or, append_cancel_left}
 use Rattle.tp_model.specs.declared.link.Token.{Token}
 use Rattle.tp_model.specs.declared.link.Token.TheVariants.{Data, Ack, Marker}
 use Rattle.tp_model.specs.Network.{on_line, same_token, is_first, taken, pushed, sent, for_line}
+use Rattle.tp_model.specs.Halves.{without}
 
 -- ## Tokens
 
@@ -93,6 +94,12 @@ pub cons_taken : (lines : List (List Token)) (m : ℕ × Token) (ms : List (ℕ 
     → taken lines (m ∷ ms) ≡ taken (set lines m.0 (drop 1 (on_line lines m.0))) ms
 unfolding taken
 cons_taken lines m ms e = rw e
+
+-- what can be taken is what is taken off
+pub without_taken : (lines : List (List Token)) (ms : List (ℕ × Token)) (out : List (List Token)) → taken lines ms ≡ Some out → without lines ms ≡ out
+unfolding taken without
+without_taken lines [] out e = cc
+without_taken lines (m ∷ ms) out e = without_taken _ ms out (taken_cons lines m ms out e).1
 
 -- a line, before the token in front of one of them is taken
 pub on_rest_same : (lines : List (List Token)) (k : ℕ) (t : Token) → is_first (on_line lines k) t ≡ true

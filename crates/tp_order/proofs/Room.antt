@@ -3,6 +3,7 @@ use Rattle.std.proofs.Common.{◌≡◌, ℕ, zero, suc, ◌+◌, ◌<◌, ◌�
 use Rattle.std.proofs.lemmas.Bool.{cases_Bool}
 use Rattle.std.proofs.lemmas.List.{length-append, length-map}
 use Rattle.std.specs.List.{AllByRecursion}
+use Rattle.std.proofs.Math.ListN.{get_or-map}
 use Rattle.tp_model.specs.declared.link.Token.{Token}
 use Rattle.tp_model.specs.declared.link.Token.TheVariants.{Data, Ack, Marker}
 use Rattle.tp_model.specs.declared.entry.Entry.{Entry}
@@ -12,7 +13,7 @@ use Rattle.tp_model.specs.Entries.{HasFourLinks, takes}
 use Rattle.tp_model.specs.Sound.{Ends, datas, acks, end_waits, end_holds, Sound, KeepsFlight}
 use Rattle.tp_model.specs.Markers.{is_marker, plain, markers, plain_network, NeverMarks}
 use Rattle.tp_order.proofs.Partial.{bind_some}
-use Rattle.tp_order.proofs.Local.{Step, next_from, step_lines, steps_links}
+use Rattle.tp_order.proofs.Local.{Step, next_from, step_lines, all_append, steps_links}
 use Rattle.tp_order.proofs.Flight.{steps_moves}
 use Rattle.tp_order.proofs.Lines.{for_line-here, for_line-append, on_sent_open, length_taken}
 use Rattle.tp_order.proofs.Sound.{unwired-back, sound_kept, sound_small}
@@ -41,10 +42,6 @@ markers-for_line l (m ∷ ms) all = elim (cases_Bool (eqb m.0 l)) [
   | inl y ↦ rw (y, all.0) (markers-for_line l ms all.1)
   | inr n ↦ rw n (markers-for_line l ms all.1)
 ]
-
-all_append : {A : Type 0} (P : A → Type 0) (xs ys : List A) → AllByRecursion P xs → AllByRecursion P ys → AllByRecursion P (xs ++ ys)
-all_append P [] ys h k = k
-all_append P (x ∷ xs) ys h k = (h.0, all_append P xs ys h.1 k)
 
 pub steps_unmarked : {Node : Type 0} {M : Machine Node} → NeverMarks M → (count : ℕ) (node : Node) (after : Node × List (ℕ × Token)) → steps M count node ≡ Some after → AllByRecursion (λ m. is_marker m.1 ≡ false) after.1
 unfolding steps
@@ -121,9 +118,7 @@ acks-plain (Ack ∷ ts) = omega (arith, acks-plain ts)
 acks-plain (Marker ∷ ts) = omega (arith, acks-plain ts)
 
 pub on_line-plain : (lines : List (List Token)) (x : ℕ) → on_line (map plain lines) x ≡ plain (on_line lines x)
-on_line-plain [] x = refl
-on_line-plain (ts ∷ lines) zero = refl
-on_line-plain (ts ∷ lines) (suc x) = on_line-plain lines x
+on_line-plain lines x = get_or-map plain lines x []
 
 -- the same ends and wires, with other lines
 pub own-plain : {Node : Type 0} (s : Network Node) (p : ℕ) → own (plain_network s) p ≡ own s p

@@ -1,5 +1,5 @@
 -- The small format meets what the laws of runs ask.
-use Rattle.std.proofs.Common.{◌≡◌, ℕ, zero, ◌+◌, ◌*◌, ◌<◌, ◌≤◌, ◌⊎◌, inl, inr, Bool, true, false, cond, not, List, [], ◌∷◌, length, refl, sym, ap, subst, ◌∙◌, arith, le_refl, Option, Some, None}
+use Rattle.std.proofs.Common.{◌≡◌, ℕ, zero, ◌+◌, ◌*◌, ◌<◌, ◌≤◌, ◌⊎◌, inl, inr, Bool, true, false, not, List, [], ◌∷◌, length, refl, sym, ap, subst, ◌∙◌, arith, le_refl, Some}
 use Rattle.std.specs.Prelude.{◌==◌, nat_lt, nat_le, ◌||◌}
 use Rattle.std.specs.Option.{option_map}
 use Rattle.std.proofs.lemmas.Bool.{cases_Bool, both_ways, ltb-true, leb-false, or_parts}
@@ -12,6 +12,7 @@ use Rattle.tp_model.specs.Disk.{MayBe, written}
 use Rattle.tp_model.specs.Areas.{AreasHold, Held, with_more, ArePossible, gate_open}
 use Rattle.tp_order.proofs.Partial.{bind_some, map_some, cond_some}
 use Rattle.tp_recover.specs.Small.{byte_at, is_open, begins, current, entries_at, held_at, if_possible, small_verdict, behind, spare_of, open_of, spelt, group_of, other_of, small_areas}
+use Rattle.tp_laws.proofs.Faults.{none_or}
 use Rattle.tp_recover.proofs.Moments.{length-written, get_or-written_outside, get_or-written_inside}
 use Rattle.tp_recover.proofs.Small.{same_gate, entries_most, entries_same, entries_added, entries_end, places, current_open, current_alone, current_later, current_same, Verdict, verdict_parts, verdict_from}
 
@@ -271,10 +272,6 @@ spelt_parts place many (HostIn zero x ∷ []) r is =
     let same : (place + 2 * many, x ∷ GATE_CLOSED ∷ []) ≡ r = let both = split.1 in cc in
     (x, refl, ltb-true many 2 split.0, sym same)
 spelt_parts place many es r is = cc
-
-none_or : {X : Type 0} (b : Bool) (given : Option X) (y : X) → cond b None given ≡ Some y → (b ≡ false) × (given ≡ Some y)
-none_or true given y is = cc
-none_or false given y is = (refl, is)
 
 module _ {Node : Type 0} (M : Machine Node) (image : ℕ → Network Node) (bytes : List ℕ) (h : Held Node) (V : Verdict M image bytes h) where
   group_parts : (es : List Entry) (r : ℕ × List ℕ) → (current bytes >>= group_of bytes es) ≡ Some r

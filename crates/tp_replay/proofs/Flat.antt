@@ -20,13 +20,12 @@ use Rattle.tp_order.proofs.Local.{Step, step_of, next_from, own_node, own-node, 
 use Rattle.tp_order.proofs.Partial.{map_some, cond_some}
 use Rattle.tp_model.specs.Sound.{Sound}
 use Rattle.tp_order.proofs.Room.{line_room}
+use Rattle.tp_order.proofs.Plain.{step_markers}
 use Rattle.tp_order.proofs.Sound.{sound_kept}
 use Rattle.tp_laws.specs.NodeOfBytes.{CarriesByte, IsNodeOfBytes}
 use Rattle.tp_laws.proofs.LinkLaws.{has_four_links, keeps_flight, never_marks}
 use Rattle.tp_laws.proofs.Nodes.{node_steps, node_took}
-use Rattle.tp_snap.proofs.Plain.{step_takes_unmarked, step_sends_unmarked}
 use Rattle.tp_book.specs.Room.{HasRoom}
-use Rattle.tp_book.proofs.Marks.{markers-taken, markers-sent}
 use Rattle.tp_book.proofs.Sending.{room_before}
 use Rattle.tp_replay.specs.Flat.{IsFlat, TakesByte}
 
@@ -99,10 +98,7 @@ module _ (s : Network NodeState) (F : IsFlat s) (e : Entry) (t : Network NodeSta
 
   -- it takes no Marker and sends none
   markers_step : (line : ℕ) → markers (on_line t.lines line) ≡ markers (on_line s.lines line)
-  markers_step line =
-      ap (λ lines. markers (on_line lines line)) (step_lines t414 has_four_links s e t S)
-      ∙ markers-sent (has_wire s.wires) S.out S.sends (step_sends_unmarked t414 never_marks s e t S) line
-      ∙ markers-taken s.lines (takes s e) S.out (step_takes_unmarked t414 never_marks s e t S) S.takes_out line
+  markers_step = step_markers t414 never_marks s e t has_four_links S
 
   sound_step : Sound t414_ends t
   sound_step = sound_kept has_four_links keeps_flight s t e F.sound (next_from t414 s e t S)

@@ -1,5 +1,5 @@
 -- What stands in front of a line that goes to a node, the node can take: in a sound network the end waits for it.
-use Rattle.std.proofs.Common.{◌≡◌, ℕ, ◌+◌, ◌*◌, ◌%◌, ◌<◌, ◌≤◌, Bool, true, false, length, drop, refl, sym, ap, ◌∙◌, arith, Some, IsSome, slice_get}
+use Rattle.std.proofs.Common.{◌≡◌, ℕ, ◌+◌, ◌*◌, ◌%◌, ◌<◌, ◌≤◌, true, false, length, drop, refl, sym, ap, ◌∙◌, arith, Some, IsSome, slice_get}
 use Rattle.tp_model.specs.declared.link.Token.{Token}
 use Rattle.tp_model.specs.declared.link.Token.TheVariants.{Data, Ack, Marker}
 use Rattle.tp_model.specs.declared.wire.WireEnd.TheVariants.{Link}
@@ -13,22 +13,11 @@ use Rattle.std.specs.Option.{option_map}
 use Rattle.std.proofs.lemmas.Bool.{true≢false}
 use Rattle.tp_laws.proofs.Taking.{takes_data, takes_ack}
 use Rattle.tp_order.proofs.Lines.{first_is}
+use Rattle.tp_laws.proofs.Bits.{bit_none, bit_some, bit_small}
 use Rattle.tp_order.proofs.Local.{owner_of_link}
 use Rattle.tp_order.proofs.Sound.{end_waits_is, end_holds_is}
 use Rattle.tp_replay.specs.Flat.{IsFlat}
 use Rattle.tp_replay.proofs.Steps.{own_there}
-
-no_bit : (b : Bool) → bit b ≡ 0 → b ≡ false
-no_bit true e = absurd (omega arith)
-no_bit false e = refl
-
-some_bit : (b : Bool) → 1 ≤ bit b → b ≡ true
-some_bit true h = refl
-some_bit false h = absurd (omega arith)
-
-bit_small : (b : Bool) → bit b ≤ 1
-bit_small true = omega arith
-bit_small false = omega arith
 
 module _ (s : Network NodeState) (F : IsFlat s) (line i k : ℕ) (n : NodeState) (to : receiver s.wires line ≡ Some (Link i k)) (at : slice_get s.nodes i ≡ Some n) where
   comes_back : back s line ≡ Some (4 * i + k)
@@ -49,7 +38,7 @@ module _ (s : Network NodeState) (F : IsFlat s) (line i k : ℕ) (n : NodeState)
       let flight = F.sound.flight line (4 * i + k) comes_back in
       let most = bit_small (end_waits t414_ends s line) in
       let none : bit (end_holds t414_ends s (4 * i + k)) ≡ 0 = omega arith in
-      let free : holds n k ≡ false = ap (holds n) (sym link) ∙ sym (end_holds_is t414_ends s (length s.nodes) (4 * i + k) (OfNode n) refl own_end) ∙ no_bit (end_holds t414_ends s (4 * i + k)) none in
+      let free : holds n k ≡ false = ap (holds n) (sym link) ∙ sym (end_holds_is t414_ends s (length s.nodes) (4 * i + k) (OfNode n) refl own_end) ∙ bit_none (end_holds t414_ends s (4 * i + k)) none in
       takes_data n k byte (F.nodes i n at).image ends.1 free
 
   ack_front : is_first (on_line s.lines line) Ack ≡ true → IsSome (took n k Ack)
@@ -57,7 +46,7 @@ module _ (s : Network NodeState) (F : IsFlat s) (line i k : ℕ) (n : NodeState)
       let one : acks (on_line s.lines line) ≡ 1 + acks (drop 1 (on_line s.lines line)) = ap acks (first_is (on_line s.lines line) Ack front) in
       let flight = F.sound.flight (4 * i + k) line (F.sound.wires.both_ways line (4 * i + k) comes_back) in
       let some : 1 ≤ bit (end_waits t414_ends s (4 * i + k)) = omega arith in
-      let stands : waits n k ≡ true = ap (waits n) (sym link) ∙ sym (end_waits_is t414_ends s (length s.nodes) (4 * i + k) (OfNode n) refl own_end) ∙ some_bit (end_waits t414_ends s (4 * i + k)) some in
+      let stands : waits n k ≡ true = ap (waits n) (sym link) ∙ sym (end_waits_is t414_ends s (length s.nodes) (4 * i + k) (OfNode n) refl own_end) ∙ bit_some (end_waits t414_ends s (4 * i + k)) some in
       takes_ack n k (F.nodes i n at).image ends.1 stands
 
   -- so any token but a Marker is taken

@@ -2,18 +2,20 @@
 use Rattle.std.proofs.Common.{◌≡◌, ℕ, zero, suc, ◌<◌, true, false, List, [], ◌++◌, length, refl, sym, ap, ◌∙◌, arith, Option, Some, None, slice_get}
 use Rattle.std.specs.Prelude.{nat_lt, nat_le, ◌&&◌}
 use Rattle.std.specs.Option.{option_map}
+use Rattle.std.proofs.lemmas.Bool.{true≢false}
 use Rattle.tp_model.specs.declared.link.Token.{Token}
 use Rattle.tp_model.specs.declared.link.Token.TheVariants.{Marker}
 use Rattle.tp_model.specs.declared.wire.WireEnd.{WireEnd}
-use Rattle.tp_model.specs.declared.wire.WireEnd.TheVariants.{Link, Port as AtPort}
+use Rattle.tp_model.specs.declared.wire.WireEnd.TheVariants.{Port as AtPort}
 use Rattle.tp_model.specs.declared.entry.Entry.TheVariants.{Run, Take, HostIn, Confirm}
 use Rattle.tp_model.specs.declared.limits.TheConstants.{MAX_STEPS}
 use Rattle.tp_model.specs.NodeState.{NodeState}
-use Rattle.tp_model.specs.Node.{t414, took}
+use Rattle.tp_model.specs.Node.{t414}
 use Rattle.tp_model.specs.Network.{◌>>=◌, Machine, steps, Port, Network, Own, OfNode, OfHost, own, receiver, process_at, on_line, is_first}
 use Rattle.tp_model.specs.Entries.{process, takes, of_node, of_port, receives, port_took, handed_in, confirmed, does, next}
 use Rattle.tp_order.proofs.Local.{step_of, own_host, own_node, port_step}
 use Rattle.tp_order.proofs.Lines.{taken_cons}
+use Rattle.tp_order.proofs.Plain.{step_takes_unmarked}
 use Rattle.tp_order.proofs.Partial.{bind_some, map_some, cond_some}
 use Rattle.tp_laws.proofs.LinkLaws.{never_marks}
 
@@ -109,18 +111,10 @@ pub take_unwired : (s : Network NodeState) (line : ℕ) (token : Token) → rece
 take_unwired s line token none =
     none_of (next t414 s (Take line token)) (λ t h. let R = take_apart s line token t h in received (length s.nodes) (receiver s.wires line) token R.was R.r R.took none)
 
-marker_received : (N : ℕ) (end : Option WireEnd) (was : Own NodeState) (r : Own NodeState × List (ℕ × Token)) → receives t414 N end Marker was ≡ Some r → ⊥
-unfolding receives of_port
-marker_received N None (OfNode n) r e = cc
-marker_received N None (OfHost ports) r e = cc
-marker_received N (Some (Link i k)) (OfNode n) r e = let Q = map_some (of_node i) (took n k Marker) r e in let none = never_marks.none n k in cc (Q.1, none)
-marker_received N (Some (Link i k)) (OfHost ports) r e = cc
-marker_received N (Some (AtPort p)) (OfNode n) r e = cc
-marker_received N (Some (AtPort p)) (OfHost ports) r e = let P = port_step N p ports (port_took Marker) r e in let is = P.change_is in cc
-
 pub take_marker : (s : Network NodeState) (line : ℕ) → next t414 s (Take line Marker) ≡ None
+unfolding takes
 take_marker s line =
-    none_of (next t414 s (Take line Marker)) (λ t h. let R = take_apart s line Marker t h in marker_received (length s.nodes) (receiver s.wires line) R.was R.r R.took)
+    none_of (next t414 s (Take line Marker)) (λ t h. true≢false (step_takes_unmarked t414 never_marks s (Take line Marker) t (step_of t414 s (Take line Marker) t h)).0)
 
 -- a change of a port that is possible
 record PortChange (s : Network NodeState) (p : ℕ) (change : Port → Option (Port × List Token)) : Type 0 where

@@ -1,6 +1,5 @@
 pub mod Applied
 pub mod Counted
-pub mod Cuts
 pub mod Flat
 pub mod Fronts
 pub mod History

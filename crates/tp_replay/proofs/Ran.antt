@@ -1,31 +1,24 @@
 -- A run of a node, of as many steps as it could make.
-use Rattle.std.proofs.Common.{◌≡◌, ℕ, zero, suc, ◌+◌, ◌*◌, ◌<◌, ◌≤◌, inl, inr, List, [], ◌∷◌, length, map, option_to_list, refl, sym, ap, subst, ◌∙◌, arith, Option, Some, None, IsSome, slice_get}
-use Rattle.std.specs.Prelude.{is_some, Ok, Err}
+use Rattle.std.proofs.Common.{◌≡◌, ℕ, zero, suc, ◌+◌, ◌*◌, ◌<◌, ◌≤◌, inl, inr, List, [], length, refl, sym, ap, subst, ◌∙◌, arith, Some, None, slice_get}
 use Rattle.std.specs.List.{AllByRecursion}
 use Rattle.std.specs.Option.{option_map}
 use Rattle.std.specs.Vec.{with_item}
-use Rattle.std.proofs.lemmas.Bool.{true≢false}
 use Rattle.std.proofs.lemmas.List.{map-set}
 use Rattle.std.proofs.lemmas.Option.{slice_get-map, slice_get_within}
 use Rattle.tp_model.specs.declared.link.Token.{Token}
 use Rattle.tp_model.specs.declared.entry.Entry.TheVariants.{Run}
 use Rattle.tp_model.specs.declared.limits.TheConstants.{MAX_STEPS}
 use Rattle.tp_model.specs.NodeState.{NodeState}
-use Rattle.tp_model.specs.Node.{t414, node_step, on_link}
-use Rattle.tp_model.specs.Step.{step_of}
+use Rattle.tp_model.specs.Node.{t414, node_step}
 use Rattle.tp_model.specs.Network.{steps, has_wire, sent}
 use Rattle.tp_model.specs.Entries.{next}
 use Rattle.tp_order.proofs.Local.{steps_links}
 use Rattle.tp_laws.proofs.LinkLaws.{has_four_links}
-use Rattle.tp_node.specs.declared.run.Why.{Why}
-use Rattle.tp_node.specs.declared.run.Why.TheVariants.{Full, Idle, NoFrame, Halted}
-use Rattle.tp_node.specs.declared.fault.NoFrame.{NoFrame as NoFrameLeft}
 use Rattle.tp_node.specs.NodeContents.{NodeContents}
-use Rattle.tp_node.specs.RunEnd.{IsWhy}
-use Rattle.tp_node.specs.Takes.{Takes}
 use Rattle.tp_book.specs.Calls.{on_lines}
 use Rattle.tp_book.specs.Room.{HasRoom}
 use Rattle.tp_book.proofs.Fields.{set_back}
+use Rattle.tp_book.proofs.Sending.{all_known}
 use Rattle.tp_replay.specs.declared.network.FlatNetwork.TheInside.{Inside}
 use Rattle.tp_replay.specs.Answers.{Leaves}
 use Rattle.tp_replay.specs.Flat.{IsFlat}
@@ -33,45 +26,6 @@ use Rattle.tp_replay.specs.Inside.{state_of, IsInside}
 use Rattle.tp_replay.proofs.Applied.{room, node_inside, node_next, still_thawed}
 use Rattle.tp_replay.proofs.Impossible.{steps_fewer}
 use Rattle.tp_replay.proofs.Steps.{Made, node_after, run_step}
-
--- ## What a node answers
-
--- a token was taken, or there is a cause why not
-pub takes_ok : (o : Option (NodeState × List (ℕ × Token))) (cause : Type 0) (link : ℕ) (before now : NodeState) (answer : Option Token) → Takes o cause link before (Ok answer) now → o ≡ Some (now, on_link link answer)
-takes_ok None cause link before now answer takes = absurd takes
-takes_ok (Some (after, sent)) cause link before now answer takes = rw (takes.0, takes.1) refl
-
-pub takes_err : (o : Option (NodeState × List (ℕ × Token))) (cause : Type 0) (link : ℕ) (before now : NodeState) (e : NoFrameLeft) → Takes o cause link before (Err e) now → cause
-takes_err None cause link before now e takes = absurd takes
-takes_err (Some after) cause link before now e takes = takes.0
-
--- the line of a link, on which an answer leaves
-pub answer_lines : (i k : ℕ) (answer : Option Token) → map (λ t. (4 * i + k, t)) (option_to_list answer) ≡ on_lines i (on_link k answer)
-answer_lines i k None = refl
-answer_lines i k (Some token) = refl
-
--- a node that has halted makes no step
-pub halted_rests : (node : NodeState) → IsSome node.cpu.halt → node_step node ≡ None
-unfolding node_step step_of
-halted_rests node halted = rw halted refl
-
--- a run makes no more steps than were asked for
-pub why_most : (why : Why) (max count : ℕ) (cause : Type 0) (now : NodeState) → IsWhy why max count cause now → count ≤ max
-why_most Full max count cause now is = omega arith
-why_most Idle max count cause now is = omega (arith, is.0)
-why_most NoFrame max count cause now is = omega (arith, is.0)
-why_most Halted max count cause now is = omega (arith, is.0)
-
--- where it made fewer, there is no step more
-pub why_fewer : (why : Why) (max count : ℕ) (frozen : Option NodeState) (now : NodeState) → IsWhy why max count (IsSome frozen) now → frozen ≡ None → count < max → node_step now ≡ None
-why_fewer Full max count frozen now is thawed fewer = absurd (omega arith)
-why_fewer Idle max count frozen now is thawed fewer = is.1
-why_fewer NoFrame max count frozen now is thawed fewer = absurd (true≢false (sym is.2 ∙ ap is_some thawed))
-why_fewer Halted max count frozen now is thawed fewer = halted_rests now is.1
-
-all_known : (first n : ℕ) (ms : List (ℕ × Token)) → first + 4 ≤ n → AllByRecursion (λ m. m.0 < 4) ms → AllByRecursion (λ m. first + m.0 < n) ms
-all_known first n [] fits all = tt
-all_known first n (m ∷ ms) fits all = (omega (arith, all.0), all_known first n ms fits all.1)
 
 -- ## The fields behind it
 

@@ -6,7 +6,7 @@ use Rattle.tp_model.specs.Network.{Network}
 use Rattle.tp_book.specs.Parts.{port_of}
 use Rattle.tp_book.specs.declared.parts.NetParts.{NetParts}
 
--- The parts are the network's, each node as its image. So they are that network again, where each node has an image.
+-- The parts are the network's, each node as its image.
 pub record ArePartsOf (parts : NetParts) (s : Network NodeState) : Type 0 where
   pub wires : parts.wires.items ≡ s.wires
   pub images : map (λ bytes. bytes.items) parts.images.items ≡ map image s.nodes

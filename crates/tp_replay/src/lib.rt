@@ -11,7 +11,6 @@ mod network;
 mod parts;
 mod replaying;
 mod run;
-mod send;
 mod take;
 
 pub use fault::{NotPossible, ReplayFault, RowFault};

@@ -9,8 +9,8 @@ ghost use Rattle.tp_replay.specs.Answers.{Applies, Leaves};
 
 use crate::fault::NotPossible;
 use crate::network::FlatNetwork;
-use crate::send::send_all;
 use arrayvec::ArrayVec;
+use tp_book::send_all;
 use tp_model::limits::MAX_STEPS;
 
 impl FlatNetwork {

@@ -14,7 +14,7 @@ ghost use Rattle.tp_replay.specs.Flat.{CanCount};
 use crate::fault::NotPossible;
 use crate::front::{can_take, stands_in_front};
 use crate::network::FlatNetwork;
-use crate::send::send_some;
+use tp_book::send_some;
 use tp_laws::carries_byte;
 use tp_model::{Token, WireEnd};
 use tp_node::NoFrame;

@@ -49,11 +49,11 @@ lone_counted zero port at =
 lone_counted (suc p) port at = cc
 
 -- a device leaves it, with a cut of two entries and none behind it
-pub lone_opened : (s : NetState) → network_of s.net ≡ lone_network → s.cut.value ≡ s.net → s.kept.items ≡ [] → s.base ≡ 2 → s.next ≡ 2
+pub lone_opened : (s : NetState) → network_of s.net ≡ lone_network → cut_of s ≡ lone_network → s.kept.items ≡ [] → s.base ≡ 2 → s.next ≡ 2
     → All (λ port. vec_len port.pending ≤ MAX_HELD) s.net.ports.items → All (λ port. vec_len port.outputs ≤ MAX_HELD) s.net.ports.items → IsOpened s
 unfolding after
 lone_opened s is cut kept base next pending outputs = record {
-  history = ap (λ es. after t414 (cut_of s) (map (λ n. n.entry) es)) kept ∙ ap (λ net. Some (network_of net)) cut;
+  history = ap (λ es. after t414 (cut_of s) (map (λ n. n.entry) es)) kept ∙ ap Some (cut ∙ sym is);
   sound = subst (Sound t414_ends) (sym is) lone_sound;
   shaped = subst IsNetwork (sym is) (record { wires = refl; few_nodes = omega arith; few_ports = omega arith });
   lines = ap (λ net. length net.lines) is ∙ sym (ap (λ net. length net.wires) is);

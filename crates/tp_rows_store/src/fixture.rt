@@ -7,8 +7,7 @@ ghost use Rattle.tp_book.specs.Opened.{IsOpened};
 ghost use Rattle.tp_rows_store.specs.Lone.{lone_network, IsUsable};
 
 use std::alloc::{AllocError, Global};
-use std::snapshot::Snapshot;
-use tp_book::{Book, NetParts, NetState, PortParts};
+use tp_book::{Book, CutNetwork, NetParts, NetState, PortParts};
 
 /// Its parts: the outputs are the letters "hi".
 fn parts(alloc: Global) -> Result<NetParts, AllocError>
@@ -41,7 +40,7 @@ fn state(alloc: Global) -> Result<NetState, AllocError>
 {
     let net = parts(alloc)?;
     Ok(NetState {
-        cut: Snapshot::of(&net),
+        cut: CutNetwork::of_parts(&net),
         net,
         base: 2,
         kept: Vec::new(alloc),

@@ -7,7 +7,7 @@ use std::test::Fail;
 use tp_book::{Book, Refusal};
 
 /// Hands bytes in, and gives the receipt's number.
-fn hand_in(book: &mut Book, bytes: &[u8]) -> Result<u64, Refusal>
+pub(crate) fn hand_in(book: &mut Book, bytes: &[u8]) -> Result<u64, Refusal>
     requires { IsUsable book.old }
     ensures { IsUsable book.new }
 {
@@ -30,7 +30,7 @@ fn confirm(book: &mut Book, upto: u64) -> Option<Result<u64, Refusal>>
 }
 
 /// Whether a mark shows outputs from a position on, and these.
-fn is_shown(book: &Book, mark: u64, from: u64, bytes: &[u8]) -> bool
+pub(crate) fn is_shown(book: &Book, mark: u64, from: u64, bytes: &[u8]) -> bool
     requires { IsUsable book.now }
 {
     if from < book.out_base(0) || from > book.shown_upto(0, mark) {

@@ -10,6 +10,8 @@ mod groups;
 #[cfg(test)]
 mod host_calls;
 #[cfg(test)]
+mod opened_books;
+#[cfg(test)]
 mod topologies;
 #[cfg(test)]
 mod topology_faults;

@@ -17,10 +17,12 @@ use Rattle.tp_model.specs.Snapshot.{Snapshot, MarkedNetwork, first_snapshot, cou
 use Rattle.tp_order.proofs.Local.{step_of, own_node, own_host, own-node, own-host, own-lines, next_shape}
 use Rattle.tp_order.proofs.Choice.{made-other, chosen_all, chosen_none}
 use Rattle.tp_order.proofs.Reorder.{first_possible, process_next}
-use Rattle.tp_snap.proofs.Marks.{AreMarkers, on_plain, plain_unmarked, before_unmarked}
+use Rattle.tp_order.proofs.Flight.{owner_host}
+use Rattle.tp_order.proofs.Room.{on_line-plain}
+use Rattle.tp_snap.proofs.Marks.{AreMarkers, plain_unmarked, before_unmarked}
 use Rattle.tp_snap.proofs.Invariant.{in_count, in_cut, early, late, as_recorded, Base, Marking}
 use Rattle.tp_snap.proofs.Shape.{live_nodes}
-use Rattle.tp_snap.proofs.Sending.{host_marked, host_markers_all, host_elsewhere, owner_host, owner_most, before_marked, markers_marked, marked_length}
+use Rattle.tp_snap.proofs.Sending.{host_marked, host_markers_all, host_elsewhere, owner_most, before_marked, markers_marked, marked_length}
 
 -- ## Processes past the host
 
@@ -158,7 +160,7 @@ module _ {Node : Type 0} (M : Machine Node) (four : HasFourLinks M) (w : MarkedN
   begin_lines : (l : ℕ) → on_line (map plain w.live.lines) l
       ≡ cond (is_closed snap l) (on_line snap.lines l) (on_line snap.lines l ++ before (on_line (with_markers w.live marks).lines l))
   begin_lines l = elim (cases_lt l (length w.live.lines)) [
-    | inl h ↦ on_plain w.live.lines l ∙ plain_unmarked (on_line w.live.lines l) (unmarked l)
+    | inl h ↦ on_line-plain w.live.lines l ∙ plain_unmarked (on_line w.live.lines l) (unmarked l)
         ∙ sym (ap (λ b. cond b (on_line snap.lines l) (on_line snap.lines l ++ before (on_line (with_markers w.live marks).lines l))) (open_line l h)
         ∙ ap (λ ts. ts ++ before (on_line (with_markers w.live marks).lines l)) (nothing_yet l)
         ∙ before_marked M w B marks all l

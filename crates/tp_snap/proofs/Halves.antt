@@ -1,5 +1,5 @@
 -- The node's half and the book's half of an act are the act.
-use Rattle.std.proofs.Common.{◌≡◌, ℕ, ◌<◌, true, false, cond, not, List, [], ◌∷◌, ◌++◌, length, set, drop, replicate, refl, sym, ap, ◌∙◌, arith, Option, Some, None, slice_get}
+use Rattle.std.proofs.Common.{◌≡◌, ℕ, ◌<◌, true, false, cond, not, List, [], ◌∷◌, ◌++◌, length, set, replicate, refl, sym, ap, ◌∙◌, arith, Option, Some, None, slice_get}
 use Rattle.std.specs.Prelude.{◌&&◌}
 use Rattle.std.specs.Option.{option_map}
 use Rattle.std.proofs.lemmas.Bool.{lt-ltb}
@@ -14,14 +14,8 @@ use Rattle.tp_model.specs.Snapshot.{Snapshot, has_recorded, taker, collected, jo
 use Rattle.tp_model.specs.WholeCut.{WholeCut, all_some, whole}
 use Rattle.tp_model.specs.Acts.{Begin, Record, Journal, Close, Trim, begin, record_node, close_line, trim, happens}
 use Rattle.tp_model.specs.Halves.{BookState, live, marked, whole_in, without, with_entry, with_begin, with_record, with_close, with_trim}
-use Rattle.tp_order.proofs.Lines.{taken_cons}
+use Rattle.tp_order.proofs.Lines.{without_taken}
 use Rattle.tp_order.proofs.Local.{Step, next_from, own-node, own-host, process_same, takes_same}
-
--- what can be taken is what is taken off
-pub without_taken : (lines : List (List Token)) (ms : List (ℕ × Token)) (out : List (List Token)) → taken lines ms ≡ Some out → without lines ms ≡ out
-unfolding taken without
-without_taken lines [] out e = cc
-without_taken lines (m ∷ ms) out e = without_taken (set lines m.0 (drop 1 (on_line lines m.0))) ms out (taken_cons lines m ms out e).1
 
 module _ {Node : Type 0} (M : Machine Node) (b : BookState Node) (nodes : List Node) (frozen : List (Option Node)) (as_many : length nodes ≡ length b.start.nodes) where
   process_live : (e : Entry) → process (live b nodes) e ≡ process b.start e

@@ -1,5 +1,4 @@
 pub mod Marks
-pub mod Plain
 pub mod Invariant
 pub mod Shape
 pub mod Journal

@@ -1,24 +1,14 @@
 -- How many tokens a line may have: at most one Marker, and none before its sender records.
-use Rattle.std.proofs.Common.{◌≡◌, ℕ, ◌+◌, ◌≤◌, Bool, true, false, cond, not, inl, inr, List, [], ◌∷◌, length, refl, sym, ap, subst, ◌∙◌, arith, Option, Some, None}
+use Rattle.std.proofs.Common.{◌≡◌, ℕ, ◌+◌, ◌≤◌, Bool, true, false, cond, not, inl, inr, length, sym, ap, subst, ◌∙◌, arith, Option, Some, None}
 use Rattle.std.specs.Prelude.{◌&&◌}
 use Rattle.std.proofs.lemmas.Bool.{cases_Bool}
-use Rattle.tp_model.specs.declared.link.Token.{Token}
-use Rattle.tp_model.specs.declared.link.Token.TheVariants.{Data, Ack, Marker}
 use Rattle.tp_model.specs.Network.{Machine, has_wire, on_line}
-use Rattle.tp_model.specs.Sound.{Ends, Sound, datas, acks, owner}
-use Rattle.tp_model.specs.Markers.{plain, markers, plain_network}
+use Rattle.tp_model.specs.Sound.{Ends, Sound, owner}
+use Rattle.tp_model.specs.Markers.{markers, plain_network}
 use Rattle.tp_model.specs.Snapshot.{Snapshot, MarkedNetwork, has_recorded, is_closed}
-use Rattle.tp_order.proofs.Sound.{sound_small}
-use Rattle.tp_snap.proofs.Marks.{on_plain}
+use Rattle.tp_order.proofs.Room.{line_room as sound_room, sound_marked}
 use Rattle.tp_snap.proofs.Invariant.{Inside, Holds}
 use Rattle.tp_snap.proofs.Whole.{running}
-
--- the tokens of a line by kind
-pub length-kinds : (ts : List Token) → length ts ≡ datas (plain ts) + acks (plain ts) + markers ts
-length-kinds [] = refl
-length-kinds (Data b ∷ ts) = let h = length-kinds ts in omega arith
-length-kinds (Ack ∷ ts) = let h = length-kinds ts in omega arith
-length-kinds (Marker ∷ ts) = let h = length-kinds ts in omega arith
 
 module _ {Node : Type 0} (M : Machine Node) (w : MarkedNetwork Node) (H : Holds M w) where
   -- a line has at most one Marker
@@ -46,6 +36,4 @@ module _ {Node : Type 0} (M : Machine Node) (w : MarkedNetwork Node) (H : Holds 
 
   -- Over a sound network a line has at most a Data and an Ack beside its Marker.
   pub line_room : (E : Ends Node) → Sound E (plain_network w.live) → (l : ℕ) → length (on_line w.live.lines l) ≤ 2 + markers (on_line w.live.lines l)
-  line_room E sound l =
-      let small = sound_small sound l in
-      omega (arith, length-kinds (on_line w.live.lines l), ap datas (on_plain w.live.lines l), ap acks (on_plain w.live.lines l))
+  line_room E sound l = sound_room (sound_marked w.live sound H.base.unwired) l

@@ -2,7 +2,7 @@
 use Rattle.std.proofs.Common.{◌≡◌, ◌≢◌, ℕ, zero, suc, ◌+◌, ◌*◌, ◌/◌, ◌<◌, ◌≤◌, Bool, true, false, cond, inl, inr, List, [], ◌∷◌, ◌++◌, length, refl, sym, ap, subst, ◌∙◌, arith, Option, Some, eq-eqb, ne_eqb}
 use Rattle.std.specs.Prelude.{◌==◌, nat_lt}
 use Rattle.std.specs.List.{AllByRecursion}
-use Rattle.std.proofs.lemmas.Bool.{cases_eq, ltb-true, ltb-false}
+use Rattle.std.proofs.lemmas.Bool.{cases_eq, ltb-true}
 use Rattle.tp_model.specs.declared.link.Token.{Token}
 use Rattle.tp_model.specs.declared.link.Token.TheVariants.{Marker}
 use Rattle.tp_model.specs.Network.{Machine, Network, has_wire, on_line, for_line}
@@ -12,7 +12,8 @@ use Rattle.tp_model.specs.Markers.{before, markers}
 use Rattle.tp_model.specs.Snapshot.{Snapshot, MarkedNetwork, node_markers, host_markers, with_markers}
 use Rattle.tp_order.proofs.Lines.{on_sent, on_sent_shut, length_sent, for_line-elsewhere}
 use Rattle.tp_order.proofs.Local.{owner_of_link, owner_of_port}
-use Rattle.tp_snap.proofs.Marks.{AreMarkers, markers-append, before-append_markers, for_line_markers, sent_markers}
+use Rattle.tp_order.proofs.Marks.{markers-append}
+use Rattle.tp_snap.proofs.Marks.{AreMarkers, before-append_markers, for_line_markers, sent_markers}
 use Rattle.tp_snap.proofs.Invariant.{Base}
 
 -- ## How many Markers on a line
@@ -105,13 +106,6 @@ owner_node N l i h e = go (nat_lt l (4 * N)) e
     go : (b : Bool) → cond b (l / 4) N ≡ i → (4 * i ≤ l) × (l < 4 * i + 4)
     go true e = (omega arith, omega arith)
     go false e = absurd (omega arith)
-
-pub owner_host : (N l : ℕ) → owner N l ≡ N → 4 * N ≤ l
-owner_host N l e = go (nat_lt l (4 * N)) refl e
-  where
-    go : (b : Bool) → nat_lt l (4 * N) ≡ b → cond b (l / 4) N ≡ N → 4 * N ≤ l
-    go true is e = absurd (let h = ltb-true l (4 * N) is in omega arith)
-    go false is e = ltb-false l (4 * N) is
 
 pub owner_most : (N l : ℕ) → owner N l ≤ N
 owner_most N l = go (nat_lt l (4 * N)) refl

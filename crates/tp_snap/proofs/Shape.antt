@@ -1,5 +1,5 @@
 -- The networks of the invariant have one shape, and an entry keeps what holds at any time.
-use Rattle.std.proofs.Common.{◌≡◌, ℕ, ◌+◌, ◌*◌, ◌<◌, Bool, true, false, cond, List, [], ◌∷◌, ◌++◌, length, refl, sym, ap, subst, ◌∙◌, arith, append-nil}
+use Rattle.std.proofs.Common.{◌≡◌, ℕ, ◌+◌, ◌*◌, ◌<◌, Bool, true, false, cond, List, [], ◌∷◌, ◌++◌, length, refl, sym, ap, subst, ◌∙◌, append-nil}
 use Rattle.std.proofs.lemmas.List.{length-map}
 use Rattle.std.proofs.Math.Path.{fun_ext}
 use Rattle.tp_model.specs.declared.link.Token.{Token}
@@ -11,8 +11,9 @@ use Rattle.tp_model.specs.Snapshot.{Snapshot, MarkedNetwork, journalled}
 use Rattle.tp_order.proofs.Lines.{on_taken, length_taken, on_sent}
 use Rattle.tp_order.proofs.Local.{Step, SameShape, step_shape, step_lines, next_from, process_kept}
 use Rattle.tp_order.proofs.Reorder.{after_last, after_shape}
-use Rattle.tp_snap.proofs.Marks.{markers-append, for_line_unmarked}
-use Rattle.tp_snap.proofs.Plain.{plain_step, step_takes_unmarked, step_sends_unmarked}
+use Rattle.tp_order.proofs.Room.{markers-for_line}
+use Rattle.tp_order.proofs.Marks.{markers-taken}
+use Rattle.tp_order.proofs.Plain.{plain_step, step_markers, step_takes_unmarked, step_sends_unmarked}
 use Rattle.tp_snap.proofs.Invariant.{Base, Marking}
 
 module _ {Node : Type 0} (M : Machine Node) (four : HasFourLinks M) (w : MarkedNetwork Node) (B : Base M w) where
@@ -66,25 +67,21 @@ module _ {Node : Type 0} (M : Machine Node) (four : HasFourLinks M) (w : MarkedN
 
     module _ (never : NeverMarks M) where
       pub takes_unmarked : (l : ℕ) → markers (for_line l (takes w.live e)) ≡ 0
-      takes_unmarked l = for_line_unmarked l (takes w.live e) (step_takes_unmarked M never w.live e v S)
+      takes_unmarked l = markers-for_line l (takes w.live e) (step_takes_unmarked M never w.live e v S)
 
       pub sends_unmarked : (l : ℕ) → ◌≡◌ {A = ℕ} (markers (cond (has_wire w.live.wires l) (for_line l S.sends) [])) 0
       sends_unmarked l = go (has_wire w.live.wires l)
         where
           go : (b : Bool) → ◌≡◌ {A = ℕ} (markers (cond b (for_line l S.sends) [])) 0
-          go true = for_line_unmarked l S.sends (step_sends_unmarked M never w.live e v S)
+          go true = markers-for_line l S.sends (step_sends_unmarked M never w.live e v S)
           go false = refl
 
       -- an entry leaves as many Markers
       pub markers_left : (l : ℕ) → markers (on_line S.out l) ≡ markers (on_line w.live.lines l)
-      markers_left l = omega (arith, ap markers (was_line l), markers-append (for_line l (takes w.live e)) (on_line S.out l), takes_unmarked l)
+      markers_left = markers-taken w.live.lines (takes w.live e) S.out (step_takes_unmarked M never w.live e v S) S.takes_out
 
       pub markers_kept : (l : ℕ) → markers (on_line v.lines l) ≡ markers (on_line w.live.lines l)
-      markers_kept l = sum (has_wire w.live.wires l) (ap markers (now_line l)) (sends_unmarked l)
-        where
-          sum : (b : Bool) → markers (on_line v.lines l) ≡ markers (on_line S.out l ++ cond b (for_line l S.sends) []) → ◌≡◌ {A = ℕ} (markers (cond b (for_line l S.sends) [])) 0
-              → markers (on_line v.lines l) ≡ markers (on_line w.live.lines l)
-          sum b h k = omega (arith, markers_left l, markers-append (on_line S.out l) (cond b (for_line l S.sends) []))
+      markers_kept = step_markers M never w.live e v four S
 
       -- An entry keeps what holds at any time.
       pub base_journalled : Base M (journalled w e v)

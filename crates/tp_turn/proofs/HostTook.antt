@@ -21,7 +21,7 @@ use Rattle.tp_book.proofs.Commit.{Change}
 use Rattle.tp_book.proofs.Changes.{host_change}
 use Rattle.tp_turn.specs.Turns.{TookSo}
 use Rattle.tp_turn.specs.Books.{network_of, Grew, Did}
-use Rattle.tp_turn.proofs.Leads.{change_leads}
+use Rattle.tp_book.proofs.Commit.{change_leads}
 
 -- what a port takes stands in front
 port_front : (ts : List Token) (port : Port) (after : Port × List Token) → port_took (get_or ts 0 Marker) port ≡ Some after → is_first ts (get_or ts 0 Marker) ≡ true

@@ -1,69 +1,28 @@
 -- An entry that a book journals is possible in the network that the book and its agreed nodes are, Markers and all.
-use Rattle.std.proofs.Common.{◌≡◌, ℕ, ◌+◌, ◌*◌, Bool, true, false, List, [], ◌∷◌, length, set, get_or, refl, sym, ap, subst, ◌∙◌, Option, Some, None, slice_get}
+use Rattle.std.proofs.Common.{◌≡◌, ℕ, Bool, true, false, List, [], ◌∷◌, set, get_or, refl, sym, ap, subst, ◌∙◌, Option, Some, None, slice_get}
 use Rattle.std.specs.Prelude.{is_none, Ok}
 use Rattle.tp_model.specs.declared.link.Token.{Token}
 use Rattle.tp_model.specs.declared.link.Token.TheVariants.{Data, Ack, Marker}
 use Rattle.tp_model.specs.declared.wire.WireEnd.TheVariants.{Link}
-use Rattle.tp_model.specs.declared.entry.Entry.{Entry}
 use Rattle.tp_model.specs.declared.entry.Entry.TheVariants.{Take}
 use Rattle.tp_model.specs.NodeState.{NodeState}
 use Rattle.tp_model.specs.Node.{t414, took, on_link}
-use Rattle.tp_model.specs.Network.{Port, Network, Own, OfNode, OfHost, own, put, receiver, has_wire, on_line, is_first, taken, sent}
-use Rattle.tp_model.specs.Entries.{process, takes, does, next}
-use Rattle.tp_model.specs.Order.{after}
+use Rattle.tp_model.specs.Network.{receiver, on_line, is_first}
+use Rattle.tp_model.specs.Entries.{next}
 use Rattle.tp_model.specs.Markers.{is_marker}
-use Rattle.tp_model.specs.Halves.{BookState, live, with_entry}
 use Rattle.tp_order.proofs.Lines.{same_token-self}
-use Rattle.tp_order.proofs.Local.{Step, next_from, process_same, takes_same}
 use Rattle.tp_order.proofs.Reorder.{after_one}
 use Rattle.tp_laws.proofs.Partial.{slice_get-set_same}
 use Rattle.tp_book.specs.Book.{BookValue, agreed}
 use Rattle.tp_book.specs.Kept.{Keeps}
-use Rattle.tp_book.specs.Calls.{on_lines, sends_on, answer_from, front_of, with_ready, after_take, TakeIsAgreed, HasTaken}
+use Rattle.tp_book.specs.Calls.{on_lines, answer_from, front_of, with_ready, after_take, TakeIsAgreed, HasTaken}
 use Rattle.tp_book.specs.Refusals.{takeable_of, else_if, entry_refusal, ready_refusal, IsAnswer}
 use Rattle.tp_book.specs.declared.refusal.Refusal.TheVariants.{NothingToTake, StoreBroken}
-use Rattle.tp_book.proofs.Commit.{Change, agreed_after, length-agreed, without_taken}
+use Rattle.tp_book.proofs.Commit.{Change, change_leads}
+use Rattle.tp_book.proofs.Sending.{answer_on}
 use Rattle.tp_book.proofs.Changes.{take_change}
-use Rattle.tp_node.specs.Takes.{Takes}
 use Rattle.tp_turn.specs.Turns.{TookSo}
 use Rattle.tp_turn.specs.Books.{network_of, Grew, Did}
-
--- another state of a process, on other lines
-put-on : (s : Network NodeState) (lines : List (List Token)) (p : ℕ) (now : Own NodeState) → put (record s { lines = lines }) p now ≡ record (put s p now) { lines = lines }
-unfolding put
-put-on s lines p (OfNode n) = refl
-put-on s lines p (OfHost ports) = refl
-
-module _ (b : BookState NodeState) (K : Keeps b) (e : Entry) (ports : List Port) (nodes : List NodeState) (sends : List (ℕ × Token)) (C : Change b e ports nodes sends) where
-  abbrev old : Network NodeState
-  old = live b (agreed b)
-
-  as_many : length old.nodes ≡ length b.start.nodes
-  as_many = length-agreed b K
-
-  process_old : process old e ≡ process b.start e
-  process_old = process_same b.start old refl as_many e
-
-  abbrev with_lines : List (List Token) → Network NodeState
-  with_lines lines = record (live b nodes) { ports = ports; lines = lines }
-
-  step : Step t414 old e (live (with_entry b e ports sends) nodes)
-  step = record {
-    out = C.out;
-    takes_out = ap (λ ms. taken old.lines ms) (takes_same b.start old e) ∙ C.takes_out;
-    was = C.was;
-    own_was = ap (own old) process_old ∙ C.own_was;
-    now = C.now;
-    sends = sends;
-    change = ap (λ N. does t414 b.start.wires N e C.was) as_many ∙ C.change;
-    makes =
-        put-on old (sent (has_wire b.start.wires) C.out sends) (process old e) C.now
-        ∙ ap (λ (s : Network NodeState). record s { lines = sent (has_wire b.start.wires) C.out sends }) (ap (λ p. put old p C.now) process_old ∙ C.makes)
-        ∙ ap (λ lines. with_lines (sent (has_wire b.start.wires) lines sends)) (sym (without_taken b.lines (takes b.start e) C.out C.takes_out));
-  }
-
-  pub change_leads : next t414 old e ≡ Some (live (with_entry b e ports sends) (agreed (with_entry b e ports sends)))
-  change_leads = next_from t414 old e (live (with_entry b e ports sends) nodes) step ∙ ap (λ given. Some (live (with_entry b e ports sends) given)) (sym (agreed_after b K e ports nodes sends C))
 
 -- ## A node's take
 
@@ -84,15 +43,6 @@ ready_some b line x = go (is_none (takeable_of (on_line b.state.lines line)))
     go true h = absurd h
     go false h = refl
 
--- what a node took, it did
-pub takes_did : (o : Option (NodeState × List (ℕ × Token))) (cause : Type 0) (link : ℕ) (before now : NodeState) (sent : Option Token) → Takes o cause link before (Ok sent) now → o ≡ Some (now, on_link link sent)
-takes_did None cause link before now sent h = absurd h
-takes_did (Some after) cause link before now sent h = rw (h.0, h.1) refl
-
-answer_on : (number link : ℕ) (answer : Option Token) → on_lines number (on_link link answer) ≡ sends_on (4 * number + link) answer
-answer_on number link None = refl
-answer_on number link (Some token) = refl
-
 pub has_taken : (b r : BookValue) (line number link : ℕ) (before now : NodeState) (answer : Option Token) → r ≡ with_ready b line → receiver b.state.start.wires line ≡ Some (Link number link)
     → slice_get (agreed b.state) number ≡ Some before → took before link (front_of b line) ≡ Some (now, on_link link answer) → HasTaken r line answer
 has_taken b r line number link before now answer is_ready goes there did =
@@ -108,7 +58,7 @@ module _ (b r new : BookValue) (line number link : ℕ) (before now : NodeState)
   front = let F = takeable_front (on_line b.state.lines line) some in ap (λ ts. is_first ts (front_of b line)) F.1 ∙ same_token-self (front_of b line)
 
   sends_same : on_lines number (on_link link answer) ≡ answer_from (receiver b.state.start.wires line) answer
-  sends_same = answer_on number link answer ∙ sym (ap (λ end. answer_from end answer) goes)
+  sends_same = sym (answer_on number link answer) ∙ sym (ap (λ end. answer_from end answer) goes)
 
   changed : Change b.state (Take line (front_of b line)) b.state.ports (set (agreed b.state) number now) (answer_from (receiver b.state.start.wires line) answer)
   changed =

@@ -1,6 +1,6 @@
 -- The network of one node and one port: it is sound before its first entry, and a book of it begins there.
 use Rattle.std.proofs.Common.{◌≡◌, ℕ, zero, suc, ◌%◌, ◌<◌, Bool, true, false, cond, List, [], ◌∷◌, ◌++◌, refl, sym, ap, subst, ◌∙◌, arith, Option, Some, None, slice_get}
-use Rattle.std.specs.Prelude.{◌&&◌, is_some, IsSome, Ok, Err}
+use Rattle.std.specs.Prelude.{◌&&◌, is_some, IsSome, Err}
 use Rattle.std.specs.List.{list_all}
 use Rattle.std.proofs.lemmas.Bool.{and_parts}
 use Rattle.tp_model.specs.declared.link.OutEnd.{OutEnd}
@@ -8,11 +8,10 @@ use Rattle.tp_model.specs.declared.link.OutEnd.TheVariants.{Waits, Idle as NoOut
 use Rattle.tp_model.specs.declared.link.InEnd.{InEnd}
 use Rattle.tp_model.specs.declared.link.InEnd.TheVariants.{Inputs, Enabled, Idle}
 use Rattle.tp_model.specs.declared.wire.WireEnd.TheVariants.{Link}
-use Rattle.tp_model.specs.LinkEnd.{is_waiting, is_holding}
 use Rattle.tp_model.specs.EndBytes.{is_idle_out, is_idle_in}
 use Rattle.tp_model.specs.Image.{is_node, node_at, node_of, has_idle_links}
 use Rattle.tp_model.specs.NodeState.{NodeState}
-use Rattle.tp_model.specs.Node.{waits_there, holds_there, t414_ends}
+use Rattle.tp_model.specs.Node.{t414_ends}
 use Rattle.tp_model.specs.Network.{Network, Port, Own, OfNode, OfHost, own, receiver, has_wire, back, on_line}
 use Rattle.tp_model.specs.Order.{after}
 use Rattle.tp_model.specs.Sound.{owner, is_pending, waits_at, holds_at, end_waits, end_holds}
@@ -26,6 +25,7 @@ use Rattle.tp_turn.specs.Nodes.{Agrees}
 use Rattle.tp_turn.specs.declared.trial.Tried.{Tried}
 use Rattle.tp_turn.proofs.Turned.{turns_lead}
 use Rattle.tp_model.specs.CutImage.{only_if}
+use Rattle.tp_laws.proofs.Idle.{none_waits, none_holds}
 use Rattle.tp_laws.proofs.Images.{node_of_bytes}
 use Rattle.tp_laws.proofs.Numbers.{AreBytes}
 use Rattle.tp_laws.proofs.Partial.{cond_some, map_some}
@@ -33,28 +33,6 @@ use Rattle.tp_node.specs.NodeContents.{NodeContents}
 use Rattle.tp_node.specs.FromImage.{ReadsImage}
 use Rattle.tp_node.specs.declared.fault.ImageFault.TheVariants.{Memory as NoMemory}
 use Rattle.tp_turn.specs.Tried.{fresh_image, lone_network, IsTried}
-
--- ## Idle links
-
-idle_out : (ends : List OutEnd) (k : ℕ) → list_all is_idle_out ends ≡ true → waits_there (slice_get ends k) ≡ false
-idle_out [] k e = refl
-idle_out (end ∷ ends) zero e = one end (and_parts (is_idle_out end) (list_all is_idle_out ends) e).0
-  where
-    one : (end : OutEnd) → is_idle_out end ≡ true → is_waiting end ≡ false
-    one NoOutput e = refl
-    one (Waits t) e = cc
-idle_out (end ∷ ends) (suc k) e = idle_out ends k (and_parts (is_idle_out end) (list_all is_idle_out ends) e).1
-
-idle_in : (ends : List InEnd) (k : ℕ) → list_all is_idle_in ends ≡ true → holds_there (slice_get ends k) ≡ false
-idle_in [] k e = refl
-idle_in (end ∷ ends) zero e = one end (and_parts (is_idle_in end) (list_all is_idle_in ends) e).0
-  where
-    one : (end : InEnd) → is_idle_in end ≡ true → is_holding end ≡ false
-    one (Idle None) e = refl
-    one (Idle (Some byte)) e = cc
-    one (Inputs t) e = cc
-    one (Enabled process) e = refl
-idle_in (end ∷ ends) (suc k) e = idle_in ends k (and_parts (is_idle_in end) (list_all is_idle_in ends) e).1
 
 -- ## The node of an image
 
@@ -91,10 +69,6 @@ fresh_none bytes busy = go (node_of bytes) refl
     go None e = refl
     go (Some n) e = ap (λ b. cond b (Some n) None) (ap has_idle_links (sym (node_of_is bytes n e).0) ∙ busy)
 
-pub reads_ok : (o : Option NodeState) (node : NodeContents) → ReadsImage o (Ok node) → (o ≡ Some node.live) × (node.frozen ≡ None)
-reads_ok None node h = absurd h
-reads_ok (Some state) node h = (ap Some (ap (λ (n : NodeContents). n.live) (sym h)), ap (λ (n : NodeContents). n.frozen) h)
-
 pub reads_memory : (bytes : List ℕ) (o : Option NodeState) → node_of bytes ≡ o → ReadsImage o (Err NoMemory) → has_idle_links (node_at bytes) ≡ true → IsSome (fresh_image bytes)
 reads_memory bytes None e h idle = absurd h
 reads_memory bytes (Some n) e h idle = ap is_some (fresh_some bytes n e idle)
@@ -121,7 +95,7 @@ module _ (n : NodeState) (idle : has_idle_links n ≡ true) where
 
       go : (o : Option (Own NodeState)) → own s (owner 1 x) ≡ o → waits_at t414_ends 1 o x ≡ false
       go None is = refl
-      go (Some (OfNode m)) is = rw (only (owner 1 x) m (own_node s (owner 1 x) m is).1) (idle_out n.outputs (x % 4) ends.0)
+      go (Some (OfNode m)) is = rw (only (owner 1 x) m (own_node s (owner 1 x) m is).1) (none_waits n.outputs (x % 4) ends.0)
       go (Some (OfHost ports)) is = rw (← (own_host s (owner 1 x) ports is).1) (none _)
 
   no_holds : (x : ℕ) → end_holds t414_ends s x ≡ false
@@ -129,7 +103,7 @@ module _ (n : NodeState) (idle : has_idle_links n ≡ true) where
     where
       go : (o : Option (Own NodeState)) → own s (owner 1 x) ≡ o → holds_at t414_ends o x ≡ false
       go None is = refl
-      go (Some (OfNode m)) is = rw (only (owner 1 x) m (own_node s (owner 1 x) m is).1) (idle_in n.inputs (x % 4) ends.1)
+      go (Some (OfNode m)) is = rw (only (owner 1 x) m (own_node s (owner 1 x) m is).1) (none_holds n.inputs (x % 4) ends.1)
       go (Some (OfHost ports)) is = refl
 
   empty : (x : ℕ) → on_line s.lines x ≡ []

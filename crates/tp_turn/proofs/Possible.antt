@@ -15,6 +15,7 @@ use Rattle.tp_model.specs.declared.link.Token.TheVariants.{Data, Ack, Marker}
 use Rattle.tp_model.specs.declared.wire.WireEnd.{WireEnd}
 use Rattle.tp_model.specs.declared.wire.WireEnd.TheVariants.{Link, Port as AtPort}
 use Rattle.tp_laws.proofs.Partial.{map_some}
+use Rattle.tp_laws.proofs.Bits.{bit_small, bit_none, bit_some}
 use Rattle.tp_laws.proofs.Taking.{takes_data, takes_ack}
 use Rattle.tp_order.proofs.Local.{own-node, owner_of_link}
 use Rattle.tp_order.proofs.Flight.{owner_node}
@@ -22,18 +23,6 @@ use Rattle.tp_order.proofs.Room.{on_line-plain, datas-plain, acks-plain}
 use Rattle.tp_order.proofs.Sound.{end_waits_is, end_holds_is}
 use Rattle.tp_book.specs.Book.{agreed}
 use Rattle.tp_book.specs.Kept.{Keeps}
-
-bit_small : (b : Bool) → bit b ≤ 1
-bit_small true = omega arith
-bit_small false = omega arith
-
-bit_none : (b : Bool) → bit b ≡ 0 → b ≡ false
-bit_none true e = absurd (omega arith)
-bit_none false e = refl
-
-bit_some : (b : Bool) → 1 ≤ bit b → b ≡ true
-bit_some true e = refl
-bit_some false e = absurd (omega arith)
 
 module _ (b : BookState NodeState) (K : Keeps b) (line number link : ℕ) (node : NodeState) (goes : receiver b.start.wires line ≡ Some (Link number link)) (there : slice_get (agreed b) number ≡ Some node) where
   abbrev s : Network NodeState

@@ -1,15 +1,12 @@
 -- A run that a book journals.
 use Rattle.std.proofs.Common.{◌≡◌, ℕ, zero, suc, ◌<◌, ◌≤◌, true, false, cond, inl, inr, List, [], ◌∷◌, set, refl, sym, ap, subst, ◌∙◌, arith, Some, None, slice_get, eq-eqb, ne_eqb}
-use Rattle.std.specs.Prelude.{is_some}
 use Rattle.std.proofs.lemmas.Bool.{cases_eq}
 use Rattle.std.proofs.lemmas.List.{append-nil}
 use Rattle.tp_model.specs.declared.link.Token.{Token}
 use Rattle.tp_model.specs.declared.entry.Entry.TheVariants.{Run}
 use Rattle.tp_model.specs.declared.limits.TheConstants.{MAX_STEPS}
 use Rattle.tp_model.specs.NodeState.{NodeState}
-use Rattle.tp_model.specs.Outcome.{Rests}
-use Rattle.tp_model.specs.Step.{step_of, in_state}
-use Rattle.tp_model.specs.Node.{t414, node_step, ended}
+use Rattle.tp_model.specs.Node.{t414, node_step}
 use Rattle.tp_model.specs.Network.{steps}
 use Rattle.tp_model.specs.Order.{after}
 use Rattle.tp_order.proofs.Reorder.{after_one}
@@ -18,30 +15,9 @@ use Rattle.tp_book.specs.Book.{BookValue, agreed}
 use Rattle.tp_book.specs.Kept.{Keeps}
 use Rattle.tp_book.specs.Calls.{on_lines, with_run, without_run, after_run, with_journalled, HasRun, RunIsAgreed}
 use Rattle.tp_book.proofs.Changes.{run_change}
-use Rattle.tp_node.specs.RunEnd.{IsWhy}
-use Rattle.tp_node.specs.declared.run.Why.{Why}
-use Rattle.tp_node.specs.declared.run.Why.TheVariants.{Full, Idle, NoFrame, Halted}
 use Rattle.tp_turn.specs.Turns.{RanOn}
 use Rattle.tp_turn.specs.Books.{network_of, Grew, Did}
-use Rattle.tp_turn.proofs.Leads.{change_leads}
-
--- a halted node has no step
-halted_rests : (node : NodeState) → is_some node.cpu.halt ≡ true → node_step node ≡ None
-unfolding node_step step_of
-halted_rests node halted = ap (λ b. ended (cond b Rests (in_state node.cpu.state node.cpu node.memory)) node) halted
-
--- a run that made fewer steps ended because there was none
-pub fewer_none : (why : Why) (most count : ℕ) (cause : Type 0) (now : NodeState) → IsWhy why most count cause now → (cause → ⊥) → count < most → node_step now ≡ None
-fewer_none Full most count cause now w never less = absurd (omega (arith, w, less))
-fewer_none Idle most count cause now w never less = w.1
-fewer_none NoFrame most count cause now w never less = absurd (never w.2)
-fewer_none Halted most count cause now w never less = halted_rests now w.1
-
-pub why_few : (why : Why) (most count : ℕ) (cause : Type 0) (now : NodeState) → IsWhy why most count cause now → count ≤ most
-why_few Full most count cause now w = omega (arith, w)
-why_few Idle most count cause now w = omega (arith, w.0)
-why_few NoFrame most count cause now w = omega (arith, w.0)
-why_few Halted most count cause now w = omega (arith, w.0)
+use Rattle.tp_book.proofs.Commit.{change_leads}
 
 set_twice : {A : Type 0} (xs : List A) (i : ℕ) (x y : A) → slice_get xs i ≡ Some x → set (set xs i y) i x ≡ xs
 set_twice [] i x y e = cc

@@ -14,6 +14,8 @@ mod refusal;
 mod shown;
 #[cfg(test)]
 mod tests;
+#[cfg(test)]
+mod two_nodes_tests;
 
 use args::{Asked, read_args};
 use files::{format_file, recover_file, show_file, try_file};

@@ -1,10 +1,10 @@
-use Rattle.std.proofs.Common.{◌≡◌, ◌+◌, ◌≤◌, ◌++◌, [], length, sym, ap, subst, ◌∙◌, arith, append-nil}
+use Rattle.std.proofs.Common.{◌≡◌, ◌+◌, ◌≤◌, ◌++◌, length, ap, ◌∙◌, arith, append-nil}
 use Rattle.std.specs.Prelude.{flat_map}
 use Rattle.tp_model.specs.Bytes.{zeros}
 use Rattle.tp_area.specs.Formatting.{area_front}
 use Rattle.tp_area.specs.Puts.{Puts}
 use Rattle.tp_area.proofs.Results.{from_ok}
-use Rattle.tp_area.proofs.PutLaws.{puts_three, puts_same}
+use Rattle.tp_area.proofs.PutLaws.{puts_three, puts_same, wider_leaves, then_leaves}
 use Rattle.tp_area.proofs.FormatCalls.{length-area_front}
 use Rattle.tp_area.proofs.formatting.put_first_area.Goals as goal
 
@@ -25,3 +25,32 @@ returns-clause-put g c k =
     from_ok c.put_zeros.result (Puts (533 + c.args.lengths.images) (zeros rest) u v) (Puts 512 ((area_front cut ++ images) ++ zeros rest) s v)
     (puts_three 512 (area_front cut) images (zeros rest) 533 (533 + c.args.lengths.images) s t u v room (omega arith) (omega arith) first (c.in_ok-put_images.ensures.put k))
     (c.put_zeros.ensures.put k)
+
+pub returns-in_err-put_piece-clause-leaves : goal.returns-in_err-put_piece-clause-leaves
+returns-in_err-put_piece-clause-leaves g c k =
+    let front = ap length (c.put_front.ensures ∙ append-nil (area_front c.args.lengths.cut)) ∙ length-area_front c.args.lengths.cut in
+    wider_leaves (512, 21 + c.args.lengths.images + c.args.lengths.rest) (512, length c.put_front.new.out) (g.D.Disk.state c.args.disk.now) (g.D.Disk.state c.put_piece.new.disk)
+    (omega arith, omega arith) (c.put_piece.ensures.leaves k)
+
+pub returns-in_err-put_images-clause-leaves : goal.returns-in_err-put_images-clause-leaves
+returns-in_err-put_images-clause-leaves g c k =
+    let all = 21 + c.args.lengths.images + c.args.lengths.rest in
+    let s = g.D.Disk.state c.args.disk.now in
+    let t = g.D.Disk.state c.put_piece.new.disk in
+    let front = ap length (c.put_front.ensures ∙ append-nil (area_front c.args.lengths.cut)) ∙ length-area_front c.args.lengths.cut in
+    let len = c.requires.images in
+    let first = wider_leaves (512, all) (512, length c.put_front.new.out) s t (omega arith, omega arith) (c.put_piece.ensures.leaves k) in
+    then_leaves (512, all) (533, length (flat_map (λ image. image.items) c.args.images.now)) s t (g.D.Disk.state c.put_images.new.disk)
+    (omega arith, omega arith) first (c.put_images.ensures.leaves k)
+
+pub returns-clause-leaves : goal.returns-clause-leaves
+returns-clause-leaves g c k =
+    let all = 21 + c.args.lengths.images + c.args.lengths.rest in
+    let s = g.D.Disk.state c.args.disk.now in
+    let t = g.D.Disk.state c.put_piece.new.disk in
+    let u = g.D.Disk.state c.put_images.new.disk in
+    let front = ap length (c.put_front.ensures ∙ append-nil (area_front c.args.lengths.cut)) ∙ length-area_front c.args.lengths.cut in
+    let len = c.requires.images in
+    let first = wider_leaves (512, all) (512, length c.put_front.new.out) s t (omega arith, omega arith) (c.put_piece.ensures.leaves k) in
+    let second = then_leaves (512, all) (533, length (flat_map (λ image. image.items) c.args.images.now)) s t u (omega arith, omega arith) first (c.put_images.ensures.leaves k) in
+    then_leaves (512, all) (533 + c.args.lengths.images, c.args.lengths.rest) s u (g.D.Disk.state c.put_zeros.new.disk) (omega arith, omega arith) second (c.put_zeros.ensures.leaves k)

@@ -1,5 +1,4 @@
 use Rattle.std.proofs.Common.{◌∙◌, sym, arith}
-use Rattle.std.proofs.Common.{length-drop}
 use Rattle.tp_area.proofs.FreshImages.{ins_more, ins_none, busy, idle}
 use Rattle.tp_area.proofs.images.are_idle_inputs.Goals as goal
 

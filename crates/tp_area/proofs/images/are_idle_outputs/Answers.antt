@@ -1,5 +1,4 @@
 use Rattle.std.proofs.Common.{◌∙◌, sym, arith}
-use Rattle.std.proofs.Common.{length-drop}
 use Rattle.tp_area.proofs.FreshImages.{outs_more, outs_none, busy, idle}
 use Rattle.tp_area.proofs.images.are_idle_outputs.Goals as goal
 

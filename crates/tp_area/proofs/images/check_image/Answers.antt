@@ -1,4 +1,4 @@
-use Rattle.std.proofs.Common.{◌∙◌, arith}
+use Rattle.std.proofs.Common.{arith}
 use Rattle.tp_area.proofs.FreshImages.{image_long, other_links, fresh_image}
 use Rattle.tp_area.proofs.images.check_image.Goals as goal
 

@@ -1,6 +1,7 @@
-use Rattle.std.proofs.Common.{rules, ◌≡◌, ◌+◌, ◌≤◌, ℕ, List, Vec, Global, length, arith}
+use Rattle.std.proofs.Common.{rules, ◌≤◌, ℕ, List, Vec, Global, length, take, take_all, ap, arith}
+use Rattle.std.specs.Prelude.{flat_map}
 use Rattle.tp_area.specs.Puts.{Puts}
-use Rattle.tp_area.proofs.PutLaws.{puts_same, image_puts, image_fits, image_place}
+use Rattle.tp_area.proofs.PutLaws.{puts_same, image_puts, image_fits, image_place, image_leaves}
 use Rattle.tp_area.proofs.puts.put_images.Goals as goal
 
 abbrev items : Vec ℕ Global → List ℕ
@@ -31,4 +32,19 @@ loop-image-preserved g c =
           puts_same c.loop-image.place c.deref.result.now (items image) t u c.deref.ensures.value (c.in_ok-put_piece.ensures.put k) in
           image_puts items images i image c.args.at c.loop-image.place s t u c.loop-image-test.true c.image-item.is room
           c.loop-image.invariant.place (c.loop-image.invariant.put k) here;
+      leaves = λ k.
+          image_leaves items images i image c.deref.result.now c.args.at c.loop-image.place (g.D.Disk.state c.args.disk.now) (g.D.Disk.state c.loop-image.disk) (g.D.Disk.state c.put_piece.new.disk)
+          c.loop-image-test.true c.image-item.is c.deref.ensures.value c.loop-image.invariant.place (c.loop-image.invariant.leaves k) (c.put_piece.ensures.leaves k);
     }
+
+pub returns-in_err-put_piece-clause-leaves : goal.returns-in_err-put_piece-clause-leaves
+returns-in_err-put_piece-clause-leaves g c k =
+    image_leaves items c.args.images.now c.loop-image.image-index c.image-item.result c.deref.result.now c.args.at c.loop-image.place
+    (g.D.Disk.state c.args.disk.now) (g.D.Disk.state c.loop-image.disk) (g.D.Disk.state c.put_piece.new.disk)
+    c.loop-image-test.true c.image-item.is c.deref.ensures.value c.loop-image.invariant.place (c.loop-image.invariant.leaves k) (c.put_piece.ensures.leaves k)
+
+pub returns-clause-put : goal.returns-clause-put
+returns-clause-put g c k =
+    let images = c.args.images.now in
+    puts_same c.args.at (flat_map items (take c.loop-image.image-index images)) (flat_map items images) (g.D.Disk.state c.args.disk.now) (g.D.Disk.state c.loop-image.disk)
+    (ap (flat_map items) (take_all c.loop-image.image-index images (omega (arith, c.loop-image-test.false)))) (c.loop-image.invariant.put k)

@@ -1,6 +1,7 @@
-use Rattle.std.proofs.Common.{rules, ◌≡◌, ◌+◌, ◌≤◌, length, arith}
+use Rattle.std.proofs.Common.{rules, ◌≡◌, ◌+◌, ◌-◌, ◌≤◌, [], length, ap, arith}
+use Rattle.tp_model.specs.Bytes.{zeros}
 use Rattle.std.proofs.lemmas.List.{take-replicate}
-use Rattle.tp_area.proofs.PutLaws.{zeros_more}
+use Rattle.tp_area.proofs.PutLaws.{puts_none, puts_same, zeros_more, zeros_leave, none_leaves}
 use Rattle.tp_area.proofs.puts.put_zeros.Goals as goal
 
 pub loop-left-preserved : goal.loop-left-preserved
@@ -14,4 +15,23 @@ loop-left-preserved g c = record {
       let room : c.args.at + c.args.count ≤ length s.now.bytes = omega (arith, c.requires.inside, whole) in
       zeros_more c.args.at c.args.count c.loop-left.left c.min-size.result _ s (g.D.Disk.state c.loop-left.disk) (g.D.Disk.state c.put_piece.new.disk)
       room c.loop-left.invariant.some (omega arith) (take-replicate c.min-size.result 4096 0 (omega arith)) (c.loop-left.invariant.put k) (c.in_ok-put_piece.ensures.put k);
+  leaves = λ k.
+      zeros_leave c.args.at c.args.count c.loop-left.left c.min-size.result _ (g.D.Disk.state c.args.disk.now) (g.D.Disk.state c.loop-left.disk) (g.D.Disk.state c.put_piece.new.disk)
+      c.loop-left.invariant.some (omega arith) (take-replicate c.min-size.result 4096 0 (omega arith)) (c.loop-left.invariant.leaves k) (c.put_piece.ensures.leaves k);
 }
+
+pub loop-left-init : goal.loop-left-init
+loop-left-init g c = record {
+  some = omega arith;
+  size = search rules;
+  failures = search rules;
+  put = λ k.
+      puts_same c.args.at [] (zeros (c.args.count - c.args.count)) (g.D.Disk.state c.args.disk.now) (g.D.Disk.state c.args.disk.now)
+      (let none : 0 ≡ c.args.count - c.args.count = omega arith in ap zeros none) (puts_none c.args.at (g.D.Disk.state c.args.disk.now));
+  leaves = λ k. none_leaves c.args.at c.args.count (g.D.Disk.state c.args.disk.now);
+}
+
+pub returns-in_err-put_piece-clause-leaves : goal.returns-in_err-put_piece-clause-leaves
+returns-in_err-put_piece-clause-leaves g c k =
+    zeros_leave c.args.at c.args.count c.loop-left.left c.min-size.result _ (g.D.Disk.state c.args.disk.now) (g.D.Disk.state c.loop-left.disk) (g.D.Disk.state c.put_piece.new.disk)
+    c.loop-left.invariant.some (omega arith) (take-replicate c.min-size.result 4096 0 (omega arith)) (c.loop-left.invariant.leaves k) (c.put_piece.ensures.leaves k)

@@ -1,6 +1,7 @@
 use Rattle.std.proofs.Common.{◌≡◌, ◌-◌, ◌≤◌}
 use Rattle.tp_model.specs.Bytes.{zeros}
-use Rattle.tp_area.specs.Puts.{Puts}
+use Rattle.tp_model.specs.DiskHistory.{LeavesOnly}
+use Rattle.tp_area.specs.Puts.{ButFor, Puts}
 use Rattle.tp_area.proofs.puts.put_zeros.Given as goal
 
 abbrev pub invariant-loop-left : goal.invariant-loop-left
@@ -9,6 +10,7 @@ invariant-loop-left g l = record {
   size : g.D.Disk.size_of l.disk ≡ g.D.Disk.size_of l.initial.disk;
   failures : g.D.Disk.failures_of l.disk ≡ g.D.Disk.failures_of l.initial.disk;
   put : g.D.Disk.keeps → Puts l.at (zeros (l.count - l.left)) (g.D.Disk.state l.initial.disk) (g.D.Disk.state l.disk);
+  leaves : g.D.Disk.keeps → LeavesOnly (g.D.Disk.state l.initial.disk) (g.D.Disk.state l.disk) (ButFor l.at l.count (g.D.Disk.state l.initial.disk).now);
 }
 
 abbrev pub decreases-loop-left : goal.decreases-loop-left

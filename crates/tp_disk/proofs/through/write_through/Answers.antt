@@ -1,6 +1,6 @@
 use Rattle.std.proofs.Common.{◌+◌, ◌≤◌, length, Result, Ok, Err, OnErr, arith}
-use Rattle.tp_model.specs.Disk.{Write, Sync}
-use Rattle.tp_model.specs.DiskHistory.{Fails}
+use Rattle.std.proofs.lemmas.Result.{on_err_weaker}
+use Rattle.tp_model.specs.Disk.{Write}
 use Rattle.tp_disk.proofs.Calls.{call_leaves, write_broke, sync_broke, through_leaves}
 use Rattle.tp_disk.proofs.through.write_through.Goals as goal
 
@@ -8,16 +8,11 @@ on_err : {T E : Type 0} (r : Result T E) (P : Type 0) → P → OnErr r P
 on_err (Ok x) P has = tt
 on_err (Err e) P has = has
 
--- what follows from a failure, follows where there is one
-from_err : {T E : Type 0} (r : Result T E) (P Q : Type 0) → (P → Q) → OnErr r P → OnErr r Q
-from_err (Ok x) P Q f has = tt
-from_err (Err e) P Q f has = f has
-
 pub returns-in_err-write_at-clause-broke : goal.returns-in_err-write_at-clause-broke
 returns-in_err-write_at-clause-broke g c k =
     let s = g.D.Disk.state c.args.disk.now in
     let t = g.D.Disk.state c.write_at.new.self in
-    on_err c.from_residual.result _ (write_broke c.args.at c.args.bytes.now s t (c.in_err-write_at.ensures.failed k))
+    on_err c.from_residual.result _ (write_broke c.args.at c.args.bytes.now s t (c.write_at.ensures.goes k) (c.in_err-write_at.ensures.failed k))
 
 pub returns-in_err-write_at-clause-any_moment : goal.returns-in_err-write_at-clause-any_moment
 returns-in_err-write_at-clause-any_moment g c k =
@@ -31,8 +26,8 @@ returns-clause-broke g c k =
     let s = g.D.Disk.state c.args.disk.now in
     let t = g.D.Disk.state c.write_at.new.self in
     let u = g.D.Disk.state c.sync.new.self in
-    from_err c.sync.result (Fails Sync t u) _
-    (sync_broke c.args.at c.args.bytes.now s t u (c.in_ok-write_at.ensures.after k) (c.write_at.ensures.goes k))
+    on_err_weaker c.sync.result
+    (sync_broke c.args.at c.args.bytes.now s t u (c.in_ok-write_at.ensures.after k) (c.write_at.ensures.goes k) (c.sync.ensures.goes k))
     (c.sync.ensures.failed k)
 
 pub returns-clause-any_moment : goal.returns-clause-any_moment

@@ -13,7 +13,7 @@ use Rattle.tp_open.proofs.Cuts.{cut_in-records, cut_ok, cut_fault, cut_error, te
 use Rattle.tp_open.specs.Nodes.{live, HaveImages}
 use Rattle.tp_open.proofs.ReadParts.{parts_cut}
 use Rattle.tp_open.proofs.Room.{area_room}
-use Rattle.tp_open.proofs.Topologies.{HasShape, has_shape}
+use Rattle.tp_area.proofs.Topologies.{HasShape, has_shape}
 use Rattle.tp_open.proofs.cut.read_cut.Given as given
 use Rattle.tp_open.proofs.cut.read_cut.Goals as goal
 use Rattle.tp_open.proofs.cut.read_cut.Goals.{After-read_records, After-wires, After-wires-2}

@@ -3,7 +3,7 @@ use Rattle.std.proofs.lemmas.List.{length-map}
 use Rattle.std.proofs.lemmas.Option.{slice_get-map, slice_get_read}
 use Rattle.tp_model.specs.Node.{t414_ends}
 use Rattle.tp_open.specs.Parts.{network_in}
-use Rattle.tp_open.proofs.LineEnds.{end_holds-link, end_holds-port}
+use Rattle.tp_order.proofs.InPlace.{end_holds-link, end_holds-port}
 use Rattle.tp_open.proofs.flights.end_holds.Goals as goal
 
 pub returns-then-line-parts : goal.returns-then-line-parts

@@ -6,7 +6,7 @@ use Rattle.tp_model.specs.Node.{t414_ends}
 use Rattle.tp_model.specs.Sound.{is_pending, is_some_byte}
 use Rattle.tp_book.specs.Parts.{port_of}
 use Rattle.tp_open.specs.Parts.{network_in}
-use Rattle.tp_open.proofs.LineEnds.{end_waits-link, end_waits-port}
+use Rattle.tp_order.proofs.InPlace.{end_waits-link, end_waits-port}
 use Rattle.tp_open.proofs.flights.end_waits.Goals as goal
 
 some_byte : (bytes : List ℕ) → not (length bytes == 0) ≡ is_some_byte bytes

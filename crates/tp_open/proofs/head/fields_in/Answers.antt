@@ -14,10 +14,10 @@ returns-then-from-gt-MAX_NODES-clause-value c =
 
 pub returns-then-is_whole-clause-value : goal.returns-then-is_whole-clause-value
 returns-then-is_whole-clause-value c =
-    let is = head_at-parts c.args.bytes.now c.topology_in-topology.result c.u64_at-area.result c.requires.whole c.topology_in-topology.ensures.pages c.topology_in-topology.ensures.ports c.topology_in-topology.ensures.wires c.u64_at-area.ensures in
+    let is = head_at-parts c.args.bytes.now c.topology_in-topology.result c.u64_at-area.result c.requires c.topology_in-topology.ensures.pages c.topology_in-topology.ensures.ports c.topology_in-topology.ensures.wires c.u64_at-area.ensures in
     sym (fields_in-whole c.args.len c.args.bytes.now _ c.is_whole.result is c.is_whole.ensures ∙ cond-true c.is_whole.result _ None c.if-is_whole.true)
 
 pub returns-else-is_whole-clause-value : goal.returns-else-is_whole-clause-value
 returns-else-is_whole-clause-value c =
-    let is = head_at-parts c.args.bytes.now c.topology_in-topology.result c.u64_at-area.result c.requires.whole c.topology_in-topology.ensures.pages c.topology_in-topology.ensures.ports c.topology_in-topology.ensures.wires c.u64_at-area.ensures in
+    let is = head_at-parts c.args.bytes.now c.topology_in-topology.result c.u64_at-area.result c.requires c.topology_in-topology.ensures.pages c.topology_in-topology.ensures.ports c.topology_in-topology.ensures.wires c.u64_at-area.ensures in
     sym (fields_in-whole c.args.len c.args.bytes.now _ c.is_whole.result is c.is_whole.ensures ∙ cond-false c.is_whole.result _ None c.if-is_whole.false)

@@ -2,7 +2,8 @@ use Rattle.std.proofs.Common.{◌∙◌, ap}
 use Rattle.tp_model.specs.CutImage.{or_damaged}
 use Rattle.tp_open.proofs.ReadParts.{node_imaged}
 use Rattle.tp_model.specs.Image.{node_of}
-use Rattle.tp_open.proofs.Nodes.{image_read, node_with-whole}
+use Rattle.tp_node.proofs.Answered.{image_read}
+use Rattle.tp_open.proofs.Nodes.{node_with-whole}
 use Rattle.tp_open.proofs.node.node_in.Goals as goal
 
 pub returns-in-Ok-clause-is : goal.returns-in-Ok-clause-is

@@ -1,6 +1,8 @@
+use Rattle.std.proofs.Common.{length, arith}
 use Rattle.tp_model.specs.Node.{t414_ends}
-use Rattle.tp_replay.proofs.Cuts.{cut_sound}
+use Rattle.tp_order.proofs.InPlace.{flights_found, sound_in_place}
 use Rattle.tp_replay.proofs.laws.cuts_are_sound.Goals as goal
 
 pub returns : goal.returns
-returns c = λ s at wired as_long shaped empty passed. cut_sound t414_ends s at wired as_long shaped empty passed
+returns c = λ s at wired as_long shaped empty passed.
+    sound_in_place t414_ends s wired as_long shaped empty (λ x below. flights_found t414_ends s at 0 (length s.lines) passed x (omega arith) (omega (arith, below, as_long)))

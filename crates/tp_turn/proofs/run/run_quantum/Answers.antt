@@ -4,25 +4,26 @@ use Rattle.std.proofs.lemmas.Bool.{true≢false}
 use Rattle.tp_model.specs.Network.{steps}
 use Rattle.tp_model.specs.Node.{t414, node_step}
 use Rattle.tp_laws.proofs.Nodes.{node_steps}
-use Rattle.tp_turn.proofs.Ran.{fewer_none, why_few, has_run, run_agrees, run_done}
+use Rattle.tp_node.proofs.Answered.{why_most, why_fewer}
+use Rattle.tp_turn.proofs.Ran.{has_run, run_agrees, run_done}
 use Rattle.tp_turn.proofs.run.run_quantum.Goals as goal
 
 pub commit_run-note-requires-clause-ran : goal.commit_run-note-requires-clause-ran
 commit_run-note-requires-clause-ran c =
     let made : steps t414 c.count.result c.args.node.now.live ≡ Some (c.run-ran.new.self.live, c.as_slice.result.now) = rw (c.count.ensures, c.as_slice.ensures.value) c.run-ran.ensures.steps in
-    let few : c.count.result ≤ c.args.quantum = rw c.count.ensures (why_few _ _ _ _ _ c.run-ran.ensures.why) in
+    let few : c.count.result ≤ c.args.quantum = rw c.count.ensures (why_most _ _ _ _ _ c.run-ran.ensures.why) in
     has_run c.args.book.now c.reserve_run.new.self c.args.number c.count.result c.args.quantum c.args.node.now.live c.run-ran.new.self.live c.as_slice.result.now
     c.in_ok-reserve_run.ensures.ok c.requires.agrees.there few c.requires.quantum made
 
 pub returns-clause-ran : goal.returns-clause-ran
 returns-clause-ran c =
     let made : steps t414 c.count.result c.args.node.now.live ≡ Some (c.run-ran.new.self.live, c.as_slice.result.now) = rw (c.count.ensures, c.as_slice.ensures.value) c.run-ran.ensures.steps in
-    let few : c.count.result ≤ c.args.quantum = rw c.count.ensures (why_few _ _ _ _ _ c.run-ran.ensures.why) in
+    let few : c.count.result ≤ c.args.quantum = rw c.count.ensures (why_most _ _ _ _ _ c.run-ran.ensures.why) in
     let stands = run_agrees c.args.book.now c.reserve_run.new.self c.commit_run-note.new.self c.args.number c.count.result c.args.node.now.live c.run-ran.new.self.live c.as_slice.result.now
     c.in_ok-reserve_run.ensures.ok c.requires.agrees.there made c.commit_run-note.ensures.agreed in
     let never : IsSome c.args.node.now.frozen → ⊥ = λ frozen. true≢false (sym frozen ∙ ap is_some c.requires.agrees.thawed) in
     let all : c.count.result < c.args.quantum → node_step c.run-ran.new.self.live ≡ None =
-    λ less. fewer_none c.run-ran.result.why c.args.quantum c.run-ran.result.count (IsSome c.args.node.now.frozen) c.run-ran.new.self.live c.run-ran.ensures.why never (omega (arith, less, c.count.ensures)) in
+    λ less. why_fewer c.run-ran.result.why c.args.quantum c.run-ran.result.count (IsSome c.args.node.now.frozen) c.run-ran.new.self.live c.run-ran.ensures.why never (omega (arith, less, c.count.ensures)) in
     run_done c.args.book.now c.reserve_run.new.self c.commit_run-note.new.self c.args.number c.count.result c.args.quantum c.args.node.now.live c.run-ran.new.self.live c.as_slice.result.now
     c.known.ensures.keeps c.in_ok-reserve_run.ensures.ok c.commit_run-note.ensures.book c.requires.free c.requires.agrees.there few c.requires.quantum made all stands
 

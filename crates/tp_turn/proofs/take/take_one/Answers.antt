@@ -5,7 +5,8 @@ use Rattle.tp_book.specs.Calls.{front_of}
 use Rattle.tp_laws.specs.NodeOfBytes.{CarriesByte}
 use Rattle.tp_laws.proofs.Nodes.{carries, node_took}
 use Rattle.tp_turn.proofs.Possible.{can_take}
-use Rattle.tp_turn.proofs.Leads.{takeable_front, ready_some, takes_did, has_taken, take_done, take_agrees}
+use Rattle.tp_node.proofs.Answered.{takes_ok}
+use Rattle.tp_turn.proofs.Leads.{takeable_front, ready_some, has_taken, take_done, take_agrees}
 use Rattle.tp_turn.proofs.take.take_one.Goals as goal
 
 pub take-requires : goal.take-requires
@@ -17,21 +18,21 @@ take-requires c =
 
 pub commit_take-note-requires-clause-took : goal.commit_take-note-requires-clause-took
 commit_take-note-requires-clause-took c =
-    let did = rw c.in-Ok.ensures.ok.1 at (takes_did _ _ _ _ _ c.in-Ok-take.sent c.in-Ok-take.ensures.takes) in
+    let did = rw c.in-Ok.ensures.ok.1 at (takes_ok _ _ _ _ _ c.in-Ok-take.sent c.in-Ok-take.ensures.takes) in
     has_taken c.args.book.now c.ready_take.new.self c.args.line c.args.number c.args.link c.args.node.now.live c.take.new.self.live c.in-Ok-take.sent
     c.in-Ok.ensures.ok.0 c.requires.goes c.requires.agrees.there did
 
 pub returns-in-Ok-take-clause-took : goal.returns-in-Ok-take-clause-took
 returns-in-Ok-take-clause-took c =
     let some = ready_some c.args.book.now c.args.line c.in-Ok.token c.in-Ok.ensures.answer in
-    let did = rw c.in-Ok.ensures.ok.1 at (takes_did _ _ _ _ _ c.in-Ok-take.sent c.in-Ok-take.ensures.takes) in
+    let did = rw c.in-Ok.ensures.ok.1 at (takes_ok _ _ _ _ _ c.in-Ok-take.sent c.in-Ok-take.ensures.takes) in
     take_done c.args.book.now c.ready_take.new.self c.commit_take-note.new.self c.args.line c.args.number c.args.link c.args.node.now.live c.take.new.self.live c.in-Ok-take.sent
     c.known.ensures.keeps c.in-Ok.ensures.ok.0 c.commit_take-note.ensures.book c.requires.goes c.requires.idle c.requires.agrees.there some did
 
 pub returns-in-Ok-take-clause-agrees : goal.returns-in-Ok-take-clause-agrees
 returns-in-Ok-take-clause-agrees c =
     let some = ready_some c.args.book.now c.args.line c.in-Ok.token c.in-Ok.ensures.answer in
-    let did = rw c.in-Ok.ensures.ok.1 at (takes_did _ _ _ _ _ c.in-Ok-take.sent c.in-Ok-take.ensures.takes) in
+    let did = rw c.in-Ok.ensures.ok.1 at (takes_ok _ _ _ _ _ c.in-Ok-take.sent c.in-Ok-take.ensures.takes) in
     let carried : CarriesByte (front_of c.args.book.now c.args.line) = subst CarriesByte c.in-Ok.ensures.ok.1 (carries c.in-Ok.token c.carries_byte.ensures) in
     record {
       there = take_agrees c.args.book.now c.ready_take.new.self c.commit_take-note.new.self c.args.line c.args.number c.args.link c.args.node.now.live c.take.new.self.live c.in-Ok-take.sent

@@ -3,7 +3,8 @@ use Rattle.std.specs.Prelude.{Err}
 use Rattle.tp_model.specs.Image.{node_at, node_of, has_idle_links}
 use Rattle.tp_node.specs.FromImage.{ReadsImage}
 use Rattle.tp_node.specs.declared.fault.ImageFault.TheVariants.{Memory}
-use Rattle.tp_turn.proofs.Lone.{fresh_some, fresh_none, reads_ok, reads_memory}
+use Rattle.tp_node.proofs.Answered.{image_read, image_thawed}
+use Rattle.tp_turn.proofs.Lone.{fresh_some, fresh_none, reads_memory}
 use Rattle.tp_turn.proofs.trial.lone_node.Goals as goal
 
 pub returns-then-not-has_idle_links : goal.returns-then-not-has_idle_links
@@ -14,8 +15,8 @@ returns-then-not-has_idle_links c =
 pub returns-in-Ok : goal.returns-in-Ok
 returns-in-Ok c =
     let yes : has_idle_links (node_at c.args.image.now) ≡ true = search rules in
-    let read = reads_ok (node_of c.args.image.now) c.in-Ok.node c.in-Ok.ensures in
-    (fresh_some c.args.image.now c.in-Ok.node.live read.0 yes, read.1)
+    let read = image_read (node_of c.args.image.now) c.in-Ok.node c.in-Ok.ensures in
+    (fresh_some c.args.image.now c.in-Ok.node.live read yes, image_thawed (node_of c.args.image.now) c.in-Ok.node c.in-Ok.ensures)
 
 pub returns-in-Err-Memory : goal.returns-in-Err-Memory
 returns-in-Err-Memory c =

@@ -8,7 +8,7 @@ use Rattle.tp_model.specs.Bytes.{u16_bytes, u32_bytes}
 use Rattle.tp_model.specs.EndBytes.{out_end_bytes, in_end_bytes}
 use Rattle.tp_model.specs.Image.{words_of, halt_byte, state_byte, page_count, image_head}
 use Rattle.tp_node.specs.StateWith.{state_with}
-use Rattle.tp_node.proofs.EndsAsBytes.{length-out_end_bytes, length-in_end_bytes}
+use Rattle.tp_laws.proofs.EndImages.{length-out_end, length-in_end}
 use Rattle.tp_node.proofs.Pieces.{piece_behind, length-pieces}
 use Rattle.tp_node.proofs.head.Head.write.Goals as goal
 
@@ -24,8 +24,8 @@ returns c memory pages =
     let inputs = flat_map in_end_bytes head.inputs in
     let four : length head.outputs ≡ 4 = omega arith in
     let four_in : length head.inputs ≡ 4 = omega arith in
-    let size_out : length outputs ≡ 64 = length-pieces out_end_bytes 16 length-out_end_bytes head.outputs ∙ ap (λ n. 16 * n) four in
-    let size_in : length inputs ≡ 64 = length-pieces in_end_bytes 16 length-in_end_bytes head.inputs ∙ ap (λ n. 16 * n) four_in in
+    let size_out : length outputs ≡ 64 = length-pieces out_end_bytes 16 length-out_end head.outputs ∙ ap (λ n. 16 * n) four in
+    let size_in : length inputs ≡ 64 = length-pieces in_end_bytes 16 length-in_end head.inputs ∙ ap (λ n. 16 * n) four_in in
     let o1 = c.put_four.new.out in
     let o2 = put_mid 4 (length o1 - 4) o1 c.put_words.new.out in
     let o3 = put_mid 40 (length o2 - 40) o2 c.put_four-2.new.out in

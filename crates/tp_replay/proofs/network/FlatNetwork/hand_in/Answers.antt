@@ -1,6 +1,7 @@
 use Rattle.std.proofs.Common.{◌≡◌, ◌+◌, ◌*◌, ◌<◌, length, option_to_list, arith, sym, ◌∙◌}
 use Rattle.tp_model.specs.declared.entry.Entry.TheVariants.{HostIn}
 use Rattle.tp_model.specs.Entries.{handed_in}
+use Rattle.tp_book.proofs.Sending.{sends_on-tokens}
 use Rattle.tp_replay.specs.Inside.{state_of}
 use Rattle.tp_replay.proofs.Applied.{refused, applied, nowhere, cannot, port_count, port_at, line_known, line_there, same_item, room, port_inside, port_next}
 use Rattle.tp_replay.proofs.Impossible.{hand_in_none}
@@ -34,9 +35,9 @@ send_some-requires c =
     let S = hand_in_step (state_of n) c.args.port c.args.byte c.index_mut.result.now.port c.hand_in-token.new.self.port (option_to_list c.hand_in-token.result) at c.hand_in-token.ensures.handed in
     let line : c.port_line-line.result ≡ 4 * length (state_of n).nodes + c.args.port = rw (← c.self.view_is) at c.port_line-line.ensures in
     record {
-      known = rw c.deref.ensures.value (line_known n c.self.invariant c.args.port _ below line);
+      wired = rw c.deref.ensures.value (line_known n c.self.invariant c.args.port _ below line);
       there = line_there n c.self.invariant c.args.port _ below line;
-      room = rw (c.deref.ensures.value, line) (room n c.self.invariant (HostIn c.args.port c.args.byte) n.lines _ _ S);
+      room = rw (c.deref.ensures.value, line, sends_on-tokens _ c.hand_in-token.result) (room n c.self.invariant (HostIn c.args.port c.args.byte) n.lines _ _ S);
     }
 
 pub invariant_of-self : goal.invariant_of-self
@@ -46,7 +47,7 @@ invariant_of-self c =
     let at = port_at n c.self.invariant c.args.port c.index_mut.result.now below c.index_mut.ensures.value in
     let S = hand_in_step (state_of n) c.args.port c.args.byte c.index_mut.result.now.port c.hand_in-token.new.self.port (option_to_list c.hand_in-token.result) at c.hand_in-token.ensures.handed in
     let line : c.port_line-line.result ≡ 4 * length (state_of n).nodes + c.args.port = rw (← c.self.view_is) at c.port_line-line.ensures in
-    let on = rw (c.deref.ensures.value, line) at c.send_some.ensures in
+    let on = rw (c.deref.ensures.value, line, sends_on-tokens _ c.hand_in-token.result) at c.send_some.ensures in
     port_inside n c.self.invariant (HostIn c.args.port c.args.byte) n.lines c.args.port c.hand_in-token.new.self (option_to_list c.hand_in-token.result) S c.send_some.new.lines on tt
 
 pub returns-clause-applies : goal.returns-clause-applies
@@ -56,5 +57,5 @@ returns-clause-applies c =
     let at = port_at n c.self.invariant c.args.port c.index_mut.result.now below c.index_mut.ensures.value in
     let S = hand_in_step (state_of n) c.args.port c.args.byte c.index_mut.result.now.port c.hand_in-token.new.self.port (option_to_list c.hand_in-token.result) at c.hand_in-token.ensures.handed in
     let line : c.port_line-line.result ≡ 4 * length (state_of n).nodes + c.args.port = rw (← c.self.view_is) at c.port_line-line.ensures in
-    let on = rw (c.deref.ensures.value, line) at c.send_some.ensures in
+    let on = rw (c.deref.ensures.value, line, sends_on-tokens _ c.hand_in-token.result) at c.send_some.ensures in
     rw (← c.self.view_is) (applied _ _ (port_next n c.self.invariant (HostIn c.args.port c.args.byte) n.lines c.args.port c.hand_in-token.new.self (option_to_list c.hand_in-token.result) S c.send_some.new.lines on))

@@ -11,3 +11,11 @@ returns-clause-parts c =
       lines = c.in_ok-all_tokens.ensures;
       ports = c.in_ok-all_parts.ensures ∙ ap (map (λ port. port.port)) c.deref-2.ensures.value;
     })
+
+pub returns-clause-again : goal.returns-clause-again
+returns-clause-again c =
+    let wires = c.in_ok-from_slice.ensures.items ∙ c.deref.ensures.value in
+    let nodes = c.in_ok-images_of.ensures.spelt in
+    let ports = c.in_ok-all_parts.ensures ∙ ap (map (λ port. port.port)) c.deref-2.ensures.value in
+    let lines = c.in_ok-all_tokens.ensures in
+    rw (← c.self.view_is) (λ i. record { wires = wires i; nodes = nodes i; ports = ports i; lines = lines i })

@@ -8,7 +8,8 @@ use Rattle.tp_laws.proofs.Nodes.{carries}
 use Rattle.tp_replay.specs.Inside.{state_of}
 use Rattle.tp_replay.proofs.Applied.{node_count, node_at, room, node_inside, node_next}
 use Rattle.tp_replay.proofs.Fronts.{front_taken}
-use Rattle.tp_replay.proofs.Ran.{takes_ok, takes_err, answer_lines}
+use Rattle.tp_node.proofs.Answered.{takes_ok, takes_err}
+use Rattle.tp_book.proofs.Sending.{answer_on}
 use Rattle.tp_replay.proofs.Steps.{without_front, node_takes}
 use Rattle.tp_replay.proofs.network.FlatNetwork.take_at_node.Goals as goal
 
@@ -42,7 +43,7 @@ send_some-requires-clause-room c =
     let there = slice_get_read n.nodes.items (length n.nodes.items) c.args.node c.index_mut.result.now refl below c.index_mut.ensures.value in
     let did = takes_ok _ _ c.args.link c.index_mut.result.now.live c.take.new.self.live c.in-Ok.answer c.in-Ok.ensures.takes in
     let M = node_takes (state_of n) c.args.line c.args.node c.args.link c.args.token c.index_mut.result.now.live c.take.new.self.live (on_link c.args.link c.in-Ok.answer) to front at did in
-    rw (c.deref.ensures.value, c.pop.ensures.after, answer_lines c.args.node c.args.link c.in-Ok.answer) (room n c.self.invariant (Take c.args.line c.args.token) (without_front n.lines c.args.line) _ _ M)
+    rw (c.deref.ensures.value, c.pop.ensures.after, answer_on c.args.node c.args.link c.in-Ok.answer) (room n c.self.invariant (Take c.args.line c.args.token) (without_front n.lines c.args.line) _ _ M)
 
 pub invariant_of-self : goal.invariant_of-self
 invariant_of-self c =
@@ -54,7 +55,7 @@ invariant_of-self c =
     let there = slice_get_read n.nodes.items (length n.nodes.items) c.args.node c.index_mut.result.now refl below c.index_mut.ensures.value in
     let did = takes_ok _ _ c.args.link c.index_mut.result.now.live c.take.new.self.live c.in-Ok.answer c.in-Ok.ensures.takes in
     let M = node_takes (state_of n) c.args.line c.args.node c.args.link c.args.token c.index_mut.result.now.live c.take.new.self.live (on_link c.args.link c.in-Ok.answer) to front at did in
-    let on = rw (c.deref.ensures.value, c.pop.ensures.after, answer_lines c.args.node c.args.link c.in-Ok.answer) at c.send_some.ensures in
+    let on = rw (c.deref.ensures.value, c.pop.ensures.after, answer_on c.args.node c.args.link c.in-Ok.answer) at c.send_some.ensures in
     node_inside n c.self.invariant (Take c.args.line c.args.token) (without_front n.lines c.args.line) c.args.node c.index_mut.result.now c.take.new.self there c.in-Ok.ensures.kept (on_link c.args.link c.in-Ok.answer) M c.send_some.new.lines on
     (carries c.args.token c.requires.byte)
 
@@ -68,5 +69,5 @@ returns c =
     let there = slice_get_read n.nodes.items (length n.nodes.items) c.args.node c.index_mut.result.now refl below c.index_mut.ensures.value in
     let did = takes_ok _ _ c.args.link c.index_mut.result.now.live c.take.new.self.live c.in-Ok.answer c.in-Ok.ensures.takes in
     let M = node_takes (state_of n) c.args.line c.args.node c.args.link c.args.token c.index_mut.result.now.live c.take.new.self.live (on_link c.args.link c.in-Ok.answer) to front at did in
-    let on = rw (c.deref.ensures.value, c.pop.ensures.after, answer_lines c.args.node c.args.link c.in-Ok.answer) at c.send_some.ensures in
+    let on = rw (c.deref.ensures.value, c.pop.ensures.after, answer_on c.args.node c.args.link c.in-Ok.answer) at c.send_some.ensures in
     rw (← c.self.view_is) (node_next n c.self.invariant (Take c.args.line c.args.token) (without_front n.lines c.args.line) c.args.node c.index_mut.result.now c.take.new.self there c.in-Ok.ensures.kept (on_link c.args.link c.in-Ok.answer) M c.send_some.new.lines on)

@@ -1,6 +1,7 @@
 use Rattle.std.proofs.Common.{◌≡◌, ◌+◌, ◌*◌, ◌<◌, length, option_to_list, arith, sym, ◌∙◌}
 use Rattle.tp_model.specs.declared.entry.Entry.TheVariants.{Take}
 use Rattle.tp_model.specs.Entries.{port_took}
+use Rattle.tp_book.proofs.Sending.{sends_on-tokens}
 use Rattle.tp_laws.proofs.Nodes.{carries}
 use Rattle.tp_replay.specs.Inside.{state_of}
 use Rattle.tp_replay.proofs.Applied.{refused, applied, nowhere, cannot, there_is, same_item, port_count, port_at, room, port_inside, port_next}
@@ -46,7 +47,7 @@ send_some-requires-clause-room c =
     let front = rw (← c.self.view_is) at c.requires.front in
     let M = port_takes (state_of n) c.args.line c.args.port c.args.token c.index_mut.result.now.port c.take-answer.new.self.port (option_to_list c.take-answer.result) to front at c.take-answer.ensures.took in
     let line : c.port_line-back.result ≡ 4 * length (state_of n).nodes + c.args.port = rw (← c.self.view_is) at c.port_line-back.ensures in
-    rw (c.deref.ensures.value, c.pop.ensures.after, line) (room n c.self.invariant (Take c.args.line c.args.token) (without_front n.lines c.args.line) _ _ M)
+    rw (c.deref.ensures.value, c.pop.ensures.after, line, sends_on-tokens _ c.take-answer.result) (room n c.self.invariant (Take c.args.line c.args.token) (without_front n.lines c.args.line) _ _ M)
 
 pub invariant_of-self : goal.invariant_of-self
 invariant_of-self c =
@@ -57,7 +58,7 @@ invariant_of-self c =
     let front = rw (← c.self.view_is) at c.requires.front in
     let M = port_takes (state_of n) c.args.line c.args.port c.args.token c.index_mut.result.now.port c.take-answer.new.self.port (option_to_list c.take-answer.result) to front at c.take-answer.ensures.took in
     let line : c.port_line-back.result ≡ 4 * length (state_of n).nodes + c.args.port = rw (← c.self.view_is) at c.port_line-back.ensures in
-    let on = rw (c.deref.ensures.value, c.pop.ensures.after, line) at c.send_some.ensures in
+    let on = rw (c.deref.ensures.value, c.pop.ensures.after, line, sends_on-tokens _ c.take-answer.result) at c.send_some.ensures in
     port_inside n c.self.invariant (Take c.args.line c.args.token) (without_front n.lines c.args.line) c.args.port c.take-answer.new.self (option_to_list c.take-answer.result) M c.send_some.new.lines on
     (carries c.args.token c.requires.byte)
 
@@ -70,5 +71,5 @@ returns-clause-applies c =
     let front = rw (← c.self.view_is) at c.requires.front in
     let M = port_takes (state_of n) c.args.line c.args.port c.args.token c.index_mut.result.now.port c.take-answer.new.self.port (option_to_list c.take-answer.result) to front at c.take-answer.ensures.took in
     let line : c.port_line-back.result ≡ 4 * length (state_of n).nodes + c.args.port = rw (← c.self.view_is) at c.port_line-back.ensures in
-    let on = rw (c.deref.ensures.value, c.pop.ensures.after, line) at c.send_some.ensures in
+    let on = rw (c.deref.ensures.value, c.pop.ensures.after, line, sends_on-tokens _ c.take-answer.result) at c.send_some.ensures in
     rw (← c.self.view_is) (applied _ _ (port_next n c.self.invariant (Take c.args.line c.args.token) (without_front n.lines c.args.line) c.args.port c.take-answer.new.self (option_to_list c.take-answer.result) M c.send_some.new.lines on))

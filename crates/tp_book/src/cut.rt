@@ -1,0 +1,50 @@
+//! A network that contracts alone see.
+
+ghost use Rattle.std.specs.Prelude.{◌≡◌};
+ghost use Rattle.std.specs.Borrow.{ftrue};
+ghost use Rattle.tp_model.specs.NodeState.{NodeState};
+ghost use Rattle.tp_model.specs.Network.{Network};
+
+use crate::parts::NetParts;
+use std::marker::Model;
+
+/// The network of a kept cut. It has no bytes: contracts alone see it, and no call reads it.
+#[derive(Drop)]
+pub struct CutNetwork {
+    pub ghost network: { Network NodeState },
+}
+
+impl Model for CutNetwork {
+    ghost also_owns = { λ _. ftrue };
+}
+
+// It has no bytes and owns nothing.
+unsafe impl Send for CutNetwork {}
+
+unsafe impl Sync for CutNetwork {}
+
+impl CutNetwork {
+    ghost use Rattle.tp_book.specs.Parts.{network_of};
+
+    /// The network that contracts name of a value. It does nothing.
+    pub fn of<T>(_value: &T) -> CutNetwork
+        ghost network: { Network NodeState }
+        ensures { result.network ≡ network }
+    {
+        CutNetwork {}
+    }
+
+    /// The network that these parts are.
+    pub fn of_parts(parts: &NetParts) -> CutNetwork
+        ensures { result.network ≡ network_of parts.now }
+    {
+        CutNetwork::of(parts)
+    }
+
+    /// The same network again.
+    pub fn again(&self) -> CutNetwork
+        ensures { result.network ≡ self.now.network }
+    {
+        CutNetwork::of(self)
+    }
+}

@@ -1,0 +1,19 @@
+use Rattle.std.proofs.Common.{refl, ap, ◌∙◌}
+use Rattle.tp_model.specs.Node.{t414}
+use Rattle.tp_model.specs.Opening.{next_of}
+use Rattle.tp_replay.proofs.History.{history_of}
+use Rattle.tp_open.proofs.ReplayedCuts.{replayed_opened}
+use Rattle.tp_open.proofs.opening.Opened.into_state.Goals as goal
+
+pub returns-clause-opened : goal.returns-clause-opened
+returns-clause-opened c =
+    let o = c.self.inside in
+    let leads = c.self.invariant.leads in
+    replayed_opened o.head.topology o.base o.cut.network leads.0 o.replay _ c.topology-topology.ensures.valid c.self.invariant.cut leads.1
+    refl (c.in_ok-net.ensures.again ∙ c.into_parts-network.ensures.network) c.into_parts-network.ensures.kept refl c.into_parts-network.ensures.next
+
+pub returns-clause-next : goal.returns-clause-next
+returns-clause-next c =
+    let o = c.self.inside in
+    let leads = c.self.invariant.leads in
+    c.into_parts-network.ensures.next ∙ (history_of t414 o.cut.network o.base o.replay leads.0 leads.1).next ∙ ap next_of c.self.view_is

@@ -1,0 +1,42 @@
+//! The state that a book is opened from.
+
+ghost use Rattle.std.specs.Prelude.{◌≡◌, if◌then◌else◌, map, Some, IfOk};
+ghost use Rattle.tp_book.specs.Opened.{cut_of, now_of, IsOpened};
+ghost use Rattle.tp_model.specs.Opening.{next_of};
+ghost use Rattle.tp_replay.specs.Replaying.{numbered};
+
+use crate::opening::Opened;
+use std::alloc::{AllocError, Global};
+use tp_book::NetState;
+
+impl Opened {
+    /// The state that a book is opened from: the network's parts are made anew, and the entries are moved.
+    ///
+    /// It can be opened whatever the device was, also where it doesn't keep the model.
+    pub fn into_state(self, alloc: Global) -> Result<NetState, AllocError>
+        ensures opened { IfOk result (λ state. IsOpened state) }
+        ensures cut { IfOk result (λ state. cut_of state ≡ self.cut) }
+        ensures now { IfOk result (λ state. now_of state ≡ self.now) }
+        ensures base { IfOk result (λ state. state.base ≡ self.base) }
+        ensures kept { IfOk result (λ state. map numbered state.kept.items ≡ self.kept) }
+        ensures next { IfOk result (λ state. state.next ≡ next_of self) }
+        ensures generation { IfOk result (λ state. state.generation ≡ self.generation) }
+        ensures area { IfOk result (λ state. state.area ≡ Some self.head.area) }
+        ensures open_area { IfOk result (λ state. state.open_area ≡ (if self.second then 1 else 0)) }
+    {
+        let _topology = self.head.topology();
+        let area = self.head.area();
+        let (mut network, kept, next) = self.replay.into_parts();
+        let net = network.parts(alloc)?;
+        Ok(NetState {
+            cut: self.cut,
+            net,
+            base: self.base,
+            kept,
+            next,
+            generation: self.generation,
+            area: Some(area),
+            open_area: if self.second { 1 } else { 0 },
+        })
+    }
+}
