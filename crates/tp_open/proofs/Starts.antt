@@ -1,28 +1,22 @@
 -- What was read of an area before its groups can be replayed from.
-use Rattle.std.proofs.Common.{◌≡◌, ℕ, zero, suc, ◌+◌, ◌<◌, ◌≤◌, List, [], ◌∷◌, length, map, get_or, refl, sym, ap, subst, ◌∙◌, arith, true, false, Option, Some, None, slice_get}
-use Rattle.std.specs.Prelude.{All, Bool, ◌&&◌, Vec, vec_len, Result, Ok, Err}
+use Rattle.std.proofs.Common.{◌≡◌, ℕ, zero, suc, ◌<◌, ◌≤◌, List, [], ◌∷◌, length, map, get_or, refl, ap, subst, ◌∙◌, arith, true, Option, Some, None, slice_get}
+use Rattle.std.specs.Prelude.{All, ◌&&◌, Vec, vec_len}
 use Rattle.std.specs.declared.alloc.Global.{Global}
 use Rattle.std.proofs.lemmas.Bool.{and_parts, false≢true}
 use Rattle.tp_model.specs.declared.link.Token.{Token}
 use Rattle.tp_model.specs.declared.link.Token.TheVariants.{Data, Ack, Marker}
 use Rattle.tp_model.specs.declared.limits.TheConstants.{MAX_HELD}
-use Rattle.tp_model.specs.declared.opening.OpenFault.{OpenFault}
 use Rattle.tp_model.specs.declared.wire.WireEnd.{WireEnd}
 use Rattle.tp_model.specs.CutImage.{is_line_of}
-use Rattle.tp_model.specs.Network.{Network, Port}
-use Rattle.tp_model.specs.Node.{t414_ends}
-use Rattle.tp_model.specs.NodeState.{NodeState}
-use Rattle.tp_model.specs.Spelling.{has_record, are_lines, IsCut}
-use Rattle.tp_model.specs.Topology.{Topology, is_topology}
+use Rattle.tp_model.specs.Spelling.{has_record, are_lines}
 use Rattle.tp_book.specs.declared.parts.PortParts.{PortParts}
 use Rattle.tp_book.specs.Parts.{port_of}
 use Rattle.tp_book.specs.Ports.{PortValue, opened_port}
 use Rattle.tp_node.specs.NodeContents.{NodeContents}
-use Rattle.tp_replay.specs.Flat.{IsFlat, network_of}
+use Rattle.tp_replay.specs.Flat.{network_of}
 use Rattle.tp_open.specs.declared.cut.Cut.{Cut}
-use Rattle.tp_open.specs.Cuts.{cut_network, wired}
-use Rattle.tp_open.specs.Nodes.{live, AreThawed}
-use Rattle.tp_open.proofs.CutsAreFlat.{cut_held}
+use Rattle.tp_open.specs.Cuts.{cut_network}
+use Rattle.tp_open.specs.Nodes.{AreThawed}
 use Rattle.tp_open.proofs.HeldPorts.{EachPort, IsHeld}
 use Rattle.tp_open.proofs.ReplayedCuts.{parts_held}
 

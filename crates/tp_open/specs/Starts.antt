@@ -12,7 +12,7 @@ use Rattle.tp_model.specs.Results.{◌>>=◌}
 use Rattle.tp_model.specs.Spelling.{IsCut}
 use Rattle.tp_open.specs.declared.front.CutFront.{CutFront}
 use Rattle.tp_open.specs.declared.start.Start.{Start}
-use Rattle.tp_open.specs.AfterGroups.{after_groups, LeadsTo}
+use Rattle.tp_open.specs.AfterGroups.{after_groups}
 use Rattle.tp_open.specs.Fronts.{front_given}
 
 -- the fields in front of a cut, and the cut

@@ -1,4 +1,4 @@
-use Rattle.std.proofs.Common.{◌≡◌, ◌∙◌, ap, sym, subst}
+use Rattle.std.proofs.Common.{◌∙◌, ap, sym, subst}
 use Rattle.tp_model.specs.Network.{Network}
 use Rattle.tp_model.specs.Node.{t414_ends}
 use Rattle.tp_model.specs.NodeState.{NodeState}
