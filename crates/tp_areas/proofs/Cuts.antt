@@ -23,7 +23,7 @@ use Rattle.tp_areas.proofs.Fronts.{SameFront, front_shorter, front_part, front_g
 
 -- ## Nodes
 
-nodes_same : (at : ℕ) (pages : List ℕ) (xs ys : List ℕ) → SameFront (sum_by image_length pages) xs ys → nodes_in at pages xs ≡ nodes_in at pages ys
+pub nodes_same : (at : ℕ) (pages : List ℕ) (xs ys : List ℕ) → SameFront (sum_by image_length pages) xs ys → nodes_in at pages xs ≡ nodes_in at pages ys
 unfolding nodes_in
 nodes_same at [] xs ys h = refl
 nodes_same at (pages ∷ more) xs ys h =
@@ -35,7 +35,7 @@ nodes_same at (pages ∷ more) xs ys h =
 
 -- ## Lines
 
-line_same : (wire : Option WireEnd) (xs ys : List ℕ) → SameFront 4 xs ys → line_with wire xs ≡ line_with wire ys
+pub line_same : (wire : Option WireEnd) (xs ys : List ℕ) → SameFront 4 xs ys → line_with wire xs ≡ line_with wire ys
 line_same wire xs ys h =
     let a = front_get 4 xs ys h 0 (omega arith) in
     let b = front_get 4 xs ys h 1 (omega arith) in
@@ -43,7 +43,7 @@ line_same wire xs ys h =
     let all = h.same in
     λ i. only_if (λ tokens. is_record (all i) tokens && is_line_of wire tokens) (Some (tokens_of (a i) (b i) (c i)))
 
-lines_same : (at : ℕ) (wires : List (Option WireEnd)) (xs ys : List ℕ) → SameFront (4 * length wires) xs ys → lines_in at wires xs ≡ lines_in at wires ys
+pub lines_same : (at : ℕ) (wires : List (Option WireEnd)) (xs ys : List ℕ) → SameFront (4 * length wires) xs ys → lines_in at wires xs ≡ lines_in at wires ys
 unfolding lines_in
 lines_same at [] xs ys h = refl
 lines_same at (wire ∷ wires) xs ys h =

@@ -1,13 +1,12 @@
 -- The records of a cut, one kind after the other.
-use Rattle.std.proofs.Common.{◌≡◌, ℕ, zero, suc, ◌+◌, ◌-◌, ◌*◌, ◌≤◌, List, [], ◌∷◌, length, take, drop, refl, sym, ap, ◌∙◌, arith, subst}
+use Rattle.std.proofs.Common.{◌≡◌, ℕ, zero, suc, ◌+◌, ◌-◌, ◌*◌, ◌≤◌, List, length, take, drop, refl, sym, ap, ◌∙◌, arith, subst}
 use Rattle.std.specs.Prelude.{Bool, Option, Result, Ok, Err, sum_by}
 use Rattle.std.proofs.lemmas.List.{drop-take, drop-drop, take-take}
-use Rattle.std.proofs.lemmas.List.Sums.{sum_by-drop_more}
 use Rattle.tp_model.specs.declared.link.Token.{Token}
 use Rattle.tp_model.specs.declared.opening.OpenFault.{OpenFault}
 use Rattle.tp_model.specs.declared.wire.WireEnd.{WireEnd}
 use Rattle.tp_model.specs.declared.limits.TheConstants.{PORT_BYTES}
-use Rattle.tp_model.specs.CutImage.{nodes_in, lines_in, ports_in, node_with, port_with, or_damaged}
+use Rattle.tp_model.specs.CutImage.{nodes_in, lines_in, ports_in, port_with, or_damaged}
 use Rattle.tp_model.specs.Device.{area_start, content_of}
 use Rattle.tp_model.specs.Disk.{Moment}
 use Rattle.tp_model.specs.Flight.{flights_in}
@@ -18,11 +17,12 @@ use Rattle.tp_model.specs.Opening.{base_of, cut_in, lines_place, nodes_place, po
 use Rattle.tp_model.specs.Results.{◌>>=◌}
 use Rattle.tp_model.specs.Sound.{Ends}
 use Rattle.tp_model.specs.Topology.{Topology, line_count}
+use Rattle.tp_areas.proofs.Fronts.{front_shorter, whole_front}
+use Rattle.tp_areas.proofs.Cuts.{nodes_same}
 use Rattle.tp_open.specs.declared.cut.Places.{Places}
 use Rattle.tp_open.specs.declared.unopened.Unopened.{Unopened}
 use Rattle.tp_open.specs.Cuts.{records_at, three, wired}
 use Rattle.tp_open.specs.Reading.{Answers}
-use Rattle.tp_open.proofs.Nodes.{node_with-take}
 use Rattle.tp_open.proofs.Passing.{passed}
 use Rattle.tp_open.proofs.Ports.{port_with-take}
 use Rattle.tp_open.proofs.Records.{lines_in-take, with_first}
@@ -58,18 +58,7 @@ ports_then base at count old now is = ap (λ m. ports_in base at count (drop at 
 -- ## In a content
 
 nodes_in-take : (at m : ℕ) (pages bytes : List ℕ) → sum_by image_length pages ≤ m → nodes_in at pages (take m bytes) ≡ nodes_in at pages bytes
-unfolding nodes_in
-nodes_in-take at m [] bytes le = refl
-nodes_in-take at m (pages ∷ more) bytes le =
-    let n = image_length pages in
-    let total : sum_by image_length (pages ∷ more) ≡ n + sum_by image_length more = sum_by-drop_more image_length (pages ∷ more) 0 0 (omega arith) in
-    let whole : m ≡ n + (m - n) = omega arith in
-    let one : node_with pages (take m bytes) ≡ node_with pages bytes =
-    sym (node_with-take pages (take m bytes)) ∙ ap (node_with pages) (take-take n m bytes (omega arith)) ∙ node_with-take pages bytes in
-    let rest : drop n (take m bytes) ≡ take (m - n) (drop n bytes) = ap (λ k. drop n (take k bytes)) whole ∙ drop-take n (m - n) bytes in
-    ap (λ o. or_damaged at o >>= (λ node. with_first node (nodes_in (at + n) more (drop n (take m bytes))))) one
-    ∙ ap (λ ys. or_damaged at (node_with pages bytes) >>= (λ node. with_first node (nodes_in (at + n) more ys))) rest
-    ∙ ap (λ given. or_damaged at (node_with pages bytes) >>= (λ node. with_first node given)) (nodes_in-take (at + n) (m - n) more (drop n bytes) (omega arith))
+nodes_in-take at m pages bytes le = sym (nodes_same at pages bytes (take m bytes) (front_shorter (sum_by image_length pages) m bytes (take m bytes) le (whole_front m bytes)))
 
 ports_in-take : (base at count m : ℕ) (bytes : List ℕ) → PORT_BYTES * count ≤ m → ports_in base at count (take m bytes) ≡ ports_in base at count bytes
 unfolding ports_in

@@ -2,7 +2,7 @@
 use Rattle.std.proofs.Common.{◌≡◌, ℕ, ◌+◌, ◌-◌, ◌*◌, ◌<◌, ◌≤◌, List, length, take, drop, map, refl, sym, ap, ◌∙◌, arith, Bool, true, false, cond, inl, inr}
 use Rattle.std.specs.Prelude.{◌&&◌, ◌⊎◌, nat_le, bytes_eq, Some, None, Ok, Err}
 use Rattle.std.proofs.lemmas.Bool.{and_parts, le-leb, lt-leb, leb-true, cases_Bool, cases_lt}
-use Rattle.std.proofs.lemmas.List.{take-take, take_rest, drop-drop, drop-take}
+use Rattle.std.proofs.lemmas.List.{take-take, take_rest, drop-drop}
 use Rattle.tp_model.specs.declared.opening.OpenFault.TheVariants.{NotFormatted, Damaged}
 use Rattle.tp_model.specs.declared.limits.TheConstants.{HEAD_BYTES, HEAD_NODES, MAX_NODES, MAX_PORTS}
 use Rattle.tp_model.specs.Bytes.{u8_at, u64_at}
@@ -12,9 +12,9 @@ use Rattle.tp_model.specs.Head.{Head, all_wires, end_of_byte, head_at, head_byte
 use Rattle.tp_model.specs.Journal.{is_roomy}
 use Rattle.tp_model.specs.Topology.{Topology, is_topology}
 use Rattle.tp_open.specs.Heads.{is_whole, fields_in, head_in}
-use Rattle.tp_areas.proofs.Heads.{length-u16s_at}
-use Rattle.tp_open.proofs.Numbers.{u16s_at-take}
-use Rattle.tp_open.proofs.Parts.{u8_at-take, u64_at-take, part_of_part}
+use Rattle.tp_areas.proofs.Fronts.{whole_front}
+use Rattle.tp_areas.proofs.Heads.{length-u16s_at, head_at_same}
+use Rattle.tp_open.proofs.Parts.{u8_at-take}
 use Rattle.tp_area.proofs.Topologies.{has_shape}
 
 -- the head is that of its fields
@@ -76,16 +76,7 @@ head_at-parts bytes t area len pages ports wires is =
 
 -- its first bytes say the same, where there are so few nodes
 head_at-front : (xs : List ℕ) → u8_at xs 8 ≤ MAX_NODES → head_at (take HEAD_BYTES xs) ≡ head_at xs
-unfolding head_at
-head_at-front xs few =
-    let count = u8_at xs 8 in
-    let nodes : u8_at (take HEAD_BYTES xs) 8 ≡ count = u8_at-take HEAD_BYTES 8 xs (omega arith) in
-    let ports : u8_at (take HEAD_BYTES xs) 9 ≡ u8_at xs 9 = u8_at-take HEAD_BYTES 9 xs (omega arith) in
-    let area : u64_at (take HEAD_BYTES xs) 16 ≡ u64_at xs 16 = u64_at-take HEAD_BYTES 16 xs (omega arith) in
-    let pages : u16s_at count (drop 24 (take HEAD_BYTES xs)) ≡ u16s_at count (drop 24 xs) =
-    ap (u16s_at count) (drop-take 24 488 xs) ∙ u16s_at-take count 488 (drop 24 xs) (omega arith) in
-    let ends : take (4 * count) (drop 56 (take HEAD_BYTES xs)) ≡ take (4 * count) (drop 56 xs) = part_of_part (4 * count) 56 HEAD_BYTES 0 56 xs (omega arith) refl in
-    rw (nodes, ports, area, pages, ends) refl
+head_at-front xs few = head_at_same xs (take HEAD_BYTES xs) (whole_front HEAD_BYTES xs) few
 
 or_damaged-cond : {A : Type 0} (at : ℕ) (b : Bool) (x : A) → or_damaged at (cond b (Some x) None) ≡ cond b (Ok x) (Err (Damaged at))
 or_damaged-cond at true x = refl

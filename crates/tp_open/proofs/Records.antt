@@ -1,20 +1,21 @@
 -- Records that are read one behind the other.
-use Rattle.std.proofs.Common.{◌≡◌, ℕ, ◌+◌, ◌-◌, ◌*◌, ◌<◌, ◌≤◌, List, [], ◌∷◌, ◌++◌, length, take, drop, get_or, map, refl, sym, ap, ◌∙◌, arith, append_assoc, append-nil, subst}
+use Rattle.std.proofs.Common.{◌≡◌, ℕ, ◌+◌, ◌*◌, ◌<◌, ◌≤◌, List, [], ◌∷◌, ◌++◌, length, take, drop, get_or, map, refl, sym, ap, ◌∙◌, arith, append_assoc, append-nil, subst}
 use Rattle.std.specs.Prelude.{Option, Some, None, Result, Ok, Err}
 use Rattle.std.specs.Option.{option_map}
-use Rattle.std.proofs.lemmas.List.{map_push, drop_more, drop_all, drop-take, take-take}
+use Rattle.std.proofs.lemmas.List.{map_push, drop_more, drop_all}
 use Rattle.tp_model.specs.declared.link.Token.{Token}
 use Rattle.tp_model.specs.declared.opening.OpenFault.{OpenFault}
 use Rattle.tp_model.specs.declared.opening.OpenFault.TheVariants.{Damaged}
 use Rattle.tp_model.specs.declared.wire.WireEnd.{WireEnd}
 use Rattle.tp_model.specs.declared.limits.TheConstants.{LINE_BYTES}
 use Rattle.tp_model.specs.Results.{◌>>=◌}
+use Rattle.tp_areas.proofs.Fronts.{front_shorter, whole_front}
+use Rattle.tp_areas.proofs.Cuts.{line_same, lines_same}
 use Rattle.tp_open.specs.declared.line.LineTokens.{LineTokens}
 use Rattle.tp_open.specs.Lines.{tokens_on}
 use Rattle.tp_open.specs.declared.unopened.Unopened.{Unopened}
 use Rattle.tp_open.specs.Reading.{Answers}
 use Rattle.tp_open.proofs.Passing.{passed}
-use Rattle.tp_open.proofs.Parts.{u8_at-take}
 use Rattle.tp_model.specs.CutImage.{line_with, lines_in, or_damaged}
 
 -- what was read, in front of what is left
@@ -68,7 +69,7 @@ lines_in-more at i wires bytes lt = ap (λ ws. lines_in at ws bytes) (drop_more 
 
 -- a piece stands in its bytes
 pub line_with-take : (wire : Option WireEnd) (bytes : List ℕ) → line_with wire (take LINE_BYTES bytes) ≡ line_with wire bytes
-line_with-take wire bytes = rw (u8_at-take 4 0 bytes (omega arith), u8_at-take 4 1 bytes (omega arith), u8_at-take 4 3 bytes (omega arith), take-take 4 4 bytes (omega arith)) refl
+line_with-take wire bytes = sym (line_same wire bytes (take 4 bytes) (whole_front 4 bytes))
 
 -- what a reader found in a piece
 line_with-read : (wire : Option WireEnd) (rest piece : List ℕ) (read : Option LineTokens) → piece ≡ take LINE_BYTES rest
@@ -116,13 +117,4 @@ lines_in-end at i wires given rest items le so_far =
 
 -- the records in longer bytes
 pub lines_in-take : (at m : ℕ) (wires : List (Option WireEnd)) (bytes : List ℕ) → LINE_BYTES * length wires ≤ m → lines_in at wires (take m bytes) ≡ lines_in at wires bytes
-unfolding lines_in
-lines_in-take at m [] bytes le = refl
-lines_in-take at m (wire ∷ wires) bytes le =
-    let more : m ≡ 4 + (m - 4) = omega arith in
-    let one : line_with wire (take m bytes) ≡ line_with wire bytes =
-    sym (line_with-take wire (take m bytes)) ∙ ap (line_with wire) (take-take 4 m bytes (omega arith)) ∙ line_with-take wire bytes in
-    let rest : drop 4 (take m bytes) ≡ take (m - 4) (drop 4 bytes) = ap (λ k. drop 4 (take k bytes)) more ∙ drop-take 4 (m - 4) bytes in
-    ap (λ o. or_damaged at o >>= (λ line. with_first line (lines_in (at + 4) wires (drop 4 (take m bytes))))) one
-    ∙ ap (λ ys. or_damaged at (line_with wire bytes) >>= (λ line. with_first line (lines_in (at + 4) wires ys))) rest
-    ∙ ap (λ given. or_damaged at (line_with wire bytes) >>= (λ line. with_first line given)) (lines_in-take (at + 4) (m - 4) wires (drop 4 bytes) (omega arith))
+lines_in-take at m wires bytes le = sym (lines_same at wires bytes (take m bytes) (front_shorter (4 * length wires) m bytes (take m bytes) le (whole_front m bytes)))

@@ -3,7 +3,6 @@ use Rattle.std.proofs.Common.{◌≡◌, ℕ, ◌+◌, ◌*◌, ◌<◌, ◌≤�
 use Rattle.std.specs.Prelude.{nat_le, ◌&&◌}
 use Rattle.std.specs.Option.{option_map}
 use Rattle.std.proofs.lemmas.Bool.{lt-ltb, le-leb}
-use Rattle.std.proofs.lemmas.Option.{slice_get_within}
 use Rattle.tp_model.specs.declared.link.Token.{Token}
 use Rattle.tp_model.specs.declared.wire.WireEnd.TheVariants.{Link, Port as AtPort}
 use Rattle.tp_model.specs.declared.entry.Entry.{Entry}
@@ -14,7 +13,9 @@ use Rattle.tp_model.specs.Node.{t414, took}
 use Rattle.tp_model.specs.Network.{steps, Port, Network, OfNode, OfHost, own, put, receiver, has_wire, process_at, on_line, is_first, taken, sent}
 use Rattle.tp_model.specs.Entries.{process, takes, of_node, of_port, receives, port_took, handed_in, confirmed, does}
 use Rattle.tp_order.proofs.Lines.{cons_taken}
-use Rattle.tp_order.proofs.Local.{Step, own-node, own-host}
+use Rattle.tp_order.proofs.Local.{Step, own-host}
+pub use Rattle.tp_book.proofs.Changes.{own_there}
+use Rattle.tp_book.proofs.Changes.{of_port-is}
 use Rattle.tp_book.specs.Calls.{on_lines}
 
 -- the lines without the front of one
@@ -41,12 +42,6 @@ pub record Made (s : Network NodeState) (e : Entry) (out : List (List Token)) (s
 
 made : (s : Network NodeState) (e : Entry) (t : Network NodeState) (S : Step t414 s e t) → Made s e S.out S.sends t
 made s e t S = record { step = S; is_out = refl; is_sends = refl }
-
--- a node that is there is no host
-pub own_there : (s : Network NodeState) (i : ℕ) (n : NodeState) → slice_get s.nodes i ≡ Some n → own s i ≡ Some (OfNode n)
-own_there s i n at =
-    let below : i < length s.nodes = slice_get_within s.nodes i n at in
-    own-node s i (λ same. omega arith) ∙ ap (option_map OfNode) at
 
 -- the front of a line is taken off
 front_taken : (s : Network NodeState) (line : ℕ) (token : Token) → is_first (on_line s.lines line) token ≡ true
@@ -92,12 +87,6 @@ node_takes s line i k token n after tokens to front at did =
     mine : process_at (length s.nodes) (receiver s.wires line) ≡ i
     mine = ap (process_at (length s.nodes)) to
 
--- what a port's change gives
-of_port_is : (N p : ℕ) (ports : List Port) (change : Port → Option (Port × List Token)) (port after : Port) (tokens : List Token) → slice_get ports p ≡ Some port
-    → change port ≡ Some (after, tokens) → of_port {Node = NodeState} N p ports change ≡ Some (OfHost (set ports p after), on_port (4 * N + p) tokens)
-unfolding of_port
-of_port_is N p ports change port after tokens at did = rw (at, did) refl
-
 pub port_takes : (s : Network NodeState) (line p : ℕ) (token : Token) (port after : Port) (tokens : List Token)
     → receiver s.wires line ≡ Some (AtPort p) → is_first (on_line s.lines line) token ≡ true → slice_get s.ports p ≡ Some port
     → port_took token port ≡ Some (after, tokens)
@@ -111,7 +100,7 @@ port_takes s line p token port after tokens to front at did =
       own_was = ap (own s) mine ∙ own-host s;
       now = OfHost (set s.ports p after);
       sends = on_port (4 * length s.nodes + p) tokens;
-      change = ap (λ end. receives t414 (length s.nodes) end token (OfHost s.ports)) to ∙ of_port_is (length s.nodes) p s.ports (port_took token) port after tokens at did;
+      change = ap (λ end. receives t414 (length s.nodes) end token (OfHost s.ports)) to ∙ of_port-is (length s.nodes) p s.ports port (after, tokens) (port_took token) at did;
       makes = refl;
     })
   where
@@ -128,7 +117,7 @@ hand_in_step s p byte port after tokens at did = made s (HostIn p byte) _ (recor
   own_was = own-host s;
   now = OfHost (set s.ports p after);
   sends = on_port (4 * length s.nodes + p) tokens;
-  change = of_port_is (length s.nodes) p s.ports (handed_in byte) port after tokens at did;
+  change = of_port-is (length s.nodes) p s.ports port (after, tokens) (handed_in byte) at did;
   makes = refl;
 })
 
@@ -142,6 +131,6 @@ confirm_step s p upto port after tokens at did = made s (Confirm p upto) _ (reco
   own_was = own-host s;
   now = OfHost (set s.ports p after);
   sends = on_port (4 * length s.nodes + p) tokens;
-  change = of_port_is (length s.nodes) p s.ports (confirmed upto) port after tokens at did;
+  change = of_port-is (length s.nodes) p s.ports port (after, tokens) (confirmed upto) at did;
   makes = refl;
 })
