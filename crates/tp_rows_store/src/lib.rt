@@ -3,12 +3,21 @@
 #![tactic(auto)]
 
 #[cfg(test)]
+mod append_faults;
+#[cfg(test)]
+mod devices;
+#[cfg(test)]
 mod entries;
+#[cfg(test)]
+mod filled_areas;
 mod fixture;
+#[cfg(test)]
+mod format_faults;
 #[cfg(test)]
 mod groups;
 #[cfg(test)]
 mod host_calls;
+mod possible;
 #[cfg(test)]
 mod opened_books;
 #[cfg(test)]

@@ -1,0 +1,104 @@
+//! Calls of a book: where memory is refused it is as it was, and the call can be made again.
+
+ghost use Rattle.std.specs.Prelude.{IfOk};
+ghost use Rattle.tp_book.specs.Parts.{network_of};
+ghost use Rattle.tp_rows_refused.specs.Usable.{IsLone, IsUsable};
+
+use crate::books::{hand_in, lone_net, make_ready, reserve, start};
+use crate::devices::image;
+use std::alloc::Global;
+use std::test::Fail;
+use tp_book::{Book, NetParts, Refusal};
+use tp_model::Token;
+
+/// The network, though memory may be refused once.
+pub(crate) fn net(alloc: Global) -> Result<NetParts, Fail>
+    ensures { IfOk result (λ net. IsLone (network_of net)) }
+{
+    let image = image(alloc).or_else(|| image(alloc)).ok_or("no image")?;
+    match lone_net(alloc, &image) {
+        Some(net) => Ok(net),
+        None => match lone_net(alloc, &image) {
+            Some(net) => Ok(net),
+            None => Err(Fail::new("no network")),
+        },
+    }
+}
+
+/// Its book, though memory may be refused once.
+fn book(alloc: Global) -> Result<Book, Fail>
+    ensures { IfOk result (λ book. IsUsable book) }
+{
+    let net = net(alloc)?;
+    match start(alloc, &net) {
+        Ok(book) => Ok(book),
+        Err(_) => Ok(start(alloc, &net)?),
+    }
+}
+
+/// What a book says of its journal and its port: the next number, how many entries it holds, and how many bytes were accepted.
+fn seen(book: &Book) -> Option<(u64, usize, u64)> {
+    if book.ports() == 0 {
+        return None;
+    }
+    Some((book.next(), book.entries().len(), book.accepted(0)))
+}
+
+#[test]
+fn a_book_is_begun_again(rt: HostRuntime) -> Result<(), Fail> {
+    let book = book(rt.alloc())?;
+    assert_eq!(rt; seen(&book), Some((0, 0, 0)));
+    assert_eq!(rt; book.nodes(), 1);
+    Ok(())
+}
+
+#[test]
+fn bytes_are_handed_in_again(rt: HostRuntime) -> Result<(), Fail> {
+    let mut book = book(rt.alloc())?;
+    let mut receipt = hand_in(&mut book, b"x");
+    if receipt == Err(Refusal::Memory) {
+        assert_eq!(rt; seen(&book), Some((0, 0, 0)));
+        receipt = hand_in(&mut book, b"x");
+    }
+    assert_eq!(rt; receipt, Ok(1));
+    assert_eq!(rt; seen(&book), Some((1, 1, 1)));
+    let mut receipt = hand_in(&mut book, b"0123456789");
+    if receipt == Err(Refusal::Memory) {
+        assert_eq!(rt; seen(&book), Some((1, 1, 1)));
+        receipt = hand_in(&mut book, b"0123456789");
+    }
+    assert_eq!(rt; receipt, Ok(11));
+    assert_eq!(rt; seen(&book), Some((11, 11, 11)));
+    Ok(())
+}
+
+#[test]
+fn a_run_is_reserved_again(rt: HostRuntime) -> Result<(), Fail> {
+    let mut book = book(rt.alloc())?;
+    if let Err(refusal) = reserve(&mut book) {
+        assert_eq!(rt; refusal, Refusal::Memory);
+        assert_eq!(rt; seen(&book), Some((0, 0, 0)));
+        reserve(&mut book)?;
+    }
+    assert_eq!(rt; seen(&book), Some((0, 0, 0)));
+    Ok(())
+}
+
+/// Eight entries fill what is kept for them, so that a ninth wants more.
+#[test]
+fn a_token_is_made_ready_again(rt: HostRuntime) -> Result<(), Fail> {
+    let mut book = book(rt.alloc())?;
+    if let Err(refusal) = hand_in(&mut book, b"abcdefgh") {
+        assert_eq!(rt; refusal, Refusal::Memory);
+        hand_in(&mut book, b"abcdefgh")?;
+    }
+    let mut token = make_ready(&mut book);
+    if let Err(refusal) = token {
+        assert_eq!(rt; refusal, Refusal::Memory);
+        assert_eq!(rt; seen(&book), Some((8, 8, 8)));
+        token = make_ready(&mut book);
+    }
+    assert_eq!(rt; token, Ok(Token::Data(b'a')));
+    assert_eq!(rt; seen(&book), Some((8, 8, 8)));
+    Ok(())
+}

@@ -1,0 +1,129 @@
+//! A device in memory, and formatting it. What makes it ready is done again where memory was refused.
+
+use std::alloc::{AllocError, Global};
+use std::test::Fail;
+use tp_area::{FormatFault, format};
+use tp_disk::{Disk, MemDisk};
+use tp_net::Topology;
+
+/// Bytes of the device and of an area.
+pub(crate) const SIZE: usize = 33_280;
+
+pub(crate) const AREA: u64 = 16_384;
+
+/// Where the first area's groups begin.
+const GROUPS: usize = 13_033;
+
+/// One node, whose link 0 goes to a port.
+pub(crate) const TEXT: &[u8] = b"node a 4\nport h\nwire a.0 h\n";
+
+/// The bytes of the device that aren't 00, with their places: the head, the first area's front, the image, and a group of two
+/// entries, by which the host hands in the letters x and y.
+const BYTES: [(usize, &[u8]); 8] = [
+    (0, b"TPNET\0\0\x01\x01\x01"),
+    (16, &[0, 0x40, 0, 0, 0, 0, 0, 0, 4]),
+    (56, &[0x80]),
+    (512, &[0xA5, 1, 0, 0, 0, 0, 0, 0, 0, 0xDC, 0x30]),
+    (533, &[1, 0, 4]),
+    (
+        533 + 27,
+        &[0x80, 0, 0, 0, 0x80, 0, 0, 0, 0x80, 0, 0, 0, 0x80],
+    ),
+    (13_033, &[0xA5, 0, 2]),
+    (
+        13_049,
+        &[
+            3, 0, 0x78, 0, 0, 0, 0, 0, 0, 0, 0, 0, 0, 0, 0, 0, 3, 0, 0x79, 0, 0, 0, 0, 0, 1,
+        ],
+    ),
+];
+
+/// Puts bytes at a place.
+fn place(bytes: &mut [u8], at: usize, piece: &[u8]) {
+    for (old, new) in bytes.iter_mut().skip(at).zip(piece) {
+        *old = *new;
+    }
+}
+
+/// The image of a node of four pages in which no process runs.
+pub(crate) fn image(alloc: Global) -> Option<Vec<u8>> {
+    let mut image = Vec::from_elem(alloc, 0u8, 172 + 4096).ok()?;
+    place(&mut image, 0, &[1, 0, 4]);
+    for queue in [27, 31, 35, 39] {
+        place(&mut image, queue, &[0x80]);
+    }
+    Some(image)
+}
+
+fn images(alloc: Global) -> Option<Vec<Vec<u8>>> {
+    let mut images = Vec::new(alloc);
+    images.push(image(alloc)?).ok()?;
+    Some(images)
+}
+
+/// The bytes of the device with the group, though memory may be refused once.
+pub(crate) fn grown(alloc: Global) -> Result<Vec<u8>, AllocError> {
+    let mut bytes = match Vec::from_elem(alloc, 0u8, SIZE) {
+        Ok(bytes) => bytes,
+        Err(_) => Vec::from_elem(alloc, 0u8, SIZE)?,
+    };
+    for (at, piece) in BYTES {
+        place(&mut bytes, at, piece);
+    }
+    Ok(bytes)
+}
+
+/// Nothing is written where memory is refused, and the next format is as the first would have been.
+#[test]
+fn a_device_is_formatted_again(rt: HostRuntime) -> Result<(), Fail> {
+    let alloc = rt.alloc();
+    let topology = match Topology::read(alloc, TEXT) {
+        Ok(topology) => topology,
+        Err(_) => Topology::read(alloc, TEXT)?,
+    };
+    let images = images(alloc).or_else(|| images(alloc)).ok_or("no images")?;
+    let mut disk = match MemDisk::zeroed(alloc, SIZE) {
+        Ok(disk) => disk,
+        Err(_) => MemDisk::zeroed(alloc, SIZE)?,
+    };
+    let _rules = topology.pages();
+    if let Err(fault) = format(alloc, &mut disk, &topology, &images, AREA) {
+        assert_eq!(rt; fault, FormatFault::Memory);
+        assert_eq!(rt; disk.failures(), 0);
+        assert!(rt; disk.bytes().iter().all(|byte| *byte == 0));
+        format(alloc, &mut disk, &topology, &images, AREA)?;
+    }
+    assert_eq!(rt; disk.failures(), 0);
+    let mut want = grown(alloc)?;
+    place(&mut want, GROUPS, &[0; 49]);
+    assert!(rt; disk.bytes() == want.as_slice());
+    Ok(())
+}
+
+/// Bad images are refused as such, also where memory was refused first.
+#[test]
+fn a_bad_image_stays_bad(rt: HostRuntime) -> Result<(), Fail> {
+    let alloc = rt.alloc();
+    let topology = match Topology::read(alloc, TEXT) {
+        Ok(topology) => topology,
+        Err(_) => Topology::read(alloc, TEXT)?,
+    };
+    let mut images = images(alloc).or_else(|| images(alloc)).ok_or("no images")?;
+    for image in images.iter_mut() {
+        if let Some(byte) = image.get_mut(109) {
+            *byte = 1;
+        }
+    }
+    let mut disk = match MemDisk::zeroed(alloc, SIZE) {
+        Ok(disk) => disk,
+        Err(_) => MemDisk::zeroed(alloc, SIZE)?,
+    };
+    let _rules = topology.pages();
+    let mut answer = format(alloc, &mut disk, &topology, &images, AREA);
+    if answer == Err(FormatFault::Memory) {
+        answer = format(alloc, &mut disk, &topology, &images, AREA);
+    }
+    assert_eq!(rt; answer, Err(FormatFault::BadImage));
+    assert!(rt; disk.bytes().iter().all(|byte| *byte == 0));
+    Ok(())
+}

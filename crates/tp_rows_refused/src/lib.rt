@@ -1,0 +1,17 @@
+//! Calls that are refused memory once, and then made again. In the gate nothing is refused; `tools/refusals` refuses each
+//! growth in turn.
+#![tactic(auto)]
+
+#[cfg(test)]
+mod book_calls;
+mod books;
+#[cfg(test)]
+mod devices;
+#[cfg(test)]
+mod networks;
+#[cfg(test)]
+mod opened;
+#[cfg(test)]
+mod straight;
+#[cfg(test)]
+mod topologies;
