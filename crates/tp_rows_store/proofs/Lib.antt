@@ -1,2 +1,2 @@
-pub mod Lone
 pub mod EachPasses
+pub mod Lone

@@ -17,9 +17,9 @@ mod format_faults;
 mod groups;
 #[cfg(test)]
 mod host_calls;
-mod possible;
 #[cfg(test)]
 mod opened_books;
+mod possible;
 #[cfg(test)]
 mod topologies;
 #[cfg(test)]
