@@ -8,7 +8,7 @@ use crate::host_calls::{hand_in, is_shown};
 use std::alloc::Global;
 use std::test::Fail;
 use tp_area::format;
-use tp_book::{Book, NetState};
+use tp_book::{Book, NetState, Refusal};
 use tp_disk::MemDisk;
 use tp_net::Topology;
 use tp_open::open;
@@ -127,6 +127,22 @@ fn a_fresh_device_has_nothing_kept(rt: HostRuntime) -> Result<(), Fail> {
     assert_eq!(rt; book.nodes(), 1);
     assert_eq!(rt; book.ports(), 1);
     assert_eq!(rt; book.room(0), 4096);
+    Ok(())
+}
+
+/// Five lines keep 480 bytes for a snapshot, and each entry takes at most 32: so 105 find room in 3,862, and no 106th.
+#[test]
+fn the_journal_of_a_device_fills(rt: HostRuntime) -> Result<(), Fail> {
+    let alloc = rt.alloc();
+    let mut book = book_of(alloc, fresh(alloc)?)?;
+    for number in 0..105u64 {
+        assert_eq!(rt; hand_in(&mut book, b"x"), Ok(number + 1));
+    }
+    assert_eq!(rt; hand_in(&mut book, b"x"), Err(Refusal::JournalFull));
+    assert_eq!(rt; book.next(), 105);
+    assert_eq!(rt; book.accepted(0), 105);
+    assert_eq!(rt; book.room(0), 4096 - 105);
+    assert_eq!(rt; hand_in(&mut book, b""), Ok(105));
     Ok(())
 }
 
