@@ -18,12 +18,12 @@ use Rattle.tp_model.specs.Head.{Head, head_at}
 use Rattle.tp_model.specs.Replay.{replay_from}
 use Rattle.tp_model.specs.Spelling.{front_bytes, entries_in, Spells, Stands}
 use Rattle.tp_model.specs.Opening.{Opened, base_of, groups_place, choice, chosen_area, opening}
-use Rattle.tp_laws.proofs.Numbers.{AreBytes, are_bytes-drop}
+use Rattle.tp_laws.proofs.Numbers.{AreBytes, are_bytes-take, are_bytes-drop}
 use Rattle.tp_areas.proofs.Heads.{head_parts, wires_count}
 use Rattle.tp_areas.proofs.Listings.{listing_ends}
 use Rattle.tp_areas.proofs.Chosen.{open_in, age_in, chosen_open}
 use Rattle.tp_areas.proofs.AreaReads.{AreaParts, area_parts, groups_at, groups_in}
-use Rattle.tp_areas.proofs.ReadCuts.{are_bytes-take, u64_below, cut_read}
+use Rattle.tp_areas.proofs.ReadCuts.{u64_below, cut_read}
 use Rattle.tp_areas.proofs.ReadGroups.{groups_read, entries_read, grouped}
 use Rattle.tp_areas.proofs.SpeltAreas.{end_of_groups}
 use Rattle.tp_areas.proofs.Opens.{reads_of}

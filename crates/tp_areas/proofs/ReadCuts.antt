@@ -1,9 +1,9 @@
 -- What is read as a cut is spelt so.
-use Rattle.std.proofs.Common.{◌≡◌, ℕ, zero, suc, ◌+◌, ◌*◌, ◌^◌, ◌<◌, ◌≤◌, inl, inr, Bool, true, false, cond, List, [], ◌∷◌, ◌++◌, length, take, drop, get_or, refl, sym, ap, subst, ◌∙◌, arith, append_assoc, length-drop, length-take, Option, Some, Ok}
+use Rattle.std.proofs.Common.{◌≡◌, ℕ, zero, suc, ◌+◌, ◌*◌, ◌^◌, ◌<◌, ◌≤◌, Bool, true, false, cond, List, [], ◌∷◌, ◌++◌, length, take, drop, get_or, refl, sym, ap, subst, ◌∙◌, arith, append_assoc, length-drop, length-take, Option, Some, Ok}
 use Rattle.std.specs.Prelude.{◌==◌, ◌&&◌, nat_lt, flat_map, sum_by, bytes_eq}
 use Rattle.std.specs.List.{AllByRecursion}
-use Rattle.std.proofs.lemmas.Bool.{and_parts, and_from, eqb-true, ltb-true, cases_lt}
-use Rattle.std.proofs.lemmas.List.{take-append-drop, drop-drop, get_or-take, get_or_past}
+use Rattle.std.proofs.lemmas.Bool.{and_parts, and_from, eqb-true, ltb-true}
+use Rattle.std.proofs.lemmas.List.{take-append-drop, drop-drop}
 use Rattle.std.proofs.lemmas.List.Sums.{sum_by-cons}
 use Rattle.std.proofs.lemmas.Nat.{le_bytes_4, le_bytes_8}
 use Rattle.std.proofs.lemmas.Slice.Eq.{bytes_eq-Decides}
@@ -23,7 +23,7 @@ use Rattle.tp_model.specs.Flight.{flights_in}
 use Rattle.tp_model.specs.CutImage.{line_bytes, port_bytes, node_with, tokens_of, tokens_at, is_record, line_with, is_line_of, port_at, is_port_of, port_with, or_damaged, nodes_in, lines_in, ports_in, cut_bytes}
 use Rattle.tp_model.specs.Spelling.{has_record, are_lines, IsCut, front_bytes}
 use Rattle.tp_model.specs.Opening.{base_of, has_front, nodes_place, lines_place, ports_place, groups_place, network_of, cut_in}
-use Rattle.tp_laws.proofs.Numbers.{AreBytes, are_bytes, byte_below, are_bytes-drop}
+use Rattle.tp_laws.proofs.Numbers.{AreBytes, byte_below, are_bytes-take, are_bytes-drop}
 use Rattle.tp_laws.proofs.Images.{image-node_of, is_node-node_of}
 use Rattle.tp_order.proofs.InPlace.{flights_found}
 use Rattle.tp_areas.proofs.Faults.{bind_ok, or_damaged_ok, tested}
@@ -32,26 +32,17 @@ use Rattle.tp_areas.proofs.SpeltCuts.{pages_of}
 
 -- ## Bytes of a part
 
-part_below : (n : ℕ) (xs : List ℕ) → AreBytes xs → (i : ℕ) → get_or (take n xs) i 0 < 256
-part_below n xs h i = elim (cases_lt i n) [
-  | inl low ↦ subst (λ x. x < 256) (sym (get_or-take n xs i 0 low)) (byte_below xs h i)
-  | inr high ↦ subst (λ x. x < 256) (sym (get_or_past (take n xs) i 0 (omega (arith, length-take n xs)))) (omega arith)
-]
-
-pub are_bytes-take : (n : ℕ) (xs : List ℕ) → AreBytes xs → AreBytes (take n xs)
-are_bytes-take n xs h = are_bytes (take n xs) (part_below n xs h)
-
 -- a number's bytes are those of which it is read
 pub u64_bytes-u64_at : (xs : List ℕ) (at : ℕ) → AreBytes xs → at + 8 ≤ length xs → u64_bytes (u64_at xs at) ≡ take 8 (drop at xs)
 u64_bytes-u64_at xs at h room =
     let part = drop at xs in
-    le_bytes_8 (take 8 part) (u64_at xs at) (omega (arith, length-take 8 part, length-drop at xs)) (part_below 8 part (are_bytes-drop at xs h))
+    le_bytes_8 (take 8 part) (u64_at xs at) (omega (arith, length-take 8 part, length-drop at xs)) (byte_below (take 8 part) (are_bytes-take 8 part (are_bytes-drop at xs h)))
     (u64_front 0 8 part (take 8 part) (omega arith) (whole_front 8 part))
 
 u32_bytes-u32_at : (xs : List ℕ) (at : ℕ) → AreBytes xs → at + 4 ≤ length xs → u32_bytes (u32_at xs at) ≡ take 4 (drop at xs)
 u32_bytes-u32_at xs at h room =
     let part = drop at xs in
-    le_bytes_4 (take 4 part) (u32_at xs at) (omega (arith, length-take 4 part, length-drop at xs)) (part_below 4 part (are_bytes-drop at xs h))
+    le_bytes_4 (take 4 part) (u32_at xs at) (omega (arith, length-take 4 part, length-drop at xs)) (byte_below (take 4 part) (are_bytes-take 4 part (are_bytes-drop at xs h)))
     (u32_front 0 4 part (take 4 part) (omega arith) (whole_front 4 part))
 
 pub u64_below : (xs : List ℕ) (at : ℕ) → AreBytes xs → u64_at xs at < 2 ^ 64

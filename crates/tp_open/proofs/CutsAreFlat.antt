@@ -17,10 +17,10 @@ use Rattle.tp_model.specs.Spelling.{IsCut}
 use Rattle.tp_model.specs.Opening.{base_of, has_front, network_of, nodes_place, lines_place, ports_place, cut_in}
 use Rattle.tp_laws.specs.NodeOfBytes.{IsNodeOfBytes}
 use Rattle.tp_laws.proofs.Images.{node_of_bytes}
-use Rattle.tp_laws.proofs.Numbers.{AreBytes, are_bytes-drop}
+use Rattle.tp_laws.proofs.Numbers.{AreBytes, are_bytes-take, are_bytes-drop}
 use Rattle.tp_laws.proofs.Partial.{all_at}
 use Rattle.tp_areas.proofs.Faults.{bind_ok, or_damaged_ok, tested}
-use Rattle.tp_areas.proofs.ReadCuts.{are_bytes-take, cut_read}
+use Rattle.tp_areas.proofs.ReadCuts.{cut_read}
 use Rattle.tp_node.proofs.Images.{node_of-short}
 use Rattle.tp_book.specs.Kept.{IsCounted, AreCounted}
 use Rattle.tp_replay.specs.Flat.{IsFlat}

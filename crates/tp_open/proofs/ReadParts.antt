@@ -17,8 +17,7 @@ use Rattle.tp_model.specs.Spelling.{are_lines, IsCut}
 use Rattle.tp_model.specs.Topology.{Topology, line_count}
 use Rattle.tp_order.proofs.InPlace.{flights_found}
 use Rattle.tp_areas.proofs.Faults.{tested}
-use Rattle.tp_areas.proofs.ReadCuts.{are_bytes-take}
-use Rattle.tp_laws.proofs.Numbers.{AreBytes, are_bytes}
+use Rattle.tp_laws.proofs.Numbers.{AreBytes, are_bytes, are_bytes-take}
 use Rattle.tp_laws.specs.NodeOfBytes.{IsNodeOfBytes}
 use Rattle.tp_laws.proofs.Images.{node_of_bytes}
 use Rattle.tp_open.specs.Cuts.{wired}
