@@ -1,5 +1,6 @@
 -- What is read of an area before its groups, and what is opened with them.
 use Rattle.std.specs.Prelude.{◌≡◌, ℕ, ◌+◌, Bool, List, drop, Result, Ok}
+use Rattle.std.specs.List.{AllByRecursion}
 use Rattle.tp_model.specs.declared.opening.OpenFault.{OpenFault}
 use Rattle.tp_model.specs.Device.{area_start}
 use Rattle.tp_model.specs.Head.{Head}
@@ -10,6 +11,7 @@ use Rattle.tp_model.specs.Opening.{Opened, cut_in, groups_place}
 use Rattle.tp_model.specs.Replay.{Listing, Replay, listing, replay_from}
 use Rattle.tp_model.specs.Results.{◌>>=◌}
 use Rattle.tp_model.specs.Spelling.{IsCut}
+use Rattle.tp_laws.specs.NodeOfBytes.{IsNodeOfBytes}
 use Rattle.tp_open.specs.declared.front.CutFront.{CutFront}
 use Rattle.tp_open.specs.declared.start.Start.{Start}
 use Rattle.tp_open.specs.AfterGroups.{after_groups}
@@ -33,10 +35,11 @@ read_in head second content = do
   cut ← cut_in t414_ends head.topology (area_start head.area second + 1) content
   Ok (read_as front cut)
 
--- Nothing is replayed so far, and the cut is one of that head's topology.
+-- Nothing is replayed so far, and the cut is one of that head's topology, whose nodes were read of bytes.
 pub record IsStart (head : Head) (start : Start) : Type 0 where
   pub replay : start.replay ≡ replay_from start.cut.network start.front.base
   pub cut : IsCut t414_ends head.topology start.front.base start.cut.network
+  pub nodes : AllByRecursion IsNodeOfBytes start.cut.network.nodes
 
 -- what is read of the groups of an area
 abbrev pub groups_of : Head → Bool → List ℕ → Listing
