@@ -12,7 +12,7 @@ use tp_book::{Book, NetParts, Refusal};
 use tp_model::Token;
 
 /// The network, though memory may be refused once.
-pub(crate) fn net(alloc: Global) -> Result<NetParts, Fail>
+fn net(alloc: Global) -> Result<NetParts, Fail>
     ensures { IfOk result (λ net. IsLone (network_of net)) }
 {
     let image = image(alloc).or_else(|| image(alloc)).ok_or("no image")?;

@@ -7,15 +7,15 @@ use tp_disk::{Disk, MemDisk};
 use tp_net::Topology;
 
 /// Bytes of the device and of an area.
-pub(crate) const SIZE: usize = 33_280;
+const SIZE: usize = 33_280;
 
-pub(crate) const AREA: u64 = 16_384;
+const AREA: u64 = 16_384;
 
 /// Where the first area's groups begin.
 const GROUPS: usize = 13_033;
 
 /// One node, whose link 0 goes to a port.
-pub(crate) const TEXT: &[u8] = b"node a 4\nport h\nwire a.0 h\n";
+const TEXT: &[u8] = b"node a 4\nport h\nwire a.0 h\n";
 
 /// The bytes of the device that aren't 00, with their places: the head, the first area's front, the image, and a group of two
 /// entries, by which the host hands in the letters x and y.

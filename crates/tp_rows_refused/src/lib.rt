@@ -12,6 +12,4 @@ mod networks;
 #[cfg(test)]
 mod opened;
 #[cfg(test)]
-mod straight;
-#[cfg(test)]
 mod topologies;
