@@ -3,6 +3,7 @@ use Rattle.std.specs.Prelude.{◌≡◌, ◌<◌, ◌≤◌, ℕ, ◌+◌, false
 use Rattle.tp_model.specs.declared.entry.Entry.{Entry}
 use Rattle.tp_model.specs.declared.limits.TheConstants.{MAX_HELD, NUMBER_LIMIT}
 use Rattle.tp_model.specs.NodeState.{NodeState}
+use Rattle.tp_model.specs.Image.{node_of}
 use Rattle.tp_model.specs.Node.{t414, t414_ends}
 use Rattle.tp_model.specs.Network.{Network}
 use Rattle.tp_model.specs.Numbers.{AreNumbered}
@@ -31,7 +32,8 @@ abbrev pub numbers_of : NetState → List ℕ
 numbers_of s = map (λ n. n.number) s.kept.items
 
 -- What opening leaves: the kept entries lead from the kept cut's network to the one that is there, which is sound and has no
--- Markers under way; each port holds what it has room for, and has counted no more than there are entries.
+-- Markers under way; each node's image spells it; each port holds what it has room for, and has counted no more than there are
+-- entries.
 pub record IsOpened (s : NetState) : Type 0 where
   pub history : after t414 (cut_of s) (kept_of s) ≡ Some (now_of s)
   pub sound : Sound t414_ends (now_of s)
@@ -44,6 +46,7 @@ pub record IsOpened (s : NetState) : Type 0 where
   pub counted : AreCounted s.next (now_of s).ports
   pub pending : All (λ port. vec_len port.pending ≤ MAX_HELD) s.net.ports.items
   pub outputs : All (λ port. vec_len port.outputs ≤ MAX_HELD) s.net.ports.items
+  pub images : map (λ image. node_of image.items) s.net.images.items ≡ map (λ node. Some node) (now_of s).nodes
 
 -- The book of an opened device, on which groups may fill so many bytes: nothing is reserved, and what the ports hold is shown
 -- by every mark.

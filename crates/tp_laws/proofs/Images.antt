@@ -129,19 +129,11 @@ slice_fits n h =
     let most : n.cpu.slice ≤ 1024 = leb-true n.cpu.slice SLICE c.0 in
     omega arith
 
--- Each number of the node fits its bytes in an image, and it has four links.
-pub record FitsImage (n : NodeState) : Type 0 where
-  pub words : AllByRecursion (λ word. word < 2 ^ 32) (words_of n.cpu)
-  pub slice : n.cpu.slice < 2 ^ 16
-  pub links : (length n.outputs ≡ 4) × (length n.inputs ≡ 4)
-  pub outputs : AllByRecursion FitsOutEnd n.outputs
-  pub inputs : AllByRecursion FitsInEnd n.inputs
-
--- Then its image spells it.
-pub node_at-image : (n : NodeState) → FitsImage n → node_at (image n) ≡ n
+-- The image of a node with an image has that node's fields.
+pub node_at-image : (n : NodeState) → IsNode n → node_at (image n) ≡ n
 unfolding node_at
 node_at-image n is =
-    same_node n _ _ _ _ (cpu_back n is.words is.slice) (memory_last n is.links)
+    same_node n _ _ _ _ (cpu_back n is.words (slice_fits n is.keeps)) (memory_last n is.links)
     (rw (behind_head n is.links) (ap (λ k. ends_at out_end_at k (outs n is.links ++ (inns n is.links ++ n.memory))) (sym is.links.0)
     ∙ ends_back FitsOutEnd out_end_bytes out_end_at out_end_at-bytes length-out_end n.outputs (inns n is.links ++ n.memory) is.outputs))
     (rw (behind_outputs n is.links) (ap (λ k. ends_at in_end_at k (inns n is.links ++ n.memory)) (sym is.links.1)
@@ -152,8 +144,7 @@ pub node_of-image : (n : NodeState) → IsNode n → node_of (image n) ≡ Some 
 unfolding node_of
 node_of-image n is =
     let same : bytes_eq (take 172 (image n)) (image_head n) ≡ true = (bytes_eq-Decides (take 172 (image n)) (image_head n)).1 (head_first n is.links) in
-    let fits : FitsImage n = record { words = is.words; slice = slice_fits n is.keeps; links = is.links; outputs = is.outputs; inputs = is.inputs } in
-    rw (node_at-image n fits, is.keeps, same) refl
+    rw (node_at-image n is, is.keeps, same) refl
 
 -- Bytes that spell a node are its image.
 from_head : (bytes : List ℕ) → take 172 bytes ≡ image_head (node_at bytes) → image (node_at bytes) ≡ bytes

@@ -55,7 +55,7 @@ fn cpu_at(bytes: &[u8]) -> Cpu
 }
 
 /// The words from Iptr to the queues.
-pub(crate) fn words_of(cpu: &Cpu) -> [u32; 9]
+fn words_of(cpu: &Cpu) -> [u32; 9]
     ensures { result ≡ words_of cpu.now }
 {
     [

@@ -9,7 +9,6 @@ mod first;
 mod head;
 mod image;
 mod input;
-mod known;
 mod memory;
 mod node;
 mod number;

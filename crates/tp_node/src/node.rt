@@ -1,9 +1,7 @@
 //! A node: its image, the tokens that come in, and how it is frozen.
 
-ghost use Rattle.std.specs.Prelude.{◌≡◌, ◌*◌, ◌^◌, ◌<◌, [], Some, None, length, IsSome, IsNone, IfSome, is_some};
-ghost use Rattle.std.specs.List.{AllByRecursion};
-ghost use Rattle.tp_model.specs.EndBytes.{FitsOutEnd, FitsInEnd};
-ghost use Rattle.tp_model.specs.Image.{image_head, node_of, words_of};
+ghost use Rattle.std.specs.Prelude.{◌≡◌, ◌*◌, ◌<◌, [], Some, None, length, IsSome, IsNone, IfSome, is_some};
+ghost use Rattle.tp_model.specs.Image.{image_head, node_of};
 ghost use Rattle.tp_model.specs.Network.{steps};
 ghost use Rattle.tp_model.specs.Node.{took, t414, waits, holds};
 ghost use Rattle.tp_mem.specs.Contents.{page_of};
@@ -60,17 +58,6 @@ impl Node {
                 frozen: None,
             }),
         }
-    }
-
-    /// Each number of the node fits its bytes in an image. It does nothing.
-    pub fn known(&self)
-        ensures words { AllByRecursion (λ word. word < 2 ^ 32) (words_of self.now.live.cpu) }
-        ensures slice { self.now.live.cpu.slice < 2 ^ 16 }
-        ensures links { (length self.now.live.outputs ≡ 4) × (length self.now.live.inputs ≡ 4) }
-        ensures outputs { AllByRecursion FitsOutEnd self.now.live.outputs }
-        ensures inputs { AllByRecursion FitsInEnd self.now.live.inputs }
-    {
-        self.head.known();
     }
 
     /// Why the node has halted, if it has.

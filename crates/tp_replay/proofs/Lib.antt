@@ -3,6 +3,7 @@ pub mod Counted
 pub mod Flat
 pub mod Fronts
 pub mod History
+pub mod ImagesAgain
 pub mod Impossible
 pub mod Pages
 pub mod Ran

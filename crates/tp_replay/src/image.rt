@@ -1,7 +1,7 @@
 //! Nodes as images.
 
 ghost use Rattle.std.specs.Prelude.{◌≡◌, ◌++◌, Some, None, IfOk, OnOk, map};
-ghost use Rattle.tp_model.specs.Image.{image, node_at};
+ghost use Rattle.tp_model.specs.Image.{image};
 ghost use Rattle.tp_model.specs.NodeState.{NodeState};
 ghost use Rattle.tp_replay.specs.Flat.{AreThawed};
 
@@ -31,10 +31,8 @@ fn put_frozen(node: &Node, bytes: &mut Vec<u8>) -> Result<(), AllocError>
 pub(crate) fn image_of(alloc: Global, node: &mut Node) -> Result<Vec<u8>, AllocError>
     requires { node.old.frozen ≡ None }
     ensures image { IfOk result (λ bytes. bytes.items ≡ image node.old.live) }
-    ensures spelt { IfOk result (λ bytes. node_at bytes.items ≡ node.old.live) }
     ensures same { node.new ≡ node.old }
 {
-    node.known();
     let mut bytes = Vec::new(alloc);
     node.freeze();
     let put = put_frozen(node, &mut bytes);
@@ -49,7 +47,6 @@ pub(crate) fn image_of(alloc: Global, node: &mut Node) -> Result<Vec<u8>, AllocE
 pub(crate) fn images_of(alloc: Global, nodes: &mut Vec<Node>) -> Result<Vec<Vec<u8>>, AllocError>
     requires { AreThawed nodes.old.items }
     ensures images { IfOk result (λ images. map (λ bytes. bytes.items) images.items ≡ map (λ node. image node.live) nodes.old.items) }
-    ensures spelt { IfOk result (λ images. map (λ bytes. node_at bytes.items) images.items ≡ map (λ node. node.live) nodes.old.items) }
     ensures same { nodes.new.items ≡ nodes.old.items }
 {
     let mut images = Vec::new(alloc);

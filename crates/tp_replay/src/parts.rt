@@ -1,7 +1,7 @@
 //! A flat network read out.
 
-ghost use Rattle.std.specs.Prelude.{◌≡◌, ◌<◌, IfOk, length, map};
-ghost use Rattle.tp_model.specs.Image.{image};
+ghost use Rattle.std.specs.Prelude.{◌≡◌, ◌<◌, IfOk, Some, length, map};
+ghost use Rattle.tp_model.specs.Image.{node_of};
 ghost use Rattle.tp_model.specs.Network.{on_line};
 ghost use Rattle.tp_book.specs.Parts.{network_of, port_of};
 ghost use Rattle.tp_replay.specs.PartsOf.{ArePartsOf};
@@ -62,9 +62,10 @@ fn all_parts(alloc: Global, ports: &[HostPort]) -> Result<Vec<PortParts>, AllocE
 }
 
 impl FlatNetwork {
-    /// The network as its parts, with each node as its image: they are that network again. It stays as it is.
+    /// The network as its parts, with each node as its image, which spells it: they are that network again. It stays as it is.
     pub fn parts(&mut self, alloc: Global) -> Result<NetParts, AllocError>
         ensures parts { IfOk result (λ parts. ArePartsOf parts self.old) }
+        ensures spelt { IfOk result (λ parts. map (λ image. node_of image.items) parts.images.items ≡ map Some self.old.nodes) }
         ensures again { IfOk result (λ parts. network_of parts ≡ self.old) }
         ensures same { self.new ≡ self.old }
     {

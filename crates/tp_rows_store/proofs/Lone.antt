@@ -1,6 +1,7 @@
 -- The network without nodes is sound, and a device may leave it.
-use Rattle.std.proofs.Common.{◌≡◌, ℕ, zero, suc, ◌<◌, ◌≤◌, ◌/◌, cond, true, false, [], ◌∷◌, length, map, refl, sym, ap, subst, ◌∙◌, arith, Option, Some, None}
+use Rattle.std.proofs.Common.{◌≡◌, ℕ, zero, suc, ◌<◌, ◌≤◌, ◌/◌, cond, true, false, List, [], ◌∷◌, length, map, Vec, Global, refl, sym, ap, subst, ◌∙◌, arith, Option, Some, None}
 use Rattle.std.specs.Option.{option_map}
+use Rattle.tp_model.specs.Image.{node_at, node_of}
 use Rattle.tp_model.specs.Node.{t414_ends}
 use Rattle.tp_model.specs.Network.{own, receiver, is_wired, has_wire, line_of, back, on_line}
 use Rattle.tp_model.specs.Sound.{Sound, holds_at}
@@ -48,6 +49,11 @@ lone_counted zero port at =
     subst (IsCounted 2) same (record { inputs = omega arith; outputs = omega arith })
 lone_counted (suc p) port at = cc
 
+-- without nodes there are no images
+no_images : (images : List (Vec ℕ Global)) → map (λ image. node_at image.items) images ≡ [] → map (λ image. node_of image.items) images ≡ []
+no_images [] none = refl
+no_images (image ∷ images) none = cc
+
 -- a device leaves it, with a cut of two entries and none behind it
 pub lone_opened : (s : NetState) → network_of s.net ≡ lone_network → cut_of s ≡ lone_network → s.kept.items ≡ [] → s.base ≡ 2 → s.next ≡ 2
     → All (λ port. vec_len port.pending ≤ MAX_HELD) s.net.ports.items → All (λ port. vec_len port.outputs ≤ MAX_HELD) s.net.ports.items → IsOpened s
@@ -64,6 +70,8 @@ lone_opened s is cut kept base next pending outputs = record {
   counted = subst (λ n. AreCounted n (now_of s).ports) (sym next) (subst (λ net. AreCounted 2 net.ports) (sym is) lone_counted);
   pending = pending;
   outputs = outputs;
+  images = subst (λ nodes. map (λ image. node_of image.items) s.net.images.items ≡ map (λ node. Some node) nodes) (sym (ap (λ net. net.nodes) is))
+      (no_images s.net.images.items (ap (λ net. net.nodes) is));
 }
 
 -- its book can be used

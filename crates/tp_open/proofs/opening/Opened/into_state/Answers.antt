@@ -1,4 +1,6 @@
-use Rattle.std.proofs.Common.{refl, ap, ◌∙◌}
+use Rattle.std.proofs.Common.{refl, sym, ap, ◌∙◌, map, Some}
+use Rattle.tp_model.specs.NodeState.{NodeState}
+use Rattle.tp_model.specs.Network.{Network}
 use Rattle.tp_model.specs.Node.{t414}
 use Rattle.tp_model.specs.Opening.{next_of}
 use Rattle.tp_replay.proofs.History.{history_of}
@@ -11,6 +13,7 @@ returns-clause-opened c =
     let leads = c.self.invariant.leads in
     replayed_opened o.head.topology o.base o.cut.network leads.0 o.replay _ c.topology-topology.ensures.valid c.self.invariant.cut c.self.invariant.nodes leads.1
     refl (c.in_ok-net.ensures.again ∙ c.into_parts-network.ensures.network) c.into_parts-network.ensures.kept refl c.into_parts-network.ensures.next
+    (c.in_ok-net.ensures.spelt ∙ ap (λ (s : Network NodeState). map (λ node. Some node) s.nodes) (sym c.in_ok-net.ensures.again))
 
 pub returns-clause-next : goal.returns-clause-next
 returns-clause-next c =
