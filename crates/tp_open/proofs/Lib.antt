@@ -6,6 +6,7 @@ pub mod Nodes
 pub mod Numbers
 pub mod Parts
 pub mod Passing
+pub mod Leaving
 pub mod Ports
 pub mod Records
 mod Leading

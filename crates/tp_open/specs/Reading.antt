@@ -1,7 +1,8 @@
 -- What a reading of a device answers, and what it leaves.
 use Rattle.std.specs.Prelude.{◌≡◌, Bool, true, false, Result, Ok, Err}
 use Rattle.tp_model.specs.declared.opening.OpenFault.{OpenFault}
-use Rattle.tp_model.specs.Disk.{Moment}
+use Rattle.tp_model.specs.Disk.{Moment, MayBe}
+use Rattle.tp_model.specs.DiskHistory.{State, LeavesOnly}
 use Rattle.tp_open.specs.declared.unopened.Unopened.{Unopened}
 use Rattle.tp_open.specs.declared.unopened.Unopened.TheVariants.{Fault, ReadFailed, Memory}
 
@@ -18,6 +19,10 @@ IsKept (Ok x) old new = new ≡ old
 IsKept (Err (Fault fault)) old new = new ≡ old
 IsKept (Err ReadFailed) old new = Unit {0}
 IsKept (Err Memory) old new = new ≡ old
+
+-- A crash at any moment from the first state to the second one leaves what a crash just before might have left.
+abbrev pub LeavesNothingNew : State → State → Type 0
+LeavesNothingNew old new = LeavesOnly old new (MayBe old.now)
 
 -- The answer is what the definition gives: its value, seen so, or its fault. Else the device failed or memory was wanting.
 abbrev pub Answers : {A B : Type 0} → (A → B) → Result B OpenFault → Result A Unopened → Type 0

@@ -4,7 +4,7 @@ ghost use Rattle.std.specs.Prelude.{◌≡◌, ◌+◌, ◌*◌, ◌^◌, ◌<�
 ghost use Rattle.tp_model.specs.DiskHistory.{Counts};
 ghost use Rattle.tp_model.specs.Device.{area_start};
 ghost use Rattle.tp_model.specs.Opening.{choice, chosen_area};
-ghost use Rattle.tp_open.specs.Reading.{has_read, found, Answers, IsKept, TakesNone};
+ghost use Rattle.tp_open.specs.Reading.{has_read, found, Answers, IsKept, LeavesNothingNew, TakesNone};
 ghost use Rattle.tp_open.specs.Fronts.{area_front};
 
 use crate::device::read_array;
@@ -27,6 +27,7 @@ fn read_area_front<D: Disk>(disk: &mut D, start: u64) -> Result<AreaFront, Unope
     ensures takes_none { TakesNone result }
     ensures counts { Counts (has_read result) (D.size_of disk.old) (D.size_of disk.new) (D.failures_of disk.old) (D.failures_of disk.new) }
     ensures kept { D.keeps → IsKept result (D.state disk.old).now (D.state disk.new).now }
+    ensures leaves { D.keeps → LeavesNothingNew (D.state disk.old) (D.state disk.new) }
     ensures is { D.keeps → Answers (λ front. front) (found (area_front start (D.state disk.old).now.bytes)) result }
 {
     let bytes: [u8; 9] = read_array(disk, start)?;
@@ -66,6 +67,7 @@ pub fn read_choice<D: Disk>(disk: &mut D, area: u64) -> Result<bool, Unopened>
     ensures takes_none { TakesNone result }
     ensures counts { Counts (has_read result) (D.size_of disk.old) (D.size_of disk.new) (D.failures_of disk.old) (D.failures_of disk.new) }
     ensures kept { D.keeps → IsKept result (D.state disk.old).now (D.state disk.new).now }
+    ensures leaves { D.keeps → LeavesNothingNew (D.state disk.old) (D.state disk.new) }
     ensures is { D.keeps → Answers (λ second. second) (chosen_area area (D.state disk.old).now.bytes) result }
 {
     let first = read_area_front(disk, area_start(area, false))?;

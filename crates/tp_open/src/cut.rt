@@ -17,7 +17,7 @@ ghost use Rattle.tp_open.specs.Cuts.{cut_network, records_at};
 ghost use Rattle.tp_open.specs.Lines.{tokens_on};
 ghost use Rattle.tp_open.specs.Nodes.{live, AreThawed, HaveImages};
 ghost use Rattle.tp_open.specs.Ports.{ArePorts};
-ghost use Rattle.tp_open.specs.Reading.{has_read, Answers, IsKept};
+ghost use Rattle.tp_open.specs.Reading.{has_read, Answers, IsKept, LeavesNothingNew};
 
 use crate::flights::{CutParts, flights};
 use crate::head::Head;
@@ -115,6 +115,7 @@ fn read_records<D: Disk>(
     requires counted { places.ports + PORT_BYTES * ports < 2 ^ 64 }
     ensures counts { Counts (has_read result) (D.size_of disk.old) (D.size_of disk.new) (D.failures_of disk.old) (D.failures_of disk.new) }
     ensures kept { D.keeps → IsKept result (D.state disk.old).now (D.state disk.new).now }
+    ensures leaves { D.keeps → LeavesNothingNew (D.state disk.old) (D.state disk.new) }
     ensures nodes { IfOk result (λ cut. length cut.nodes.items ≡ length pages.now) }
     ensures ports { IfOk result (λ cut. length cut.ports.items ≡ ports) }
     ensures thawed { IfOk result (λ cut. AreThawed cut.nodes.items) }
@@ -166,6 +167,7 @@ pub fn read_cut<D: Disk>(
     requires { HEAD_BYTES + 2 * head.now.area ≤ D.size_of disk.old }
     ensures counts { Counts (has_read result) (D.size_of disk.old) (D.size_of disk.new) (D.failures_of disk.old) (D.failures_of disk.new) }
     ensures kept { D.keeps → IsKept result (D.state disk.old).now (D.state disk.new).now }
+    ensures leaves { D.keeps → LeavesNothingNew (D.state disk.old) (D.state disk.new) }
     ensures nodes { IfOk result (λ cut. length cut.nodes.items ≡ length head.now.topology.pages) }
     ensures ports { IfOk result (λ cut. length cut.ports.items ≡ head.now.topology.ports) }
     ensures sound { IfOk result (λ cut. (at : ℕ) × (flights_in t414_ends (cut_network head.now.topology.wires cut) at 0 (line_count head.now.topology) ≡ Ok tt)) }

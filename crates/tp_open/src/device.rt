@@ -2,7 +2,7 @@
 
 ghost use Rattle.std.specs.Prelude.{◌≡◌, ◌+◌, ◌≤◌, length, take, drop, IfOk};
 ghost use Rattle.tp_model.specs.DiskHistory.{Counts};
-ghost use Rattle.tp_open.specs.Reading.{has_read, found, Answers, IsKept, TakesNone};
+ghost use Rattle.tp_open.specs.Reading.{has_read, found, Answers, IsKept, LeavesNothingNew, TakesNone};
 
 use crate::unopened::Unopened;
 use std::alloc::Global;
@@ -17,6 +17,7 @@ pub(crate) fn read_array<D: Disk, const N: usize>(
     ensures takes_none { TakesNone result }
     ensures counts { Counts (has_read result) (D.size_of disk.old) (D.size_of disk.new) (D.failures_of disk.old) (D.failures_of disk.new) }
     ensures kept { D.keeps → IsKept result (D.state disk.old).now (D.state disk.new).now }
+    ensures leaves { D.keeps → LeavesNothingNew (D.state disk.old) (D.state disk.new) }
     ensures bytes { D.keeps → Answers (λ bytes. bytes) (found (take N (drop at (D.state disk.old).now.bytes))) result }
 {
     let mut bytes = [0; N];
@@ -36,6 +37,7 @@ pub(crate) fn read_bytes<D: Disk>(
     requires { at + count ≤ D.size_of disk.old }
     ensures counts { Counts (has_read result) (D.size_of disk.old) (D.size_of disk.new) (D.failures_of disk.old) (D.failures_of disk.new) }
     ensures kept { D.keeps → IsKept result (D.state disk.old).now (D.state disk.new).now }
+    ensures leaves { D.keeps → LeavesNothingNew (D.state disk.old) (D.state disk.new) }
     ensures len { IfOk result (λ bytes. length bytes.items ≡ count) }
     ensures bytes { D.keeps → Answers (λ bytes. bytes.items) (found (take count (drop at (D.state disk.old).now.bytes))) result }
 {

@@ -6,7 +6,7 @@ ghost use Rattle.tp_model.specs.DiskHistory.{Counts};
 ghost use Rattle.tp_model.specs.Journal.{cut_length};
 ghost use Rattle.tp_model.specs.Topology.{Topology};
 ghost use Rattle.tp_open.specs.Fronts.{front_given};
-ghost use Rattle.tp_open.specs.Reading.{has_read, Answers, IsKept, TakesNone};
+ghost use Rattle.tp_open.specs.Reading.{has_read, Answers, IsKept, LeavesNothingNew, TakesNone};
 
 use crate::device::read_array;
 use crate::head::Head;
@@ -45,6 +45,7 @@ pub fn read_front<D: Disk>(disk: &mut D, head: &Head, second: bool) -> Result<Cu
     ensures takes_none { TakesNone result }
     ensures counts { Counts (has_read result) (D.size_of disk.old) (D.size_of disk.new) (D.failures_of disk.old) (D.failures_of disk.new) }
     ensures kept { D.keeps → IsKept result (D.state disk.old).now (D.state disk.new).now }
+    ensures leaves { D.keeps → LeavesNothingNew (D.state disk.old) (D.state disk.new) }
     ensures few { IfOk result (λ front. front.base < NUMBER_LIMIT) }
     ensures is { D.keeps → Answers (λ front. front) (front_given head.now.topology (area_start head.now.area second) (content_of head.now.area second (D.state disk.old).now.bytes)) result }
 {

@@ -8,7 +8,7 @@ ghost use Rattle.tp_model.specs.Device.{fits};
 ghost use Rattle.tp_model.specs.Journal.{is_roomy};
 ghost use Rattle.tp_model.specs.Topology.{end_of, is_topology};
 ghost use Rattle.tp_model.specs.DiskHistory.{Counts};
-ghost use Rattle.tp_open.specs.Reading.{has_read, Answers, IsKept, TakesNone};
+ghost use Rattle.tp_open.specs.Reading.{has_read, Answers, IsKept, LeavesNothingNew, TakesNone};
 ghost use Rattle.tp_open.specs.Heads.{fields_in, head_in, is_whole};
 
 use crate::device::read_array;
@@ -249,6 +249,7 @@ pub fn read_head<D: Disk>(disk: &mut D) -> Result<Head, Unopened>
     ensures takes_none { TakesNone result }
     ensures counts { Counts (has_read result) (D.size_of disk.old) (D.size_of disk.new) (D.failures_of disk.old) (D.failures_of disk.new) }
     ensures kept { D.keeps → IsKept result (D.state disk.old).now (D.state disk.new).now }
+    ensures leaves { D.keeps → LeavesNothingNew (D.state disk.old) (D.state disk.new) }
     ensures inside { IfOk result (λ head. HEAD_BYTES + 2 * head.area ≤ D.size_of disk.old) }
     ensures counted { IfOk result (λ head. D.size_of disk.old < 2 ^ 64) }
     ensures is { D.keeps → Answers (λ head. head) (head_of (D.state disk.old).now.bytes) result }

@@ -8,7 +8,7 @@ ghost use Rattle.tp_model.specs.Spelling.{are_lines};
 ghost use Rattle.tp_model.specs.declared.opening.OpenFault.{OpenFault};
 ghost use Rattle.tp_open.specs.declared.unopened.Unopened.{Unopened};
 ghost use Rattle.tp_open.specs.Lines.{tokens_on};
-ghost use Rattle.tp_open.specs.Reading.{has_read, Answers, IsKept};
+ghost use Rattle.tp_open.specs.Reading.{has_read, Answers, IsKept, LeavesNothingNew};
 
 use crate::device::read_bytes;
 use crate::topology::MAX_LINES;
@@ -125,6 +125,7 @@ pub(crate) fn read_lines<D: Disk>(
     requires counted { at + LINE_BYTES * length wires.now < 2 ^ 64 }
     ensures counts { Counts (has_read result) (D.size_of disk.old) (D.size_of disk.new) (D.failures_of disk.old) (D.failures_of disk.new) }
     ensures kept { D.keeps → IsKept result (D.state disk.old).now (D.state disk.new).now }
+    ensures leaves { D.keeps → LeavesNothingNew (D.state disk.old) (D.state disk.new) }
     ensures lines { IfOk result (λ lines. are_lines wires.now (map tokens_on lines.items) ≡ true) }
     ensures is { D.keeps → Answers (λ lines. map tokens_on lines.items) (lines_in at wires.now (drop at (D.state disk.old).now.bytes)) result }
 {

@@ -5,7 +5,7 @@ ghost use Rattle.tp_model.specs.CutImage.{node_with, nodes_in, or_damaged};
 ghost use Rattle.tp_model.specs.DiskHistory.{Counts};
 ghost use Rattle.tp_model.specs.Journal.{image_length};
 ghost use Rattle.tp_open.specs.Nodes.{live, AreThawed, HasImage, HaveImages};
-ghost use Rattle.tp_open.specs.Reading.{has_read, Answers, IsKept};
+ghost use Rattle.tp_open.specs.Reading.{has_read, Answers, IsKept, LeavesNothingNew};
 
 use crate::device::read_bytes;
 use crate::topology::image_length;
@@ -35,6 +35,7 @@ fn read_node<D: Disk>(alloc: Global, disk: &mut D, at: u64, pages: u16) -> Resul
     requires { at + image_length pages ≤ D.size_of disk.old }
     ensures counts { Counts (has_read result) (D.size_of disk.old) (D.size_of disk.new) (D.failures_of disk.old) (D.failures_of disk.new) }
     ensures kept { D.keeps → IsKept result (D.state disk.old).now (D.state disk.new).now }
+    ensures leaves { D.keeps → LeavesNothingNew (D.state disk.old) (D.state disk.new) }
     ensures thawed { IfOk result (λ node. node.frozen ≡ None) }
     ensures image { IfOk result (λ node. HasImage pages node.live) }
     ensures is { D.keeps → Answers live (or_damaged at (node_with pages (drop at (D.state disk.old).now.bytes))) result }
@@ -54,6 +55,7 @@ pub(crate) fn read_nodes<D: Disk>(
     requires counted { at + sum_by image_length pages.now < 2 ^ 64 }
     ensures counts { Counts (has_read result) (D.size_of disk.old) (D.size_of disk.new) (D.failures_of disk.old) (D.failures_of disk.new) }
     ensures kept { D.keeps → IsKept result (D.state disk.old).now (D.state disk.new).now }
+    ensures leaves { D.keeps → LeavesNothingNew (D.state disk.old) (D.state disk.new) }
     ensures len { IfOk result (λ nodes. length nodes.items ≡ length pages.now) }
     ensures thawed { IfOk result (λ nodes. AreThawed nodes.items) }
     ensures images { IfOk result (λ nodes. HaveImages pages.now (map live nodes.items)) }

@@ -8,7 +8,7 @@ ghost use Rattle.tp_model.specs.Bytes.{u64_at};
 ghost use Rattle.tp_model.specs.CutImage.{is_port_of, or_damaged, port_with, ports_in};
 ghost use Rattle.tp_model.specs.DiskHistory.{Counts};
 ghost use Rattle.tp_open.specs.Ports.{ArePorts, is_port_at, is_zero, keeps_rules};
-ghost use Rattle.tp_open.specs.Reading.{has_read, Answers, IsKept};
+ghost use Rattle.tp_open.specs.Reading.{has_read, Answers, IsKept, LeavesNothingNew};
 
 use crate::device::read_bytes;
 use crate::number::{u16_at, u64_at};
@@ -114,6 +114,7 @@ fn read_port<D: Disk>(
     requires { at + PORT_BYTES ≤ D.size_of disk.old }
     ensures counts { Counts (has_read result) (D.size_of disk.old) (D.size_of disk.new) (D.failures_of disk.old) (D.failures_of disk.new) }
     ensures kept { D.keeps → IsKept result (D.state disk.old).now (D.state disk.new).now }
+    ensures leaves { D.keeps → LeavesNothingNew (D.state disk.old) (D.state disk.new) }
     ensures port { IfOk result (λ port. is_port_of base (port_of port) ≡ true) }
     ensures is { D.keeps → Answers port_of (or_damaged at (port_with base (drop at (D.state disk.old).now.bytes))) result }
 {
@@ -137,6 +138,7 @@ pub(crate) fn read_ports<D: Disk>(
     requires counted { at + PORT_BYTES * count < 2 ^ 64 }
     ensures counts { Counts (has_read result) (D.size_of disk.old) (D.size_of disk.new) (D.failures_of disk.old) (D.failures_of disk.new) }
     ensures kept { D.keeps → IsKept result (D.state disk.old).now (D.state disk.new).now }
+    ensures leaves { D.keeps → LeavesNothingNew (D.state disk.old) (D.state disk.new) }
     ensures len { IfOk result (λ ports. length ports.items ≡ count) }
     ensures ports { IfOk result (λ ports. ArePorts base (map port_of ports.items)) }
     ensures is { D.keeps → Answers (λ ports. map port_of ports.items) (ports_in base at count (drop at (D.state disk.old).now.bytes)) result }

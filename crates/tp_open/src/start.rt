@@ -8,7 +8,7 @@ ghost use Rattle.tp_model.specs.declared.limits.TheConstants.{HEAD_BYTES, MAX_HE
 ghost use Rattle.tp_net.specs.declared.line.TheConstants.{LINE_TOKENS};
 ghost use Rattle.tp_open.specs.Cuts.{cut_network};
 ghost use Rattle.tp_open.specs.Nodes.{AreThawed};
-ghost use Rattle.tp_open.specs.Reading.{has_read, Answers, IsKept};
+ghost use Rattle.tp_open.specs.Reading.{has_read, Answers, IsKept, LeavesNothingNew};
 ghost use Rattle.tp_open.specs.Starts.{read_in, read_of, IsStart};
 ghost use Rattle.tp_replay.specs.Flat.{IsFlat};
 
@@ -66,6 +66,7 @@ pub(crate) fn read_start<D: Disk>(
     requires { HEAD_BYTES + 2 * head.now.area ≤ D.size_of disk.old }
     ensures counts { Counts (has_read result) (D.size_of disk.old) (D.size_of disk.new) (D.failures_of disk.old) (D.failures_of disk.new) }
     ensures kept { D.keeps → IsKept result (D.state disk.old).now (D.state disk.new).now }
+    ensures leaves { D.keeps → LeavesNothingNew (D.state disk.old) (D.state disk.new) }
     ensures start { IfOk result (IsStart head.now) }
     ensures is { D.keeps → Answers read_of (read_in head.now second (content_of head.now.area second (D.state disk.old).now.bytes)) result }
 {

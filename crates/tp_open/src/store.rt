@@ -1,13 +1,14 @@
 //! The store over a device that opened.
 
-ghost use Rattle.std.specs.Prelude.{◌≡◌, ◌+◌, ◌*◌, ◌^◌, ◌<◌, ◌≤◌, true, false, Ok, IfOk};
+ghost use Rattle.std.specs.Prelude.{◌≡◌, ◌+◌, ◌*◌, ◌^◌, ◌<◌, ◌≤◌, true, false, Ok, Err, IfOk};
 ghost use Rattle.tp_area.specs.Places.{place_at};
 ghost use Rattle.tp_model.specs.Device.{area_start};
 ghost use Rattle.tp_model.specs.Disk.{Sync, done};
 ghost use Rattle.tp_model.specs.DiskHistory.{Counts};
 ghost use Rattle.tp_model.specs.Opening.{verdict};
 ghost use Rattle.tp_model.specs.declared.limits.TheConstants.{AREA_HEAD_BYTES, HEAD_BYTES};
-ghost use Rattle.tp_open.specs.Reading.{Answers};
+ghost use Rattle.tp_open.specs.Reading.{Answers, LeavesNothingNew};
+ghost use Rattle.tp_open.specs.declared.unopened.Unopened.TheVariants.{ReadFailed};
 
 use crate::opening::{Opened, open};
 use crate::unopened::Unopened;
@@ -47,14 +48,16 @@ impl Opened {
 
 /// Opens a device, as `open` does, and gives the store over it.
 ///
-/// Where it isn't opened, the device is given up, and nothing is said of it. Who wants it back lends it, since `&mut disk` is
-/// a device too, or calls `open` and then `Opened::store`.
+/// Where it isn't opened, the device is given up: of it is said only that a call of it failed where that is the answer. Who
+/// wants it back lends it, since `&mut disk` is a device too, or calls `open` and then `Opened::store`.
 pub fn open_store<D: Disk + Drop>(
     alloc: Global,
     mut disk: D,
 ) -> Result<(Opened, Store<D>), Unopened>
     ensures counts { IfOk result (λ both. Counts true (D.size_of disk) (D.size_of both.1.disk) (D.failures_of disk) (D.failures_of both.1.disk)) }
+    ensures failed { result ≡ Err ReadFailed → (after : D) × Counts false (D.size_of disk) (D.size_of after) (D.failures_of disk) (D.failures_of after) }
     ensures kept { D.keeps → IfOk result (λ both. (D.state both.1.disk).now ≡ done Sync (D.state disk).now) }
+    ensures leaves { D.keeps → IfOk result (λ both. LeavesNothingNew (D.state disk) (D.state both.1.disk)) }
     ensures is { D.keeps → Answers (λ both. both.0) (verdict (D.state disk).now.bytes) result }
     ensures place { IfOk result (λ both. both.1.place ≡ place_at both.0) }
     ensures unbroken { IfOk result (λ both. both.1.broken ≡ false) }

@@ -127,7 +127,7 @@ fn a_format_that_stops_behind_its_head(rt: HostRuntime) -> Result<(), Fail> {
     Ok(())
 }
 
-/// What stood on the device before makes no difference to what it then holds.
+/// What stood on the device before makes no difference to what it then holds, nor to a group that is appended.
 #[test]
 fn a_format_over_other_bytes(rt: HostRuntime) -> Result<(), Fail> {
     let alloc = rt.alloc();
@@ -135,6 +135,7 @@ fn a_format_over_other_bytes(rt: HostRuntime) -> Result<(), Fail> {
     let want = what_is_held(alloc, whole.as_slice())?;
     let (_, mut store) = open_store(alloc, disk_of(alloc, whole.as_slice())?)?;
     append(&rt, &mut store, &LETTER)?;
+    let grown = what_is_held(alloc, store.disk.bytes())?;
     let mut befores = Vec::new(alloc);
     befores.push(store.into_disk().crash())?;
     for byte in [0xA5, 0xFF] {
@@ -146,6 +147,10 @@ fn a_format_over_other_bytes(rt: HostRuntime) -> Result<(), Fail> {
         let found = what_is_held(alloc, disk.bytes())?;
         assert_eq!(rt; found.next, 0);
         assert!(rt; is_same(&found, &want));
+        let (_, mut store) = open_store(alloc, disk)?;
+        append(&rt, &mut store, &LETTER)?;
+        let found = what_is_held(alloc, store.disk.bytes())?;
+        assert!(rt; is_same(&found, &grown));
     }
     Ok(())
 }

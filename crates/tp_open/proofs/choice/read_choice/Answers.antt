@@ -1,5 +1,6 @@
 use Rattle.std.proofs.Common.{◌∙◌, sym}
 use Rattle.tp_open.proofs.Areas.{chosen_area-read}
+use Rattle.tp_open.proofs.Leaving.{then_leaves}
 use Rattle.tp_open.proofs.choice.read_choice.Goals as goal
 
 pub returns-in-Ok-clause-is : goal.returns-in-Ok-clause-is
@@ -13,3 +14,12 @@ returns-in-Err-clause-is g c k =
     chosen_area-read c.args.area c.area_start.result c.area_start-start.result _ _ c.in_ok-first.first c.in_ok-second.second c.requires.some
     c.area_start.ensures (c.in_ok-first.ensures.is k) (c.in_ok-first.ensures.kept k) c.area_start-start.ensures (c.in_ok-second.ensures.is k)
     ∙ sym c.choose.ensures ∙ c.in-Err.is
+
+pub returns-in_err-second-clause-leaves : goal.returns-in_err-second-clause-leaves
+returns-in_err-second-clause-leaves g c k = then_leaves _ _ _ (c.read_area_front.ensures.leaves k) (c.read_area_front-2.ensures.leaves k)
+
+pub returns-in-Ok-clause-leaves : goal.returns-in-Ok-clause-leaves
+returns-in-Ok-clause-leaves g c k = then_leaves _ _ _ (c.read_area_front.ensures.leaves k) (c.read_area_front-2.ensures.leaves k)
+
+pub returns-in-Err-clause-leaves : goal.returns-in-Err-clause-leaves
+returns-in-Err-clause-leaves g c k = then_leaves _ _ _ (c.read_area_front.ensures.leaves k) (c.read_area_front-2.ensures.leaves k)

@@ -6,6 +6,7 @@ use Rattle.tp_open.specs.Cuts.{cut_network, wired}
 use Rattle.tp_open.specs.Lines.{tokens_on}
 use Rattle.tp_open.specs.Nodes.{live}
 use Rattle.tp_open.proofs.Cuts.{first_error, second_error, third_error, all_read, lines_then, ports_then}
+use Rattle.tp_open.proofs.Leaving.{then_leaves}
 use Rattle.tp_open.proofs.cut.read_records.Goals as goal
 
 pub returns-in_err-nodes-clause-is : goal.returns-in_err-nodes-clause-is
@@ -54,3 +55,15 @@ returns-in-Ok-clause-is g c k =
 pub returns-in-Ok-clause-lines : goal.returns-in-Ok-clause-lines
 returns-in-Ok-clause-lines g c =
     ap (are_lines c.args.wires.now) (c.in-Ok.ensures ∙ ap (map tokens_on) c.deref.ensures.value) ∙ c.in_ok-found.ensures.lines
+
+pub returns-in_err-found-clause-leaves : goal.returns-in_err-found-clause-leaves
+returns-in_err-found-clause-leaves g c k = then_leaves _ _ _ (c.read_nodes.ensures.leaves k) (c.read_lines.ensures.leaves k)
+
+pub returns-in_err-ports-clause-leaves : goal.returns-in_err-ports-clause-leaves
+returns-in_err-ports-clause-leaves g c k = then_leaves _ _ _ (then_leaves _ _ _ (c.read_nodes.ensures.leaves k) (c.read_lines.ensures.leaves k)) (c.read_ports.ensures.leaves k)
+
+pub returns-in-Ok-clause-leaves : goal.returns-in-Ok-clause-leaves
+returns-in-Ok-clause-leaves g c k = then_leaves _ _ _ (then_leaves _ _ _ (c.read_nodes.ensures.leaves k) (c.read_lines.ensures.leaves k)) (c.read_ports.ensures.leaves k)
+
+pub returns-in-Err-clause-leaves : goal.returns-in-Err-clause-leaves
+returns-in-Err-clause-leaves g c k = then_leaves _ _ _ (then_leaves _ _ _ (c.read_nodes.ensures.leaves k) (c.read_lines.ensures.leaves k)) (c.read_ports.ensures.leaves k)

@@ -2,6 +2,7 @@ use Rattle.std.proofs.Common.{◌∙◌, sym, arith}
 use Rattle.tp_model.specs.Head.{head_of}
 use Rattle.tp_open.proofs.Passing.{told_value, told_fault, found_is}
 use Rattle.tp_open.proofs.Heads.{head_of-short, head_of-read}
+use Rattle.tp_open.proofs.Leaving.{none_leaves}
 use Rattle.tp_open.proofs.head.read_head.Goals as goal
 use Rattle.tp_open.proofs.head.read_head.Goals.{in-Ok, in-Err, Joined-head_in}
 
@@ -17,3 +18,6 @@ returns-clause-is g c k =
       | in-Ok w ↦ told_value (λ head. head) (head_of xs) _ _ (read ∙ sym c.head_in.ensures.value ∙ w.in-Ok.is) w.result-is
       | in-Err w ↦ told_fault (λ head. head) (head_of xs) _ _ (read ∙ sym c.head_in.ensures.value ∙ w.in-Err.is) w.result-is
     ]
+
+pub returns-then-len-clause-leaves : goal.returns-then-len-clause-leaves
+returns-then-len-clause-leaves g c k = none_leaves (g.D.Disk.state c.args.disk.now)

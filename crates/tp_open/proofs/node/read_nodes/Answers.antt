@@ -3,6 +3,7 @@ use Rattle.std.proofs.lemmas.List.{length_push, map_push}
 use Rattle.tp_open.specs.Nodes.{live, AreThawed}
 use Rattle.tp_open.proofs.Nodes.{nodes_in-step, nodes_in-error, nodes_in-end, place_more, place_inside, thawed_push}
 use Rattle.tp_open.proofs.ReadParts.{imaged_more, imaged_all}
+use Rattle.tp_open.proofs.Leaving.{none_leaves, then_leaves}
 use Rattle.tp_open.proofs.node.read_nodes.Goals as goal
 
 pub returns-in_err-read-clause-is : goal.returns-in_err-read-clause-is
@@ -22,6 +23,7 @@ loop-count-preserved g c = record {
     failures = c.in_ok-read.ensures.counts.failures ∙ c.loop-count.invariant.counts.failures;
   };
   kept = λ k. c.in_ok-read.ensures.kept k ∙ c.loop-count.invariant.kept k;
+  leaves = λ k s before. then_leaves _ _ _ (c.loop-count.invariant.leaves k s before) (c.read_node.ensures.leaves k);
   place = ap (λ n. c.loop-count.place + n) c.image_length.ensures ∙ place_more c.args.at c.loop-count.place c.loop-count.count-index c.args.pages.now c.loop-count-test.true c.loop-count.invariant.place;
   count = ap length c.in-Ok.ensures.items ∙ length_push c.loop-count.nodes.items c.in_ok-read.read ∙ ap (λ n. n + 1) c.loop-count.invariant.count;
   thawed = subst AreThawed (sym c.in-Ok.ensures.items) (thawed_push c.loop-count.nodes.items c.in_ok-read.read c.loop-count.invariant.thawed c.in_ok-read.ensures.thawed);
@@ -42,3 +44,12 @@ returns-clause-is g c k =
 
 pub returns-clause-images : goal.returns-clause-images
 returns-clause-images g c = imaged_all c.loop-count.count-index c.args.pages.now (map live c.loop-count.nodes.items) c.loop-count-test.false c.loop-count.invariant.images
+
+pub returns-in_err-read-clause-leaves : goal.returns-in_err-read-clause-leaves
+returns-in_err-read-clause-leaves g c k = then_leaves _ _ _ (c.loop-count.invariant.leaves k _ (none_leaves _)) (c.read_node.ensures.leaves k)
+
+pub returns-in_default-clause-leaves : goal.returns-in_default-clause-leaves
+returns-in_default-clause-leaves g c k = then_leaves _ _ _ (c.loop-count.invariant.leaves k _ (none_leaves _)) (c.read_node.ensures.leaves k)
+
+pub returns-clause-leaves : goal.returns-clause-leaves
+returns-clause-leaves g c k = c.loop-count.invariant.leaves k _ (none_leaves _)

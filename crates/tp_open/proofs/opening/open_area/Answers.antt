@@ -1,5 +1,6 @@
 use Rattle.std.proofs.Common.{◌≡◌, ℕ, rules, Err}
 use Rattle.tp_open.proofs.Openings.{area_unread, area_broken, area_whole}
+use Rattle.tp_open.proofs.Leaving.{then_leaves}
 use Rattle.tp_open.proofs.opening.open_area.Goals as goal
 
 pub returns-in_err-front-clause-is : goal.returns-in_err-front-clause-is
@@ -17,3 +18,9 @@ pub returns-clause-is : goal.returns-clause-is
 returns-clause-is g c k =
     area_whole c.args.head c.args.second (g.D.Disk.state c.args.disk.now).now (g.D.Disk.state c.read_start.new.disk).now c.in_ok-front.field-0 c.replay_area.new.replay c.in_ok-end.end
     c.in_ok-front.ensures.start (c.in_ok-front.ensures.is k) (c.in_ok-front.ensures.kept k) (c.in_ok-end.ensures.is k)
+
+pub returns-in_err-end-clause-leaves : goal.returns-in_err-end-clause-leaves
+returns-in_err-end-clause-leaves g c k = then_leaves _ _ _ (c.read_start.ensures.leaves k) (c.replay_area.ensures.leaves k)
+
+pub returns-clause-leaves : goal.returns-clause-leaves
+returns-clause-leaves g c k = then_leaves _ _ _ (c.read_start.ensures.leaves k) (c.replay_area.ensures.leaves k)

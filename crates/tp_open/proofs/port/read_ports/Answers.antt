@@ -3,6 +3,7 @@ use Rattle.std.proofs.lemmas.List.{length_push, map_push}
 use Rattle.tp_book.specs.Parts.{port_of}
 use Rattle.tp_open.proofs.Ports.{ports_in-step, ports_in-error, ports_in-end}
 use Rattle.tp_open.proofs.ReadParts.{reached_more}
+use Rattle.tp_open.proofs.Leaving.{none_leaves, then_leaves}
 use Rattle.tp_open.proofs.port.read_ports.Goals as goal
 
 pub returns-in_err-read-clause-is : goal.returns-in_err-read-clause-is
@@ -18,6 +19,7 @@ loop-port-preserved g c = record {
     failures = c.in_ok-read.ensures.counts.failures ∙ c.loop-port.invariant.counts.failures;
   };
   kept = λ k. c.in_ok-read.ensures.kept k ∙ c.loop-port.invariant.kept k;
+  leaves = λ k s before. then_leaves _ _ _ (c.loop-port.invariant.leaves k s before) (c.read_port.ensures.leaves k);
   count = ap length c.in-Ok.ensures.items ∙ length_push c.loop-port.ports.items c.in_ok-read.read ∙ ap (λ n. n + 1) c.loop-port.invariant.count;
   ports =
       reached_more c.args.base (map port_of c.loop-port.ports.items) (map port_of c.push.new.self.items) (port_of c.in_ok-read.read) c.loop-port.invariant.ports c.in_ok-read.ensures.port
@@ -31,3 +33,12 @@ loop-port-preserved g c = record {
 pub returns-clause-is : goal.returns-clause-is
 returns-clause-is g c k =
     ports_in-end c.args.base c.args.at c.loop-port.port c.args.count (g.D.Disk.state c.args.disk.now).now.bytes (map port_of c.loop-port.ports.items) (omega arith) (c.loop-port.invariant.read k)
+
+pub returns-in_err-read-clause-leaves : goal.returns-in_err-read-clause-leaves
+returns-in_err-read-clause-leaves g c k = then_leaves _ _ _ (c.loop-port.invariant.leaves k _ (none_leaves _)) (c.read_port.ensures.leaves k)
+
+pub returns-in_default-clause-leaves : goal.returns-in_default-clause-leaves
+returns-in_default-clause-leaves g c k = then_leaves _ _ _ (c.loop-port.invariant.leaves k _ (none_leaves _)) (c.read_port.ensures.leaves k)
+
+pub returns-clause-leaves : goal.returns-clause-leaves
+returns-clause-leaves g c k = c.loop-port.invariant.leaves k _ (none_leaves _)

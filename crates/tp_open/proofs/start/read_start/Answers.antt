@@ -7,6 +7,7 @@ use Rattle.tp_replay.specs.Flat.{IsFlat}
 use Rattle.tp_open.specs.Cuts.{cut_network}
 use Rattle.tp_open.proofs.CutsAreFlat.{cut_flat, cut_counted, cut_held}
 use Rattle.tp_open.proofs.Starts.{lines_few, pending_few, outputs_few}
+use Rattle.tp_open.proofs.Leaving.{then_leaves}
 use Rattle.tp_open.proofs.start.read_start.Goals as goal
 
 pub flat_network-requires-clause-flat : goal.flat_network-requires-clause-flat
@@ -33,3 +34,12 @@ start-replay-requires-clause-counted g c =
     let t = c.args.head.now.topology in
     subst (λ (s : Network NodeState). AreCounted c.in_ok-front.front.base s.ports) (sym c.in-Ok.ensures)
     (cut_counted t414_ends t c.in_ok-front.front.base (cut_network t.wires c.in_ok-cut.cut) (c.in_ok-cut.ensures.cut c.in_ok-front.ensures.few))
+
+pub returns-in_err-cut-clause-leaves : goal.returns-in_err-cut-clause-leaves
+returns-in_err-cut-clause-leaves g c k = then_leaves _ _ _ (c.read_front.ensures.leaves k) (c.read_cut.ensures.leaves k)
+
+pub returns-in_default-clause-leaves : goal.returns-in_default-clause-leaves
+returns-in_default-clause-leaves g c k = then_leaves _ _ _ (c.read_front.ensures.leaves k) (c.read_cut.ensures.leaves k)
+
+pub returns-clause-leaves : goal.returns-clause-leaves
+returns-clause-leaves g c k = then_leaves _ _ _ (c.read_front.ensures.leaves k) (c.read_cut.ensures.leaves k)
