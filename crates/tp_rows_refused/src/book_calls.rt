@@ -1,15 +1,18 @@
 //! Calls of a book: where memory is refused it is as it was, and the call can be made again.
 
-ghost use Rattle.std.specs.Prelude.{IfOk};
+ghost use Rattle.std.specs.Prelude.{IfOk, IfSome};
+ghost use Rattle.tp_book.specs.Opened.{IsOpened};
 ghost use Rattle.tp_book.specs.Parts.{network_of};
 ghost use Rattle.tp_rows_refused.specs.Usable.{IsLone, IsUsable};
 
 use crate::books::{hand_in, lone_net, make_ready, reserve, start};
-use crate::devices::image;
+use crate::devices::{grown, image};
 use std::alloc::Global;
 use std::test::Fail;
-use tp_book::{Book, NetParts, Refusal};
+use tp_book::{Book, NetParts, NetState, Refusal};
+use tp_disk::MemDisk;
 use tp_model::Token;
+use tp_open::open;
 
 /// The network, though memory may be refused once.
 fn net(alloc: Global) -> Result<NetParts, Fail>
@@ -100,5 +103,47 @@ fn a_token_is_made_ready_again(rt: HostRuntime) -> Result<(), Fail> {
     }
     assert_eq!(rt; token, Ok(Token::Data(b'a')));
     assert_eq!(rt; seen(&book), Some((8, 8, 8)));
+    Ok(())
+}
+
+/// What a device with two entries leaves, where memory isn't refused.
+fn state(alloc: Global) -> Option<NetState>
+    ensures { IfSome result IsOpened }
+{
+    let Ok(bytes) = grown(alloc) else {
+        return None;
+    };
+    let mut disk = MemDisk::of_bytes(bytes);
+    let Ok(opened) = open(alloc, &mut disk) else {
+        return None;
+    };
+    let Ok(state) = opened.into_state(alloc) else {
+        return None;
+    };
+    Some(state)
+}
+
+/// The book of that device, though memory may be refused once.
+fn opened_book(alloc: Global, state: &NetState) -> Result<Book, Fail>
+    requires { IsOpened state.now }
+{
+    match Book::open(alloc, state, Some(3_862)) {
+        Ok(book) => Ok(book),
+        Err(_) => Ok(Book::open(alloc, state, Some(3_862))?),
+    }
+}
+
+#[test]
+fn a_book_of_a_device_is_opened_again(rt: HostRuntime) -> Result<(), Fail> {
+    let alloc = rt.alloc();
+    let book = match state(alloc) {
+        Some(state) => opened_book(alloc, &state)?,
+        None => match state(alloc) {
+            Some(state) => opened_book(alloc, &state)?,
+            None => return Err(Fail::new("not opened")),
+        },
+    };
+    assert_eq!(rt; seen(&book), Some((2, 2, 2)));
+    assert_eq!(rt; book.nodes(), 1);
     Ok(())
 }
