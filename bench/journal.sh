@@ -15,7 +15,7 @@ rustc -O --edition 2021 -o "$work/raw" "$top/bench/raw.rs"
 cp -r "$top/crates" "$top/crates.txt" "$top/HANDLES" "$work"
 mkdir -p "$work/crates/bench_journal/src"
 cp "$top/bench/journal.rattle" "$work/crates/bench_journal/src/main.rt"
-echo "bench_journal: tp_area tp_disk tp_model tp_open" >> "$work/crates.txt"
+echo "bench_journal: tp_area tp_disk tp_model tp_recover" >> "$work/crates.txt"
 (cd "$work/crates/bench_journal" && rt run > "$work/build.log" 2>&1) || true
 proved=$work/crates/bench_journal/out/bench_journal
 [ -x "$proved" ] || { tail -20 "$work/build.log"; exit 1; }

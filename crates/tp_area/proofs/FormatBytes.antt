@@ -23,7 +23,7 @@ use Rattle.tp_model.specs.CutImage.{line_bytes, port_bytes, cut_bytes, only_if}
 use Rattle.tp_model.specs.Opening.{network_of}
 use Rattle.tp_model.specs.Spelling.{front_bytes}
 use Rattle.tp_model.specs.Format.{fresh_node, fresh_nodes, fresh_port, IsFormatted}
-use Rattle.tp_laws.proofs.Images.{image-node_of}
+use Rattle.tp_law_machine.proofs.Images.{image-node_of}
 use Rattle.tp_disk.proofs.Moments.{length-written, written_same_outside}
 use Rattle.tp_disk.proofs.Agree.{same_apart}
 use Rattle.tp_disk.proofs.Calls.{all_done-append, started, weaker, synced_stands}

@@ -13,7 +13,7 @@ use Rattle.tp_model.specs.NodeState.{NodeState}
 use Rattle.tp_model.specs.Network.{Port, OfHost, put, has_wire, taken, sent}
 use Rattle.tp_model.specs.Entries.{process, takes, confirmed, does}
 use Rattle.tp_model.specs.Halves.{BookState, without, with_entry}
-use Rattle.tp_order.proofs.Partial.{cond_some}
+use Rattle.tp_law_network.proofs.Partial.{cond_some}
 use Rattle.tp_book.specs.declared.note.Numbered.{Numbered}
 use Rattle.tp_book.specs.declared.port.HostPort.{HostPort}
 use Rattle.tp_book.specs.declared.book.Book.TheInside.{Inside}

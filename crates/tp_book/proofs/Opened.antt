@@ -17,11 +17,11 @@ use Rattle.tp_model.specs.Order.{after}
 use Rattle.tp_model.specs.Sound.{Sound}
 use Rattle.tp_model.specs.Markers.{is_marker, plain, markers, plain_network}
 use Rattle.tp_model.specs.Halves.{BookState, live}
-use Rattle.tp_order.proofs.Local.{SameShape}
-use Rattle.tp_order.proofs.Reorder.{after_shape}
-use Rattle.tp_order.proofs.Sound.{sound_small}
-use Rattle.tp_order.proofs.Room.{length-kinds, on_line-plain}
-use Rattle.tp_laws.proofs.LinkLaws.{has_four_links}
+use Rattle.tp_law_network.proofs.Local.{SameShape}
+use Rattle.tp_law_network.proofs.Reorder.{after_shape}
+use Rattle.tp_law_network.proofs.Sound.{sound_small}
+use Rattle.tp_law_network.proofs.Room.{length-kinds, on_line-plain}
+use Rattle.tp_law_machine.proofs.LinkLaws.{has_four_links}
 use Rattle.tp_book.specs.declared.parts.PortParts.{PortParts}
 use Rattle.tp_book.specs.declared.state.NetState.{NetState}
 use Rattle.tp_book.specs.declared.book.Book.TheInside.{Inside}

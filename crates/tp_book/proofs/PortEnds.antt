@@ -17,10 +17,10 @@ use Rattle.tp_model.specs.Entries.{in_flight}
 use Rattle.tp_model.specs.Sound.{acks, is_some_byte, is_pending, waits_at, end_waits}
 use Rattle.tp_model.specs.Markers.{plain, plain_network}
 use Rattle.tp_model.specs.Halves.{BookState, live}
-use Rattle.tp_laws.proofs.Bits.{bit_some}
-use Rattle.tp_order.proofs.Lines.{same_token-self}
-use Rattle.tp_order.proofs.Local.{own-host, owner_of_port}
-use Rattle.tp_order.proofs.Room.{on_line-plain, acks-plain}
+use Rattle.tp_law_machine.proofs.Bits.{bit_some}
+use Rattle.tp_law_network.proofs.Lines.{same_token-self}
+use Rattle.tp_law_network.proofs.Local.{own-host, owner_of_port}
+use Rattle.tp_law_network.proofs.Room.{on_line-plain, acks-plain}
 use Rattle.tp_book.specs.Book.{agreed}
 use Rattle.tp_book.specs.Kept.{Keeps}
 use Rattle.tp_book.specs.Ports.{CanTake}

@@ -4,7 +4,7 @@ use Rattle.std.specs.Prelude.{count_by, nat_le}
 use Rattle.std.proofs.lemmas.Bool.{cases_eq, cases_Bool, leb-true, leb-false, lt-leb}
 use Rattle.std.proofs.lemmas.List.Sums.{sum_by-cons}
 use Rattle.std.proofs.lemmas.Option.{slice_get_within, slice_get-get_or}
-use Rattle.tp_order.proofs.Partial.{slice_get-set_same, slice_get-set_other}
+use Rattle.tp_law_network.proofs.Partial.{slice_get-set_same, slice_get-set_other}
 use Rattle.tp_book.specs.Kept.{IsRising, AreRising}
 
 pub rising_from : (least low most : ℕ) (ns : List ℕ) → IsRising least most ns → low ≤ least → IsRising low most ns

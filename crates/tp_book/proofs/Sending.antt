@@ -6,7 +6,7 @@ use Rattle.std.proofs.lemmas.List.{length-append}
 use Rattle.tp_model.specs.declared.link.Token.{Token}
 use Rattle.tp_model.specs.declared.wire.WireEnd.{WireEnd}
 use Rattle.tp_model.specs.Network.{is_wired, on_line, pushed, sent, for_line}
-use Rattle.tp_order.proofs.Lines.{length_pushed, sent_behind, on_pushed, for_line-here}
+use Rattle.tp_law_network.proofs.Lines.{length_pushed, sent_behind, on_pushed, for_line-here}
 use Rattle.tp_model.specs.Node.{on_link}
 use Rattle.tp_book.specs.Room.{HasRoom, from_line}
 use Rattle.tp_book.specs.Calls.{on_lines, sends_on}

@@ -3,7 +3,7 @@ use Rattle.std.proofs.Common.{◌≡◌, ℕ, zero, suc, ◌+◌, List, [], ◌+
 use Rattle.std.proofs.lemmas.List.{append-nil, append_assoc}
 use Rattle.tp_model.specs.declared.link.Token.{Token}
 use Rattle.tp_model.specs.Network.{◌>>=◌, Machine, steps}
-use Rattle.tp_laws.proofs.Partial.{bind_some}
+use Rattle.tp_law_machine.proofs.Partial.{bind_some}
 
 pub one_more : {Node : Type 0} (M : Machine Node) (count : ℕ) (n m : Node) (sent : List (ℕ × Token)) (after : Node × List (ℕ × Token))
     → steps M count n ≡ Some (m, sent) → M.step m ≡ Some after → steps M (count + 1) n ≡ Some (after.0, sent ++ after.1)

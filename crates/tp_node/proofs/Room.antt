@@ -24,9 +24,9 @@ use Rattle.tp_model.specs.declared.link.Started.{Started}
 use Rattle.tp_model.specs.declared.request.OutRequest.{OutRequest}
 use Rattle.tp_model.specs.declared.request.Wish.{Wish}
 use Rattle.tp_model.specs.declared.request.Wish.TheVariants.{Message, Enable, Disable}
-use Rattle.tp_laws.proofs.Bits.{bit_small}
-use Rattle.tp_laws.proofs.LinkEnds.{is_holding-filled}
-use Rattle.tp_laws.proofs.Partial.{bind_some}
+use Rattle.tp_law_machine.proofs.Bits.{bit_small}
+use Rattle.tp_law_machine.proofs.LinkEnds.{is_holding-filled}
+use Rattle.tp_law_machine.proofs.Partial.{bind_some}
 
 -- an end may send a token
 abbrev pub can_send : OutEnd → ℕ

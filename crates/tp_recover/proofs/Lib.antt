@@ -1,14 +1,23 @@
-pub mod Acknowledged
-pub mod Acts
-pub mod Device
-pub mod Invariant
-pub mod Moments
-pub mod Planned
-pub mod Prefix
-pub mod Runs
-pub mod Small
-pub mod SmallHolds
-pub mod SmallRun
-pub mod Stay
-pub mod Steps
-pub mod Switch
+pub mod Areas
+pub mod GroupsRead
+pub mod Cuts
+pub mod Heads
+pub mod Nodes
+pub mod Numbers
+pub mod Parts
+pub mod Passing
+pub mod Leaving
+pub mod Ports
+pub mod Records
+mod Leading
+mod ReadParts
+mod Starts
+mod Openings
+pub mod Room
+pub mod SameBytes
+pub mod Wires
+pub mod CutsAreFlat
+pub mod CutsAreSound
+pub mod HeldPorts
+pub mod ReplayedCuts
+pub mod UnmarkedLines

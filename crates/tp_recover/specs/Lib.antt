@@ -1,4 +1,11 @@
-pub mod Planned
-pub mod Small
-pub mod SmallRun
-pub mod Standing
+pub mod AfterGroups
+pub mod Cuts
+pub mod Fronts
+pub mod Heads
+pub mod Lines
+pub mod Nodes
+pub mod Opens
+pub mod Parts
+pub mod Ports
+pub mod Reading
+pub mod Starts

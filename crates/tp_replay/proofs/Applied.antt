@@ -12,8 +12,8 @@ use Rattle.tp_model.specs.NodeState.{NodeState}
 use Rattle.tp_model.specs.Node.{t414}
 use Rattle.tp_model.specs.Network.{◌>>=◌, Port, Network, has_wire, sent}
 use Rattle.tp_model.specs.Entries.{next}
-use Rattle.tp_order.proofs.Local.{next_from}
-use Rattle.tp_order.proofs.Partial.{slice_get-set_same, slice_get-set_other}
+use Rattle.tp_law_network.proofs.Local.{next_from}
+use Rattle.tp_law_network.proofs.Partial.{slice_get-set_same, slice_get-set_other}
 use Rattle.tp_node.specs.NodeContents.{NodeContents}
 use Rattle.tp_book.specs.Ports.{PortValue}
 use Rattle.tp_book.specs.Calls.{on_lines}

@@ -15,16 +15,16 @@ use Rattle.tp_model.specs.Node.{t414, t414_ends, took}
 use Rattle.tp_model.specs.Network.{steps, Port, Network, Own, OfNode, OfHost, own, receiver, has_wire, on_line}
 use Rattle.tp_model.specs.Entries.{process, takes, of_node, of_port, receives, port_took, handed_in, confirmed, does, next}
 use Rattle.tp_model.specs.Markers.{markers}
-use Rattle.tp_order.proofs.Lines.{length_taken}
-use Rattle.tp_order.proofs.Local.{Step, step_of, next_from, own_node, own-node, port_step, SameShape, step_shape, step_lines, step_own_same, step_own_other}
-use Rattle.tp_order.proofs.Partial.{map_some, cond_some}
+use Rattle.tp_law_network.proofs.Lines.{length_taken}
+use Rattle.tp_law_network.proofs.Local.{Step, step_of, next_from, own_node, own-node, port_step, SameShape, step_shape, step_lines, step_own_same, step_own_other}
+use Rattle.tp_law_network.proofs.Partial.{map_some, cond_some}
 use Rattle.tp_model.specs.Sound.{Sound}
-use Rattle.tp_order.proofs.Room.{line_room}
-use Rattle.tp_order.proofs.Plain.{step_markers}
-use Rattle.tp_order.proofs.Sound.{sound_kept}
-use Rattle.tp_laws.specs.NodeOfBytes.{CarriesByte, IsNodeOfBytes}
-use Rattle.tp_laws.proofs.LinkLaws.{has_four_links, keeps_flight, never_marks}
-use Rattle.tp_laws.proofs.Nodes.{node_steps, node_took}
+use Rattle.tp_law_network.proofs.Room.{line_room}
+use Rattle.tp_law_network.proofs.Plain.{step_markers}
+use Rattle.tp_law_network.proofs.Sound.{sound_kept}
+use Rattle.tp_law_machine.specs.NodeOfBytes.{CarriesByte, IsNodeOfBytes}
+use Rattle.tp_law_machine.proofs.LinkLaws.{has_four_links, keeps_flight, never_marks}
+use Rattle.tp_law_machine.proofs.Nodes.{node_steps, node_took}
 use Rattle.tp_book.specs.Room.{HasRoom}
 use Rattle.tp_book.proofs.Sending.{room_before}
 use Rattle.tp_replay.specs.Flat.{IsFlat, TakesByte}

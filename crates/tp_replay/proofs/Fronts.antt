@@ -11,11 +11,11 @@ use Rattle.tp_model.specs.Sound.{datas, acks, owner, end_waits, end_holds}
 use Rattle.tp_model.specs.Word.{bit}
 use Rattle.std.specs.Option.{option_map}
 use Rattle.std.proofs.lemmas.Bool.{true≢false}
-use Rattle.tp_laws.proofs.Taking.{takes_data, takes_ack}
-use Rattle.tp_order.proofs.Lines.{first_is}
-use Rattle.tp_laws.proofs.Bits.{bit_none, bit_some, bit_small}
-use Rattle.tp_order.proofs.Local.{owner_of_link}
-use Rattle.tp_order.proofs.Sound.{end_waits_is, end_holds_is}
+use Rattle.tp_law_machine.proofs.Taking.{takes_data, takes_ack}
+use Rattle.tp_law_network.proofs.Lines.{first_is}
+use Rattle.tp_law_machine.proofs.Bits.{bit_none, bit_some, bit_small}
+use Rattle.tp_law_network.proofs.Local.{owner_of_link}
+use Rattle.tp_law_network.proofs.Sound.{end_waits_is, end_holds_is}
 use Rattle.tp_replay.specs.Flat.{IsFlat}
 use Rattle.tp_replay.proofs.Steps.{own_there}
 

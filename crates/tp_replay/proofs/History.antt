@@ -15,8 +15,8 @@ use Rattle.tp_model.specs.Numbers.{AreNumbered}
 use Rattle.tp_model.specs.Results.{◌>>=◌}
 use Rattle.tp_model.specs.CutImage.{or_damaged}
 use Rattle.tp_model.specs.Replay.{Replay, with_entry, is_number, after_entry, after_row, after_rows, replay_from}
-use Rattle.tp_order.proofs.Partial.{map_some, cond_some}
-use Rattle.tp_order.proofs.Reorder.{after_last}
+use Rattle.tp_law_network.proofs.Partial.{map_some, cond_some}
+use Rattle.tp_law_network.proofs.Reorder.{after_last}
 use Rattle.tp_replay.specs.History.{IsHistory}
 
 -- ## Numbers

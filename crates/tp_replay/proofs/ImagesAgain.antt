@@ -4,8 +4,8 @@ use Rattle.std.proofs.lemmas.Simd.{map-map}
 use Rattle.tp_model.specs.NodeState.{NodeState}
 use Rattle.tp_model.specs.Image.{image, node_at, node_of}
 use Rattle.tp_model.specs.Network.{Network}
-use Rattle.tp_laws.specs.NodeOfBytes.{IsNodeOfBytes}
-use Rattle.tp_laws.proofs.Images.{node_at-image, node_of-image}
+use Rattle.tp_law_machine.specs.NodeOfBytes.{IsNodeOfBytes}
+use Rattle.tp_law_machine.proofs.Images.{node_at-image, node_of-image}
 use Rattle.tp_replay.specs.Flat.{IsFlat}
 
 -- each of these nodes has an image

@@ -13,11 +13,11 @@ use Rattle.tp_model.specs.NodeState.{NodeState}
 use Rattle.tp_model.specs.Node.{t414}
 use Rattle.tp_model.specs.Network.{◌>>=◌, Machine, steps, Port, Network, Own, OfNode, OfHost, own, receiver, process_at, on_line, is_first}
 use Rattle.tp_model.specs.Entries.{process, takes, of_node, of_port, receives, port_took, handed_in, confirmed, does, next}
-use Rattle.tp_order.proofs.Local.{step_of, own_host, own_node, port_step}
-use Rattle.tp_order.proofs.Lines.{taken_cons}
-use Rattle.tp_order.proofs.Plain.{step_takes_unmarked}
-use Rattle.tp_order.proofs.Partial.{bind_some, map_some, cond_some}
-use Rattle.tp_laws.proofs.LinkLaws.{never_marks}
+use Rattle.tp_law_network.proofs.Local.{step_of, own_host, own_node, port_step}
+use Rattle.tp_law_network.proofs.Lines.{taken_cons}
+use Rattle.tp_law_network.proofs.Plain.{step_takes_unmarked}
+use Rattle.tp_law_network.proofs.Partial.{bind_some, map_some, cond_some}
+use Rattle.tp_law_machine.proofs.LinkLaws.{never_marks}
 
 -- what isn't some is none
 none_of : {A : Type 0} (o : Option A) → ((x : A) → o ≡ Some x → ⊥) → o ≡ None

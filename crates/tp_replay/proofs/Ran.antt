@@ -12,8 +12,8 @@ use Rattle.tp_model.specs.NodeState.{NodeState}
 use Rattle.tp_model.specs.Node.{t414, node_step}
 use Rattle.tp_model.specs.Network.{steps, has_wire, sent}
 use Rattle.tp_model.specs.Entries.{next}
-use Rattle.tp_order.proofs.Local.{steps_links}
-use Rattle.tp_laws.proofs.LinkLaws.{has_four_links}
+use Rattle.tp_law_network.proofs.Local.{steps_links}
+use Rattle.tp_law_machine.proofs.LinkLaws.{has_four_links}
 use Rattle.tp_node.specs.NodeContents.{NodeContents}
 use Rattle.tp_book.specs.Calls.{on_lines}
 use Rattle.tp_book.specs.Room.{HasRoom}

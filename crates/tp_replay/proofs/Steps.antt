@@ -12,8 +12,8 @@ use Rattle.tp_model.specs.NodeState.{NodeState}
 use Rattle.tp_model.specs.Node.{t414, took}
 use Rattle.tp_model.specs.Network.{steps, Port, Network, OfNode, OfHost, own, put, receiver, has_wire, process_at, on_line, is_first, taken, sent}
 use Rattle.tp_model.specs.Entries.{process, takes, of_node, of_port, receives, port_took, handed_in, confirmed, does}
-use Rattle.tp_order.proofs.Lines.{cons_taken}
-use Rattle.tp_order.proofs.Local.{Step, own-host}
+use Rattle.tp_law_network.proofs.Lines.{cons_taken}
+use Rattle.tp_law_network.proofs.Local.{Step, own-host}
 pub use Rattle.tp_book.proofs.Changes.{own_there}
 use Rattle.tp_book.proofs.Changes.{of_port-is}
 use Rattle.tp_book.specs.Calls.{on_lines}

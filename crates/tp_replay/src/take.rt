@@ -15,7 +15,7 @@ use crate::fault::NotPossible;
 use crate::front::{can_take, stands_in_front};
 use crate::network::FlatNetwork;
 use tp_book::send_some;
-use tp_laws::carries_byte;
+use tp_law_machine::carries_byte;
 use tp_model::{Token, WireEnd};
 use tp_node::NoFrame;
 

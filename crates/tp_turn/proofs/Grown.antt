@@ -8,7 +8,7 @@ use Rattle.tp_model.specs.NodeState.{NodeState}
 use Rattle.tp_model.specs.Node.{t414}
 use Rattle.tp_model.specs.Network.{Network}
 use Rattle.tp_model.specs.Order.{after}
-use Rattle.tp_order.proofs.Reorder.{after_front}
+use Rattle.tp_law_network.proofs.Reorder.{after_front}
 use Rattle.tp_book.specs.Book.{BookValue}
 use Rattle.tp_book.specs.declared.refusal.Refusal.{Refusal}
 use Rattle.tp_turn.specs.declared.take.TheConstants.{TAKES}

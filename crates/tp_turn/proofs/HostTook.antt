@@ -11,9 +11,9 @@ use Rattle.tp_model.specs.Node.{t414}
 use Rattle.tp_model.specs.Network.{Port, receiver, line_of, on_line, is_first}
 use Rattle.tp_model.specs.Entries.{port_took, next}
 use Rattle.tp_model.specs.Halves.{BookState}
-use Rattle.tp_order.proofs.Lines.{same_token-self}
-use Rattle.tp_order.proofs.Reorder.{after_one}
-use Rattle.tp_laws.proofs.Partial.{map_some}
+use Rattle.tp_law_network.proofs.Lines.{same_token-self}
+use Rattle.tp_law_network.proofs.Reorder.{after_one}
+use Rattle.tp_law_machine.proofs.Partial.{map_some}
 use Rattle.tp_book.specs.Book.{BookValue, agreed, node_count}
 use Rattle.tp_book.specs.Kept.{Keeps, IsShaped}
 use Rattle.tp_book.specs.Calls.{front_of, HostTook}

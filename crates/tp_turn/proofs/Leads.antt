@@ -10,9 +10,9 @@ use Rattle.tp_model.specs.Node.{t414, took, on_link}
 use Rattle.tp_model.specs.Network.{receiver, on_line, is_first}
 use Rattle.tp_model.specs.Entries.{next}
 use Rattle.tp_model.specs.Markers.{is_marker}
-use Rattle.tp_order.proofs.Lines.{same_token-self}
-use Rattle.tp_order.proofs.Reorder.{after_one}
-use Rattle.tp_laws.proofs.Partial.{slice_get-set_same}
+use Rattle.tp_law_network.proofs.Lines.{same_token-self}
+use Rattle.tp_law_network.proofs.Reorder.{after_one}
+use Rattle.tp_law_machine.proofs.Partial.{slice_get-set_same}
 use Rattle.tp_book.specs.Book.{BookValue, agreed}
 use Rattle.tp_book.specs.Kept.{Keeps}
 use Rattle.tp_book.specs.Calls.{on_lines, answer_from, front_of, with_ready, after_take, TakeIsAgreed, HasTaken}

@@ -16,7 +16,7 @@ use Rattle.tp_model.specs.Network.{Network, Port, Own, OfNode, OfHost, own, rece
 use Rattle.tp_model.specs.Order.{after}
 use Rattle.tp_model.specs.Sound.{owner, is_pending, waits_at, holds_at, end_waits, end_holds}
 use Rattle.tp_model.specs.Format.{fresh_port}
-use Rattle.tp_order.proofs.Local.{own_node, own_host}
+use Rattle.tp_law_network.proofs.Local.{own_node, own_host}
 use Rattle.tp_book.specs.Book.{BookValue, agreed, outputs_of}
 use Rattle.tp_book.specs.Start.{IsFresh, IsNetwork, first_book}
 use Rattle.tp_turn.specs.Books.{network_of, Did}
@@ -25,10 +25,10 @@ use Rattle.tp_turn.specs.Nodes.{Agrees}
 use Rattle.tp_turn.specs.declared.trial.Tried.{Tried}
 use Rattle.tp_turn.proofs.Turned.{turns_lead}
 use Rattle.tp_model.specs.CutImage.{only_if}
-use Rattle.tp_laws.proofs.Idle.{none_waits, none_holds}
-use Rattle.tp_laws.proofs.Images.{node_of_bytes}
-use Rattle.tp_laws.proofs.Numbers.{AreBytes}
-use Rattle.tp_laws.proofs.Partial.{cond_some, map_some}
+use Rattle.tp_law_machine.proofs.Idle.{none_waits, none_holds}
+use Rattle.tp_law_machine.proofs.Images.{node_of_bytes}
+use Rattle.tp_law_machine.proofs.Numbers.{AreBytes}
+use Rattle.tp_law_machine.proofs.Partial.{cond_some, map_some}
 use Rattle.tp_node.specs.NodeContents.{NodeContents}
 use Rattle.tp_node.specs.FromImage.{ReadsImage}
 use Rattle.tp_node.specs.declared.fault.ImageFault.TheVariants.{Memory as NoMemory}

@@ -14,13 +14,13 @@ use Rattle.tp_model.specs.declared.link.Token.{Token}
 use Rattle.tp_model.specs.declared.link.Token.TheVariants.{Data, Ack, Marker}
 use Rattle.tp_model.specs.declared.wire.WireEnd.{WireEnd}
 use Rattle.tp_model.specs.declared.wire.WireEnd.TheVariants.{Link, Port as AtPort}
-use Rattle.tp_laws.proofs.Partial.{map_some}
-use Rattle.tp_laws.proofs.Bits.{bit_small, bit_none, bit_some}
-use Rattle.tp_laws.proofs.Taking.{takes_data, takes_ack}
-use Rattle.tp_order.proofs.Local.{own-node, owner_of_link}
-use Rattle.tp_order.proofs.Flight.{owner_node}
-use Rattle.tp_order.proofs.Room.{on_line-plain, datas-plain, acks-plain}
-use Rattle.tp_order.proofs.Sound.{end_waits_is, end_holds_is}
+use Rattle.tp_law_machine.proofs.Partial.{map_some}
+use Rattle.tp_law_machine.proofs.Bits.{bit_small, bit_none, bit_some}
+use Rattle.tp_law_machine.proofs.Taking.{takes_data, takes_ack}
+use Rattle.tp_law_network.proofs.Local.{own-node, owner_of_link}
+use Rattle.tp_law_network.proofs.Flight.{owner_node}
+use Rattle.tp_law_network.proofs.Room.{on_line-plain, datas-plain, acks-plain}
+use Rattle.tp_law_network.proofs.Sound.{end_waits_is, end_holds_is}
 use Rattle.tp_book.specs.Book.{agreed}
 use Rattle.tp_book.specs.Kept.{Keeps}
 

@@ -9,8 +9,8 @@ use Rattle.tp_model.specs.NodeState.{NodeState}
 use Rattle.tp_model.specs.Node.{t414, node_step}
 use Rattle.tp_model.specs.Network.{steps}
 use Rattle.tp_model.specs.Order.{after}
-use Rattle.tp_order.proofs.Reorder.{after_one}
-use Rattle.tp_laws.proofs.Partial.{slice_get-set_same}
+use Rattle.tp_law_network.proofs.Reorder.{after_one}
+use Rattle.tp_law_machine.proofs.Partial.{slice_get-set_same}
 use Rattle.tp_book.specs.Book.{BookValue, agreed}
 use Rattle.tp_book.specs.Kept.{Keeps}
 use Rattle.tp_book.specs.Calls.{on_lines, with_run, without_run, after_run, with_journalled, HasRun, RunIsAgreed}

@@ -9,7 +9,7 @@ use Rattle.tp_model.specs.Node.{t414}
 use Rattle.tp_model.specs.Network.{Network, back}
 use Rattle.tp_model.specs.Order.{after}
 use Rattle.tp_model.specs.Journal.{is_full}
-use Rattle.tp_order.proofs.Reorder.{after_front}
+use Rattle.tp_law_network.proofs.Reorder.{after_front}
 use Rattle.tp_book.specs.Book.{BookValue, next_number, reserved}
 use Rattle.tp_book.specs.Refusals.{else_if, entry_refusal, is_journal_full, reserve_refusal}
 use Rattle.tp_book.specs.declared.refusal.Refusal.{Refusal}

@@ -1,6 +1,6 @@
 -- A node beside its book.
 use Rattle.std.specs.Prelude.{◌≡◌, ℕ, Some, None, slice_get}
-use Rattle.tp_laws.specs.NodeOfBytes.{IsNodeOfBytes}
+use Rattle.tp_law_machine.specs.NodeOfBytes.{IsNodeOfBytes}
 use Rattle.tp_book.specs.Book.{BookValue, agreed}
 use Rattle.tp_node.specs.NodeContents.{NodeContents}
 

@@ -9,7 +9,7 @@ ghost use Rattle.tp_turn.specs.Turns.{TookAll, TookIn, InOrder};
 
 use crate::back::back;
 use tp_book::{Book, Refusal};
-use tp_laws::carries_byte;
+use tp_law_machine::carries_byte;
 use tp_model::WireEnd;
 use tp_node::Node;
 

@@ -10,7 +10,7 @@ use crate::shown::{Front, next_line, shown_text};
 use std::alloc::Global;
 use std::io::Write;
 use tp_disk::Disk;
-use tp_open::{Opened, open};
+use tp_recover::{Opened, open};
 
 /// What is said of an opened device beside its network.
 fn front_of(opened: &Opened) -> Front

@@ -3,7 +3,7 @@
 use std::fmt;
 use tp_area::FormatFault;
 use tp_model::{NetFault, OpenFault};
-use tp_open::Unopened;
+use tp_recover::Unopened;
 
 /// The program then ends with status 1 and this name on standard error.
 #[derive(Clone, Copy, Debug, PartialEq, Eq)]

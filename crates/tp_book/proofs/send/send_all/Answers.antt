@@ -2,7 +2,7 @@ use Rattle.std.proofs.Common.{length, sym, ap, ◌∙◌}
 use Rattle.std.proofs.lemmas.List.{drop_all}
 use Rattle.tp_model.specs.declared.link.Token.TheVariants.{Data}
 use Rattle.tp_model.specs.Network.{has_wire, sent}
-use Rattle.tp_order.proofs.Lines.{length_pushed}
+use Rattle.tp_law_network.proofs.Lines.{length_pushed}
 use Rattle.tp_book.specs.Room.{from_line}
 use Rattle.tp_book.proofs.Sending.{next_sent}
 use Rattle.tp_book.proofs.send.send_all.Goals as goal

@@ -3,7 +3,7 @@ use Rattle.std.specs.Prelude.{is_some, IsSome}
 use Rattle.std.proofs.lemmas.Bool.{true≢false}
 use Rattle.tp_model.specs.Network.{steps}
 use Rattle.tp_model.specs.Node.{t414, node_step}
-use Rattle.tp_laws.proofs.Nodes.{node_steps}
+use Rattle.tp_law_machine.proofs.Nodes.{node_steps}
 use Rattle.tp_node.proofs.Answered.{why_most, why_fewer}
 use Rattle.tp_turn.proofs.Ran.{has_run, run_agrees, run_done}
 use Rattle.tp_turn.proofs.run.run_quantum.Goals as goal

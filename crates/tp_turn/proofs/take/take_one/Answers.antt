@@ -2,8 +2,8 @@ use Rattle.std.proofs.Common.{◌∙◌, subst}
 use Rattle.tp_model.specs.Network.{on_line}
 use Rattle.tp_model.specs.Node.{on_link}
 use Rattle.tp_book.specs.Calls.{front_of}
-use Rattle.tp_laws.specs.NodeOfBytes.{CarriesByte}
-use Rattle.tp_laws.proofs.Nodes.{carries, node_took}
+use Rattle.tp_law_machine.specs.NodeOfBytes.{CarriesByte}
+use Rattle.tp_law_machine.proofs.Nodes.{carries, node_took}
 use Rattle.tp_turn.proofs.Possible.{can_take}
 use Rattle.tp_node.proofs.Answered.{takes_ok}
 use Rattle.tp_turn.proofs.Leads.{takeable_front, ready_some, has_taken, take_done, take_agrees}

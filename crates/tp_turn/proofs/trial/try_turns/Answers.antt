@@ -2,7 +2,7 @@ use Rattle.std.proofs.Common.{None, sym, ap, subst, ◌∙◌, arith}
 use Rattle.std.specs.Prelude.{Ok}
 use Rattle.tp_book.specs.Parts.{network_of}
 use Rattle.tp_book.specs.Start.{first_book}
-use Rattle.tp_laws.proofs.Numbers.{are_bytes}
+use Rattle.tp_law_machine.proofs.Numbers.{are_bytes}
 use Rattle.tp_turn.specs.Tried.{TriedAs}
 use Rattle.tp_turn.proofs.Lone.{lone_begins, lone_agrees, lone_tried}
 use Rattle.tp_turn.proofs.trial.try_turns.Goals as goal

@@ -8,7 +8,7 @@ use Rattle.tp_model.specs.Bytes.{u16_bytes, u32_bytes}
 use Rattle.tp_model.specs.EndBytes.{out_end_bytes, in_end_bytes}
 use Rattle.tp_model.specs.Image.{words_of, halt_byte, state_byte, page_count, image_head}
 use Rattle.tp_node.specs.StateWith.{state_with}
-use Rattle.tp_laws.proofs.EndImages.{length-out_end, length-in_end}
+use Rattle.tp_law_machine.proofs.EndImages.{length-out_end, length-in_end}
 use Rattle.tp_node.proofs.Pieces.{piece_behind, length-pieces}
 use Rattle.tp_node.proofs.head.Head.write.Goals as goal
 

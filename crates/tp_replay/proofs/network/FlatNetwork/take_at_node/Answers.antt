@@ -4,7 +4,7 @@ use Rattle.std.proofs.lemmas.Bool.{true≢false}
 use Rattle.std.proofs.lemmas.Option.{slice_get_read}
 use Rattle.tp_model.specs.declared.entry.Entry.TheVariants.{Take}
 use Rattle.tp_model.specs.Node.{on_link}
-use Rattle.tp_laws.proofs.Nodes.{carries}
+use Rattle.tp_law_machine.proofs.Nodes.{carries}
 use Rattle.tp_replay.specs.Inside.{state_of}
 use Rattle.tp_replay.proofs.Applied.{node_count, node_at, room, node_inside, node_next}
 use Rattle.tp_replay.proofs.Fronts.{front_taken}

@@ -1,0 +1,126 @@
+-- A head that was written is read back.
+use Rattle.std.proofs.Common.{◌≡◌, ℕ, ◌+◌, ◌-◌, ◌*◌, ◌^◌, ◌<◌, true, List, [], ◌∷◌, ◌++◌, length, take, drop, refl, sym, ap, ◌∙◌, arith, append_assoc, length-append, Ok}
+use Rattle.std.specs.Prelude.{nat_le, map, flat_map}
+use Rattle.std.specs.List.{list_all}
+use Rattle.std.proofs.lemmas.Bool.{and_parts, leb-true}
+use Rattle.std.proofs.lemmas.List.{take-take, take_at, drop_at, drop-drop, length-map, length-replicate}
+use Rattle.std.proofs.lemmas.Nat.{from_le_bytes-to_le_bytes_2, from_le_bytes-to_le_bytes_8}
+use Rattle.tp_model.specs.declared.limits.TheConstants.{MIN_PAGES, MAX_PAGES}
+use Rattle.tp_model.specs.Bytes.{u16_bytes, u64_bytes, u8_at, u16_at, u64_at, zeros, padded}
+use Rattle.tp_model.specs.Topology.{Topology, node_count, is_page_count, is_topology}
+use Rattle.tp_model.specs.Device.{fits}
+use Rattle.tp_model.specs.Head.{magic, end_byte, end_of_byte, head_bytes, all_wires, u16s_at, head_at, head_of}
+use Rattle.tp_law_device.proofs.Fronts.{SameFront, front_shorter, front_get}
+use Rattle.tp_law_device.proofs.Heads.{head_at_same, head_from}
+use Rattle.tp_law_device.proofs.Wires.{Limits, limits_of, length-links, links_back, wires_back}
+
+-- ## Pages
+
+length-pages : (pages : List ℕ) → length (flat_map u16_bytes pages) ≡ 2 * length pages
+length-pages [] = refl
+length-pages (n ∷ ns) = omega (arith, length-append (u16_bytes n) (flat_map u16_bytes ns), length-pages ns)
+
+pages_back : (pages : List ℕ) (rest : List ℕ) → list_all is_page_count pages ≡ true → u16s_at (length pages) (flat_map u16_bytes pages ++ rest) ≡ pages
+unfolding u16s_at
+pages_back [] rest h = refl
+pages_back (n ∷ ns) rest h =
+    let both = and_parts (is_page_count n) (list_all is_page_count ns) h in
+    let most = leb-true n MAX_PAGES (and_parts (nat_le MIN_PAGES n) (nat_le n MAX_PAGES) both.0).1 in
+    let first : u16_at ((u16_bytes n ++ flat_map u16_bytes ns) ++ rest) 0 ≡ n = from_le_bytes-to_le_bytes_2 n (omega arith) in
+    let more = pages_back ns rest both.1 in
+    λ i. first i ∷ more i
+
+-- ## The bytes of a head
+
+module _ (t : Topology) (L : Limits t) (area : ℕ) where
+  abbrev ends : List ℕ
+  ends = map end_byte (take (4 * node_count t) t.wires)
+
+  abbrev fields : List ℕ
+  fields = padded 32 (flat_map u16_bytes t.pages)
+
+  -- all that is in front of the 00 at its end
+  abbrev first : List ℕ
+  first = magic ++ (1 ∷ node_count t ∷ t.ports ∷ (zeros 6 ++ (u64_bytes area ++ (fields ++ ends))))
+
+  length-fields : length fields ≡ 32
+  length-fields = omega (arith, length-append (flat_map u16_bytes t.pages) (zeros (32 - length (flat_map u16_bytes t.pages))), length-pages t.pages, length-replicate {A = ℕ} (32 - length (flat_map u16_bytes t.pages)) 0, L.nodes)
+
+  pub length-head_bytes : length (head_bytes t area) ≡ 512
+  unfolding head_bytes
+  length-head_bytes =
+      let size : length first ≡ 56 + 4 * node_count t =
+      omega (arith, length-append fields ends, length-fields, length-map (take (4 * node_count t) t.wires) end_byte, length-links t L) in
+      omega (arith, length-append first (zeros (512 - length first)), length-replicate {A = ℕ} (512 - length first) 0, size, L.nodes)
+
+  behind_area : drop 24 (head_bytes t area) ≡ (fields ++ ends) ++ zeros (512 - length first)
+  unfolding head_bytes
+  behind_area = refl
+
+  nodes_there : u8_at (head_bytes t area) 8 ≡ node_count t
+  unfolding head_bytes
+  nodes_there = refl
+
+  ports_there : u8_at (head_bytes t area) 9 ≡ t.ports
+  unfolding head_bytes
+  ports_there = refl
+
+  version_there : u8_at (head_bytes t area) 7 ≡ 1
+  unfolding head_bytes
+  version_there = refl
+
+  magic_there : take 7 (head_bytes t area) ≡ magic
+  unfolding head_bytes
+  magic_there = refl
+
+  area_there : area < 2 ^ 64 → u64_at (head_bytes t area) 16 ≡ area
+  unfolding head_bytes
+  area_there low = from_le_bytes-to_le_bytes_8 area low
+
+  pages_there : u16s_at (node_count t) (drop 24 (head_bytes t area)) ≡ t.pages
+  pages_there =
+      let P = flat_map u16_bytes t.pages in
+      let pad = zeros (32 - length P) in
+      let back = zeros (512 - length first) in
+      let all : ((P ++ pad) ++ ends) ++ back ≡ P ++ (pad ++ (ends ++ back)) = append_assoc (P ++ pad) ends back ∙ append_assoc P pad (ends ++ back) in
+      ap (u16s_at (node_count t)) (behind_area ∙ all) ∙ pages_back t.pages (pad ++ (ends ++ back)) L.pages
+
+  ends_there : take (4 * node_count t) (drop 56 (head_bytes t area)) ≡ ends
+  ends_there =
+      let back = zeros (512 - length first) in
+      let count : length ends ≡ 4 * node_count t = length-map (take (4 * node_count t) t.wires) end_byte ∙ length-links t L in
+      let behind : drop 56 (head_bytes t area) ≡ ends ++ back =
+      sym (drop-drop 32 24 (head_bytes t area)) ∙ ap (drop 32) (behind_area ∙ append_assoc fields ends back) ∙ drop_at fields (ends ++ back) 32 length-fields in
+      ap (take (4 * node_count t)) behind ∙ take_at ends back (4 * node_count t) count
+
+  head_at-head_bytes : area < 2 ^ 64 → head_at (head_bytes t area) ≡ record { topology = t; area = area }
+  unfolding head_at
+  head_at-head_bytes low =
+      let N = node_count t in
+      let size = area_there low in
+      let nodes = nodes_there in
+      let ports = ports_there in
+      let pages : u16s_at (u8_at (head_bytes t area) 8) (drop 24 (head_bytes t area)) ≡ t.pages = ap (λ k. u16s_at k (drop 24 (head_bytes t area))) nodes ∙ pages_there in
+      let bytes : take (4 * u8_at (head_bytes t area) 8) (drop 56 (head_bytes t area)) ≡ ends = ap (λ k. take (4 * k) (drop 56 (head_bytes t area))) nodes ∙ ends_there in
+      let wires : all_wires (u8_at (head_bytes t area) 8) (u8_at (head_bytes t area) 9) (map end_of_byte (take (4 * u8_at (head_bytes t area) 8) (drop 56 (head_bytes t area)))) ≡ t.wires =
+      (λ i. all_wires (nodes i) (ports i) (map end_of_byte (bytes i))) ∙ ap (all_wires N t.ports) (links_back t L) ∙ wires_back t L in
+      λ i. record { topology = record { pages = pages i; ports = ports i; wires = wires i }; area = size i }
+
+-- A device with these first bytes has this head.
+pub head_of-head_bytes : (t : Topology) (area : ℕ) (bytes : List ℕ) → is_topology t ≡ true → fits (length bytes) t area ≡ true → area < 2 ^ 64 → take 512 bytes ≡ head_bytes t area
+    → head_of bytes ≡ Ok (record { topology = t; area = area })
+head_of-head_bytes t area bytes topology room low is =
+    let L = limits_of t topology in
+    let same : SameFront 512 (head_bytes t area) bytes = record { same = ap (take 512) (sym is) ∙ take-take 512 512 bytes (omega arith) } in
+    let front = front_shorter 7 512 (head_bytes t area) bytes (omega arith) same in
+    let parts = and_parts (nat_le (512 + 2 * area) (length bytes)) _ room in
+    let long = leb-true (512 + 2 * area) (length bytes) parts.0 in
+    head_from bytes (record { topology = t; area = area }) (record {
+      long = omega arith;
+      formatted = sym front.same ∙ magic_there t L area;
+      version = sym (front_get 512 (head_bytes t area) bytes same 7 (omega arith)) ∙ version_there t L area;
+      read = head_at_same (head_bytes t area) bytes same (let most = L.nodes in let n = nodes_there t L area in omega arith) ∙ head_at-head_bytes t L area low;
+      topology = topology;
+      front = is;
+      room = room;
+    })

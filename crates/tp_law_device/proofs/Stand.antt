@@ -1,0 +1,78 @@
+-- A device that is spelt so opens so.
+use Rattle.std.proofs.Common.{◌≡◌, ℕ, inl, inr, not, List, [], ◌∷◌, sym, ◌∙◌, arith, Ok}
+use Rattle.std.specs.List.{AllByRecursion}
+use Rattle.std.proofs.lemmas.Bool.{cases_Bool}
+use Rattle.tp_model.specs.NodeState.{NodeState}
+use Rattle.tp_model.specs.Image.{IsNode}
+use Rattle.tp_model.specs.Network.{Machine, Network}
+use Rattle.tp_model.specs.Sound.{Ends}
+use Rattle.tp_model.specs.Topology.{Topology}
+use Rattle.tp_model.specs.Device.{content_of}
+use Rattle.tp_model.specs.Spelling.{IsCut, Stands}
+use Rattle.tp_model.specs.Opening.{Opened, chosen_area, opening, verdict}
+use Rattle.tp_model.specs.Node.{t414, t414_ends}
+use Rattle.tp_law_machine.proofs.Images.{node_of-image}
+use Rattle.tp_law_machine.proofs.Numbers.{AreBytes}
+use Rattle.tp_law_device.proofs.ReadAreas.{opens_stand}
+use Rattle.tp_law_device.proofs.Wires.{limits_of}
+use Rattle.tp_law_device.proofs.FreshHeads.{head_of-head_bytes}
+use Rattle.tp_law_device.proofs.Chosen.{open_in, age_in, chosen_alone, chosen_higher}
+use Rattle.tp_law_device.proofs.SpeltCuts.{IsReadBack, ReadsBack, front_generation}
+use Rattle.tp_law_device.proofs.SpeltAreas.{SpeltArea, area_spelt}
+use Rattle.tp_law_device.proofs.Opens.{opening_from}
+
+nodes_back : (nodes : List NodeState) → AllByRecursion IsNode nodes → AllByRecursion IsReadBack nodes
+nodes_back [] h = tt
+nodes_back (n ∷ ns) h = (node_of-image n h.0, nodes_back ns h.1)
+
+cut_back : (E : Ends NodeState) (t : Topology) (base : ℕ) (s : Network NodeState) → IsCut E t base s → ReadsBack E t base s
+cut_back E t base s C = record {
+  wires = C.wires;
+  nodes = nodes_back s.nodes C.nodes;
+  pages = C.pages;
+  lines = C.lines;
+  count = C.count;
+  ports = C.ports;
+  flights = C.flights;
+  base_fits = C.base_fits;
+}
+
+pub stands_opens : (M : Machine NodeState) (E : Ends NodeState) (bytes : List ℕ) (o : Opened) → Stands M E bytes o → opening M E bytes ≡ Ok o
+stands_opens M E bytes o S =
+    let t = o.head.topology in
+    let area = o.head.area in
+    let content = content_of area o.second bytes in
+    let L = limits_of t S.topology in
+    let A : SpeltArea M E t content o.generation o.base o.cut S.groups o.now = record {
+      gate = S.spells.gate;
+      rest = S.spells.rest;
+      shut = S.spells.shut;
+      spelled = S.spells.spelled;
+      generation_fits = S.spells.generation_fits;
+      cut = cut_back E t o.base o.cut S.spells.cut;
+      each = S.spells.each;
+      numbers = S.spells.numbers;
+      last = S.spells.last;
+      leads = S.spells.leads;
+    } in
+    let age : age_in area bytes o.second ≡ o.generation = front_generation E t L o.generation o.base o.cut A.cut content _ A.spelled A.generation_fits in
+    let chosen : chosen_area area bytes ≡ Ok o.second = elim (cases_Bool (open_in area bytes (not o.second))) [
+      | inr closed ↦ chosen_alone area bytes o.second S.gate closed
+      | inl opened ↦ chosen_higher area bytes o.second S.gate opened (elim S.first [
+        | inl closed ↦ absurd (let both = opened in cc)
+        | inr lower ↦ omega (arith, age, lower)
+      ])
+    ] in
+    let kept = S.kept in
+    let end = sym S.end in
+    opening_from M E bytes o.head o.second o (head_of-head_bytes t area bytes S.topology S.room S.area_fits S.head) chosen
+    (area_spelt M E o.head o.second L content o.generation o.base o.cut S.groups o.now A
+    ∙ (λ i. Ok (record { head = o.head; second = o.second; generation = o.generation; base = o.base; cut = o.cut; kept = kept i; now = o.now; end = end i })))
+
+pub stands_for_verdict : (bytes : List ℕ) (o : Opened) → Stands t414 t414_ends bytes o → verdict bytes ≡ Ok o
+unfolding verdict
+stands_for_verdict bytes o S = stands_opens t414 t414_ends bytes o S
+
+pub verdict_stands : (bytes : List ℕ) (o : Opened) → AreBytes bytes → verdict bytes ≡ Ok o → Stands t414 t414_ends bytes o
+unfolding verdict
+verdict_stands bytes o h is = opens_stand t414 t414_ends bytes o h is

@@ -1,0 +1,16 @@
+use Rattle.tp_law_machine.proofs.LinkLaws.{has_four_links, never_marks}
+use Rattle.tp_model.specs.Node.{t414, t414_ends}
+use Rattle.tp_model.specs.DeviceAreas.{device_areas}
+use Rattle.tp_law_runs.proofs.Runs.{run_recovers, goes_on}
+use Rattle.tp_law_runs.proofs.Stay.{stays}
+use Rattle.tp_law_device.proofs.Holds.{areas_keep}
+use Rattle.tp_law_device.proofs.crashes_hold.Goals as goal
+
+pub returns-clause-recovers : goal.returns-clause-recovers
+returns-clause-recovers c = run_recovers t414 has_four_links never_marks device_areas (areas_keep t414 t414_ends)
+
+pub returns-clause-stays : goal.returns-clause-stays
+returns-clause-stays c = stays t414 has_four_links never_marks device_areas (areas_keep t414 t414_ends)
+
+pub returns-clause-goes_on : goal.returns-clause-goes_on
+returns-clause-goes_on c = goes_on t414 device_areas

@@ -1,0 +1,110 @@
+//! The two areas of a device keep what crashes need of them, and so each run over a device recovers. The functions do
+//! nothing; their contracts are the laws.
+#![tactic(auto)]
+
+ghost use Rattle.std.specs.Prelude.{◌≡◌, ◌≤◌, ◌<◌, ◌+◌, ◌^◌, ℕ, true, List, [], Some, Ok, length, take};
+ghost use Rattle.tp_model.specs.declared.entry.Entry.{Entry};
+ghost use Rattle.tp_model.specs.declared.limits.TheConstants.{HEAD_BYTES};
+ghost use Rattle.tp_model.specs.NodeState.{NodeState};
+ghost use Rattle.std.specs.List.{AllByRecursion};
+ghost use Rattle.tp_model.specs.Node.{t414, t414_ends};
+ghost use Rattle.tp_model.specs.Network.{Machine, Network};
+ghost use Rattle.tp_model.specs.Entries.{next};
+ghost use Rattle.tp_model.specs.Order.{AreIndependent};
+ghost use Rattle.tp_model.specs.Topology.{Topology, is_topology};
+ghost use Rattle.tp_model.specs.Device.{fits};
+ghost use Rattle.tp_model.specs.Head.{head_bytes, head_of};
+ghost use Rattle.tp_model.specs.Format.{start_of};
+ghost use Rattle.tp_model.specs.Journal.{is_roomy};
+ghost use Rattle.tp_model.specs.Opening.{Opened, StandsFor, verdict};
+ghost use Rattle.tp_model.specs.Spelling.{Stands};
+ghost use Rattle.tp_law_device.specs.FormattedWorld.{formatted_world, WasFormatted};
+ghost use Rattle.tp_model.specs.Sound.{Ends};
+ghost use Rattle.tp_model.specs.Snapshot.{MarkedNetwork};
+ghost use Rattle.tp_model.specs.WholeCut.{WholeCut, whole, IsWhole};
+ghost use Rattle.tp_model.specs.Acts.{Act, acted, IsOpened, CutHolds};
+ghost use Rattle.tp_model.specs.Disk.{MayBe};
+ghost use Rattle.tp_model.specs.Areas.{AreasHold, next_number};
+ghost use Rattle.tp_model.specs.DeviceAreas.{areas_of, device_areas};
+ghost use Rattle.tp_model.specs.Runs.{World, Event, Reopens, Step, Run, IsFormatted, Recovers, reopened};
+ghost use Rattle.tp_model.specs.Acknowledged.{IsAcknowledged, IsShown};
+
+/// What each write leaves on a device, whatever bytes stand there: opening reads nothing behind the other area's closed
+/// gate, nor behind the first closed gate of the groups; a group's entries are read exactly once its gate is open; the
+/// other area is taken exactly once its gate is open. The device's format has this for any kind of step and of link ends.
+pub fn areas_hold()
+    ensures device { AreasHold t414 device_areas }
+    ensures any { (M : Machine NodeState) (E : Ends NodeState) → AreasHold M (areas_of M E) }
+{}
+
+/// After each run over a device that was formatted, whatever a crash leaves stands for the network after a prefix of the
+/// journal, and the prefix has each entry below a mark that was ever read. Opening it goes on with the run. What the
+/// journal has below the mark at some moment, it has at each later one.
+pub fn crashes_hold()
+    ensures recovers { (start : Network NodeState) (events : List (Event NodeState)) (first last : World NodeState)
+        → IsFormatted t414 device_areas start first → Run t414 device_areas first events last
+        → (bytes : List ℕ) → MayBe last.disk bytes → Recovers t414 device_areas start last bytes }
+    ensures stays { (start : Network NodeState) (before events : List (Event NodeState)) (first w last : World NodeState)
+        → IsFormatted t414 device_areas start first → Run t414 device_areas first before w → Run t414 device_areas w events last
+        → (w.mark ≤ last.mark) × (take w.mark last.journal ≡ take w.mark w.journal) }
+    ensures goes_on { (start : Network NodeState) (last : World NodeState) (bytes : List ℕ) → MayBe last.disk bytes → (r : Recovers t414 device_areas start last bytes)
+        → Step t414 device_areas last (Reopens bytes r.held r.now) (reopened last bytes r.held r.now) }
+{}
+
+/// The whole theorem, over a device that was formatted. Neighbours that are independent may be swapped; each whole cut is
+/// the network after the entries in it, which may come first, also at each moment of a run with a flusher, a device,
+/// crashes and openings; after each run whatever a crash leaves is recovered; and it has the entries of each receipt that
+/// is acknowledged and all causes of each output byte that is shown.
+pub fn every_run_holds()
+    ensures swaps { (s : Network NodeState) (e f : Entry) → (i : AreIndependent t414 s e f)
+        → (next t414 s f ≡ Some i.other) × (next t414 i.other e ≡ Some i.last) }
+    ensures cut { (w v : MarkedNetwork NodeState) → IsOpened t414 w → (acts : List Act) → acted t414 w acts ≡ Some v
+        → (cut : WholeCut) → whole v ≡ Some cut → CutHolds t414 v cut }
+    ensures whole { (w v : MarkedNetwork NodeState) → IsOpened t414 w → (acts : List Act) → acted t414 w acts ≡ Some v
+        → ((cut : WholeCut) → whole v ≡ Some cut → IsWhole v) × (IsWhole v → (cut : WholeCut) × (whole v ≡ Some cut)) }
+    ensures snapshots { (start : Network NodeState) (events : List (Event NodeState)) (first last : World NodeState)
+        → IsFormatted t414 device_areas start first → Run t414 device_areas first events last
+        → (cut : WholeCut) → whole last.net ≡ Some cut → CutHolds t414 last.net cut }
+    ensures recovers { (start : Network NodeState) (events : List (Event NodeState)) (first last : World NodeState)
+        → IsFormatted t414 device_areas start first → Run t414 device_areas first events last
+        → (bytes : List ℕ) → MayBe last.disk bytes → Recovers t414 device_areas start last bytes }
+    ensures acknowledged { (start : Network NodeState) (before : List (Event NodeState)) (first made last : World NodeState)
+        → IsFormatted t414 device_areas start first → Run t414 device_areas first before made → (number : ℕ) → number ≤ length made.journal → IsAcknowledged t414 device_areas number made last
+        → (bytes : List ℕ) → MayBe last.disk bytes → (r : Recovers t414 device_areas start last bytes)
+        → (number ≤ next_number r.held) × (take number last.journal ≡ take number made.journal) }
+    ensures shown { (start : Network NodeState) (first last : World NodeState) → IsFormatted t414 device_areas start first
+        → (number line port byte : ℕ) → (s : IsShown t414 device_areas number line port byte first last)
+        → (bytes : List ℕ) → MayBe last.disk bytes → (r : Recovers t414 device_areas start last bytes)
+        → (number < next_number r.held) × (take (number + 1) last.journal ≡ take (number + 1) s.reading.journal) }
+{}
+
+/// A head that was written is read back: the topology, whose wires the head has for links alone, and the areas' length.
+pub fn heads_read_back()
+    ensures { (t : Topology) (area : ℕ) (bytes : List ℕ) → is_topology t ≡ true → fits (length bytes) t area ≡ true → area < 2 ^ 64
+        → take HEAD_BYTES bytes ≡ head_bytes t area → head_of bytes ≡ Ok (record { topology = t; area = area }) }
+{}
+
+/// A device that was formatted stands for the network of its images, with no entries behind it. So a run may begin there,
+/// and then whatever a crash leaves is recovered.
+pub fn formatted_starts()
+    ensures stands { (t : Topology) (area : ℕ) (images : List (List ℕ)) (start : Network NodeState) (bytes : List ℕ)
+        → WasFormatted t area images start bytes → StandsFor bytes start [] 0 }
+    ensures starts { (t : Topology) (area : ℕ) (images : List (List ℕ)) (start : Network NodeState) (bytes : List ℕ)
+        → WasFormatted t area images start bytes → IsFormatted t414 device_areas start (formatted_world start bytes) }
+    ensures recovers { (t : Topology) (area : ℕ) (images : List (List ℕ)) (start : Network NodeState) (bytes : List ℕ) → WasFormatted t area images start bytes
+        → (events : List (Event NodeState)) (last : World NodeState) → Run t414 device_areas (formatted_world start bytes) events last
+        → (left : List ℕ) → MayBe last.disk left → Recovers t414 device_areas start last left }
+{}
+
+/// There is such a device for each topology, each area with room for it, and each network of images.
+pub fn devices_can_be_formatted()
+    ensures { (t : Topology) (area : ℕ) (images : List (List ℕ)) (start : Network NodeState) → is_topology t ≡ true → is_roomy t area ≡ true → area < 2 ^ 64
+        → start_of t images ≡ Some start → (bytes : List ℕ) × WasFormatted t area images start bytes }
+{}
+
+/// Opening answers exactly what is spelt: a device that has a head, an open area of highest generation, a cut and groups with
+/// a closed gate behind them opens as those, and a device that opens so is spelt so.
+pub fn opening_is_exact()
+    ensures spelt { (bytes : List ℕ) (o : Opened) → Stands t414 t414_ends bytes o → verdict bytes ≡ Ok o }
+    ensures read { (bytes : List ℕ) (o : Opened) → AllByRecursion (λ byte. byte < 256) bytes → verdict bytes ≡ Ok o → Stands t414 t414_ends bytes o }
+{}

@@ -1,0 +1,36 @@
+-- A byte each way on one wire: on the line that the node sends, Data stands behind an Ack.
+use Rattle.std.specs.Prelude.{List, [], ◌∷◌}
+use Rattle.tp_model.specs.declared.link.Token.TheVariants.{Data, Ack}
+use Rattle.tp_model.specs.declared.link.OutEnd.TheVariants.{Waits}
+use Rattle.tp_model.specs.declared.entry.Entry.{Entry}
+use Rattle.tp_model.specs.declared.entry.Entry.TheVariants.{Run, Take, HostIn}
+use Rattle.tp_model.specs.NodeState.{NodeState}
+use Rattle.tp_model.specs.Network.{Network}
+use Rattle.tp_model.specs.Opening.{network_of}
+use Rattle.tp_model.specs.Format.{fresh_port}
+use Rattle.tp_law_machine.specs.Start.{resting, running, blank, with_bytes, with_word, transfer, outputs, node}
+use Rattle.tp_law_machine.specs.OneNode.{one_node}
+
+-- A process gets one byte of link 0 and sends another one there: `ldlp 0`, `mint`, `ldnlp 4`, `ldc 1`, `in`, and then
+-- `mint`, `ldc 41`, `outbyte`.
+abbrev pub answers : NodeState
+answers = node (running 0x8000_0100 0x8000_0200)
+    (with_bytes 0x8000_0100 (0x10 ∷ 0x24 ∷ 0xF2 ∷ 0x54 ∷ 0x41 ∷ 0xF7 ∷ 0x24 ∷ 0xF2 ∷ 0x24 ∷ 0x41 ∷ 0xFE ∷ []) blank)
+
+abbrev pub has_answered : NodeState
+has_answered = record answers {
+  cpu = record resting { slice = 8 };
+  memory = with_word 0x8000_0200 0x41 (with_word 0x8000_01FC 0x8000_010B answers.memory);
+  outputs = outputs (Waits (transfer 0x8000_0201 0x8000_0200 1));
+}
+
+abbrev pub question_before : Network NodeState
+question_before = network_of one_node (answers ∷ []) ([] ∷ [] ∷ [] ∷ [] ∷ [] ∷ []) (fresh_port ∷ [])
+
+-- The host hands a byte in, the node holds it, and acknowledges and answers it in one run. The host takes the one and then
+-- the other.
+abbrev pub question : List Entry
+question = HostIn 0 0x61 ∷ Take 4 (Data 0x61) ∷ Run 0 8 ∷ Take 0 Ack ∷ Take 0 (Data 0x41) ∷ []
+
+abbrev pub question_after : Network NodeState
+question_after = network_of one_node (has_answered ∷ []) ([] ∷ [] ∷ [] ∷ [] ∷ (Ack ∷ []) ∷ []) (record fresh_port { in_base = 1; outputs = 0x41 ∷ [] } ∷ [])

@@ -1,0 +1,60 @@
+//! Entries, groups and images as bytes, and the room that they have.
+#![tactic(auto, unfolding(tp_model::specs::EntryBytes::entry_at, tp_model::specs::Group::rows_at, tp_model::specs::Group::rows_behind, tp_model::specs::Image::image_head))]
+
+ghost use Rattle.std.specs.Prelude.{◌≡◌, ◌++◌, [], ◌∷◌, true, false, take, drop};
+ghost use Rattle.tp_model.specs.declared.link.Token.TheVariants.{Data, Ack};
+ghost use Rattle.tp_model.specs.declared.entry.Entry.TheVariants.{Run, Take, HostIn, Confirm};
+ghost use Rattle.tp_model.specs.Bytes.{zeros};
+ghost use Rattle.tp_model.specs.EntryBytes.{entry_at};
+ghost use Rattle.tp_model.specs.Group.{rows_of, group_bytes, group_at};
+ghost use Rattle.tp_model.specs.Image.{image_head};
+ghost use Rattle.tp_model.specs.Journal.{cut_length, room, is_full, is_full_for_cut};
+ghost use Rattle.tp_law_machine.specs.Transfers.{sends};
+ghost use Rattle.tp_law_machine.specs.OneNode.{one_node};
+ghost use Rattle.tp_law_machine.specs.OneGroup.{short_run};
+
+/// Entries with their numbers, read from 16 bytes each.
+pub fn entries_are_read()
+    ensures run { entry_at (1 ∷ 0 ∷ 3 ∷ 0 ∷ zeros 12) ≡ Some (Run 0 3, 0) }
+    ensures data { entry_at (2 ∷ 1 ∷ 0 ∷ 0 ∷ 0x41 ∷ 0 ∷ 0 ∷ 0 ∷ 1 ∷ zeros 7) ≡ Some (Take 0 (Data 0x41), 1) }
+    ensures ack { entry_at (2 ∷ 2 ∷ 4 ∷ 0 ∷ 0 ∷ 0 ∷ 0 ∷ 0 ∷ 2 ∷ zeros 7) ≡ Some (Take 4 Ack, 2) }
+    ensures host_in { entry_at (3 ∷ 0 ∷ 0x61 ∷ 0 ∷ 0 ∷ 0 ∷ 0 ∷ 0 ∷ 3 ∷ zeros 7) ≡ Some (HostIn 0 0x61, 3) }
+    ensures confirm { entry_at (4 ∷ 0 ∷ 1 ∷ 0 ∷ 2 ∷ 0 ∷ 0 ∷ 0 ∷ 4 ∷ zeros 7) ≡ Some (Confirm 0 0x1_0000_0002, 4) }
+{}
+
+/// No kind, a run of no steps, of too many, and a filler that isn't 0.
+pub fn entries_are_refused()
+    ensures kind { entry_at (zeros 16) ≡ None }
+    ensures no_steps { entry_at (1 ∷ zeros 15) ≡ None }
+    ensures many_steps { entry_at (1 ∷ 0 ∷ 1 ∷ 16 ∷ zeros 12) ≡ None }
+    ensures filler { entry_at (1 ∷ 0 ∷ 3 ∷ 0 ∷ 1 ∷ zeros 11) ≡ None }
+{}
+
+/// A group of one entry, with a closed gate behind it; without that gate, and too short, it is none. Where its own gate
+/// is closed nothing stands there.
+pub fn a_group_is_read()
+    ensures bytes { group_bytes (rows_of ((Run 0 5, 7) ∷ [])) ≡ short_run }
+    ensures group { group_at (short_run ++ 0 ∷ []) ≡ Ok (Some (rows_of ((Run 0 5, 7) ∷ []))) }
+    ensures no_gate { group_at short_run ≡ Err (record {}) }
+    ensures short { group_at (take 20 short_run) ≡ Err (record {}) }
+    ensures closed { group_at (0xA4 ∷ drop 1 short_run) ≡ Ok None }
+{}
+
+/// The head of the image of a node that runs a low process: version and pages, the instruction pointer, the workspace,
+/// three registers, four words of queues, Error, the state, the slice count, and eight ends of links.
+pub fn an_image_begins()
+    ensures { image_head sends ≡ 1 ∷ 0 ∷ 4 ∷ 0 ∷ 0 ∷ 1 ∷ 0 ∷ 0x80 ∷ 0 ∷ 2 ∷ 0 ∷ 0x80 ∷ (zeros 12
+        ++ (0 ∷ 0 ∷ 0 ∷ 0x80 ∷ 0 ∷ 0 ∷ 0 ∷ 0x80 ∷ 0 ∷ 0 ∷ 0 ∷ 0x80 ∷ 0 ∷ 0 ∷ 0 ∷ 0x80 ∷ [])
+        ++ (0 ∷ 2 ∷ 0 ∷ 0 ∷ zeros 128)) }
+{}
+
+/// A device with areas of 16,384 bytes, for one node of four pages and one port. Anyone may make 105 entries behind the
+/// cut, and takes that a running snapshot needs may go on up to 120.
+pub fn the_journal_fills()
+    ensures cut { cut_length one_node ≡ 12508 }
+    ensures room { room one_node 16384 ≡ 3862 }
+    ensures fits { is_full (Some 3862) 5 104 0 104 1 ≡ false }
+    ensures full { is_full (Some 3862) 5 105 0 105 1 ≡ true }
+    ensures reserved { is_full_for_cut (Some 3862) 119 0 119 ≡ false }
+    ensures all_full { is_full_for_cut (Some 3862) 120 0 120 ≡ true }
+{}

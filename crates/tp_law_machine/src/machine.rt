@@ -1,0 +1,39 @@
+//! Laws of the machine: what it does at its links in one step, and when a token comes in. The functions do nothing;
+//! their contracts are the laws.
+
+ghost use Rattle.std.specs.List.{AllByRecursion};
+ghost use Rattle.std.specs.Prelude.{◌≡◌, ◌<◌, ℕ, List, Some};
+ghost use Rattle.tp_law_machine.specs.NodeOfBytes.{CarriesByte, CarryBytes, IsNodeOfBytes};
+ghost use Rattle.tp_model.specs.Entries.{HasFourLinks};
+ghost use Rattle.tp_model.specs.Image.{node_of};
+ghost use Rattle.tp_model.specs.Markers.{NeverMarks};
+ghost use Rattle.tp_model.specs.Network.{steps};
+ghost use Rattle.tp_model.specs.Node.{t414, t414_ends, took};
+ghost use Rattle.tp_model.specs.NodeState.{NodeState};
+ghost use Rattle.tp_model.specs.Sound.{KeepsFlight};
+ghost use Rattle.tp_model.specs.declared.link.Token.{Token};
+
+/// Tokens leave on links 0 to 3 and on no other.
+pub fn machine_has_four_links()
+    ensures { HasFourLinks t414 }
+{}
+
+/// No Marker leaves, and none is taken.
+pub fn machine_never_marks()
+    ensures { NeverMarks t414 }
+{}
+
+/// An output end sends Data exactly as it begins to wait, and an Ack ends that. An input end sends an Ack exactly as it
+/// gives up its byte, or at once.
+pub fn links_keep_flight()
+    ensures { KeepsFlight t414 t414_ends }
+{}
+
+/// A node that bytes spell has an image, and has one after each run and each token that comes in: it keeps the rules of
+/// images, its registers and pointers fit 32 bits, and there are bytes in its memory and at its links. What it sends carries
+/// bytes too.
+pub fn nodes_stay_nodes()
+    ensures spelt { (bytes : List ℕ) (node : NodeState) → AllByRecursion (λ byte. byte < 256) bytes → node_of bytes ≡ Some node → IsNodeOfBytes node }
+    ensures runs { (count : ℕ) (node : NodeState) (after : NodeState × List (ℕ × Token)) → IsNodeOfBytes node → steps t414 count node ≡ Some after → IsNodeOfBytes after.0 × CarryBytes after.1 }
+    ensures takes { (node : NodeState) (k : ℕ) (token : Token) (after : NodeState × List (ℕ × Token)) → IsNodeOfBytes node → CarriesByte token → took node k token ≡ Some after → IsNodeOfBytes after.0 × CarryBytes after.1 }
+{}

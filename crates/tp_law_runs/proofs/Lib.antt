@@ -1,0 +1,14 @@
+pub mod Acknowledged
+pub mod Acts
+pub mod Device
+pub mod Invariant
+pub mod Moments
+pub mod Planned
+pub mod Prefix
+pub mod Runs
+pub mod Small
+pub mod SmallHolds
+pub mod SmallRun
+pub mod Stay
+pub mod Steps
+pub mod Switch

@@ -1,0 +1,4 @@
+pub mod Planned
+pub mod Small
+pub mod SmallRun
+pub mod Standing

@@ -1,5 +1,0 @@
-use Rattle.tp_laws.proofs.LinkLaws.{keeps_flight}
-use Rattle.tp_laws.proofs.machine.links_keep_flight.Goals as goal
-
-pub returns : goal.returns
-returns c = keeps_flight

@@ -1,5 +1,0 @@
-use Rattle.tp_laws.proofs.LinkLaws.{has_four_links}
-use Rattle.tp_laws.proofs.machine.machine_has_four_links.Goals as goal
-
-pub returns : goal.returns
-returns c = has_four_links

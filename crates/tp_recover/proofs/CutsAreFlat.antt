@@ -1,0 +1,142 @@
+-- A network that a cut image can hold can be replayed from.
+use Rattle.std.proofs.Common.{◌≡◌, ℕ, ◌+◌, ◌<◌, ◌≤◌, inl, inr, true, List, [], ◌∷◌, length, take, drop, subst, ◌∙◌, arith, length-drop, length-take, Ok}
+use Rattle.std.specs.Prelude.{◌==◌, ◌&&◌, nat_le}
+use Rattle.std.specs.List.{AllByRecursion}
+use Rattle.std.proofs.lemmas.Bool.{and_parts, leb-true, cases_lt}
+use Rattle.tp_model.specs.declared.limits.TheConstants.{MAX_HELD, NUMBER_LIMIT, IMAGE_HEAD_BYTES}
+use Rattle.tp_model.specs.NodeState.{NodeState}
+use Rattle.tp_model.specs.Node.{t414_ends}
+use Rattle.tp_model.specs.Image.{page_count, node_of}
+use Rattle.tp_model.specs.Network.{Port, Network}
+use Rattle.tp_model.specs.Sound.{Ends}
+use Rattle.tp_model.specs.Topology.{Topology, node_count, line_count, is_topology}
+use Rattle.tp_model.specs.Journal.{image_length}
+use Rattle.tp_model.specs.CutImage.{is_port_of, node_with, or_damaged, nodes_in, lines_in, ports_in}
+use Rattle.tp_model.specs.Flight.{flights_in}
+use Rattle.tp_model.specs.Spelling.{IsCut}
+use Rattle.tp_model.specs.Opening.{base_of, has_front, network_of, nodes_place, lines_place, ports_place, cut_in}
+use Rattle.tp_law_machine.specs.NodeOfBytes.{IsNodeOfBytes}
+use Rattle.tp_law_machine.proofs.Images.{node_of_bytes}
+use Rattle.tp_law_machine.proofs.Numbers.{AreBytes, are_bytes-take, are_bytes-drop}
+use Rattle.tp_law_machine.proofs.Partial.{all_at}
+use Rattle.tp_law_device.proofs.Faults.{bind_ok, or_damaged_ok, tested}
+use Rattle.tp_law_device.proofs.ReadCuts.{cut_read}
+use Rattle.tp_node.proofs.Images.{node_of-short}
+use Rattle.tp_book.specs.Kept.{IsCounted, AreCounted}
+use Rattle.tp_replay.specs.Flat.{IsFlat}
+use Rattle.tp_area.proofs.Topologies.{has_shape}
+use Rattle.tp_recover.proofs.UnmarkedLines.{lines_unmarked}
+use Rattle.tp_recover.proofs.CutsAreSound.{cut_nodes, cut_wires, cut_lines, cut_sound}
+use Rattle.tp_recover.proofs.HeldPorts.{EachPort, IsHeld}
+
+-- ## A network in one thread
+
+pub cut_flat : (t : Topology) (base : ℕ) (s : Network NodeState) → is_topology t ≡ true → IsCut t414_ends t base s → AllByRecursion IsNodeOfBytes s.nodes → IsFlat s
+cut_flat t base s topology C bytes =
+    let shape = has_shape t topology in
+    let nodes = cut_nodes t414_ends t base s topology C in
+    let wires = cut_wires t414_ends t base s topology C in
+    record {
+      sound = cut_sound t414_ends t base s topology C;
+      shaped = record {
+        wires = wires;
+        lines = cut_lines t414_ends t base s topology C ∙ wires;
+        few_nodes = omega (arith, shape.few_nodes, nodes);
+        few_ports = omega (arith, shape.few_ports, C.count);
+      };
+      marked = λ line. omega (arith, lines_unmarked t.wires s.lines C.lines line);
+      nodes = λ i node at. all_at IsNodeOfBytes s.nodes i node bytes at;
+    }
+
+-- ## Ports
+
+-- what a port of a cut keeps
+record PortKeeps (base : ℕ) (port : Port) : Type 0 where
+  counted : IsCounted base port
+  held : IsHeld port
+
+port_keeps : (base : ℕ) (port : Port) → is_port_of base port ≡ true → PortKeeps base port
+port_keeps base port h =
+    let all = and_parts (nat_le (length port.pending) MAX_HELD && nat_le (length port.outputs) MAX_HELD) (nat_le port.in_base base && nat_le (port.out_base + length port.outputs) base) h in
+    let few = and_parts (nat_le (length port.pending) MAX_HELD) (nat_le (length port.outputs) MAX_HELD) all.0 in
+    let low = and_parts (nat_le port.in_base base) (nat_le (port.out_base + length port.outputs) base) all.1 in
+    record {
+      counted = record { inputs = leb-true port.in_base base low.0; outputs = leb-true (port.out_base + length port.outputs) base low.1 };
+      held = record { pending = leb-true (length port.pending) MAX_HELD few.0; outputs = leb-true (length port.outputs) MAX_HELD few.1 };
+    }
+
+cut_ports : (E : Ends NodeState) (t : Topology) (base : ℕ) (s : Network NodeState) → IsCut E t base s → EachPort (PortKeeps base) s.ports
+cut_ports E t base s C p port at = port_keeps base port (all_at (λ x. is_port_of base x ≡ true) s.ports p port C.ports at)
+
+-- What a port of a cut has counted is no more than there are entries in it.
+pub cut_counted : (E : Ends NodeState) (t : Topology) (base : ℕ) (s : Network NodeState) → IsCut E t base s → AreCounted base s.ports
+cut_counted E t base s C p port at = (cut_ports E t base s C p port at).counted
+
+-- It holds no more than it has room for.
+pub cut_held : (E : Ends NodeState) (t : Topology) (base : ℕ) (s : Network NodeState) → IsCut E t base s → EachPort IsHeld s.ports
+cut_held E t base s C p port at = (cut_ports E t base s C p port at).held
+
+-- ## A cut that was read
+
+-- there is an image to read
+images_long : (at : ℕ) (pages xs : List ℕ) (nodes : List NodeState) → 1 ≤ length pages → nodes_in at pages xs ≡ Ok nodes → IMAGE_HEAD_BYTES ≤ length xs
+unfolding nodes_in
+images_long at [] xs nodes some is = absurd (omega (arith, some))
+images_long at (pages ∷ more) xs nodes some is =
+    let long = image_length pages in
+    let first = bind_ok (or_damaged at (node_with pages xs)) _ nodes is in
+    let found = tested (λ n. page_count n.memory == pages) (node_of (take long xs)) first.0 (or_damaged_ok at (node_with pages xs) first.0 first.1) in
+    elim (cases_lt (length (take long xs)) IMAGE_HEAD_BYTES) [
+      | inl short ↦ let none = node_of-short (take long xs) short in let one = found.0 in absurd (cc)
+      | inr whole ↦ omega (arith, whole, length-take long xs)
+    ]
+
+read_long : (E : Ends NodeState) (t : Topology) (at : ℕ) (content : List ℕ) (s : Network NodeState) → 1 ≤ node_count t → cut_in E t at content ≡ Ok s → 20 ≤ length content
+unfolding cut_in
+read_long E t at content s some is =
+    let first = bind_ok (nodes_in (at + nodes_place) t.pages (drop nodes_place content)) _ s is in
+    omega (arith, images_long (at + nodes_place) t.pages (drop nodes_place content) first.0 some first.1, length-drop nodes_place content)
+
+-- The network that is read as a cut, where the fields in front of it are right.
+pub read_is_cut : (E : Ends NodeState) (t : Topology) (at : ℕ) (content : List ℕ) (s : Network NodeState) → is_topology t ≡ true → AreBytes content
+    → has_front t content ≡ true → cut_in E t at content ≡ Ok s → IsCut E t (base_of content) s
+read_is_cut E t at content s topology bytes front is =
+    let shape = has_shape t topology in
+    (cut_read E t at content s shape.lines bytes (read_long E t at content s shape.some_nodes is) front is).cut
+
+nodes_of_bytes : (at : ℕ) (pages xs : List ℕ) (nodes : List NodeState) → AreBytes xs → nodes_in at pages xs ≡ Ok nodes → AllByRecursion IsNodeOfBytes nodes
+unfolding nodes_in
+nodes_of_bytes at [] xs nodes h is = let none : [] ≡ nodes = cc in subst (AllByRecursion IsNodeOfBytes) none tt
+nodes_of_bytes at (pages ∷ more) xs nodes h is =
+    let long = image_length pages in
+    let first = bind_ok (or_damaged at (node_with pages xs)) _ nodes is in
+    let rest = bind_ok (nodes_in (at + long) more (drop long xs)) _ nodes first.2 in
+    let found = tested (λ n. page_count n.memory == pages) (node_of (take long xs)) first.0 (or_damaged_ok at (node_with pages xs) first.0 first.1) in
+    let all : first.0 ∷ rest.0 ≡ nodes = let both = rest.2 in cc in
+    subst (AllByRecursion IsNodeOfBytes) all
+    (node_of_bytes (take long xs) first.0 (are_bytes-take long xs h) found.0, nodes_of_bytes (at + long) more (drop long xs) rest.0 (are_bytes-drop long xs h) rest.1)
+
+-- Its nodes are of bytes, as the content is.
+pub read_of_bytes : (E : Ends NodeState) (t : Topology) (at : ℕ) (content : List ℕ) (s : Network NodeState) → AreBytes content → cut_in E t at content ≡ Ok s → AllByRecursion IsNodeOfBytes s.nodes
+unfolding cut_in
+read_of_bytes E t at content s h is =
+    let a = bind_ok (nodes_in (at + nodes_place) t.pages (drop nodes_place content)) _ s is in
+    let b = bind_ok (lines_in (at + lines_place t) t.wires (drop (lines_place t) content)) _ s a.2 in
+    let c = bind_ok (ports_in (base_of content) (at + ports_place t) t.ports (drop (ports_place t) content)) _ s b.2 in
+    let network = network_of t a.0 b.0 c.0 in
+    let d = bind_ok (flights_in E network (at + lines_place t) 0 (line_count t)) _ s c.2 in
+    let same : network ≡ s = let both = d.2 in cc in
+    subst (λ (n : Network NodeState). AllByRecursion IsNodeOfBytes n.nodes) same
+    (nodes_of_bytes (at + nodes_place) t.pages (drop nodes_place content) a.0 (are_bytes-drop nodes_place content h) a.1)
+
+-- It can be replayed from, and each of its ports has counted no more than its entries.
+pub record CanReplay (base : ℕ) (s : Network NodeState) : Type 0 where
+  pub flat : IsFlat s
+  pub counted : AreCounted base s.ports
+  pub few : base < NUMBER_LIMIT
+
+pub read_can_replay : (t : Topology) (at : ℕ) (content : List ℕ) (s : Network NodeState) → is_topology t ≡ true → AreBytes content
+    → has_front t content ≡ true → cut_in t414_ends t at content ≡ Ok s → CanReplay (base_of content) s
+read_can_replay t at content s topology bytes front is =
+    let C = read_is_cut t414_ends t at content s topology bytes front is in
+    record { flat = cut_flat t (base_of content) s topology C (read_of_bytes t414_ends t at content s bytes is); counted = cut_counted t414_ends t (base_of content) s C; few = C.base_fits }

@@ -1,0 +1,128 @@
+-- Opening a device, one part after the other.
+use Rattle.std.proofs.Common.{◌≡◌, ℕ, ◌+◌, Bool, List, refl, sym, ap, subst, ◌∙◌}
+use Rattle.std.specs.Prelude.{Result, Ok, Err}
+use Rattle.tp_model.specs.declared.opening.OpenFault.{OpenFault}
+use Rattle.tp_model.specs.Device.{area_start, content_of}
+use Rattle.tp_model.specs.Disk.{Moment}
+use Rattle.tp_model.specs.Head.{Head, head_of}
+use Rattle.tp_model.specs.Network.{Network}
+use Rattle.tp_model.specs.Node.{t414, t414_ends}
+use Rattle.tp_model.specs.NodeState.{NodeState}
+use Rattle.tp_model.specs.Opening.{Opened, base_of, chosen_area, closed_in, cut_in, front_in, area_in, opening, verdict}
+use Rattle.tp_model.specs.Replay.{Replay, after_rows, replay_from}
+use Rattle.tp_model.specs.Results.{◌>>=◌}
+use Rattle.tp_model.specs.Topology.{Topology}
+use Rattle.tp_recover.specs.declared.front.CutFront.{CutFront}
+use Rattle.tp_recover.specs.declared.start.Start.{Start}
+use Rattle.tp_recover.specs.declared.unopened.Unopened.{Unopened}
+use Rattle.tp_recover.specs.AfterGroups.{after_groups}
+use Rattle.tp_recover.specs.Fronts.{cut_front, front_given}
+use Rattle.tp_recover.specs.Reading.{Answers, found}
+use Rattle.tp_recover.specs.Starts.{Read, read_as, read_of, read_in, IsStart, groups_of, opened_with, opened_after}
+use Rattle.tp_recover.proofs.Passing.{passed}
+
+-- ## In front of the groups
+
+front_there : (content : List ℕ) (front : CutFront) (given : Result (Unit {0}) OpenFault) → (given >>= (λ good. found (cut_front content))) ≡ Ok front → front.base ≡ base_of content
+front_there content front (Ok good) is = ap (λ r. told r) (sym is)
+  where
+    told : Result CutFront OpenFault → ℕ
+    told (Ok f) = f.base
+    told (Err fault) = 0
+front_there content front (Err fault) is = cc
+
+-- The entries in a cut are as many as the field in front of it says.
+pub front_base : (t : Topology) (at : ℕ) (content : List ℕ) (front : CutFront) → front_given t at content ≡ Ok front → front.base ≡ base_of content
+front_base t at content front is = front_there content front (front_in t at content) is
+
+-- ## An area
+
+rows_then : (head : Head) (second : Bool) (read : Read) (end : ℕ) (rows : Result (Replay NodeState) OpenFault) (closed : Result (Unit {0}) OpenFault)
+    → (rows >>= (λ last. closed >>= (λ shut. Ok (opened_with head second read (last, end)))))
+    ≡ ((rows >>= (λ last. closed >>= (λ shut. Ok (last, end)))) >>= (λ both. Ok (opened_with head second read both)))
+rows_then head second read end (Ok last) (Ok shut) = refl
+rows_then head second read end (Ok last) (Err fault) = refl
+rows_then head second read end (Err fault) closed = refl
+
+-- an area is what stands in front of its groups, and then its groups
+pub area_in-read : (head : Head) (second : Bool) (content : List ℕ) → area_in t414 t414_ends head second content ≡ (read_in head second content >>= opened_after head second content)
+unfolding area_in
+area_in-read head second content = go (front_in head.topology (area_start head.area second) content) (cut_in t414_ends head.topology (area_start head.area second + 1) content)
+  where
+    go : (front : Result (Unit {0}) OpenFault) (cut : Result (Network NodeState) OpenFault)
+        → (front >>= (λ good. cut >>= (λ s. after_rows t414 (replay_from s (base_of content)) (groups_of head second content).rows
+        >>= (λ last. closed_in (groups_of head second content) >>= (λ shut. Ok (opened_with head second (read_as (cut_front content) s) (last, (groups_of head second content).end)))))))
+        ≡ (((front >>= (λ good. found (cut_front content))) >>= (λ f. cut >>= (λ s. Ok (read_as f s)))) >>= opened_after head second content)
+    go (Err fault) cut = refl
+    go (Ok good) (Err fault) = refl
+    go (Ok good) (Ok s) =
+        rows_then head second (read_as (cut_front content) s) (groups_of head second content).end (after_rows t414 (replay_from s (base_of content)) (groups_of head second content).rows)
+        (closed_in (groups_of head second content))
+
+-- the content of an area at another moment
+abbrev content_at : Head → Bool → Moment → List ℕ
+content_at head second m = content_of head.area second m.bytes
+
+-- what isn't read is the answer of all
+pub area_unread : {A : Type 0} (seen : A → Opened) (head : Head) (second : Bool) (content : List ℕ) (error : Unopened) (answer : Result A Unopened)
+    → Answers read_of (read_in head second content) (Err error) → answer ≡ Err error → Answers seen (area_in t414 t414_ends head second content) answer
+area_unread seen head second content error answer read told =
+    subst (λ given. Answers seen given answer) (sym (area_in-read head second content)) (passed read_of seen (read_in head second content) (opened_after head second content) error answer read told)
+
+area_read : (head : Head) (second : Bool) (content : List ℕ) (start : Start) → IsStart head start → read_in head second content ≡ Ok (read_of start)
+    → area_in t414 t414_ends head second content ≡ (after_groups start.replay (groups_of head second content) >>= (λ both. Ok (opened_with head second (read_of start) both)))
+area_read head second content start S read =
+    area_in-read head second content ∙ ap (λ r. r >>= opened_after head second content) read
+    ∙ ap (λ r. after_groups r (groups_of head second content) >>= (λ both. Ok (opened_with head second (read_of start) both))) (sym S.replay)
+
+pub area_broken : {A B : Type 0} (seen : A → Opened) (seen_first : B → Replay NodeState × ℕ) (head : Head) (second : Bool) (old now : Moment) (start : Start) (error : Unopened) (answer : Result A Unopened)
+    → IsStart head start → read_in head second (content_of head.area second old.bytes) ≡ Ok (read_of start) → now ≡ old
+    → Answers seen_first (after_groups start.replay (groups_of head second (content_of head.area second now.bytes))) (Err error) → answer ≡ Err error
+    → Answers seen (area_in t414 t414_ends head second (content_of head.area second old.bytes)) answer
+area_broken {A} {B} seen seen_first head second old now start error answer S read same groups told =
+    subst (λ given. Answers seen given answer) (sym (area_read head second (content_at head second old) start S read))
+    (passed seen_first seen (after_groups start.replay (groups_of head second (content_at head second old))) (λ both. Ok (opened_with head second (read_of start) both)) error answer
+    (subst (λ m. Answers seen_first (after_groups start.replay (groups_of head second (content_at head second m))) (Err error)) same groups) told)
+
+pub area_whole : (head : Head) (second : Bool) (old now : Moment) (start : Start) (last : Replay NodeState) (end : ℕ)
+    → IsStart head start → read_in head second (content_of head.area second old.bytes) ≡ Ok (read_of start) → now ≡ old
+    → after_groups start.replay (groups_of head second (content_of head.area second now.bytes)) ≡ Ok (last, end)
+    → area_in t414 t414_ends head second (content_of head.area second old.bytes) ≡ Ok (opened_with head second (read_of start) (last, end))
+area_whole head second old now start last end S read same groups =
+    area_read head second (content_at head second old) start S read
+    ∙ ap (λ r. r >>= (λ both. Ok (opened_with head second (read_of start) both)))
+    (ap (λ m. after_groups start.replay (groups_of head second (content_at head second m))) (sym same) ∙ groups)
+
+-- ## A device
+
+abbrev area_of : List ℕ → Head → Bool → Result Opened OpenFault
+area_of bytes head second = area_in t414 t414_ends head second (content_of head.area second bytes)
+
+abbrev with_head : List ℕ → Head → Result Opened OpenFault
+with_head bytes head = chosen_area head.area bytes >>= area_of bytes head
+
+verdict-head : (bytes : List ℕ) → verdict bytes ≡ (head_of bytes >>= with_head bytes)
+unfolding verdict opening
+verdict-head bytes = refl
+
+pub head_unread : {A B : Type 0} (seen : A → Opened) (seen_first : B → Head) (bytes : List ℕ) (error : Unopened) (answer : Result A Unopened)
+    → Answers seen_first (head_of bytes) (Err error) → answer ≡ Err error → Answers seen (verdict bytes) answer
+head_unread seen seen_first bytes error answer read told =
+    subst (λ given. Answers seen given answer) (sym (verdict-head bytes)) (passed seen_first seen (head_of bytes) (with_head bytes) error answer read told)
+
+verdict-choice : (bytes : List ℕ) (head : Head) → head_of bytes ≡ Ok head → verdict bytes ≡ (chosen_area head.area bytes >>= area_of bytes head)
+verdict-choice bytes head is = verdict-head bytes ∙ ap (λ r. r >>= with_head bytes) is
+
+pub choice_unread : {A B : Type 0} (seen : A → Opened) (seen_first : B → Bool) (head : Head) (old now : Moment) (error : Unopened) (answer : Result A Unopened)
+    → head_of old.bytes ≡ Ok head → now ≡ old → Answers seen_first (chosen_area head.area now.bytes) (Err error) → answer ≡ Err error → Answers seen (verdict old.bytes) answer
+choice_unread {A} {B} seen seen_first head old now error answer is same read told =
+    subst (λ given. Answers seen given answer) (sym (verdict-choice old.bytes head is))
+    (passed seen_first seen (chosen_area head.area old.bytes) (area_of old.bytes head) error answer (subst (λ m. Answers seen_first (chosen_area head.area m.bytes) (Err error)) same read) told)
+
+pub area_answered : {A : Type 0} (seen : A → Opened) (head : Head) (second : Bool) (old then now : Moment) (answer : Result A Unopened)
+    → head_of old.bytes ≡ Ok head → then ≡ old → chosen_area head.area then.bytes ≡ Ok second → now ≡ old
+    → Answers seen (area_in t414 t414_ends head second (content_of head.area second now.bytes)) answer → Answers seen (verdict old.bytes) answer
+area_answered {A} seen head second old then now answer is same chosen last read =
+    subst (λ given. Answers seen given answer)
+    (sym (verdict-choice old.bytes head is ∙ ap (λ r. r >>= area_of old.bytes head) (ap (λ m. chosen_area head.area m.bytes) (sym same) ∙ chosen)))
+    (subst (λ m. Answers seen (area_of m.bytes head second) answer) last read)

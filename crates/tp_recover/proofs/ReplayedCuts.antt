@@ -1,0 +1,150 @@
+-- What is replayed behind a cut can be opened as a book.
+use Rattle.std.proofs.Common.{◌≡◌, ℕ, ◌-◌, ◌<◌, true, List, [], ◌∷◌, length, map, get_or, sym, ap, subst, ◌∙◌, arith, Some}
+use Rattle.std.specs.Prelude.{◌&&◌, nat_le, nat_lt, bytes_eq, Ok}
+use Rattle.std.specs.List.{AllByRecursion}
+use Rattle.std.specs.Option.{option_map}
+use Rattle.std.proofs.lemmas.Bool.{and_parts, ltb-true}
+use Rattle.std.proofs.lemmas.Option.{slice_get-map, slice_get-get_or}
+use Rattle.std.proofs.lemmas.List.{length-map}
+use Rattle.std.proofs.lemmas.Simd.{map-map}
+use Rattle.tp_model.specs.declared.link.Token.TheVariants.{Data, Ack, Marker}
+use Rattle.tp_model.specs.declared.entry.Entry.{Entry}
+use Rattle.tp_model.specs.declared.entry.Entry.TheVariants.{Run, Take, HostIn, Confirm}
+use Rattle.tp_model.specs.declared.limits.TheConstants.{NUMBER_LIMIT, ENTRY_LINES}
+use Rattle.tp_model.specs.Bytes.{u8_at, u16_at, u32_at}
+use Rattle.tp_model.specs.NodeState.{NodeState}
+use Rattle.tp_model.specs.Image.{node_of}
+use Rattle.tp_model.specs.Node.{t414, t414_ends}
+use Rattle.tp_model.specs.Network.{Network, on_line}
+use Rattle.tp_model.specs.Entries.{next}
+use Rattle.tp_model.specs.EntryBytes.{entry_bytes, is_in_range, is_spelt, number_at, entry_of, entry_at}
+use Rattle.tp_model.specs.Markers.{markers, plain}
+use Rattle.tp_model.specs.Numbers.{AreNumbered}
+use Rattle.tp_model.specs.Order.{after}
+use Rattle.tp_model.specs.Topology.{Topology, is_topology}
+use Rattle.tp_model.specs.CutImage.{or_damaged}
+use Rattle.tp_model.specs.Replay.{Replay, with_entry, is_number, after_row, after_rows, replay_from}
+use Rattle.tp_model.specs.Spelling.{IsCut}
+use Rattle.tp_law_machine.specs.NodeOfBytes.{IsNodeOfBytes}
+use Rattle.tp_law_network.proofs.Partial.{map_some, cond_some}
+use Rattle.tp_law_device.proofs.Faults.{bind_ok, or_damaged_ok}
+use Rattle.tp_law_device.proofs.Replays.{entry_found}
+use Rattle.tp_book.specs.declared.parts.PortParts.{PortParts}
+use Rattle.tp_book.specs.declared.state.NetState.{NetState}
+use Rattle.tp_book.specs.Kept.{AreCounted}
+use Rattle.tp_book.specs.Parts.{port_of}
+use Rattle.tp_book.specs.Opened.{cut_of, now_of, IsOpened}
+use Rattle.tp_replay.specs.Flat.{IsFlat, TakesByte}
+use Rattle.tp_replay.specs.History.{IsHistory}
+use Rattle.tp_replay.specs.Replaying.{numbered}
+use Rattle.tp_replay.proofs.Counted.{counted_next}
+use Rattle.tp_replay.proofs.Flat.{flat_next, markers_next}
+use Rattle.tp_replay.proofs.History.{history_of}
+use Rattle.tp_recover.proofs.UnmarkedLines.{lines_unmarked, plain_lines}
+use Rattle.tp_recover.proofs.HeldPorts.{EachPort, IsHeld, held_next}
+use Rattle.tp_recover.proofs.CutsAreFlat.{cut_flat, cut_counted, cut_held}
+
+-- ## What a replay keeps
+
+-- of a replay from a cut
+pub record IsReplayed (r : Replay NodeState) : Type 0 where
+  pub flat : IsFlat r.now
+  pub unmarked : (line : ℕ) → markers (on_line r.now.lines line) ≡ 0
+  pub counted : AreCounted r.next r.now.ports
+  pub held : EachPort IsHeld r.now.ports
+  pub few : r.next < NUMBER_LIMIT
+
+replayed_first : (t : Topology) (base : ℕ) (s : Network NodeState) → is_topology t ≡ true → IsCut t414_ends t base s → AllByRecursion IsNodeOfBytes s.nodes → IsReplayed (replay_from s base)
+replayed_first t base s topology C bytes = record {
+  flat = cut_flat t base s topology C bytes;
+  unmarked = lines_unmarked t.wires s.lines C.lines;
+  counted = cut_counted t414_ends t base s C;
+  held = cut_held t414_ends t base s C;
+  few = C.base_fits;
+}
+
+-- an entry that was read takes a byte
+entry_takes : (row : List ℕ) (entry : Entry × ℕ) → entry_at row ≡ Some entry → TakesByte entry.0
+unfolding entry_at
+entry_takes row entry e =
+    let read = entry_of (u8_at row 0) (u8_at row 1) (u16_at row 2) (u32_at row 4) in
+    let found = cond_some (is_spelt read (number_at row) && bytes_eq row (entry_bytes read (number_at row))) (Some (read, number_at row)) entry e in
+    let spelt = and_parts (is_spelt read (number_at row)) (bytes_eq row (entry_bytes read (number_at row))) found.0 in
+    let ranged = and_parts (is_in_range read) (nat_lt (number_at row) NUMBER_LIMIT) spelt.0 in
+    let same : read ≡ entry.0 = let one = found.1 in cc in
+    subst TakesByte same (takes read ranged.0)
+  where
+    takes : (e : Entry) → is_in_range e ≡ true → TakesByte e
+    takes (Run node count) h = tt
+    takes (Take line (Data byte)) h = ltb-true byte 256 (and_parts (nat_lt line ENTRY_LINES) (nat_lt byte 256) h).1
+    takes (Take line Ack) h = tt
+    takes (Take line Marker) h = tt
+    takes (HostIn port byte) h = tt
+    takes (Confirm port upto) h = tt
+
+replayed_entry : (r : Replay NodeState) (entry : Entry × ℕ) (now : Network NodeState) → IsReplayed r → TakesByte entry.0 → is_number r entry.1 ≡ true → next t414 r.now entry.0 ≡ Some now
+    → IsReplayed (with_entry r entry now)
+replayed_entry r entry now R takes number step =
+    let low = and_parts (nat_le r.least entry.1) (nat_le entry.1 r.next && nat_lt r.next (NUMBER_LIMIT - 1)) number in
+    let last = and_parts (nat_le entry.1 r.next) (nat_lt r.next (NUMBER_LIMIT - 1)) low.1 in
+    let room = ltb-true r.next (NUMBER_LIMIT - 1) last.1 in
+    record {
+      flat = flat_next r.now entry.0 now R.flat takes step;
+      unmarked = λ line. markers_next r.now entry.0 now R.flat step line ∙ R.unmarked line;
+      counted = counted_next r.next r.now entry.0 now R.counted step;
+      held = held_next r.now entry.0 now R.held step;
+      few = omega (arith, room);
+    }
+
+replayed_row : (r v : Replay NodeState) (row : List ℕ) → IsReplayed r → after_row t414 r row ≡ Some v → IsReplayed v
+replayed_row r v row R is =
+    let found = entry_found t414 r v (entry_at row) is in
+    let entry = found.0 in
+    let tested = cond_some (is_number r entry.1) (option_map (with_entry r entry) (next t414 r.now entry.0)) v found.2 in
+    let stepped = map_some (with_entry r entry) (next t414 r.now entry.0) v tested.1 in
+    subst IsReplayed stepped.2 (replayed_entry r entry stepped.0 R (entry_takes row entry found.1) tested.0 stepped.1)
+
+replayed_rows : (r v : Replay NodeState) (rows : List (ℕ × List ℕ)) → IsReplayed r → after_rows t414 r rows ≡ Ok v → IsReplayed v
+unfolding after_rows
+replayed_rows r v [] R is = subst IsReplayed (let same = is in cc) R
+replayed_rows r v (row ∷ rows) R is =
+    let first = bind_ok (or_damaged row.0 (after_row t414 r row.1)) (λ more. after_rows t414 more rows) v is in
+    replayed_rows first.0 v rows (replayed_row r first.0 row.1 R (or_damaged_ok row.0 (after_row t414 r row.1) first.0 first.1)) first.2
+
+-- What is replayed from a cut is flat, without Markers and counted; each port holds what it has room for, and a number is left.
+pub replayed_holds : (t : Topology) (base : ℕ) (s : Network NodeState) (rows : List (ℕ × List ℕ)) (r : Replay NodeState) → is_topology t ≡ true → IsCut t414_ends t base s
+    → AllByRecursion IsNodeOfBytes s.nodes → after_rows t414 (replay_from s base) rows ≡ Ok r → IsReplayed r
+replayed_holds t base s rows r topology C bytes is = replayed_rows (replay_from s base) r rows (replayed_first t base s topology C bytes) is
+
+-- ## A state that opening leaves
+
+-- the ports' parts hold as much as the ports
+pub parts_held : (parts : List PortParts) → EachPort IsHeld (map port_of parts) → (k : ℕ) (d : PortParts) → k < length parts → IsHeld (port_of (get_or parts k d))
+parts_held parts held k d below =
+    held k (port_of (get_or parts k d)) (slice_get-map port_of parts k ∙ ap (option_map port_of) (slice_get-get_or parts k d below))
+
+-- A state of these parts is what opening leaves: the cut, the network that the replay led to, and the entries with their numbers.
+pub replayed_opened : (t : Topology) (base : ℕ) (s : Network NodeState) (rows : List (ℕ × List ℕ)) (r : Replay NodeState) (o : NetState) → is_topology t ≡ true → IsCut t414_ends t base s
+    → AllByRecursion IsNodeOfBytes s.nodes → after_rows t414 (replay_from s base) rows ≡ Ok r → cut_of o ≡ s → now_of o ≡ r.now → map numbered o.kept.items ≡ r.kept → o.base ≡ base → o.next ≡ r.next
+    → map (λ image. node_of image.items) o.net.images.items ≡ map (λ node. Some node) (now_of o).nodes → IsOpened o
+replayed_opened t base s rows r o topology C bytes is cut now kept base_is next_is images =
+    let R = replayed_holds t base s rows r topology C bytes is in
+    let history : IsHistory t414 s base r = history_of t414 s base r rows is in
+    let entries : map (λ n. n.entry) o.kept.items ≡ map (λ (e : Entry × ℕ). e.0) r.kept = sym (map-map (λ (e : Entry × ℕ). e.0) numbered o.kept.items) ∙ ap (map (λ (e : Entry × ℕ). e.0)) kept in
+    let numbers : map (λ n. n.number) o.kept.items ≡ map (λ (e : Entry × ℕ). e.1) r.kept = sym (map-map (λ (e : Entry × ℕ). e.1) numbered o.kept.items) ∙ ap (map (λ (e : Entry × ℕ). e.1)) kept in
+    let flat : IsFlat (now_of o) = subst IsFlat (sym now) R.flat in
+    let held : EachPort IsHeld (now_of o).ports = subst (λ x. EachPort IsHeld x.ports) (sym now) R.held in
+    record {
+      history = ap (λ x. after t414 x (map (λ n. n.entry) o.kept.items)) cut ∙ ap (after t414 s) entries ∙ history.leads ∙ ap (λ x. Some x) (sym now);
+      sound = flat.sound;
+      shaped = record { wires = flat.shaped.wires; few_nodes = flat.shaped.few_nodes; few_ports = flat.shaped.few_ports };
+      lines = flat.shaped.lines ∙ sym flat.shaped.wires;
+      unmarked = subst (λ x. map plain x.lines ≡ x.lines) (sym now) (plain_lines r.now.lines R.unmarked);
+      numbered = subst (λ least. AreNumbered 0 least (map (λ n. n.number) o.kept.items)) (sym base_is) (subst (AreNumbered 0 base) (sym numbers) history.numbered);
+      next = omega (arith, next_is, history.next, base_is, ap length kept, length-map o.kept.items numbered, o.kept.ok.0);
+      few = omega (arith, next_is, R.few);
+      counted = subst (λ x. AreCounted o.next x.ports) (sym now) (subst (λ n. AreCounted n r.now.ports) (sym next_is) R.counted);
+      pending = λ k d below. let part = parts_held o.net.ports.items held k d below in omega (arith, part.pending, (get_or o.net.ports.items k d).pending.ok.0);
+      outputs = λ k d below. let part = parts_held o.net.ports.items held k d below in omega (arith, part.outputs, (get_or o.net.ports.items k d).outputs.ok.0);
+      images = images;
+    }

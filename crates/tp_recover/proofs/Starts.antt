@@ -1,0 +1,74 @@
+-- What was read of an area before its groups can be replayed from.
+use Rattle.std.proofs.Common.{◌≡◌, ℕ, zero, suc, ◌<◌, ◌≤◌, List, [], ◌∷◌, length, map, get_or, refl, ap, subst, ◌∙◌, arith, true, Option, Some, None, slice_get}
+use Rattle.std.specs.Prelude.{All, ◌&&◌, Vec, vec_len}
+use Rattle.std.specs.declared.alloc.Global.{Global}
+use Rattle.std.proofs.lemmas.Bool.{and_parts, false≢true}
+use Rattle.tp_model.specs.declared.link.Token.{Token}
+use Rattle.tp_model.specs.declared.link.Token.TheVariants.{Data, Ack, Marker}
+use Rattle.tp_model.specs.declared.limits.TheConstants.{MAX_HELD}
+use Rattle.tp_model.specs.declared.wire.WireEnd.{WireEnd}
+use Rattle.tp_model.specs.CutImage.{is_line_of}
+use Rattle.tp_model.specs.Spelling.{has_record, are_lines}
+use Rattle.tp_book.specs.declared.parts.PortParts.{PortParts}
+use Rattle.tp_book.specs.Parts.{port_of}
+use Rattle.tp_book.specs.Ports.{PortValue, opened_port}
+use Rattle.tp_node.specs.NodeContents.{NodeContents}
+use Rattle.tp_replay.specs.Flat.{network_of}
+use Rattle.tp_recover.specs.declared.cut.Cut.{Cut}
+use Rattle.tp_recover.specs.Cuts.{cut_network}
+use Rattle.tp_recover.specs.Nodes.{AreThawed}
+use Rattle.tp_recover.proofs.HeldPorts.{EachPort, IsHeld}
+use Rattle.tp_recover.proofs.ReplayedCuts.{parts_held}
+
+-- ## Room
+
+record_few : (tokens : List Token) → has_record tokens ≡ true → length tokens ≤ 3
+record_few [] h = omega arith
+record_few (t ∷ []) h = omega arith
+record_few (t ∷ u ∷ []) h = omega arith
+record_few (Data byte ∷ Data other ∷ x ∷ more) h = absurd (false≢true h)
+record_few (Data byte ∷ Ack ∷ x ∷ more) h = absurd (false≢true h)
+record_few (Data byte ∷ Marker ∷ x ∷ more) h = absurd (false≢true h)
+record_few (Ack ∷ Data byte ∷ x ∷ more) h = absurd (false≢true h)
+record_few (Ack ∷ Ack ∷ x ∷ more) h = absurd (false≢true h)
+record_few (Ack ∷ Marker ∷ x ∷ more) h = absurd (false≢true h)
+record_few (Marker ∷ u ∷ x ∷ more) h = absurd (false≢true h)
+
+line_few : (wires : List (Option WireEnd)) (lines : List (Vec Token Global)) → are_lines wires (map (λ line. line.items) lines) ≡ true → (k : ℕ) (d : Vec Token Global) → k < length lines
+    → length (get_or lines k d).items ≤ 3
+line_few wires [] h k d low = absurd (omega (arith, low))
+line_few [] (line ∷ lines) h k d low = absurd (false≢true h)
+line_few (wire ∷ wires) (line ∷ lines) h zero d low =
+    record_few line.items (and_parts (has_record line.items) (is_line_of wire line.items && are_lines wires (map (λ l. l.items) lines)) h).0
+line_few (wire ∷ wires) (line ∷ lines) h (suc k) d low =
+    let first = and_parts (has_record line.items) (is_line_of wire line.items && are_lines wires (map (λ l. l.items) lines)) h in
+    let rest = and_parts (is_line_of wire line.items) (are_lines wires (map (λ l. l.items) lines)) first.1 in
+    line_few wires lines rest.1 k d (omega (arith, low))
+
+-- No line of a cut that was read has more tokens than a line has room for.
+pub lines_few : (wires : List (Option WireEnd)) (lines : List (Vec Token Global)) → are_lines wires (map (λ line. line.items) lines) ≡ true → All (λ line. vec_len line ≤ 3) lines
+lines_few wires lines h k d low = omega (arith, line_few wires lines h k d low, (get_or lines k d).ok.0)
+
+pub pending_few : (parts : List PortParts) → EachPort IsHeld (map port_of parts) → All (λ port. vec_len port.pending ≤ MAX_HELD) parts
+pending_few parts held k d below = let part = parts_held parts held k d below in omega (arith, part.pending, (get_or parts k d).pending.ok.0)
+
+pub outputs_few : (parts : List PortParts) → EachPort IsHeld (map port_of parts) → All (λ port. vec_len port.outputs ≤ MAX_HELD) parts
+outputs_few parts held k d below = let part = parts_held parts held k d below in omega (arith, part.outputs, (get_or parts k d).outputs.ok.0)
+
+-- ## The network
+
+pub thawed_at : (nodes : List NodeContents) → AreThawed nodes → (i : ℕ) (node : NodeContents) → slice_get nodes i ≡ Some node → node.frozen ≡ None
+thawed_at [] all i node at = cc
+thawed_at (first ∷ nodes) all zero node at = let same : first ≡ node = cc in subst (λ n. n.frozen ≡ None) same all.0
+thawed_at (first ∷ nodes) all (suc i) node at = thawed_at nodes all.1 i node at
+
+ports_again : (parts : List PortParts) → map (λ p. p.port) (map (λ port. opened_port (port_of port)) parts) ≡ map port_of parts
+ports_again [] = refl
+ports_again (p ∷ ps) = ap (λ more. port_of p ∷ more) (ports_again ps)
+
+-- The network that is made of a cut is the cut's.
+pub network_again : (cut : Cut) (wires these : List (Option WireEnd)) (lines : List (List Token)) (ports : List PortValue) → these ≡ wires → lines ≡ map (λ line. line.items) cut.lines.items
+    → ports ≡ map (λ port. opened_port (port_of port)) cut.ports.items → network_of these cut.nodes.items lines ports ≡ cut_network wires cut
+network_again cut wires these lines ports w l p =
+    let q : map (λ (v : PortValue). v.port) ports ≡ map port_of cut.ports.items = ap (map (λ (v : PortValue). v.port)) p ∙ ports_again cut.ports.items in
+    λ i. record { wires = w i; nodes = map (λ node. node.live) cut.nodes.items; ports = q i; lines = l i }

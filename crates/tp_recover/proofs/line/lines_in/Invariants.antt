@@ -1,0 +1,13 @@
+-- The lines that were read, and those that stand in the rest, are all.
+use Rattle.std.proofs.Common.{◌≡◌, ◌+◌, ◌*◌, ◌-◌, drop, length, map}
+use Rattle.tp_model.specs.declared.limits.TheConstants.{LINE_BYTES}
+use Rattle.tp_model.specs.CutImage.{lines_in}
+use Rattle.tp_recover.specs.Lines.{tokens_on}
+use Rattle.tp_recover.proofs.Records.{behind}
+use Rattle.tp_recover.proofs.line.lines_in.Given as goal
+
+abbrev pub invariant-loop-line : goal.invariant-loop-line
+invariant-loop-line l = record {
+  read : lines_in l.at l.wires l.bytes ≡ behind (map tokens_on l.lines.items) (lines_in (l.at + LINE_BYTES * l.line) (drop l.line l.wires) l.rest);
+  there : length l.rest ≡ LINE_BYTES * (length l.wires - l.line);
+}

@@ -1,0 +1,31 @@
+-- Cuts that were read.
+use Rattle.std.specs.Prelude.{ℕ, List, map, drop, Option, Result, Ok}
+use Rattle.tp_model.specs.declared.link.Token.{Token}
+use Rattle.tp_model.specs.declared.opening.OpenFault.{OpenFault}
+use Rattle.tp_model.specs.declared.wire.WireEnd.{WireEnd}
+use Rattle.tp_model.specs.CutImage.{nodes_in, lines_in, ports_in}
+use Rattle.tp_model.specs.Network.{Network, Port}
+use Rattle.tp_model.specs.NodeState.{NodeState}
+use Rattle.tp_model.specs.Results.{◌>>=◌}
+use Rattle.tp_book.specs.Parts.{port_of}
+use Rattle.tp_recover.specs.declared.cut.Cut.{Cut}
+use Rattle.tp_recover.specs.declared.cut.Places.{Places}
+use Rattle.tp_recover.specs.Nodes.{live}
+
+-- a network with these wires
+abbrev pub wired : List (Option WireEnd) → List NodeState → List (List Token) → List Port → Network NodeState
+wired wires nodes lines ports = record { wires = wires; nodes = nodes; ports = ports; lines = lines }
+
+-- the network of a cut, with these wires
+abbrev pub cut_network : List (Option WireEnd) → Cut → Network NodeState
+cut_network wires cut = wired wires (map live cut.nodes.items) (map (λ line. line.items) cut.lines.items) (map port_of cut.ports.items)
+
+-- three parts, one after the other
+abbrev pub three : {A B C D : Type 0} → Result A OpenFault → Result B OpenFault → Result C OpenFault → (A → B → C → D) → Result D OpenFault
+three first second third f = first >>= (λ x. second >>= (λ y. third >>= (λ z. Ok (f x y z))))
+
+-- what stands at these places of a device: nodes of so many pages, lines with these wires, so many ports
+abbrev pub records_at : List ℕ → List (Option WireEnd) → ℕ → ℕ → Places → List ℕ → Result (Network NodeState) OpenFault
+records_at pages wires ports base places bytes =
+    three (nodes_in places.nodes pages (drop places.nodes bytes)) (lines_in places.lines wires (drop places.lines bytes))
+    (ports_in base places.ports ports (drop places.ports bytes)) (wired wires)

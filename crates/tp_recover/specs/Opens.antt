@@ -1,0 +1,34 @@
+-- What an opened device's fields stand for, and what they keep.
+use Rattle.std.specs.Prelude.{◌+◌, ◌<◌, ◌≤◌}
+use Rattle.std.specs.List.{AllByRecursion}
+use Rattle.tp_model.specs.declared.limits.TheConstants.{AREA_HEAD_BYTES}
+use Rattle.tp_model.specs.Device.{area_start}
+use Rattle.tp_model.specs.Node.{t414_ends}
+use Rattle.tp_model.specs.Opening.{Opened}
+use Rattle.tp_model.specs.Replay.{replay_from}
+use Rattle.tp_model.specs.Spelling.{IsCut}
+use Rattle.tp_law_machine.specs.NodeOfBytes.{IsNodeOfBytes}
+use Rattle.tp_recover.specs.declared.opening.Opened.TheInside.{Inside}
+use Rattle.tp_recover.specs.AfterGroups.{LeadsTo}
+
+abbrev pub opened_of : Inside → Opened
+opened_of o = record {
+  head = o.head;
+  second = o.second;
+  generation = o.generation;
+  base = o.base;
+  cut = o.cut.network;
+  kept = o.replay.kept;
+  now = o.replay.now;
+  end = o.end;
+}
+
+-- What is true of whatever was opened, also on a device that doesn't keep the model: the cut is one of the head's topology,
+-- its nodes were read of bytes, entries lead from it to what was replayed, and the closed gate behind them stands within the
+-- open area, behind its head.
+pub record IsInside (o : Inside) : Type 0 where
+  pub cut : IsCut t414_ends o.head.topology o.base o.cut.network
+  pub nodes : AllByRecursion IsNodeOfBytes o.cut.network.nodes
+  pub leads : LeadsTo (replay_from o.cut.network o.base) o.replay
+  pub behind : area_start o.head.area o.second + AREA_HEAD_BYTES ≤ o.end
+  pub inside : o.end < area_start o.head.area o.second + o.head.area

@@ -1,0 +1,65 @@
+-- What is read of an area before its groups, and what is opened with them.
+use Rattle.std.specs.Prelude.{◌≡◌, ℕ, ◌+◌, Bool, List, drop, Result, Ok}
+use Rattle.std.specs.List.{AllByRecursion}
+use Rattle.tp_model.specs.declared.opening.OpenFault.{OpenFault}
+use Rattle.tp_model.specs.Device.{area_start}
+use Rattle.tp_model.specs.Head.{Head}
+use Rattle.tp_model.specs.Network.{Network}
+use Rattle.tp_model.specs.Node.{t414_ends}
+use Rattle.tp_model.specs.NodeState.{NodeState}
+use Rattle.tp_model.specs.Opening.{Opened, cut_in, groups_place}
+use Rattle.tp_model.specs.Replay.{Listing, Replay, listing, replay_from}
+use Rattle.tp_model.specs.Results.{◌>>=◌}
+use Rattle.tp_model.specs.Spelling.{IsCut}
+use Rattle.tp_law_machine.specs.NodeOfBytes.{IsNodeOfBytes}
+use Rattle.tp_recover.specs.declared.front.CutFront.{CutFront}
+use Rattle.tp_recover.specs.declared.start.Start.{Start}
+use Rattle.tp_recover.specs.AfterGroups.{after_groups}
+use Rattle.tp_recover.specs.Fronts.{front_given}
+
+-- the fields in front of a cut, and the cut
+pub record Read : Type 0 where
+  pub front : CutFront
+  pub cut : Network NodeState
+
+abbrev pub read_as : CutFront → Network NodeState → Read
+read_as front cut = record { front = front; cut = cut }
+
+abbrev pub read_of : Start → Read
+read_of start = read_as start.front start.cut.network
+
+-- what stands in front of an area's groups
+abbrev pub read_in : Head → Bool → List ℕ → Result Read OpenFault
+read_in head second content = do
+  front ← front_given head.topology (area_start head.area second) content
+  cut ← cut_in t414_ends head.topology (area_start head.area second + 1) content
+  Ok (read_as front cut)
+
+-- Nothing is replayed so far, and the cut is one of that head's topology, whose nodes were read of bytes.
+pub record IsStart (head : Head) (start : Start) : Type 0 where
+  pub replay : start.replay ≡ replay_from start.cut.network start.front.base
+  pub cut : IsCut t414_ends head.topology start.front.base start.cut.network
+  pub nodes : AllByRecursion IsNodeOfBytes start.cut.network.nodes
+
+-- what is read of the groups of an area
+abbrev pub groups_of : Head → Bool → List ℕ → Listing
+groups_of head second content =
+    listing 0 (area_start head.area second + 1 + groups_place head.topology) (drop (groups_place head.topology) content)
+
+-- what is opened, by what was read and what was replayed, up to a closed gate that stands here
+abbrev pub opened_with : Head → Bool → Read → Replay NodeState × ℕ → Opened
+opened_with head second read found = record {
+  head = head;
+  second = second;
+  generation = read.front.generation;
+  base = read.front.base;
+  cut = read.cut;
+  kept = found.0.kept;
+  now = found.0.now;
+  end = found.1;
+}
+
+-- the same, with the groups read
+abbrev pub opened_after : Head → Bool → List ℕ → Read → Result Opened OpenFault
+opened_after head second content read =
+    after_groups (replay_from read.cut read.front.base) (groups_of head second content) >>= (λ found. Ok (opened_with head second read found))

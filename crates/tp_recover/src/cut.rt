@@ -1,0 +1,196 @@
+//! The cut of an area.
+
+ghost use Rattle.std.specs.Prelude.{◌≡◌, ◌+◌, ◌*◌, ◌≤◌, ◌<◌, ◌^◌, ℕ, true, Ok, IfOk, map, length, sum_by};
+ghost use Rattle.std.specs.List.{AllByRecursion};
+ghost use Rattle.tp_law_machine.specs.NodeOfBytes.{IsNodeOfBytes};
+ghost use Rattle.tp_model.specs.Device.{area_start, content_of};
+ghost use Rattle.tp_model.specs.DiskHistory.{Counts};
+ghost use Rattle.tp_model.specs.Flight.{flights_in};
+ghost use Rattle.tp_model.specs.Journal.{image_length};
+ghost use Rattle.tp_model.specs.Node.{t414_ends};
+ghost use Rattle.tp_model.specs.Opening.{base_of, cut_in, lines_place, nodes_place, ports_place};
+ghost use Rattle.tp_model.specs.Spelling.{are_lines, IsCut};
+ghost use Rattle.tp_model.specs.Topology.{line_count};
+ghost use Rattle.tp_model.specs.declared.limits.TheConstants.{NUMBER_LIMIT};
+ghost use Rattle.tp_book.specs.Parts.{port_of};
+ghost use Rattle.tp_recover.specs.Cuts.{cut_network, records_at};
+ghost use Rattle.tp_recover.specs.Lines.{tokens_on};
+ghost use Rattle.tp_recover.specs.Nodes.{live, AreThawed, HaveImages};
+ghost use Rattle.tp_recover.specs.Ports.{ArePorts};
+ghost use Rattle.tp_recover.specs.Reading.{has_read, Answers, IsKept, LeavesNothingNew};
+
+use crate::flights::{CutParts, flights};
+use crate::head::Head;
+use crate::line::{LineTokens, read_lines};
+use crate::node::read_nodes;
+use crate::port::read_ports;
+use crate::topology::{MAX_LINES, Topology};
+use crate::unopened::Unopened;
+use std::alloc::{AllocError, Global};
+use tp_area::area_start;
+use tp_book::PortParts;
+use tp_disk::Disk;
+use tp_model::limits::{
+    AREA_HEAD_BYTES, BASE_BYTES, HEAD_BYTES, LINE_BYTES, MAX_NODES, MAX_PORTS, PORT_BYTES,
+};
+use tp_model::{OpenFault, Token, WireEnd};
+use tp_node::Node;
+
+/// A network as a snapshot cut it: its nodes, the tokens on each line, and its ports.
+#[derive(Drop)]
+pub struct Cut {
+    pub nodes: Vec<Node>,
+    pub lines: Vec<Vec<Token>>,
+    pub ports: Vec<PortParts>,
+}
+
+/// Where the first image, the first line's record and the first port's record stand.
+#[derive(Clone, Copy)]
+pub(crate) struct Places {
+    pub(crate) nodes: u64,
+    pub(crate) lines: u64,
+    pub(crate) ports: u64,
+}
+
+impl Places {
+    /// The places in a content that begins here.
+    fn of(topology: &Topology, at: u64) -> Places
+        requires { at + 2 ^ 33 < 2 ^ 64 }
+        ensures nodes { result.nodes ≡ at + nodes_place }
+        ensures lines { result.lines ≡ at + lines_place topology.now }
+        ensures ports { result.ports ≡ at + ports_place topology.now }
+        ensures bound { result.ports < at + 2 ^ 32 }
+    {
+        let nodes = at + (AREA_HEAD_BYTES - 1 + BASE_BYTES) as u64;
+        let lines = nodes + topology.images_length();
+        let ports = lines + LINE_BYTES as u64 * topology.line_count() as u64;
+        Places {
+            nodes,
+            lines,
+            ports,
+        }
+    }
+}
+
+/// The tokens on a line as a list.
+fn token_list(alloc: Global, line: LineTokens) -> Result<Vec<Token>, AllocError>
+    ensures { IfOk result (λ tokens. tokens.items ≡ tokens_on line) }
+{
+    match line {
+        LineTokens::Empty => Ok(Vec::new(alloc)),
+        LineTokens::Data(byte) => Vec::from_slice(alloc, &[Token::Data(byte)]),
+        LineTokens::Ack => Vec::from_slice(alloc, &[Token::Ack]),
+        LineTokens::DataAck(byte) => Vec::from_slice(alloc, &[Token::Data(byte), Token::Ack]),
+        LineTokens::AckData(byte) => Vec::from_slice(alloc, &[Token::Ack, Token::Data(byte)]),
+    }
+}
+
+/// The tokens on each line as lists.
+fn token_lists(alloc: Global, lines: &[LineTokens]) -> Result<Vec<Vec<Token>>, AllocError>
+    ensures { IfOk result (λ lists. map (λ list. list.items) lists.items ≡ map tokens_on lines.now) }
+{
+    let mut lists = Vec::new(alloc);
+    for line in lines {
+        let list = token_list(alloc, *line)?;
+        lists.push(list)?;
+    }
+    Ok(lists)
+}
+
+/// Reads the records of a cut of so many entries: of nodes with so many pages each, of the lines with these wires, and of
+/// so many ports.
+fn read_records<D: Disk>(
+    alloc: Global,
+    disk: &mut D,
+    pages: &[u16],
+    wires: &[Option<WireEnd>],
+    ports: u8,
+    base: u64,
+    places: Places,
+) -> Result<Cut, Unopened>
+    requires few { length wires.now ≤ MAX_LINES }
+    requires nodes { places.nodes + sum_by image_length pages.now ≤ places.lines }
+    requires lines { places.lines + LINE_BYTES * length wires.now ≤ places.ports }
+    requires inside { places.ports + PORT_BYTES * ports ≤ D.size_of disk.old }
+    requires counted { places.ports + PORT_BYTES * ports < 2 ^ 64 }
+    ensures counts { Counts (has_read result) (D.size_of disk.old) (D.size_of disk.new) (D.failures_of disk.old) (D.failures_of disk.new) }
+    ensures kept { D.keeps → IsKept result (D.state disk.old).now (D.state disk.new).now }
+    ensures leaves { D.keeps → LeavesNothingNew (D.state disk.old) (D.state disk.new) }
+    ensures nodes { IfOk result (λ cut. length cut.nodes.items ≡ length pages.now) }
+    ensures ports { IfOk result (λ cut. length cut.ports.items ≡ ports) }
+    ensures thawed { IfOk result (λ cut. AreThawed cut.nodes.items) }
+    ensures images { IfOk result (λ cut. HaveImages pages.now (map live cut.nodes.items)) }
+    ensures lines { IfOk result (λ cut. are_lines wires.now (map (λ line. line.items) cut.lines.items) ≡ true) }
+    ensures reached { IfOk result (λ cut. ArePorts base (map port_of cut.ports.items)) }
+    ensures is { D.keeps → Answers (cut_network wires.now) (records_at pages.now wires.now ports base places (D.state disk.old).now.bytes) result }
+{
+    let nodes = read_nodes(alloc, disk, places.nodes, pages)?;
+    let found = read_lines(alloc, disk, places.lines, wires)?;
+    let ports = read_ports(alloc, disk, places.ports, base, ports)?;
+    match token_lists(alloc, &found) {
+        Ok(lines) => Ok(Cut {
+            nodes,
+            lines,
+            ports,
+        }),
+        Err(_) => Err(Unopened::Memory),
+    }
+}
+
+/// The first line on which the byte under way isn't in one place is damaged; the record of line 0 stands at this place.
+fn check_flights(wires: &[Option<WireEnd>], cut: &Cut, at: u64) -> Result<(), OpenFault>
+    requires few { length cut.now.nodes.items ≤ MAX_NODES }
+    requires few_ports { length cut.now.ports.items ≤ MAX_PORTS }
+    requires wired { length wires.now ≡ 4 * length cut.now.nodes.items + length cut.now.ports.items }
+    requires fits { at + 2 ^ 32 < 2 ^ 64 }
+    ensures { result ≡ flights_in t414_ends (cut_network wires.now cut.now) at 0 (length wires.now) }
+{
+    let parts = CutParts {
+        wires,
+        nodes: &cut.nodes,
+        lines: &cut.lines,
+        ports: &cut.ports,
+    };
+    flights(parts, at)
+}
+
+/// Reads the cut of an area, which has so many entries.
+///
+/// What is read was tested, so it is sound and thawed also where the device doesn't keep the model.
+pub fn read_cut<D: Disk>(
+    alloc: Global,
+    disk: &mut D,
+    head: &Head,
+    second: bool,
+    base: u64,
+) -> Result<Cut, Unopened>
+    requires { HEAD_BYTES + 2 * head.now.area ≤ D.size_of disk.old }
+    ensures counts { Counts (has_read result) (D.size_of disk.old) (D.size_of disk.new) (D.failures_of disk.old) (D.failures_of disk.new) }
+    ensures kept { D.keeps → IsKept result (D.state disk.old).now (D.state disk.new).now }
+    ensures leaves { D.keeps → LeavesNothingNew (D.state disk.old) (D.state disk.new) }
+    ensures nodes { IfOk result (λ cut. length cut.nodes.items ≡ length head.now.topology.pages) }
+    ensures ports { IfOk result (λ cut. length cut.ports.items ≡ head.now.topology.ports) }
+    ensures sound { IfOk result (λ cut. (at : ℕ) × (flights_in t414_ends (cut_network head.now.topology.wires cut) at 0 (line_count head.now.topology) ≡ Ok tt)) }
+    ensures cut { base < NUMBER_LIMIT → IfOk result (λ cut. IsCut t414_ends head.now.topology base (cut_network head.now.topology.wires cut)) }
+    ensures images { IfOk result (λ cut. AllByRecursion IsNodeOfBytes (map live cut.nodes.items)) }
+    ensures thawed { IfOk result (λ cut. AreThawed cut.nodes.items) }
+    ensures is { D.keeps → base ≡ base_of (content_of head.now.area second (D.state disk.old).now.bytes)
+        → Answers (cut_network head.now.topology.wires) (cut_in t414_ends head.now.topology (area_start head.now.area second + 1) (content_of head.now.area second (D.state disk.old).now.bytes)) result }
+{
+    let topology = head.topology();
+    let start = area_start(head.area(), second);
+    let places = Places::of(topology, start + 1);
+    let cut = read_records(
+        alloc,
+        disk,
+        topology.pages(),
+        topology.wires(),
+        topology.ports(),
+        base,
+        places,
+    )?;
+    match check_flights(topology.wires(), &cut, places.lines) {
+        Ok(()) => Ok(cut),
+        Err(fault) => Err(Unopened::Fault(fault)),
+    }
+}

@@ -1,0 +1,74 @@
+//! The nodes of a cut.
+
+ghost use Rattle.std.specs.Prelude.{◌≡◌, ◌+◌, ◌≤◌, ◌<◌, ◌^◌, None, true, IfOk, map, length, drop, sum_by};
+ghost use Rattle.tp_model.specs.CutImage.{node_with, nodes_in, or_damaged};
+ghost use Rattle.tp_model.specs.DiskHistory.{Counts};
+ghost use Rattle.tp_model.specs.Journal.{image_length};
+ghost use Rattle.tp_recover.specs.Nodes.{live, AreThawed, HasImage, HaveImages};
+ghost use Rattle.tp_recover.specs.Reading.{has_read, Answers, IsKept, LeavesNothingNew};
+
+use crate::device::read_bytes;
+use crate::topology::image_length;
+use crate::unopened::Unopened;
+use std::alloc::Global;
+use tp_disk::Disk;
+use tp_model::OpenFault;
+use tp_node::{ImageFault, Node};
+
+/// The node of so many pages whose image these bytes are, which stand here.
+fn node_in(alloc: Global, at: u64, pages: u16, bytes: &[u8]) -> Result<Node, Unopened>
+    requires { length bytes.now ≡ image_length pages }
+    ensures read { has_read result ≡ true }
+    ensures thawed { IfOk result (λ node. node.frozen ≡ None) }
+    ensures image { IfOk result (λ node. HasImage pages node.live) }
+    ensures is { Answers live (or_damaged at (node_with pages bytes.now)) result }
+{
+    match Node::from_image(alloc, bytes, usize::from(pages)) {
+        Ok(node) => Ok(node),
+        Err(ImageFault::BadImage) => Err(Unopened::Fault(OpenFault::Damaged(at))),
+        Err(ImageFault::Memory) => Err(Unopened::Memory),
+    }
+}
+
+/// Reads the node of so many pages whose image stands here.
+fn read_node<D: Disk>(alloc: Global, disk: &mut D, at: u64, pages: u16) -> Result<Node, Unopened>
+    requires { at + image_length pages ≤ D.size_of disk.old }
+    ensures counts { Counts (has_read result) (D.size_of disk.old) (D.size_of disk.new) (D.failures_of disk.old) (D.failures_of disk.new) }
+    ensures kept { D.keeps → IsKept result (D.state disk.old).now (D.state disk.new).now }
+    ensures leaves { D.keeps → LeavesNothingNew (D.state disk.old) (D.state disk.new) }
+    ensures thawed { IfOk result (λ node. node.frozen ≡ None) }
+    ensures image { IfOk result (λ node. HasImage pages node.live) }
+    ensures is { D.keeps → Answers live (or_damaged at (node_with pages (drop at (D.state disk.old).now.bytes))) result }
+{
+    let bytes = read_bytes(alloc, disk, at, image_length(pages))?;
+    node_in(alloc, at, pages, &bytes)
+}
+
+/// Reads the nodes of so many pages each whose images stand here, one behind the other.
+pub(crate) fn read_nodes<D: Disk>(
+    alloc: Global,
+    disk: &mut D,
+    at: u64,
+    pages: &[u16],
+) -> Result<Vec<Node>, Unopened>
+    requires inside { at + sum_by image_length pages.now ≤ D.size_of disk.old }
+    requires counted { at + sum_by image_length pages.now < 2 ^ 64 }
+    ensures counts { Counts (has_read result) (D.size_of disk.old) (D.size_of disk.new) (D.failures_of disk.old) (D.failures_of disk.new) }
+    ensures kept { D.keeps → IsKept result (D.state disk.old).now (D.state disk.new).now }
+    ensures leaves { D.keeps → LeavesNothingNew (D.state disk.old) (D.state disk.new) }
+    ensures len { IfOk result (λ nodes. length nodes.items ≡ length pages.now) }
+    ensures thawed { IfOk result (λ nodes. AreThawed nodes.items) }
+    ensures images { IfOk result (λ nodes. HaveImages pages.now (map live nodes.items)) }
+    ensures is { D.keeps → Answers (λ nodes. map live nodes.items) (nodes_in at pages.now (drop at (D.state disk.old).now.bytes)) result }
+{
+    let mut nodes = Vec::new(alloc);
+    let mut place = at;
+    for count in pages {
+        let read = read_node(alloc, disk, place, *count)?;
+        let Ok(()) = nodes.push(read) else {
+            return Err(Unopened::Memory);
+        };
+        place += image_length(*count) as u64;
+    }
+    Ok(nodes)
+}

@@ -1,0 +1,81 @@
+//! The network of a cut, before the entries behind it are replayed.
+
+ghost use Rattle.std.specs.Prelude.{◌≡◌, ◌+◌, ◌*◌, ◌≤◌, All, IfOk, vec_len};
+ghost use Rattle.tp_book.specs.Parts.{port_of};
+ghost use Rattle.tp_model.specs.Device.{content_of};
+ghost use Rattle.tp_model.specs.DiskHistory.{Counts};
+ghost use Rattle.tp_model.specs.declared.limits.TheConstants.{HEAD_BYTES, MAX_HELD};
+ghost use Rattle.tp_net.specs.declared.line.TheConstants.{LINE_TOKENS};
+ghost use Rattle.tp_recover.specs.Cuts.{cut_network};
+ghost use Rattle.tp_recover.specs.Nodes.{AreThawed};
+ghost use Rattle.tp_recover.specs.Reading.{has_read, Answers, IsKept, LeavesNothingNew};
+ghost use Rattle.tp_recover.specs.Starts.{read_in, read_of, IsStart};
+ghost use Rattle.tp_replay.specs.Flat.{IsFlat};
+
+use crate::cut::{Cut, read_cut};
+use crate::front::{CutFront, read_front};
+use crate::head::Head;
+use crate::unopened::Unopened;
+use std::alloc::{AllocError, Global};
+use tp_book::{CutNetwork, lines_with, ports_with};
+use tp_disk::Disk;
+use tp_model::WireEnd;
+use tp_replay::{FlatNetwork, Replay};
+
+/// An area before its groups are replayed: the fields in front of its cut, the cut as contracts see it, and the network.
+#[derive(Drop)]
+pub(crate) struct Start {
+    pub(crate) front: CutFront,
+    pub(crate) cut: CutNetwork,
+    pub(crate) replay: Replay,
+}
+
+/// The network of a cut with these wires.
+fn flat_network(
+    alloc: Global,
+    wires: &[Option<WireEnd>],
+    cut: Cut,
+) -> Result<FlatNetwork, AllocError>
+    requires flat { IsFlat (cut_network wires.now cut) }
+    requires thawed { AreThawed cut.nodes.items }
+    requires few { All (λ line. vec_len line ≤ LINE_TOKENS) cut.lines.items }
+    requires pending { All (λ port. vec_len port.pending ≤ MAX_HELD) cut.ports.items }
+    requires outputs { All (λ port. vec_len port.outputs ≤ MAX_HELD) cut.ports.items }
+    ensures { IfOk result (λ network. network ≡ cut_network wires.now cut) }
+{
+    let lines = lines_with(alloc, &cut.lines)?;
+    let ports = ports_with(alloc, &cut.ports)?;
+    let wires = Vec::from_slice(alloc, wires)?;
+    Ok(FlatNetwork::new(wires, cut.nodes, lines, ports))
+}
+
+/// The network as contracts see it. It does nothing.
+fn cut_of(network: &FlatNetwork) -> CutNetwork
+    ensures { result.network ≡ network.now }
+{
+    CutNetwork::of(network)
+}
+
+/// Reads what stands in front of an area's groups, and makes its network ready.
+pub(crate) fn read_start<D: Disk>(
+    alloc: Global,
+    disk: &mut D,
+    head: &Head,
+    second: bool,
+) -> Result<Start, Unopened>
+    requires { HEAD_BYTES + 2 * head.now.area ≤ D.size_of disk.old }
+    ensures counts { Counts (has_read result) (D.size_of disk.old) (D.size_of disk.new) (D.failures_of disk.old) (D.failures_of disk.new) }
+    ensures kept { D.keeps → IsKept result (D.state disk.old).now (D.state disk.new).now }
+    ensures leaves { D.keeps → LeavesNothingNew (D.state disk.old) (D.state disk.new) }
+    ensures start { IfOk result (IsStart head.now) }
+    ensures is { D.keeps → Answers read_of (read_in head.now second (content_of head.now.area second (D.state disk.old).now.bytes)) result }
+{
+    let front = read_front(disk, head, second)?;
+    let cut = read_cut(alloc, disk, head, second, front.base)?;
+    let Ok(network) = flat_network(alloc, head.topology().wires(), cut) else {
+        return Err(Unopened::Memory);
+    };
+    let cut = cut_of(&network);
+    let replay = Replay::start(alloc, network, front.base);
+    Ok(Start { front, cut, replay })
+}

@@ -1,0 +1,68 @@
+//! The store over a device that opened.
+
+ghost use Rattle.std.specs.Prelude.{◌≡◌, ◌+◌, ◌*◌, ◌^◌, ◌<◌, ◌≤◌, true, false, Ok, Err, IfOk};
+ghost use Rattle.tp_area.specs.Places.{place_at};
+ghost use Rattle.tp_model.specs.Device.{area_start};
+ghost use Rattle.tp_model.specs.Disk.{Sync, done};
+ghost use Rattle.tp_model.specs.DiskHistory.{Counts};
+ghost use Rattle.tp_model.specs.Opening.{verdict};
+ghost use Rattle.tp_model.specs.declared.limits.TheConstants.{AREA_HEAD_BYTES, HEAD_BYTES};
+ghost use Rattle.tp_recover.specs.Reading.{Answers, LeavesNothingNew};
+ghost use Rattle.tp_recover.specs.declared.unopened.Unopened.TheVariants.{ReadFailed};
+
+use crate::opening::{Opened, open};
+use crate::unopened::Unopened;
+use std::alloc::Global;
+use tp_area::{Place, Store, open_devices_say_their_place};
+use tp_disk::Disk;
+
+impl Opened {
+    /// Where the next group goes: within the open area, behind its head.
+    pub fn place(&self) -> Place
+        ensures value { result ≡ place_at self.now }
+        ensures behind { area_start result.area result.second + AREA_HEAD_BYTES ≤ result.end }
+        ensures inside { result.end < area_start result.area result.second + result.area }
+    {
+        Place {
+            area: self.head().area(),
+            second: self.second(),
+            generation: self.generation(),
+            end: self.end(),
+            next: self.next(),
+        }
+    }
+
+    /// The store over the device that this was read of.
+    pub fn store<D: Disk>(&self, disk: D) -> Store<D>
+        requires whole { HEAD_BYTES + 2 * self.now.head.area ≤ D.size_of disk }
+        requires counted { D.size_of disk < 2 ^ 64 }
+        requires read { D.keeps → verdict (D.state disk).now.bytes ≡ Ok self.now }
+        ensures disk { result.disk ≡ disk }
+        ensures place { result.place ≡ place_at self.now }
+        ensures unbroken { result.broken ≡ false }
+    {
+        open_devices_say_their_place();
+        Store::new(disk, self.place())
+    }
+}
+
+/// Opens a device, as `open` does, and gives the store over it.
+///
+/// Where it isn't opened, the device is given up: of it is said only that a call of it failed where that is the answer. Who
+/// wants it back lends it, since `&mut disk` is a device too, or calls `open` and then `Opened::store`.
+pub fn open_store<D: Disk + Drop>(
+    alloc: Global,
+    mut disk: D,
+) -> Result<(Opened, Store<D>), Unopened>
+    ensures counts { IfOk result (λ both. Counts true (D.size_of disk) (D.size_of both.1.disk) (D.failures_of disk) (D.failures_of both.1.disk)) }
+    ensures failed { result ≡ Err ReadFailed → (after : D) × Counts false (D.size_of disk) (D.size_of after) (D.failures_of disk) (D.failures_of after) }
+    ensures kept { D.keeps → IfOk result (λ both. (D.state both.1.disk).now ≡ done Sync (D.state disk).now) }
+    ensures leaves { D.keeps → IfOk result (λ both. LeavesNothingNew (D.state disk) (D.state both.1.disk)) }
+    ensures is { D.keeps → Answers (λ both. both.0) (verdict (D.state disk).now.bytes) result }
+    ensures place { IfOk result (λ both. both.1.place ≡ place_at both.0) }
+    ensures unbroken { IfOk result (λ both. both.1.broken ≡ false) }
+{
+    let opened = open(alloc, &mut disk)?;
+    let store = opened.store(disk);
+    Ok((opened, store))
+}

@@ -1,0 +1,6 @@
+use Rattle.tp_tests_store.specs.Lone.{IsUsable}
+use Rattle.tp_tests_store.proofs.opened_books.the_journal_of_a_device_fills.Given as goal
+
+-- the book can be used
+abbrev pub invariant-loop-number : goal.invariant-loop-number
+invariant-loop-number g l = IsUsable l.book
