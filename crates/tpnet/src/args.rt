@@ -13,16 +13,16 @@ pub enum Asked {
     /// Turns of one node, from its image, without a device.
     Try { image: String, turns: u32 },
     /// A new device.
-    Format(Wanted),
+    Format(NewDevice),
     /// Opens a device and says what the next entry's number is.
     Recover { device: String },
     /// Opens a device and says what it holds.
     Show { device: String },
 }
 
-/// A device that is wanted: its file, the file of its topology, the folder of the images, and the bytes of an area.
+/// A device that is to be made: its file, the file of its topology, the folder of the images, and the bytes of an area.
 #[derive(Drop)]
-pub struct Wanted {
+pub struct NewDevice {
     pub device: String,
     pub topology: String,
     pub images: String,
@@ -179,7 +179,7 @@ fn text_of(alloc: Global, found: &ArgMatches, id: &str) -> Result<String, ArgFau
 fn asked_format(alloc: Global, found: &ArgMatches) -> Result<Asked, ArgFault>
     ensures { IfOk result IsInRange }
 {
-    Ok(Asked::Format(Wanted {
+    Ok(Asked::Format(NewDevice {
         device: text_of(alloc, found, "DEVICE")?,
         topology: text_of(alloc, found, "TOPOLOGY")?,
         images: text_of(alloc, found, "DIR")?,
