@@ -1,5 +1,5 @@
 -- What has become of a device, as far as no byte keeps it.
-use Rattle.std.specs.Prelude.{ℕ, Bool, List, []}
+use Rattle.std.specs.Prelude.{ℕ, Bool, List, [], ◌∷◌, ◌++◌}
 use Rattle.tp_model.specs.Disk.{Moment}
 
 -- A call of the system on an open file: where it reads or writes and which bytes came or went, the length that was answered
@@ -21,3 +21,7 @@ pub record Told : Type 0 where
 
 abbrev pub nothing_told : Told
 nothing_told = record { failures = 0; unsynced = []; past = []; calls = [] }
+
+-- one call of the system more
+abbrev pub with_call : Told → FileCall → Told
+with_call told call = record told { calls = told.calls ++ call ∷ [] }

@@ -2,7 +2,7 @@
 
 ghost use Rattle.std.specs.Prelude.{◌≡◌, ◌+◌, [], ◌∷◌, ◌++◌};
 ghost use Rattle.std.specs.Borrow.{ftrue};
-ghost use Rattle.tp_disk.specs.History.{Told, nothing_told, Reads, Writes, Syncs, Measures, Resizes};
+ghost use Rattle.tp_disk.specs.History.{Told, nothing_told, with_call, Measures, Reads, Resizes, Syncs, Writes};
 
 use std::marker::Model;
 
@@ -63,5 +63,40 @@ impl History {
         ensures { result.told ≡ record self.now.told { unsynced = [] } }
     {
         History::of(self)
+    }
+
+    /// The system said that the file has so many bytes.
+    pub(crate) fn measured(&self, length: u64) -> History
+        ensures { result.told ≡ with_call self.now.told (Measures length) }
+    {
+        History::of(&(self, length))
+    }
+
+    /// The system was asked to give the file so many bytes.
+    pub(crate) fn resized(&self, length: u64, ok: bool) -> History
+        ensures { result.told ≡ with_call self.now.told (Resizes length ok) }
+    {
+        History::of(&(self, length, ok))
+    }
+
+    /// The system was asked for bytes, and gave these.
+    pub(crate) fn has_read(&self, at: u64, came: &[u8], ok: bool) -> History
+        ensures { result.told ≡ with_call self.now.told (Reads at came.now ok) }
+    {
+        History::of(&(self, at, came, ok))
+    }
+
+    /// The system was given bytes to write.
+    pub(crate) fn has_written(&self, at: u64, bytes: &[u8], ok: bool) -> History
+        ensures { result.told ≡ with_call self.now.told (Writes at bytes.now ok) }
+    {
+        History::of(&(self, at, bytes, ok))
+    }
+
+    /// The system was asked to sync.
+    pub(crate) fn has_synced(&self, ok: bool) -> History
+        ensures { result.told ≡ with_call self.now.told (Syncs ok) }
+    {
+        History::of(&(self, ok))
     }
 }

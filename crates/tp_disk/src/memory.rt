@@ -7,7 +7,7 @@ ghost use Rattle.tp_model.specs.DiskHistory.{Goes};
 use crate::counted::Counted;
 use crate::disk::{DeviceFailed, Disk};
 use crate::history::History;
-use crate::plan::{PlannedFault, Outcome, Plan};
+use crate::plan::{Outcome, Plan, PlannedFault};
 use crate::raw::RawDisk;
 use std::alloc::{AllocError, Global};
 
