@@ -1,7 +1,7 @@
 -- How many calls have failed.
-use Rattle.std.specs.Prelude.{ℕ, length}
+use Rattle.std.specs.Prelude.{ℕ}
 use Rattle.tp_disk.specs.declared.failures.Failures.{Failures}
 
--- one for each item of the record that takes no memory
+-- as many as its history says
 abbrev pub number : Failures → ℕ
-number failures = length failures.each.items
+number failures = failures.history.told.failures

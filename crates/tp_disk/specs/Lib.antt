@@ -1,4 +1,5 @@
 pub mod Failures
+pub mod History
 pub mod Plan
 pub mod Memory
 pub mod Laws

@@ -1,5 +1,5 @@
 -- A device in memory: what has become of it, and what a call of it comes to.
-use Rattle.std.specs.Prelude.{◌≡◌, ℕ, ◌+◌, Bool, map}
+use Rattle.std.specs.Prelude.{◌≡◌, ℕ, ◌+◌, Bool}
 use Rattle.tp_model.specs.Disk.{Call}
 use Rattle.tp_model.specs.DiskHistory.{State, Goes}
 use Rattle.tp_disk.specs.declared.counted.Counted.{Counted}
@@ -11,8 +11,8 @@ use Rattle.tp_disk.specs.Plan.{becomes, is_done, came_to}
 -- its bytes and ranges now, and before each call so far
 abbrev pub memory_state : RawMemory → State
 memory_state memory = record {
-  now = record { bytes = memory.bytes.items; unsynced = memory.unsynced.items };
-  past = map (λ before. record { bytes = before.0.items; unsynced = before.1.items }) memory.past.items;
+  now = record { bytes = memory.bytes.items; unsynced = memory.history.told.unsynced };
+  past = memory.history.told.past;
 }
 
 -- the same of one that counts its failures

@@ -1,26 +1,26 @@
 -- What the calls of a device in memory come to, and what it then holds.
 use Rattle.std.specs.Prelude.{ℕ, Bool, true, false, if◌then◌else◌, nat_lt, nat_eq, List, length, take, Option, Some, None}
 use Rattle.tp_model.specs.Disk.{Moment, Call, Write, Sync, Read, written, done, broken}
-use Rattle.tp_disk.specs.declared.plan.Fault.{Fault}
-use Rattle.tp_disk.specs.declared.plan.Fault.TheVariants.{Fails, StopsBefore, StopsWithin}
+use Rattle.tp_disk.specs.declared.plan.PlannedFault.{PlannedFault}
+use Rattle.tp_disk.specs.declared.plan.PlannedFault.TheVariants.{Fails, StopsBefore, StopsWithin}
 use Rattle.tp_disk.specs.declared.plan.Outcome.{Outcome}
 use Rattle.tp_disk.specs.declared.plan.Outcome.TheVariants.{Done, Refused, Torn}
 use Rattle.tp_disk.specs.declared.plan.Plan.{Plan}
 
 -- the call that the fault is about
-abbrev pub faulty : Fault → Outcome
+abbrev pub faulty : PlannedFault → Outcome
 faulty (Fails torn) = Torn torn
 faulty StopsBefore = Refused
 faulty (StopsWithin torn) = Torn torn
 
 -- each call after it
-abbrev pub after_fault : Fault → Outcome
+abbrev pub after_fault : PlannedFault → Outcome
 after_fault (Fails torn) = Done
 after_fault StopsBefore = Refused
 after_fault (StopsWithin torn) = Refused
 
 -- the call of number n, where the one of number `call` has the fault
-abbrev pub planned : Option Fault → (call n : ℕ) → Outcome
+abbrev pub planned : Option PlannedFault → (call n : ℕ) → Outcome
 planned None call n = Done
 planned (Some fault) call n = if nat_lt n call then Done else if nat_eq n call then faulty fault else after_fault fault
 

@@ -4,8 +4,11 @@ ghost use Rattle.std.specs.Prelude.{◌≡◌, ℕ, ◌+◌, ◌-◌, ◌^◌, �
 ghost use Rattle.tp_model.specs.Disk.{Write, Sync, Read, done};
 ghost use Rattle.tp_model.specs.DiskHistory.{State, Goes, Fails, Counts};
 
+use thiserror::Error;
+
 /// A call of a device failed.
-#[derive(Clone, Copy, Debug, PartialEq, Eq)]
+#[derive(Clone, Copy, Debug, PartialEq, Eq, Error)]
+#[error("DeviceFailed")]
 pub struct DeviceFailed;
 
 /// A device of a fixed number of bytes.

@@ -1,16 +1,15 @@
 //! How many calls have failed.
 
-ghost use Rattle.std.specs.Prelude.{◌≡◌, ◌+◌, ◌-◌, ◌^◌, min, length};
+ghost use Rattle.std.specs.Prelude.{◌≡◌, ◌+◌, ◌-◌, ◌^◌, min};
 
-use http_server::Log;
+use crate::history::History;
 
 /// A count with no bound, whose number at run time stops at the greatest one.
 #[derive(Drop)]
 pub struct Failures {
     count: u64,
-    /// One item a failure. Only clauses read it; it takes no memory.
-    each: Log<(), ()>,
-    ghost counted: { count ≡ min (length each.items) (2 ^ 64 - 1) },
+    history: History,
+    ghost counted: { count ≡ min history.told.failures (2 ^ 64 - 1) },
 }
 
 impl Failures {
@@ -21,7 +20,7 @@ impl Failures {
     {
         Failures {
             count: 0,
-            each: Log::new(),
+            history: History::new(),
         }
     }
 
@@ -36,7 +35,7 @@ impl Failures {
     pub fn add(&mut self)
         ensures { number self.new ≡ number self.old + 1 }
     {
-        self.each = self.each.and(&(), &());
+        self.history = self.history.failed();
         self.count = self.count.saturating_add(1);
     }
 }

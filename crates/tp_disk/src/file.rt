@@ -1,28 +1,68 @@
 //! A device in a file of the operating system.
 
-ghost use Rattle.std.specs.Prelude.{◌≡◌, IfOk};
-ghost use Rattle.tp_model.specs.DiskHistory.{unknown};
+ghost use Rattle.std.specs.Prelude.{◌≡◌, ◌+◌, ◌≤◌, [], ◌∷◌, ◌++◌, length, take, drop, is_ok, IfOk, OnOk, OnErr};
+ghost use Rattle.tp_model.specs.Disk.{Write, Sync, Read, done};
+ghost use Rattle.tp_model.specs.DiskHistory.{Fails, Goes, unknown};
 ghost use Rattle.tp_disk.specs.File.{file_keeps, no_file};
+ghost use Rattle.tp_disk.specs.History.{Measures, Reads, Syncs, Writes};
 
 use crate::counted::Counted;
 use crate::disk::{DeviceFailed, Disk};
 use crate::raw::RawDisk;
-use std::fs::{File, OpenOptions};
+use crate::system::{NotedFile, SystemFile};
+use std::fs::{File, OpenFile, OpenOptions};
 use std::io;
 use std::os::unix::fs::FileExt;
 use std::rt::Files;
 
-/// A file that doesn't count its failures. That it keeps the model is a premise: of it only its size is proved.
+/// A file that doesn't count its failures. That it keeps the model is a premise: of it are proved its size, and that each call
+/// makes exactly the one call of the system that it stands for and is done only where that was.
 #[derive(Drop)]
-pub struct RawFile {
-    file: File,
+pub struct RawFile<F: SystemFile + Drop> {
+    file: F,
     size: u64,
+    failure: Option<io::Error>,
 }
 
 /// A device in a file.
-pub type FileDisk = Counted<RawFile>;
+pub type FileDisk = Counted<RawFile<NotedFile<File>>>;
 
-impl RawDisk for RawFile {
+/// The device's answer where the system gave that one, and why it failed.
+pub(crate) fn answer(
+    done: io::Result<()>,
+    failure: &mut Option<io::Error>,
+) -> Result<(), DeviceFailed>
+    ensures { is_ok result ≡ is_ok done }
+{
+    match done {
+        Ok(()) => Ok(()),
+        Err(error) => {
+            *failure = Some(error);
+            Err(DeviceFailed)
+        }
+    }
+}
+
+impl<F: SystemFile + Drop> RawFile<F> {
+    /// The device in an open file, which has as many bytes as the file.
+    pub fn new(mut file: F) -> io::Result<RawFile<F>>
+        ensures { IfOk result (λ raw. F.calls raw.file ≡ F.calls file ++ Measures raw.size ∷ []) }
+    {
+        let size = file.measure()?;
+        Ok(RawFile {
+            file,
+            size,
+            failure: None,
+        })
+    }
+
+    /// What the system said of the last call that failed.
+    pub fn failure(&self) -> Option<&io::Error> {
+        self.failure.as_ref()
+    }
+}
+
+impl<F: SystemFile + Drop> RawDisk for RawFile<F> {
     ghost size_of = { λ d. d.size };
 
     ghost keeps = { file_keeps };
@@ -34,45 +74,62 @@ impl RawDisk for RawFile {
     }
 
     #[tactic(auto, unfolding(crate::specs::File::file_keeps))]
-    fn read(&mut self, at: u64, out: &mut [u8]) -> Result<(), DeviceFailed> {
-        self.file.read_exact_at(out, at).map_err(|_| DeviceFailed)
+    fn read(&mut self, at: u64, out: &mut [u8]) -> Result<(), DeviceFailed>
+        ensures size { self.new.size ≡ self.old.size }
+        ensures goes { file_keeps → Goes unknown unknown }
+        ensures bytes { file_keeps → OnOk result (out.new ≡ take (length out.old) (drop at unknown.now.bytes)) }
+        ensures after { file_keeps → OnOk result (unknown.now ≡ done Read unknown.now) }
+        ensures failed { file_keeps → OnErr result (Fails Read unknown unknown) }
+        ensures called { F.calls self.new.file ≡ F.calls self.old.file ++ Reads at out.new (is_ok result) ∷ [] }
+    {
+        answer(self.file.read_all(at, out), &mut self.failure)
     }
 
     #[tactic(auto, unfolding(crate::specs::File::file_keeps))]
-    fn write_at(&mut self, at: u64, bytes: &[u8]) -> Result<(), DeviceFailed> {
-        self.file.write_all_at(bytes, at).map_err(|_| DeviceFailed)
+    fn write_at(&mut self, at: u64, bytes: &[u8]) -> Result<(), DeviceFailed>
+        ensures size { self.new.size ≡ self.old.size }
+        ensures goes { file_keeps → Goes unknown unknown }
+        ensures after { file_keeps → OnOk result (unknown.now ≡ done (Write at bytes.now) unknown.now) }
+        ensures failed { file_keeps → OnErr result (Fails (Write at bytes.now) unknown unknown) }
+        ensures called { F.calls self.new.file ≡ F.calls self.old.file ++ Writes at bytes.now (is_ok result) ∷ [] }
+    {
+        answer(self.file.write_all(at, bytes), &mut self.failure)
     }
 
     #[tactic(auto, unfolding(crate::specs::File::file_keeps))]
-    fn sync(&mut self) -> Result<(), DeviceFailed> {
-        self.file.sync_all().map_err(|_| DeviceFailed)
+    fn sync(&mut self) -> Result<(), DeviceFailed>
+        ensures size { self.new.size ≡ self.old.size }
+        ensures goes { file_keeps → Goes unknown unknown }
+        ensures after { file_keeps → OnOk result (unknown.now ≡ done Sync unknown.now) }
+        ensures failed { file_keeps → OnErr result (Fails Sync unknown unknown) }
+        ensures called { F.calls self.new.file ≡ F.calls self.old.file ++ Syncs (is_ok result) ∷ [] }
+    {
+        answer(self.file.sync(), &mut self.failure)
     }
 
     ghost whole = { λ k d. absurd (no_file k) };
 }
 
-impl Counted<RawFile> {
+impl<F: FileExt + OpenFile + Drop> Counted<RawFile<NotedFile<F>>> {
     /// The device in the file at this path, which has as many bytes as the file.
-    pub fn open<R: Files<File = File>>(rt: &R, path: &str) -> io::Result<FileDisk>
-        ensures { IfOk result (λ disk. ⟦<FileDisk as Disk>⟧.failures_of disk ≡ 0) }
+    pub fn open<R: Files<File = F>>(
+        rt: &R,
+        path: &str,
+    ) -> io::Result<Counted<RawFile<NotedFile<F>>>>
+        ensures { IfOk result (λ disk. ⟦<Counted<RawFile<NotedFile<F>>> as Disk>⟧.failures_of disk ≡ 0) }
     {
         let file = OpenOptions::new().read(true).write(true).open(rt, path)?;
-        let size = file.metadata()?.len();
-        Ok(Counted::new(RawFile { file, size }))
+        Ok(Counted::new(RawFile::new(NotedFile::new(file))?))
     }
 
-    /// A new file of so many bytes, all of them 0. A file of that path loses what it had.
-    pub fn create<R: Files<File = File>>(rt: &R, path: &str, size: u64) -> io::Result<FileDisk>
-        ensures size { IfOk result (λ disk. ⟦<FileDisk as Disk>⟧.size_of disk ≡ size) }
-        ensures failures { IfOk result (λ disk. ⟦<FileDisk as Disk>⟧.failures_of disk ≡ 0) }
+    /// The same, to be read alone: who may not write the file may open it so, and no call of it changes the file.
+    pub fn open_to_read<R: Files<File = F>>(
+        rt: &R,
+        path: &str,
+    ) -> io::Result<Counted<RawFile<NotedFile<F>>>>
+        ensures { IfOk result (λ disk. ⟦<Counted<RawFile<NotedFile<F>>> as Disk>⟧.failures_of disk ≡ 0) }
     {
-        let file = OpenOptions::new()
-            .read(true)
-            .write(true)
-            .create(true)
-            .truncate(true)
-            .open(rt, path)?;
-        file.set_len(size)?;
-        Ok(Counted::new(RawFile { file, size }))
+        let file = OpenOptions::new().read(true).open(rt, path)?;
+        Ok(Counted::new(RawFile::new(NotedFile::new(file))?))
     }
 }

@@ -2,13 +2,13 @@
 
 ghost use Rattle.std.specs.Prelude.{◌≡◌, ℕ, ◌+◌, ◌≤◌, [], refl, ◌∷◌, ◌++◌, length, take, drop, replicate, is_ok, OnOk, IfOk};
 ghost use Rattle.tp_model.specs.Disk.{MayBe, Write, Sync, Read, written};
-ghost use Rattle.tp_model.specs.DiskHistory.{IsSynced};
+ghost use Rattle.tp_model.specs.DiskHistory.{Goes};
 
 use crate::counted::Counted;
 use crate::disk::{DeviceFailed, Disk};
-use crate::plan::{Fault, Outcome, Plan};
+use crate::history::History;
+use crate::plan::{Outcome, Plan, PlannedFault};
 use crate::raw::RawDisk;
-use http_server::Log;
 use std::alloc::{AllocError, Global};
 
 /// A device in memory that doesn't count its failures.
@@ -16,10 +16,8 @@ use std::alloc::{AllocError, Global};
 pub struct RawMemory {
     bytes: Vec<u8>,
     plan: Plan,
-    /// The ranges since the last sync that was done. Only clauses read it; it takes no memory.
-    unsynced: Log<u64, u64>,
-    /// The moments before each call. Only clauses read it; it takes no memory.
-    past: Log<Vec<u8>, Log<u64, u64>>,
+    /// The ranges since the last sync that was done, and the moments before each call.
+    history: History,
 }
 
 /// A device in memory.
@@ -43,10 +41,10 @@ impl RawMemory {
         ensures outcome { result ≡ becomes self.old.plan 0 }
         ensures later { (n : ℕ) → becomes self.new.plan n ≡ becomes self.old.plan (n + 1) }
         ensures bytes { self.new.bytes ≡ self.old.bytes }
-        ensures unsynced { self.new.unsynced ≡ self.old.unsynced }
-        ensures past { self.new.past.items ≡ self.old.past.items ++ (self.old.bytes, self.old.unsynced) ∷ [] }
+        ensures unsynced { self.new.history.told.unsynced ≡ self.old.history.told.unsynced }
+        ensures past { Goes (memory_state self.old) (memory_state self.new) }
     {
-        self.past = self.past.and(&self.bytes, &self.unsynced);
+        self.history = self.history.later(&self.bytes);
         self.plan.next()
     }
 
@@ -72,7 +70,7 @@ impl RawMemory {
         ensures later { GoesOn self.old.plan self.new.plan }
     {
         let outcome = self.begin();
-        self.unsynced = self.unsynced.and(&at, &(bytes.len() as u64));
+        self.history = self.history.wrote(at, bytes.len() as u64);
         match outcome {
             Outcome::Done => {
                 put(&mut self.bytes, at, bytes);
@@ -93,7 +91,7 @@ impl RawMemory {
     {
         match self.begin() {
             Outcome::Done => {
-                self.unsynced = Log::new();
+                self.history = self.history.synced();
                 Ok(())
             }
             Outcome::Refused | Outcome::Torn(_) => Err(DeviceFailed),
@@ -143,8 +141,7 @@ impl Counted<RawMemory> {
         Counted::new(RawMemory {
             bytes,
             plan: Plan::faultless(),
-            unsynced: Log::new(),
-            past: Log::new(),
+            history: History::new(),
         })
     }
 
@@ -160,7 +157,7 @@ impl Counted<RawMemory> {
     }
 
     /// The call with this number from now on has the fault, where the next one has number 0, and no other one has one.
-    pub fn with_fault(self, call: u64, fault: Fault) -> MemDisk
+    pub fn with_fault(self, call: u64, fault: PlannedFault) -> MemDisk
         ensures state { disk_state result ≡ disk_state self }
         ensures planned { (n : ℕ) → becomes (disk_plan result) n ≡ planned (Some fault) call n }
         ensures failures { ⟦<MemDisk as Disk>⟧.failures_of result ≡ ⟦<MemDisk as Disk>⟧.failures_of self }

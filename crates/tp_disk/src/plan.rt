@@ -4,7 +4,7 @@ ghost use Rattle.std.specs.Prelude.{◌≡◌, ℕ, ◌+◌, Option, Some, None}
 
 /// What happens to one call of a device in memory.
 #[derive(Drop)]
-pub enum Fault {
+pub enum PlannedFault {
     /// The call fails. If it is a write, its range then begins with these bytes, as many as fit. Later calls are made.
     Fails { torn: Vec<u8> },
     /// The run stops before the call. It fails, and so does each later one.
@@ -29,7 +29,7 @@ pub enum Outcome {
 pub struct Plan {
     /// How many calls are done before the one with the fault.
     before: u64,
-    fault: Option<Fault>,
+    fault: Option<PlannedFault>,
     /// Whether the run has stopped.
     stopped: bool,
 }
@@ -50,7 +50,7 @@ impl Plan {
     }
 
     /// The call with this number has a fault, where the next call has number 0.
-    pub fn with_fault(call: u64, fault: Fault) -> Plan
+    pub fn with_fault(call: u64, fault: PlannedFault) -> Plan
         ensures { (n : ℕ) → becomes result n ≡ planned (Some fault) call n }
     {
         Plan {
@@ -74,12 +74,12 @@ impl Plan {
         }
         match self.fault.take() {
             None => Outcome::Done,
-            Some(Fault::Fails { torn }) => Outcome::Torn(torn),
-            Some(Fault::StopsBefore) => {
+            Some(PlannedFault::Fails { torn }) => Outcome::Torn(torn),
+            Some(PlannedFault::StopsBefore) => {
                 self.stopped = true;
                 Outcome::Refused
             }
-            Some(Fault::StopsWithin { torn }) => {
+            Some(PlannedFault::StopsWithin { torn }) => {
                 self.stopped = true;
                 Outcome::Torn(torn)
             }

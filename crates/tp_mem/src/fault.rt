@@ -1,10 +1,14 @@
 //! Why a write was refused.
 
+use thiserror::Error;
+
 /// Nothing was written.
-#[derive(Clone, Copy)]
+#[derive(Clone, Copy, Debug, Error)]
 pub enum WriteFault {
     /// An address lies outside memory. This is answered wherever it is so.
+    #[error("Outside")]
     Outside,
     /// A frame was wanted for a page that is shared with the frozen bytes, and none was free.
+    #[error("NoFrame")]
     NoFrame,
 }

@@ -1,14 +1,19 @@
 //! Why a call is refused.
 
+use thiserror::Error;
+
 /// No node was made.
-#[derive(Clone, Copy, Debug, PartialEq, Eq)]
+#[derive(Clone, Copy, Debug, PartialEq, Eq, Error)]
 pub enum ImageFault {
     /// The bytes are no node's image.
+    #[error("BadImage")]
     BadImage,
     /// Memory was refused. No bytes cause it.
+    #[error("Memory")]
     Memory,
 }
 
 /// Memory is frozen and has no free frame. Nothing has changed.
-#[derive(Clone, Copy, Debug, PartialEq, Eq)]
+#[derive(Clone, Copy, Debug, PartialEq, Eq, Error)]
+#[error("NoFrame")]
 pub struct NoFrame;

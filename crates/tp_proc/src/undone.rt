@@ -1,17 +1,22 @@
 //! Why a part of a step was not done.
 
+use thiserror::Error;
 use tp_model::{Fault, InRequest, OutRequest};
 
 /// Nothing has changed.
-#[derive(Clone, Copy)]
+#[derive(Clone, Copy, Debug, Error)]
 pub enum Undone {
     /// The node is to halt.
+    #[error(transparent)]
     Faulty(Fault),
     /// Memory is frozen and has no free frame.
+    #[error("NoFrame")]
     NoFrame,
     /// An output end of a link is asked for something.
+    #[error("Asks")]
     Asks(OutRequest),
     /// An input end of a link is asked for something.
+    #[error("Wants")]
     Wants(InRequest),
 }
 

@@ -8,7 +8,7 @@ use std::alloc::{AllocError, Global};
 use std::process::Abort;
 use std::test::Fail;
 use tp_area::{Store, StoreFault};
-use tp_disk::{Disk, Fault, MemDisk};
+use tp_disk::{Disk, MemDisk, PlannedFault};
 use tp_recover::open_store;
 
 /// The two groups that are appended, the place of each gate, and how many bytes are written behind it.
@@ -96,13 +96,13 @@ impl Case {
     }
 
     /// The fault of the call.
-    fn fault(self, alloc: Global, known: &Known) -> Result<Fault, Fail> {
+    fn fault(self, alloc: Global, known: &Known) -> Result<PlannedFault, Fail> {
         Ok(match self.ending {
-            Ending::Before => Fault::StopsBefore,
-            Ending::Within(torn) => Fault::StopsWithin {
+            Ending::Before => PlannedFault::StopsBefore,
+            Ending::Within(torn) => PlannedFault::StopsWithin {
                 torn: self.torn_bytes(alloc, known, torn)?,
             },
-            Ending::Fails(torn) => Fault::Fails {
+            Ending::Fails(torn) => PlannedFault::Fails {
                 torn: self.torn_bytes(alloc, known, torn)?,
             },
         })
@@ -173,7 +173,7 @@ impl Known {
     }
 
     /// A store on the device without a group, of which a call has the fault: the next one has number 0.
-    fn store(&self, alloc: Global, call: u64, fault: Fault) -> Result<Store<MemDisk>, Fail> {
+    fn store(&self, alloc: Global, call: u64, fault: PlannedFault) -> Result<Store<MemDisk>, Fail> {
         let first = self.bytes.first().ok_or("no bytes")?;
         let disk = disk_of(alloc, first)?.with_fault(self.opening.saturating_add(call), fault);
         let (_, store) = open_store(alloc, disk)?;
@@ -232,7 +232,7 @@ fn a_broken_store_makes_no_call(rt: HostRuntime) -> Result<(), Fail> {
     let alloc = rt.alloc();
     let known = Known::new(&rt)?;
     for call in 0..4 {
-        let mut store = known.store(alloc, call, Fault::StopsBefore)?;
+        let mut store = known.store(alloc, call, PlannedFault::StopsBefore)?;
         assert_eq!(rt; append_both(&rt, &mut store), 0);
         let (place, bytes) = (store.place, Vec::from_slice(alloc, store.disk.bytes())?);
         assert_eq!(rt;

@@ -5,7 +5,7 @@ use crate::devices::{
 };
 use std::alloc::{AllocError, Global};
 use std::test::Fail;
-use tp_disk::{Fault, MemDisk};
+use tp_disk::{MemDisk, PlannedFault};
 use tp_model::OpenFault;
 use tp_recover::{Unopened, open, open_store};
 
@@ -25,7 +25,7 @@ fn opens_as(alloc: Global, bytes: &[u8]) -> Result<Result<u64, Unopened>, AllocE
 }
 
 /// What a format leaves of which a call has a fault: whether it was done, and the bytes.
-fn formatted(alloc: Global, call: u64, fault: Fault) -> Result<(bool, Vec<u8>), Fail> {
+fn formatted(alloc: Global, call: u64, fault: PlannedFault) -> Result<(bool, Vec<u8>), Fail> {
     let mut disk = MemDisk::zeroed(alloc, SIZE)?.with_fault(call, fault);
     let done = Letter::new(alloc)?.format(alloc, &mut disk, AREA).is_ok();
     Ok((done, disk.crash()))
@@ -34,7 +34,7 @@ fn formatted(alloc: Global, call: u64, fault: Fault) -> Result<(bool, Vec<u8>), 
 /// How many calls of the device a format makes: the last two are the head's write and a sync, and the one in front is a sync.
 fn calls_of_format(alloc: Global) -> Result<u64, Fail> {
     for call in 0..100 {
-        if formatted(alloc, call, Fault::StopsBefore)?.0 {
+        if formatted(alloc, call, PlannedFault::StopsBefore)?.0 {
             return Ok(call);
         }
     }
@@ -49,12 +49,12 @@ const NONE: Result<u64, Unopened> = Err(Unopened::Fault(OpenFault::NotFormatted)
 fn a_format_that_stops_before_its_head(rt: HostRuntime) -> Result<(), Fail> {
     let alloc = rt.alloc();
     for call in 0..calls_of_format(alloc)?.saturating_sub(2) {
-        let (done, bytes) = formatted(alloc, call, Fault::StopsBefore)?;
+        let (done, bytes) = formatted(alloc, call, PlannedFault::StopsBefore)?;
         assert!(rt; !done);
         assert_eq!(rt; opens_as(alloc, &bytes)?, NONE);
         for byte in [0x00, 0xA5, 0xFF] {
             let torn = Vec::from_elem(alloc, byte, 4268)?;
-            let (done, mut bytes) = formatted(alloc, call, Fault::StopsWithin { torn })?;
+            let (done, mut bytes) = formatted(alloc, call, PlannedFault::StopsWithin { torn })?;
             assert!(rt; !done);
             assert_eq!(rt; opens_as(alloc, &bytes)?, NONE);
             for at in [512, SECOND] {
@@ -62,7 +62,7 @@ fn a_format_that_stops_before_its_head(rt: HostRuntime) -> Result<(), Fail> {
             }
             assert_eq!(rt; opens_as(alloc, &bytes)?, NONE);
             let torn = Vec::from_elem(alloc, byte, 4268)?;
-            let (done, bytes) = formatted(alloc, call, Fault::Fails { torn })?;
+            let (done, bytes) = formatted(alloc, call, PlannedFault::Fails { torn })?;
             assert!(rt; !done);
             assert_eq!(rt; opens_as(alloc, &bytes)?, NONE);
         }
@@ -90,14 +90,14 @@ fn a_format_that_stops_in_its_head(rt: HostRuntime) -> Result<(), Fail> {
     let head = calls_of_format(alloc)?.saturating_sub(2);
     for count in 0..100 {
         let torn = Vec::from_slice(alloc, whole.get(..count).unwrap_or(&[]))?;
-        let (done, bytes) = formatted(alloc, head, Fault::StopsWithin { torn })?;
+        let (done, bytes) = formatted(alloc, head, PlannedFault::StopsWithin { torn })?;
         assert!(rt; !done);
         assert_eq!(rt; opens_as(alloc, &bytes)?, says(count), "{count}");
         assert_eq!(rt; bytes == whole, count >= WIRE, "{count}");
     }
     for byte in [0x00, 0xA5, 0xFF] {
         let torn = Vec::from_elem(alloc, byte, 512)?;
-        let (done, bytes) = formatted(alloc, head, Fault::Fails { torn })?;
+        let (done, bytes) = formatted(alloc, head, PlannedFault::Fails { torn })?;
         assert!(rt; !done);
         assert_eq!(rt; opens_as(alloc, &bytes)?, NONE);
     }
@@ -112,9 +112,9 @@ fn a_format_that_stops_behind_its_head(rt: HostRuntime) -> Result<(), Fail> {
     let last = calls_of_format(alloc)?.saturating_sub(1);
     let (fails, within) = (Vec::new(alloc), Vec::new(alloc));
     for fault in [
-        Fault::StopsBefore,
-        Fault::Fails { torn: fails },
-        Fault::StopsWithin { torn: within },
+        PlannedFault::StopsBefore,
+        PlannedFault::Fails { torn: fails },
+        PlannedFault::StopsWithin { torn: within },
     ] {
         let (done, mut bytes) = formatted(alloc, last, fault)?;
         assert!(rt; !done);

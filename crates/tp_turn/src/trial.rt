@@ -9,6 +9,7 @@ ghost use Rattle.tp_turn.specs.Tried.{fresh_image, lone_network, ReadsFresh, Tri
 use crate::image::has_idle_links;
 use crate::turn::lone_turns;
 use std::alloc::{AllocError, Global};
+use thiserror::Error;
 use tp_book::{Book, NetParts, Numbered, PortParts, Refusal};
 use tp_model::limits::MAX_STEPS;
 use tp_model::{Entry, WireEnd};
@@ -31,11 +32,13 @@ pub struct Tried {
 }
 
 /// Why there was no trial.
-#[derive(Clone, Copy, Debug, PartialEq, Eq)]
+#[derive(Clone, Copy, Debug, PartialEq, Eq, Error)]
 pub enum TryFault {
     /// The bytes are no image of a node whose links are idle.
+    #[error("BadImage")]
     BadImage,
     /// Memory was refused.
+    #[error("Memory")]
     Memory,
 }
 

@@ -5,7 +5,8 @@ use Rattle.tp_model.specs.NodeState.{NodeState}
 use Rattle.tp_turn.specs.declared.trial.Tried.{Tried}
 use Rattle.tp_turn.specs.Tried.{fresh_image, IsTried}
 use Rattle.tpnet.specs.declared.refusal.Refusal.{Refusal}
-use Rattle.tpnet.specs.declared.refusal.Refusal.TheVariants.{BadImage, DeviceFailed, Memory}
+use Rattle.tp_turn.specs.declared.trial.TryFault.TheVariants.{BadImage, Memory}
+use Rattle.tpnet.specs.declared.refusal.Refusal.TheVariants.{Trial, DeviceFailed}
 use Rattle.tpnet.specs.declared.commands.TheConstants.{TRY_QUANTUM}
 
 -- The node of the image was tried for so many turns, and exactly what its port put out was appended.
@@ -19,7 +20,7 @@ pub record Shows (image : List ℕ) (turns : ℕ) (was now : Option (List ℕ)) 
 -- The answer: an image that is none is refused, and nothing was written then, nor where memory was wanting.
 abbrev pub Answers : List ℕ → ℕ → Option (List ℕ) → Option (List ℕ) → Result (Unit {0}) Refusal → Type 0
 Answers image turns was now (Ok done) = Shows image turns was now
-Answers image turns was now (Err BadImage) = (fresh_image image ≡ None) × (now ≡ was)
+Answers image turns was now (Err (Trial BadImage)) = (fresh_image image ≡ None) × (now ≡ was)
 Answers image turns was now (Err DeviceFailed) = IsSome (fresh_image image)
-Answers image turns was now (Err Memory) = IsSome (fresh_image image) × (now ≡ was)
+Answers image turns was now (Err (Trial Memory)) = IsSome (fresh_image image) × (now ≡ was)
 Answers image turns was now (Err other) = ⊥

@@ -1,7 +1,8 @@
 //! The words of the command line.
 
-ghost use Rattle.std.specs.Prelude.{◌≡◌, ◌≤◌, IfOk};
-ghost use Rattle.tpnet.specs.Args.{IsInRange};
+ghost use Rattle.std.specs.Prelude.{◌≡◌, ◌≤◌, ◌++◌, IfOk, codes, list_any, string_bytes};
+ghost use Rattle.std.specs.Fmt.{decimal};
+ghost use Rattle.tpnet.specs.Args.{IsInRange, WasTyped, has_value, has_word, is_value, is_word};
 
 use clap::{Arg, ArgAction, ArgMatches, Command};
 use std::alloc::{AllocError, AllocFailed, Global};
@@ -10,23 +11,27 @@ use std::fmt;
 /// What the command line asks for.
 #[derive(Drop)]
 pub enum Asked {
+    /// How to call the program, or which version it is.
+    Help(String),
     /// Turns of one node, from its image, without a device.
     Try { image: String, turns: u32 },
     /// A new device.
-    Format(Wanted),
+    Format(NewDevice),
     /// Opens a device and says what the next entry's number is.
     Recover { device: String },
     /// Opens a device and says what it holds.
     Show { device: String },
 }
 
-/// A device that is wanted: its file, the file of its topology, the folder of the images, and the bytes of an area.
+/// A device that is to be made: its file, the file of its topology, the folder of the images, and the bytes of an area.
 #[derive(Drop)]
-pub struct Wanted {
+pub struct NewDevice {
     pub device: String,
     pub topology: String,
     pub images: String,
     pub area: u64,
+    /// Whether a file that is there is refused.
+    pub only_new: bool,
 }
 
 /// The most bytes that an area is made with.
@@ -37,9 +42,9 @@ pub const MAX_AREA: u64 = 1 << 40;
 pub enum ArgFault {
     /// `clap`'s own text, which says what is wrong and how to call.
     Words(clap::Error),
-    /// The number of turns is none in its range.
+    /// The number of turns is no decimal in its range.
     Turns,
-    /// The number of bytes of an area is none in its range.
+    /// The number of bytes of an area is no decimal in its range.
     Area,
     /// A word is missing. `clap` says so itself, so this doesn't come.
     Missing,
@@ -52,11 +57,11 @@ impl fmt::Display for ArgFault {
             ArgFault::Words(error) => write!(f, "{error}"),
             ArgFault::Turns => write!(
                 f,
-                "tpnet: --turns takes a whole number from 0 to 4294967295\n"
+                "tpnet: --turns takes a decimal from 0 to 4294967295, without a sign or leading zeros\n"
             ),
             ArgFault::Area => write!(
                 f,
-                "tpnet: AREA takes a whole number of bytes from 0 to 1099511627776\n"
+                "tpnet: AREA takes a decimal from 0 to 1099511627776, without a sign or leading zeros\n"
             ),
             ArgFault::Missing => write!(f, "tpnet: a word is missing; see tpnet --help\n"),
             ArgFault::Memory => write!(f, "tpnet: Memory\n"),
@@ -82,12 +87,40 @@ impl<T: Drop> From<AllocFailed<T>> for ArgFault {
     }
 }
 
+/// The program's version, and what it was proved with.
+const VERSION: &str = "0.1.0\nproved with rattle-kit-13b, logic dac8208d650f15bf";
+
 /// A word that has to be there.
 fn word<'a>(alloc: Global, id: &'a str, help: &'a str) -> Arg<'a> {
     Arg::new(alloc, id)
         .required(true)
         .action(ArgAction::Set)
         .help(help)
+}
+
+/// An option without a value.
+fn flag<'a>(alloc: Global, id: &'a str, help: &'a str) -> Arg<'a> {
+    Arg::new(alloc, id)
+        .long(id)
+        .action(ArgAction::SetTrue)
+        .help(help)
+}
+
+/// A command that says more of a refusal where it is asked to.
+fn explained<'a>(
+    alloc: Global,
+    name: &'a str,
+    about: &'a str,
+    refusals: &'a str,
+) -> Result<Command<'a>, AllocError> {
+    Command::new(alloc, name)
+        .about(about)
+        .after_help(refusals)
+        .arg(flag(
+            alloc,
+            "explain",
+            "after a refusal, say which file, why, and what to do",
+        ))
 }
 
 fn try_command<'a>(alloc: Global) -> Result<Command<'a>, AllocError> {
@@ -97,48 +130,64 @@ fn try_command<'a>(alloc: Global) -> Result<Command<'a>, AllocError> {
         .action(ArgAction::Set)
         .value_name("N")
         .help("how many turns: node, host, node, host ..");
-    Command::new(alloc, "try")
-        .about(
-            "Runs one node without a device, its link 0 wired to port 0, and prints what port 0 puts out",
-        )
-        .arg(word(alloc, "IMAGE", "the node's image: 172 bytes and its memory"))?
-        .arg(turns)
+    explained(
+        alloc,
+        "try",
+        "Runs one node without a device, its link 0 wired to port 0, and prints what port 0 puts out",
+        TRY_REFUSALS,
+    )?
+    .arg(word(alloc, "IMAGE", "the node's image: 172 bytes and its memory"))?
+    .arg(turns)
 }
 
 fn format_command<'a>(alloc: Global) -> Result<Command<'a>, AllocError> {
-    Command::new(alloc, "format")
-        .about("Makes a device from a topology and the nodes' images")
-        .arg(word(
-            alloc,
-            "DEVICE",
-            "the file that is made, with 512 + 2 AREA bytes",
-        ))?
-        .arg(word(
-            alloc,
-            "TOPOLOGY",
-            "the text that names nodes, ports and wires",
-        ))?
-        .arg(word(
-            alloc,
-            "DIR",
-            "the folder with an image NAME.img for each node NAME",
-        ))?
-        .arg(word(
-            alloc,
-            "AREA",
-            "how many bytes each of the two areas has, up to 2^40",
-        ))
+    explained(
+        alloc,
+        "format",
+        "Makes a device from a topology and the nodes' images",
+        FORMAT_REFUSALS,
+    )?
+    .arg(flag(alloc, "new", "refuse a file that is there already"))?
+    .arg(word(
+        alloc,
+        "DEVICE",
+        "the file that is made, with 512 + 2 AREA bytes",
+    ))?
+    .arg(word(
+        alloc,
+        "TOPOLOGY",
+        "the text that names nodes, ports and wires",
+    ))?
+    .arg(word(
+        alloc,
+        "DIR",
+        "the folder with an image NAME.img for each node NAME",
+    ))?
+    .arg(word(
+        alloc,
+        "AREA",
+        "how many bytes each of the two areas has, up to 2^40",
+    ))
 }
 
 /// The commands that there are so far.
 fn command<'a>(alloc: Global) -> Result<Command<'a>, AllocError> {
-    let recover = Command::new(alloc, "recover")
-        .about("Opens a device, writes nothing, and prints the number of the next entry")
-        .arg(word(alloc, "DEVICE", "the device's file"))?;
-    let show = Command::new(alloc, "show")
-        .about("Opens a device, writes nothing, and prints what it holds")
-        .arg(word(alloc, "DEVICE", "the device's file"))?;
+    let recover = explained(
+        alloc,
+        "recover",
+        "Opens a device, writes nothing, and prints the number of the next entry",
+        OPENING_REFUSALS,
+    )?
+    .arg(word(alloc, "DEVICE", "the device's file"))?;
+    let show = explained(
+        alloc,
+        "show",
+        "Opens a device, writes nothing, and prints what it holds",
+        OPENING_REFUSALS,
+    )?
+    .arg(word(alloc, "DEVICE", "the device's file"))?;
     Command::new(alloc, "tpnet")
+        .version(VERSION)
         .about("A network of transputers whose computations survive any crash")
         .subcommand_required(true)
         .subcommand(try_command(alloc)?)?
@@ -147,64 +196,69 @@ fn command<'a>(alloc: Global) -> Result<Command<'a>, AllocError> {
         .subcommand(show)
 }
 
-fn turns_of(found: &ArgMatches) -> Result<u32, ArgFault> {
-    let Some(text) = found.get_str("turns") else {
-        return Err(ArgFault::Missing);
-    };
-    match text.parse::<u32>() {
-        Ok(turns) => Ok(turns),
-        Err(_) => Err(ArgFault::Turns),
-    }
-}
-
-fn area_of(found: &ArgMatches) -> Result<u64, ArgFault>
-    ensures { IfOk result (λ area. area ≤ MAX_AREA) }
+/// Whether a word is this one.
+fn is_word(word: &String, text: &str) -> bool
+    ensures { result ≡ is_word text.now word.now }
 {
-    let Some(text) = found.get_str("AREA") else {
-        return Err(ArgFault::Missing);
+    word.as_bytes() == text.as_bytes()
+}
+
+/// Whether a word is an option with this value: it ends with `=` and the value.
+fn is_value(word: &String, ending: &str) -> bool
+    ensures { result ≡ is_value ending.now word.now }
+{
+    word.as_bytes().ends_with(ending.as_bytes())
+}
+
+/// Whether one of the words is this one.
+pub fn has_word(words: &[String], text: &str) -> bool
+    ensures { result ≡ has_word text.now words.now }
+{
+    words.iter().any(|word| is_word(word, text))
+}
+
+fn has_value(words: &[String], ending: &str) -> bool
+    ensures { result ≡ has_value ending.now words.now }
+{
+    words.iter().any(|word| is_value(word, ending))
+}
+
+/// The number whose decimal this text is.
+fn number_of(alloc: Global, text: &str) -> Result<Option<u64>, AllocError>
+    ensures { IfOk result (λ found. IfSome found (λ number. text.now ≡ decimal number)) }
+{
+    let Ok(number) = text.parse::<u64>() else {
+        return Ok(None);
     };
-    match text.parse::<u64>() {
-        Ok(area) if area <= MAX_AREA => Ok(area),
-        _ => Err(ArgFault::Area),
+    let spelt = format!(in alloc; "{number}")?;
+    if spelt.as_bytes() == text.as_bytes() {
+        Ok(Some(number))
+    } else {
+        Ok(None)
     }
 }
 
-fn text_of(alloc: Global, found: &ArgMatches, id: &str) -> Result<String, ArgFault> {
+/// The number that a word names, which has to be at most `most`.
+fn number_in(
+    alloc: Global,
+    words: &[String],
+    found: &ArgMatches,
+    id: &str,
+    most: u64,
+    fault: ArgFault,
+) -> Result<u64, ArgFault>
+    ensures range { IfOk result (λ number. number ≤ most) }
+    ensures typed { IfOk result (λ number. WasTyped words.now (decimal number)) }
+{
     let Some(text) = found.get_str(id) else {
         return Err(ArgFault::Missing);
     };
-    Ok(String::from_str(alloc, text)?)
-}
-
-fn asked_format(alloc: Global, found: &ArgMatches) -> Result<Asked, ArgFault>
-    ensures { IfOk result IsInRange }
-{
-    Ok(Asked::Format(Wanted {
-        device: text_of(alloc, found, "DEVICE")?,
-        topology: text_of(alloc, found, "TOPOLOGY")?,
-        images: text_of(alloc, found, "DIR")?,
-        area: area_of(found)?,
-    }))
-}
-
-/// Reads the words of a command line, the program's name first. Each number is in its range.
-pub fn read_args(alloc: Global, words: &[String]) -> Result<Asked, ArgFault>
-    ensures range { IfOk result IsInRange }
-{
-    let command = command(alloc)?;
-    let matches = command.try_get_matches_from(words)?;
-    match matches.subcommand() {
-        Some(("try", found)) => Ok(Asked::Try {
-            image: text_of(alloc, found, "IMAGE")?,
-            turns: turns_of(found)?,
-        }),
-        Some(("format", found)) => asked_format(alloc, found),
-        Some(("recover", found)) => Ok(Asked::Recover {
-            device: text_of(alloc, found, "DEVICE")?,
-        }),
-        Some(("show", found)) => Ok(Asked::Show {
-            device: text_of(alloc, found, "DEVICE")?,
-        }),
-        _ => Err(ArgFault::Missing),
+    let ending = format!(in alloc; "={text}")?;
+    if !has_word(words, text) && !has_value(words, ending.as_str()) {
+        return Err(ArgFault::Missing);
+    }
+    match number_of(alloc, text)? {
+        Some(number) if number <= most => Ok(number),
+        _ => Err(fault),
     }
 }

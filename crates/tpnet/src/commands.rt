@@ -8,7 +8,7 @@ ghost use Rattle.tpnet.specs.Attempt.{Shows, Answers};
 use crate::refusal::Refusal;
 use std::alloc::Global;
 use std::io::Write;
-use tp_turn::{TryFault, try_turns};
+use tp_turn::try_turns;
 
 /// The most steps of a run, where a node is tried.
 pub const TRY_QUANTUM: u16 = 16;
@@ -35,8 +35,7 @@ fn attempt<O: Write>(alloc: Global, image: &[u8], turns: u32, out: &mut O) -> Re
 {
     match try_turns(alloc, image, turns, TRY_QUANTUM) {
         Ok(tried) => put(out, tried.output.as_slice()),
-        Err(TryFault::BadImage) => Err(Refusal::BadImage),
-        Err(TryFault::Memory) => Err(Refusal::Memory),
+        Err(fault) => Err(Refusal::Trial(fault)),
     }
 }
 

@@ -3,7 +3,7 @@
 ghost use Rattle.std.specs.Prelude.{◌≡◌, ◌≤◌};
 ghost use Rattle.tpnet.specs.declared.args.TheConstants.{MAX_AREA};
 
-use crate::args::Wanted;
+use crate::args::NewDevice;
 use crate::commands::{refuse, try_on};
 use crate::formatting::format_on;
 use crate::opening::{recover_on, show_on};
@@ -83,7 +83,7 @@ fn read_network<'a, R: Files + AllocGlobal>(
 /// `tpnet format`, on files.
 pub fn format_file<R: Files<File = File> + AllocGlobal, O: Write, E: Write>(
     rt: &R,
-    wanted: &Wanted,
+    wanted: &NewDevice,
     out: &mut O,
     err: &mut E,
 ) -> u8

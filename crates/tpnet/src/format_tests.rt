@@ -1,17 +1,10 @@
 //! What `tpnet format` writes and refuses.
 
-ghost use Rattle.std.specs.Prelude.{◌≤◌, IfOk};
-ghost use Rattle.tpnet.specs.declared.args.TheConstants.{MAX_AREA};
-
-use crate::args::Wanted;
-use crate::files::format_file;
 use crate::formatting::format_on;
 use crate::tests::{letter, place};
 use std::alloc::Global;
-use std::fs;
-use std::fs::Files;
 use std::test::Fail;
-use tp_disk::{Fault, MemDisk};
+use tp_disk::{MemDisk, PlannedFault};
 use tp_net::Topology;
 
 pub(crate) const AREA: u64 = 16_384;
@@ -23,7 +16,7 @@ const TEXT: &[u8] = b"node a 4\nport h\nwire a.0 h\n";
 
 /// What came of a format: the status, the device's bytes, and both outputs.
 #[derive(Drop)]
-pub(crate) struct Made {
+pub(crate) struct Formatting {
     pub(crate) status: u8,
     pub(crate) bytes: Vec<u8>,
     out: Vec<u8>,
@@ -36,7 +29,7 @@ pub(crate) fn format_in_memory(
     disk: MemDisk,
     images: &[Vec<u8>],
     area: u64,
-) -> Result<Made, Fail> {
+) -> Result<Formatting, Fail> {
     let Ok(topology) = Topology::read(alloc, TEXT) else {
         return Err(Fail::new("the topology"));
     };
@@ -46,7 +39,7 @@ pub(crate) fn format_in_memory(
     let status = format_on(
         alloc, &mut disk, &topology, images, area, &mut out, &mut err,
     );
-    Ok(Made {
+    Ok(Formatting {
         status,
         bytes: disk.crash(),
         out,
@@ -163,7 +156,7 @@ fn each_call_of_the_device_may_fail(rt: HostRuntime) -> Result<(), Fail> {
     let alloc = rt.alloc();
     let images = images_of(alloc, letter(alloc)?)?;
     for call in 0..100 {
-        let fault = Fault::Fails {
+        let fault = PlannedFault::Fails {
             torn: Vec::new(alloc),
         };
         let disk = MemDisk::zeroed(alloc, 33_280)?.with_fault(call, fault);
@@ -176,55 +169,4 @@ fn each_call_of_the_device_may_fail(rt: HostRuntime) -> Result<(), Fail> {
         assert_eq!(rt; made.err.as_slice(), b"tpnet: DeviceFailed\n".as_slice());
     }
     Err(Fail::new("a format makes so many calls"))
-}
-
-/// Writes a file.
-fn put_file<R: Files>(rt: &R, path: &str, bytes: Vec<u8>) -> Result<(), Fail> {
-    fs::write(rt, path, bytes)?;
-    Ok(())
-}
-
-/// The words of a format of these files.
-fn wanted(alloc: Global, topology: &str) -> Result<Wanted, Fail>
-    ensures { IfOk result (λ wanted. wanted.area ≤ MAX_AREA) }
-{
-    Ok(Wanted {
-        device: String::from_str(alloc, "formatted.device")?,
-        topology: String::from_str(alloc, topology)?,
-        images: String::from_str(alloc, ".")?,
-        area: AREA,
-    })
-}
-
-#[test]
-fn files_are_read_and_made(rt: HostRuntime) -> Result<(), Fail> {
-    let alloc = rt.alloc();
-    put_file(&rt, "one.txt", Vec::from_slice(alloc, TEXT)?)?;
-    put_file(
-        &rt,
-        "two.txt",
-        Vec::from_slice(alloc, b"node a 4\nnode b 4\nport h\n")?,
-    )?;
-    put_file(
-        &rt,
-        "bad.txt",
-        Vec::from_slice(alloc, b"node a 4\nport h\nwire a.4 h\n")?,
-    )?;
-    put_file(&rt, "a.img", letter(alloc)?)?;
-    let cases: [(&str, u8, &str); 4] = [
-        ("one.txt", 0, ""),
-        ("two.txt", 1, "tpnet: ReadFailed\n"),
-        ("bad.txt", 1, "tpnet: Syntax 3\n"),
-        ("none.txt", 1, "tpnet: ReadFailed\n"),
-    ];
-    for (topology, status, said) in cases {
-        let (mut out, mut err) = (Vec::new(alloc), Vec::new(alloc));
-        let wanted = wanted(alloc, topology)?;
-        assert_eq!(rt; format_file(&rt, &wanted, &mut out, &mut err), status);
-        assert_eq!(rt; err.as_slice(), said.as_bytes());
-    }
-    let device = fs::read(&rt, "formatted.device")?;
-    assert_eq!(rt; device.len(), 33_280);
-    assert_eq!(rt; part(device.as_slice(), 0, 5), b"TPNET".as_slice());
-    Ok(())
 }

@@ -14,6 +14,8 @@ mod program;
 #[cfg(test)]
 mod program_tests;
 mod refusal;
+#[cfg(test)]
+mod scratch;
 mod shown;
 #[cfg(test)]
 mod tests;

@@ -5,7 +5,7 @@ use crate::opening::{recover_on, show_on};
 use crate::tests::{letter, place};
 use std::alloc::Global;
 use std::test::Fail;
-use tp_disk::{Fault, MemDisk};
+use tp_disk::{MemDisk, PlannedFault};
 
 /// A device that was just formatted.
 fn fresh(alloc: Global) -> Result<Vec<u8>, Fail> {
@@ -168,7 +168,7 @@ fn a_group_behind_a_closed_gate(rt: HostRuntime) -> Result<(), Fail> {
 fn each_call_of_the_device_may_fail(rt: HostRuntime) -> Result<(), Fail> {
     let alloc = rt.alloc();
     for call in 0..100 {
-        let fault = Fault::Fails {
+        let fault = PlannedFault::Fails {
             torn: Vec::new(alloc),
         };
         let mut disk = MemDisk::of_bytes(grown(alloc)?).with_fault(call, fault);

@@ -1,7 +1,6 @@
 //! What `tpnet try` writes and refuses, on the image that sends one letter.
 
 use crate::commands::{TRY_QUANTUM, try_on};
-use crate::files::try_file;
 use std::alloc::{AllocError, Global};
 use std::io;
 use std::io::Write;
@@ -133,14 +132,5 @@ fn a_write_that_fails_is_said(rt: HostRuntime) -> Result<(), Fail> {
     let status = try_on(rt.alloc(), image.as_slice(), 4, &mut Shut, &mut err);
     assert_eq!(rt; status, 1);
     assert_eq!(rt; err.as_slice(), b"tpnet: DeviceFailed\n".as_slice());
-    Ok(())
-}
-
-#[test]
-fn a_file_that_is_not_there_cannot_be_read(rt: HostRuntime) -> Result<(), Fail> {
-    let (mut out, mut err) = (Vec::new(rt.alloc()), Vec::new(rt.alloc()));
-    assert_eq!(rt; try_file(&rt, "nowhere.img", 4, &mut out, &mut err), 1);
-    assert!(rt; out.is_empty());
-    assert_eq!(rt; err.as_slice(), b"tpnet: ReadFailed\n".as_slice());
     Ok(())
 }

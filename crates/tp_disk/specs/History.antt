@@ -1,0 +1,27 @@
+-- What has become of a device, as far as no byte keeps it.
+use Rattle.std.specs.Prelude.{ℕ, Bool, List, [], ◌∷◌, ◌++◌}
+use Rattle.tp_model.specs.Disk.{Moment}
+
+-- A call of the system on an open file: where it reads or writes and which bytes came or went, the length that was answered
+-- or asked for, and whether it was answered Ok.
+pub data FileCall : Type 0 where
+  Reads : (at : ℕ) → (came : List ℕ) → (ok : Bool) → FileCall
+  Writes : (at : ℕ) → (bytes : List ℕ) → (ok : Bool) → FileCall
+  Syncs : (ok : Bool) → FileCall
+  Measures : (length : ℕ) → FileCall
+  Resizes : (length : ℕ) → (ok : Bool) → FileCall
+
+-- How many calls have failed, the ranges written since the last sync that was done, the moments before each call, and the
+-- calls of the system, the oldest first. Each kind of device keeps what its own contracts name.
+pub record Told : Type 0 where
+  pub failures : ℕ
+  pub unsynced : List (ℕ × ℕ)
+  pub past : List Moment
+  pub calls : List FileCall
+
+abbrev pub nothing_told : Told
+nothing_told = record { failures = 0; unsynced = []; past = []; calls = [] }
+
+-- one call of the system more
+abbrev pub with_call : Told → FileCall → Told
+with_call told call = record told { calls = told.calls ++ call ∷ [] }

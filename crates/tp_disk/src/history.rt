@@ -1,0 +1,102 @@
+//! What has become of a device, as contracts alone see it.
+
+ghost use Rattle.std.specs.Prelude.{◌≡◌, ◌+◌, [], ◌∷◌, ◌++◌};
+ghost use Rattle.std.specs.Borrow.{ftrue};
+ghost use Rattle.tp_disk.specs.History.{Told, nothing_told, with_call, Measures, Reads, Resizes, Syncs, Writes};
+
+use std::marker::Model;
+
+/// A history without bytes: contracts alone see it, and no call reads it.
+#[derive(Drop)]
+pub struct History {
+    pub ghost told: { Told },
+}
+
+impl Model for History {
+    ghost also_owns = { λ _. ftrue };
+}
+
+// It has no bytes and owns nothing.
+unsafe impl Send for History {}
+
+impl History {
+    ghost use Rattle.tp_disk.specs.History.{Told};
+
+    /// The history that contracts name of a value. It does nothing.
+    pub(crate) fn of<T>(_value: &T) -> History
+        ghost told: { Told }
+        ensures { result.told ≡ told }
+    {
+        History {}
+    }
+
+    /// Nothing has become of it.
+    pub(crate) fn new() -> History
+        ensures { result.told ≡ nothing_told }
+    {
+        History::of(&())
+    }
+
+    /// One call more has failed.
+    pub(crate) fn failed(&self) -> History
+        ensures { result.told ≡ record self.now.told { failures = self.now.told.failures + 1 } }
+    {
+        History::of(self)
+    }
+
+    /// One moment more is past, at which these bytes stood.
+    pub(crate) fn later(&self, bytes: &[u8]) -> History
+        ensures { result.told ≡ record self.now.told { past = self.now.told.past ++ record { bytes = bytes.now; unsynced = self.now.told.unsynced } ∷ [] } }
+    {
+        History::of(&(self, bytes))
+    }
+
+    /// A range more isn't synced.
+    pub(crate) fn wrote(&self, at: u64, count: u64) -> History
+        ensures { result.told ≡ record self.now.told { unsynced = self.now.told.unsynced ++ (at, count) ∷ [] } }
+    {
+        History::of(&(self, at, count))
+    }
+
+    /// Everything is synced.
+    pub(crate) fn synced(&self) -> History
+        ensures { result.told ≡ record self.now.told { unsynced = [] } }
+    {
+        History::of(self)
+    }
+
+    /// The system said that the file has so many bytes.
+    pub(crate) fn measured(&self, length: u64) -> History
+        ensures { result.told ≡ with_call self.now.told (Measures length) }
+    {
+        History::of(&(self, length))
+    }
+
+    /// The system was asked to give the file so many bytes.
+    pub(crate) fn resized(&self, length: u64, ok: bool) -> History
+        ensures { result.told ≡ with_call self.now.told (Resizes length ok) }
+    {
+        History::of(&(self, length, ok))
+    }
+
+    /// The system was asked for bytes, and gave these.
+    pub(crate) fn has_read(&self, at: u64, came: &[u8], ok: bool) -> History
+        ensures { result.told ≡ with_call self.now.told (Reads at came.now ok) }
+    {
+        History::of(&(self, at, came, ok))
+    }
+
+    /// The system was given bytes to write.
+    pub(crate) fn has_written(&self, at: u64, bytes: &[u8], ok: bool) -> History
+        ensures { result.told ≡ with_call self.now.told (Writes at bytes.now ok) }
+    {
+        History::of(&(self, at, bytes, ok))
+    }
+
+    /// The system was asked to sync.
+    pub(crate) fn has_synced(&self, ok: bool) -> History
+        ensures { result.told ≡ with_call self.now.told (Syncs ok) }
+    {
+        History::of(&(self, ok))
+    }
+}

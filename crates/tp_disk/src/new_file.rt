@@ -1,0 +1,177 @@
+//! A file that becomes a device.
+
+ghost use Rattle.std.specs.Prelude.{◌≡◌, ◌+◌, ◌≤◌, [], ◌∷◌, ◌++◌, true, false, length, take, drop, is_ok, IfOk, OnOk, OnErr};
+ghost use Rattle.tp_model.specs.Disk.{Write, Sync, Read, done};
+ghost use Rattle.tp_model.specs.DiskHistory.{Fails, Goes, unknown};
+ghost use Rattle.tp_disk.specs.File.{file_keeps, making, no_file};
+ghost use Rattle.tp_disk.specs.History.{Reads, Syncs, Writes};
+
+use crate::counted::Counted;
+use crate::disk::{DeviceFailed, Disk};
+use crate::file::answer;
+use crate::raw::RawDisk;
+use crate::system::{NotedFile, SystemFile};
+use std::fs::{OpenFile, OpenOptions};
+use std::io;
+use std::os::unix::fs::FileExt;
+use std::rt::Files;
+
+/// A file that becomes a device of `size` bytes with the first call of it: it is emptied, gets its length, all bytes 00, and
+/// is synced. Until then it stays as it was. One that was made anew has its length already.
+#[derive(Drop)]
+pub struct NewFile<F: SystemFile + Drop> {
+    file: F,
+    size: u64,
+    is_made: bool,
+    failure: Option<io::Error>,
+}
+
+/// A device in a file that is made for it.
+pub type NewDisk<F> = Counted<NewFile<NotedFile<F>>>;
+
+impl<F: SystemFile + Drop> NewFile<F> {
+    /// A file that is there, and stays as it is until the first call.
+    pub fn over(file: F, size: u64) -> NewFile<F>
+        ensures file { result.file ≡ file }
+        ensures size { result.size ≡ size }
+        ensures unmade { result.is_made ≡ false }
+    {
+        NewFile {
+            file,
+            size,
+            is_made: false,
+            failure: None,
+        }
+    }
+
+    /// What the system said of the last call that failed.
+    pub fn failure(&self) -> Option<&io::Error> {
+        self.failure.as_ref()
+    }
+
+    /// Makes a device of the file where it isn't one yet.
+    fn make(&mut self) -> Result<(), DeviceFailed>
+        ensures size { self.new.size ≡ self.old.size }
+        ensures made { OnOk result ((self.new.is_made ≡ true) × (F.calls self.new.file ≡ F.calls self.old.file ++ making self.old.is_made self.old.size)) }
+    {
+        if self.is_made {
+            return Ok(());
+        }
+        answer(self.file.resize(0), &mut self.failure)?;
+        answer(self.file.resize(self.size), &mut self.failure)?;
+        answer(self.file.sync(), &mut self.failure)?;
+        self.is_made = true;
+        Ok(())
+    }
+}
+
+impl<F: SystemFile + Drop> RawDisk for NewFile<F> {
+    ghost size_of = { λ d. d.size };
+
+    ghost keeps = { file_keeps };
+
+    ghost state = { λ _. unknown };
+
+    fn size(&self) -> u64 {
+        self.size
+    }
+
+    #[tactic(auto, unfolding(crate::specs::File::file_keeps))]
+    fn read(&mut self, at: u64, out: &mut [u8]) -> Result<(), DeviceFailed>
+        ensures size { self.new.size ≡ self.old.size }
+        ensures goes { file_keeps → Goes unknown unknown }
+        ensures bytes { file_keeps → OnOk result (out.new ≡ take (length out.old) (drop at unknown.now.bytes)) }
+        ensures after { file_keeps → OnOk result (unknown.now ≡ done Read unknown.now) }
+        ensures failed { file_keeps → OnErr result (Fails Read unknown unknown) }
+        ensures called { OnOk result (F.calls self.new.file ≡ (F.calls self.old.file ++ making self.old.is_made self.old.size) ++ Reads at out.new true ∷ []) }
+    {
+        self.make()?;
+        answer(self.file.read_all(at, out), &mut self.failure)
+    }
+
+    #[tactic(auto, unfolding(crate::specs::File::file_keeps))]
+    fn write_at(&mut self, at: u64, bytes: &[u8]) -> Result<(), DeviceFailed>
+        ensures size { self.new.size ≡ self.old.size }
+        ensures goes { file_keeps → Goes unknown unknown }
+        ensures after { file_keeps → OnOk result (unknown.now ≡ done (Write at bytes.now) unknown.now) }
+        ensures failed { file_keeps → OnErr result (Fails (Write at bytes.now) unknown unknown) }
+        ensures called { OnOk result (F.calls self.new.file ≡ (F.calls self.old.file ++ making self.old.is_made self.old.size) ++ Writes at bytes.now true ∷ []) }
+    {
+        self.make()?;
+        answer(self.file.write_all(at, bytes), &mut self.failure)
+    }
+
+    #[tactic(auto, unfolding(crate::specs::File::file_keeps))]
+    fn sync(&mut self) -> Result<(), DeviceFailed>
+        ensures size { self.new.size ≡ self.old.size }
+        ensures goes { file_keeps → Goes unknown unknown }
+        ensures after { file_keeps → OnOk result (unknown.now ≡ done Sync unknown.now) }
+        ensures failed { file_keeps → OnErr result (Fails Sync unknown unknown) }
+        ensures called { OnOk result (F.calls self.new.file ≡ (F.calls self.old.file ++ making self.old.is_made self.old.size) ++ Syncs true ∷ []) }
+    {
+        self.make()?;
+        answer(self.file.sync(), &mut self.failure)
+    }
+
+    ghost whole = { λ k d. absurd (no_file k) };
+}
+
+/// Syncs the folder of a path, so that a name made in it lasts.
+fn sync_folder<R: Files>(rt: &R, path: &str) -> io::Result<()> {
+    let folder = match path.rsplit_once('/') {
+        Some(("", _)) => "/",
+        Some((folder, _)) => folder,
+        None => ".",
+    };
+    OpenOptions::new().read(true).open(rt, folder)?.sync_all()
+}
+
+/// Makes a file of `size` bytes where none of that path is, all bytes 00, and syncs its folder.
+fn new_file<R: Files>(rt: &R, path: &str, size: u64) -> io::Result<R::File> {
+    let file = OpenOptions::new()
+        .read(true)
+        .write(true)
+        .create_new(true)
+        .open(rt, path)?;
+    file.set_len(size)?;
+    sync_folder(rt, path)?;
+    Ok(file)
+}
+
+impl<F: FileExt + OpenFile + Drop> Counted<NewFile<NotedFile<F>>> {
+    /// A device of `size` bytes in a new file. A file of that path is refused with `AlreadyExists`.
+    pub fn create_new<R: Files<File = F>>(rt: &R, path: &str, size: u64) -> io::Result<NewDisk<F>>
+        ensures size { IfOk result (λ disk. ⟦<NewDisk<F> as Disk>⟧.size_of disk ≡ size) }
+        ensures failures { IfOk result (λ disk. ⟦<NewDisk<F> as Disk>⟧.failures_of disk ≡ 0) }
+    {
+        let file = NotedFile::new(new_file(rt, path, size)?);
+        Ok(Counted::new(NewFile {
+            file,
+            size,
+            is_made: true,
+            failure: None,
+        }))
+    }
+
+    /// The same over a file that is there, which stays as it is until the first call of the device.
+    pub fn create_over<R: Files<File = F>>(rt: &R, path: &str, size: u64) -> io::Result<NewDisk<F>>
+        ensures size { IfOk result (λ disk. ⟦<NewDisk<F> as Disk>⟧.size_of disk ≡ size) }
+        ensures failures { IfOk result (λ disk. ⟦<NewDisk<F> as Disk>⟧.failures_of disk ≡ 0) }
+    {
+        let file = OpenOptions::new().read(true).write(true).open(rt, path)?;
+        Ok(Counted::new(NewFile::over(NotedFile::new(file), size)))
+    }
+
+    /// The one or the other, as a file of that path is there or not.
+    pub fn create<R: Files<File = F>>(rt: &R, path: &str, size: u64) -> io::Result<NewDisk<F>>
+        ensures size { IfOk result (λ disk. ⟦<NewDisk<F> as Disk>⟧.size_of disk ≡ size) }
+        ensures failures { IfOk result (λ disk. ⟦<NewDisk<F> as Disk>⟧.failures_of disk ≡ 0) }
+    {
+        match NewDisk::create_new(rt, path, size) {
+            Err(error) if error.kind() == io::ErrorKind::AlreadyExists => {
+                NewDisk::create_over(rt, path, size)
+            }
+            made => made,
+        }
+    }
+}
