@@ -19,13 +19,13 @@ use Rattle.tp_model.specs.Spelling.{front_bytes}
 use Rattle.tp_model.specs.Opening.{groups_place}
 use Rattle.tp_model.specs.Format.{start_of}
 use Rattle.tp_law_device.specs.FormattedWorld.{WasFormatted}
-use Rattle.tp_law_device.proofs.Wires.{Limits, limits_of}
+use Rattle.tp_law_device.proofs.Wires.{HasShape, has_shape}
 use Rattle.tp_law_device.proofs.FreshHeads.{length-head_bytes}
 use Rattle.tp_law_device.proofs.SpeltCuts.{ReadsBack, length-images, length-lines, length-ports}
 use Rattle.tp_law_device.proofs.Formatted.{start_reads_back}
 
 -- the fields and the cut are as long as the place of the groups says
-length-front_bytes : (E : Ends NodeState) (t : Topology) (L : Limits t) (generation base : ℕ) (s : Network NodeState) → ReadsBack E t base s → length (front_bytes t generation base s) ≡ groups_place t
+length-front_bytes : (E : Ends NodeState) (t : Topology) (L : HasShape t) (generation base : ℕ) (s : Network NodeState) → ReadsBack E t base s → length (front_bytes t generation base s) ≡ groups_place t
 unfolding front_bytes cut_bytes
 length-front_bytes E t L generation base s C =
     let images = flat_map image s.nodes in
@@ -37,8 +37,8 @@ length-front_bytes E t L generation base s C =
     omega (arith, length-append images (lines ++ ports), length-append lines ports, C.count, L.lines)
 
 module _ (t : Topology) (area : ℕ) (given : List (List ℕ)) (s : Network NodeState) (topology : is_topology t ≡ true) (roomy : is_roomy t area ≡ true) (low : area < 2 ^ 64) (start : start_of t given ≡ Some s) where
-  limits : Limits t
-  limits = limits_of t topology
+  limits : HasShape t
+  limits = has_shape t topology
 
   abbrev head : List ℕ
   head = head_bytes t area

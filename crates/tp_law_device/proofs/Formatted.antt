@@ -23,7 +23,7 @@ use Rattle.tp_model.specs.Runs.{fresh, IsFormatted}
 use Rattle.tp_model.specs.DeviceAreas.{areas_of}
 use Rattle.tp_law_network.proofs.Partial.{map_some}
 use Rattle.tp_law_device.specs.FormattedWorld.{formatted_world, WasFormatted}
-use Rattle.tp_law_device.proofs.Wires.{Limits, limits_of}
+use Rattle.tp_law_device.proofs.Wires.{HasShape, has_shape}
 use Rattle.tp_law_device.proofs.FreshHeads.{head_of-head_bytes}
 use Rattle.tp_law_device.proofs.FreshCuts.{AreFresh, fresh_nodes_are, no_lines, no_line, fresh_reads_back}
 use Rattle.tp_law_device.proofs.Chosen.{chosen_alone}
@@ -50,7 +50,7 @@ module _ (t : Topology) (given : List (List ℕ)) (s : Network NodeState) (start
       let found = map_some (λ ns. network_of t ns (no_lines (line_count t)) (replicate t.ports fresh_port)) (fresh_nodes t.pages given) s start in
       record { nodes = found.0; fresh_are = fresh_nodes_are t.pages given found.0 found.1; is = found.2 }
 
-  pub start_reads_back : Limits t → ReadsBack t414_ends t 0 s
+  pub start_reads_back : HasShape t → ReadsBack t414_ends t 0 s
   start_reads_back L =
       let B = begins in
       let F = B.fresh_are in
@@ -67,8 +67,8 @@ module _ (M : Machine NodeState) (t : Topology) (area : ℕ) (given : List (List
   abbrev first : Begins t given s W.network
   first = begins t given s W.network
 
-  limits : Limits t
-  limits = limits_of t W.topology
+  limits : HasShape t
+  limits = has_shape t W.topology
 
   -- what opening answers of it
   abbrev pub found : Opened

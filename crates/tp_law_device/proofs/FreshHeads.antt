@@ -12,7 +12,7 @@ use Rattle.tp_model.specs.Device.{fits}
 use Rattle.tp_model.specs.Head.{magic, end_byte, end_of_byte, head_bytes, all_wires, u16s_at, head_at, head_of}
 use Rattle.tp_law_device.proofs.Fronts.{SameFront, front_shorter, front_get}
 use Rattle.tp_law_device.proofs.Heads.{head_at_same, head_from}
-use Rattle.tp_law_device.proofs.Wires.{Limits, limits_of, length-links, links_back, wires_back}
+use Rattle.tp_law_device.proofs.Wires.{HasShape, has_shape, length-links, links_back, wires_back}
 
 -- ## Pages
 
@@ -32,7 +32,7 @@ pages_back (n ∷ ns) rest h =
 
 -- ## The bytes of a head
 
-module _ (t : Topology) (L : Limits t) (area : ℕ) where
+module _ (t : Topology) (L : HasShape t) (area : ℕ) where
   abbrev ends : List ℕ
   ends = map end_byte (take (4 * node_count t) t.wires)
 
@@ -44,14 +44,14 @@ module _ (t : Topology) (L : Limits t) (area : ℕ) where
   first = magic ++ (1 ∷ node_count t ∷ t.ports ∷ (zeros 6 ++ (u64_bytes area ++ (fields ++ ends))))
 
   length-fields : length fields ≡ 32
-  length-fields = omega (arith, length-append (flat_map u16_bytes t.pages) (zeros (32 - length (flat_map u16_bytes t.pages))), length-pages t.pages, length-replicate {A = ℕ} (32 - length (flat_map u16_bytes t.pages)) 0, L.nodes)
+  length-fields = omega (arith, length-append (flat_map u16_bytes t.pages) (zeros (32 - length (flat_map u16_bytes t.pages))), length-pages t.pages, length-replicate {A = ℕ} (32 - length (flat_map u16_bytes t.pages)) 0, L.few_nodes)
 
   pub length-head_bytes : length (head_bytes t area) ≡ 512
   unfolding head_bytes
   length-head_bytes =
       let size : length first ≡ 56 + 4 * node_count t =
       omega (arith, length-append fields ends, length-fields, length-map (take (4 * node_count t) t.wires) end_byte, length-links t L) in
-      omega (arith, length-append first (zeros (512 - length first)), length-replicate {A = ℕ} (512 - length first) 0, size, L.nodes)
+      omega (arith, length-append first (zeros (512 - length first)), length-replicate {A = ℕ} (512 - length first) 0, size, L.few_nodes)
 
   behind_area : drop 24 (head_bytes t area) ≡ (fields ++ ends) ++ zeros (512 - length first)
   unfolding head_bytes
@@ -110,7 +110,7 @@ module _ (t : Topology) (L : Limits t) (area : ℕ) where
 pub head_of-head_bytes : (t : Topology) (area : ℕ) (bytes : List ℕ) → is_topology t ≡ true → fits (length bytes) t area ≡ true → area < 2 ^ 64 → take 512 bytes ≡ head_bytes t area
     → head_of bytes ≡ Ok (record { topology = t; area = area })
 head_of-head_bytes t area bytes topology room low is =
-    let L = limits_of t topology in
+    let L = has_shape t topology in
     let same : SameFront 512 (head_bytes t area) bytes = record { same = ap (take 512) (sym is) ∙ take-take 512 512 bytes (omega arith) } in
     let front = front_shorter 7 512 (head_bytes t area) bytes (omega arith) same in
     let parts = and_parts (nat_le (512 + 2 * area) (length bytes)) _ room in
@@ -119,7 +119,7 @@ head_of-head_bytes t area bytes topology room low is =
       long = omega arith;
       formatted = sym front.same ∙ magic_there t L area;
       version = sym (front_get 512 (head_bytes t area) bytes same 7 (omega arith)) ∙ version_there t L area;
-      read = head_at_same (head_bytes t area) bytes same (let most = L.nodes in let n = nodes_there t L area in omega arith) ∙ head_at-head_bytes t L area low;
+      read = head_at_same (head_bytes t area) bytes same (let most = L.few_nodes in let n = nodes_there t L area in omega arith) ∙ head_at-head_bytes t L area low;
       topology = topology;
       front = is;
       room = room;

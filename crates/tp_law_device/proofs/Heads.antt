@@ -11,7 +11,7 @@ use Rattle.tp_model.specs.Device.{fits}
 use Rattle.tp_model.specs.Head.{Head, magic, end_of_byte, head_bytes, all_wires, u16s_at, head_at, is_head, head_of}
 use Rattle.tp_law_device.proofs.Faults.{fault_or, or_fault}
 use Rattle.tp_law_device.proofs.Fronts.{SameFront, front_shorter, front_part, front_get, u16_front, u64_front}
-use Rattle.tp_law_device.proofs.Wires.{limits_of}
+use Rattle.tp_law_device.proofs.Wires.{has_shape}
 
 pub length-u16s_at : (count : ℕ) (bytes : List ℕ) → length (u16s_at count bytes) ≡ count
 unfolding u16s_at
@@ -29,10 +29,10 @@ u16s_same (suc count) xs ys h =
 -- ## What a topology has
 
 pub wires_count : (t : Topology) → is_topology t ≡ true → length t.wires ≡ line_count t
-wires_count t h = let L = limits_of t h in L.lines
+wires_count t h = let L = has_shape t h in L.lines
 
 few_nodes : (t : Topology) → is_topology t ≡ true → node_count t ≤ 16
-few_nodes t h = let L = limits_of t h in L.nodes
+few_nodes t h = let L = has_shape t h in L.few_nodes
 
 -- ## The head
 

@@ -16,7 +16,7 @@ use Rattle.tp_model.specs.Group.{rows_of}
 use Rattle.tp_model.specs.CutImage.{or_damaged}
 use Rattle.tp_model.specs.Replay.{Replay, placed, with_entry, is_number, after_entry, after_row, after_rows, replay_from}
 use Rattle.tp_model.specs.Numbers.{AreNumbered}
-use Rattle.tp_entry.proofs.EntryLaws.{entry_at-entry_bytes}
+use Rattle.tp_law_bytes.proofs.EntryLaws.{entry_at-entry_bytes}
 use Rattle.tp_law_network.proofs.Partial.{map_some, cond_some}
 use Rattle.tp_law_network.proofs.Reorder.{after_last, first_possible}
 use Rattle.tp_law_device.proofs.Faults.{bind_ok, or_damaged_ok}

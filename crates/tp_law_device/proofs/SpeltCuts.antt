@@ -26,7 +26,7 @@ use Rattle.tp_model.specs.Flight.{is_in_one_place, flights_in}
 use Rattle.tp_model.specs.CutImage.{line_bytes, port_bytes, only_if, node_with, tokens_at, is_record, line_with, is_line_of, port_at, is_port_of, port_with, or_damaged, nodes_in, lines_in, ports_in, cut_bytes}
 use Rattle.tp_model.specs.Spelling.{has_record, are_lines, front_bytes}
 use Rattle.tp_model.specs.Opening.{base_of, has_front, nodes_place, lines_place, ports_place, groups_place, network_of, cut_in}
-use Rattle.tp_law_device.proofs.Wires.{Limits}
+use Rattle.tp_law_device.proofs.Wires.{HasShape}
 
 -- ## Nodes
 
@@ -237,11 +237,11 @@ images_most (n ∷ ns) h =
     let most = leb-true n MAX_PAGES (and_parts (nat_le MIN_PAGES n) (nat_le n MAX_PAGES) both.0).1 in
     omega (arith, sum_by-cons image_length n ns, images_most ns both.1)
 
-pub cut_fits : (t : Topology) → Limits t → cut_length t < 2 ^ 32
-cut_fits t L = omega (arith, images_most t.pages L.pages, L.nodes, L.ports)
+pub cut_fits : (t : Topology) → HasShape t → cut_length t < 2 ^ 32
+cut_fits t L = omega (arith, images_most t.pages L.pages, L.few_nodes, L.few_ports)
 
 -- A content that begins with the fields and the cut image.
-module _ (E : Ends NodeState) (t : Topology) (L : Limits t) (generation base : ℕ) (s : Network NodeState) (C : ReadsBack E t base s) (content more : List ℕ)
+module _ (E : Ends NodeState) (t : Topology) (L : HasShape t) (generation base : ℕ) (s : Network NodeState) (C : ReadsBack E t base s) (content more : List ℕ)
     (is : content ≡ front_bytes t generation base s ++ more) where
   abbrev images : List ℕ
   images = flat_map image s.nodes

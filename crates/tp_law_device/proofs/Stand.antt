@@ -14,7 +14,7 @@ use Rattle.tp_model.specs.Node.{t414, t414_ends}
 use Rattle.tp_law_machine.proofs.Images.{node_of-image}
 use Rattle.tp_law_machine.proofs.Numbers.{AreBytes}
 use Rattle.tp_law_device.proofs.ReadAreas.{opens_stand}
-use Rattle.tp_law_device.proofs.Wires.{limits_of}
+use Rattle.tp_law_device.proofs.Wires.{has_shape}
 use Rattle.tp_law_device.proofs.FreshHeads.{head_of-head_bytes}
 use Rattle.tp_law_device.proofs.Chosen.{open_in, age_in, chosen_alone, chosen_higher}
 use Rattle.tp_law_device.proofs.SpeltCuts.{IsReadBack, ReadsBack, front_generation}
@@ -42,7 +42,7 @@ stands_opens M E bytes o S =
     let t = o.head.topology in
     let area = o.head.area in
     let content = content_of area o.second bytes in
-    let L = limits_of t S.topology in
+    let L = has_shape t S.topology in
     let A : SpeltArea M E t content o.generation o.base o.cut S.groups o.now = record {
       gate = S.spells.gate;
       rest = S.spells.rest;

@@ -36,7 +36,7 @@ leads_parts N H wires line other h =
     record { end = b.0; joins = b.1; here = found.0; is = found.1; back = found.2 }
 
 -- each wire leads back, and so does none
-each_leads : (N H : ℕ) (wires : List (Option WireEnd)) (line : ℕ) (ends : List (Option WireEnd)) → all_lead_back N H wires line ends ≡ true
+pub each_leads : (N H : ℕ) (wires : List (Option WireEnd)) (line : ℕ) (ends : List (Option WireEnd)) → all_lead_back N H wires line ends ≡ true
     → (i : ℕ) → leads_back N H wires (line + i) (get_or ends i None) ≡ true
 unfolding all_lead_back
 each_leads N H wires line [] h i = refl
@@ -49,32 +49,35 @@ each_leads N H wires line (end ∷ ends) h (suc i) =
 
 -- ## What a topology has
 
-pub record Limits (t : Topology) : Type 0 where
-  pub nodes : node_count t ≤ 16
-  pub some : 1 ≤ node_count t
-  pub ports : t.ports ≤ 8
+pub record HasShape (t : Topology) : Type 0 where
+  pub some_nodes : 1 ≤ node_count t
+  pub few_nodes : node_count t ≤ MAX_NODES
+  pub some_ports : 1 ≤ t.ports
+  pub few_ports : t.ports ≤ MAX_PORTS
   pub pages : list_all is_page_count t.pages ≡ true
   pub lines : length t.wires ≡ line_count t
-  pub back : all_lead_back (node_count t) t.ports t.wires 0 t.wires ≡ true
+  pub wires : all_lead_back (node_count t) t.ports t.wires 0 t.wires ≡ true
 
-pub limits_of : (t : Topology) → is_topology t ≡ true → Limits t
+pub has_shape : (t : Topology) → is_topology t ≡ true → HasShape t
 unfolding is_topology
-limits_of t h =
+has_shape t h =
     let a = and_parts (nat_le 1 (node_count t) && nat_le (node_count t) MAX_NODES) _ h in
     let b = and_parts (nat_le 1 t.ports && nat_le t.ports MAX_PORTS) _ a.1 in
     let c = and_parts (list_all is_page_count t.pages) _ b.1 in
     let d = and_parts (length t.wires == line_count t) _ c.1 in
     let nodes = and_parts (nat_le 1 (node_count t)) (nat_le (node_count t) MAX_NODES) a.0 in
+    let ports = and_parts (nat_le 1 t.ports) (nat_le t.ports MAX_PORTS) b.0 in
     record {
-      nodes = leb-true (node_count t) MAX_NODES nodes.1;
-      some = leb-true 1 (node_count t) nodes.0;
-      ports = leb-true t.ports MAX_PORTS (and_parts (nat_le 1 t.ports) (nat_le t.ports MAX_PORTS) b.0).1;
+      some_nodes = leb-true 1 (node_count t) nodes.0;
+      few_nodes = leb-true (node_count t) MAX_NODES nodes.1;
+      some_ports = leb-true 1 t.ports ports.0;
+      few_ports = leb-true t.ports MAX_PORTS ports.1;
       pages = c.0;
       lines = eqb-true (length t.wires) (line_count t) d.0;
-      back = d.1;
+      wires = d.1;
     }
 
-module _ (t : Topology) (L : Limits t) where
+module _ (t : Topology) (L : HasShape t) where
   abbrev N : ℕ
   N = node_count t
 
@@ -83,7 +86,7 @@ module _ (t : Topology) (L : Limits t) where
       leads_parts N t.ports t.wires line other
       (ap (leads_back N t.ports t.wires line) (sym is)
       ∙ ap (λ place. leads_back N t.ports t.wires place (receiver t.wires line)) (omega arith)
-      ∙ each_leads N t.ports t.wires 0 t.wires L.back line)
+      ∙ each_leads N t.ports t.wires 0 t.wires L.wires line)
 
   -- ## The byte of an end
 
@@ -110,7 +113,7 @@ module _ (t : Topology) (L : Limits t) where
       let B = leads line (Link j k) is in
       let both = and_parts (nat_lt j N) (nat_lt k 4) B.end in
       let low = ltb-true j N both.0 in
-      link_byte j k (let most = L.nodes in omega arith) (ltb-true k 4 both.1)
+      link_byte j k (let most = L.few_nodes in omega arith) (ltb-true k 4 both.1)
   end_back line (Some (AtPort p)) is = port_byte p
 
   -- the wires of the links

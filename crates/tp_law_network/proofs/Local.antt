@@ -17,7 +17,7 @@ use Rattle.tp_model.specs.Entries.{process, takes, port_took, handed_in, confirm
 use Rattle.tp_model.specs.Sound.{owner}
 use Rattle.tp_model.specs.Snapshot.{taker}
 use Rattle.tp_law_network.proofs.Lines.{length_taken, length_sent}
-use Rattle.tp_law_network.proofs.Partial.{bind_some, map_some, cond_some, slice_get-set_same, slice_get-set_other}
+use Rattle.tp_law_network.proofs.Partial.{all_append, bind_some, map_some, cond_some, slice_get-set_same, slice_get-set_other}
 
 -- ## One entry, taken apart
 
@@ -173,10 +173,6 @@ port_step N p ports change r e =
     let P = bind_some (slice_get ports p) _ r e in
     let C = bind_some (change P.0) _ r P.2 in
     record { port = P.0; at = P.1; changed = C.0; change_is = C.1; is = cc }
-
-pub all_append : {A : Type 0} (P : A → Type 0) (xs ys : List A) → AllByRecursion P xs → AllByRecursion P ys → AllByRecursion P (xs ++ ys)
-all_append P [] ys a b = b
-all_append P (x ∷ xs) ys a b = (a.0, all_append P xs ys a.1 b)
 
 all_map : {A B : Type 0} (P : A → Type 0) (Q : B → Type 0) (f : A → B) (xs : List A) → ((x : A) → P x → Q (f x)) → AllByRecursion P xs → AllByRecursion Q (map f xs)
 all_map P Q f [] h a = tt

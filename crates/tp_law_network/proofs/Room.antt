@@ -12,8 +12,8 @@ use Rattle.tp_model.specs.Network.{◌>>=◌, Machine, steps, Network, own, has_
 use Rattle.tp_model.specs.Entries.{HasFourLinks, takes}
 use Rattle.tp_model.specs.Sound.{Ends, datas, acks, end_waits, end_holds, Sound, KeepsFlight}
 use Rattle.tp_model.specs.Markers.{is_marker, plain, markers, plain_network, NeverMarks}
-use Rattle.tp_law_network.proofs.Partial.{bind_some}
-use Rattle.tp_law_network.proofs.Local.{Step, next_from, step_lines, all_append, steps_links}
+use Rattle.tp_law_network.proofs.Partial.{all_append, bind_some}
+use Rattle.tp_law_network.proofs.Local.{Step, next_from, step_lines, steps_links}
 use Rattle.tp_law_network.proofs.Flight.{steps_moves}
 use Rattle.tp_law_network.proofs.Lines.{for_line-here, for_line-append, on_sent_open, length_taken}
 use Rattle.tp_law_network.proofs.Sound.{unwired-back, sound_kept, sound_small}
