@@ -134,9 +134,3 @@ impl FramePool {
         self.free
     }
 }
-
-fn asks_send<T: Send>() {}
-
-pub fn pool_is_send() {
-    asks_send::<FramePool>();
-}
