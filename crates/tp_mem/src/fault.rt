@@ -8,3 +8,7 @@ pub enum WriteFault {
     /// A frame was wanted for a page that is shared with the frozen bytes, and none was free.
     NoFrame,
 }
+
+/// More shared pages were to be parted than frames are free. Nothing has changed.
+#[derive(Clone, Copy)]
+pub struct NoFrame;
