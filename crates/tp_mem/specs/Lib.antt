@@ -1,5 +1,6 @@
 pub mod After
 pub mod Bytes
 pub mod Contents
+pub mod Copies
 pub mod Ranges
 pub mod Stored

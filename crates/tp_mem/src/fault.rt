@@ -12,3 +12,7 @@ pub enum WriteFault {
     #[error("NoFrame")]
     NoFrame,
 }
+
+/// More shared pages were to be parted than frames are free. Nothing has changed.
+#[derive(Clone, Copy)]
+pub struct NoFrame;

@@ -5,11 +5,14 @@
 #![tactic(auto)]
 
 mod address;
+mod cow;
 mod fault;
 mod flat;
 mod memory;
+mod touch;
 mod write;
 
-pub use fault::WriteFault;
+pub use cow::CowMemory;
+pub use fault::{NoFrame, WriteFault};
 pub use flat::FlatMemory;
 pub use memory::{Freeze, Mem};

@@ -1,0 +1,11 @@
+use Rattle.std.proofs.Common.{◌≡◌, ℕ, ◌+◌, ◌<◌, [], get_or}
+use Rattle.core.specs.Mem.Slots.{slots_items, slots_ptr, slots_len, slots_filled}
+use Rattle.core.specs.Mem.Slots.Ownership.{Filled}
+use Rattle.tp_frames.specs.FreeList.{next_in}
+use Rattle.tp_frames.proofs.region.fill.Given as goal
+
+-- the places so far are filled, and each leads to the one behind it
+abbrev pub invariant-loop-index : goal.invariant-loop-index
+invariant-loop-index l =
+    Filled (slots_filled l.slots) 0 l.index × ((i : ℕ) → i < l.index → next_in (get_or (slots_items l.slots) i []) ≡ i + 1)
+    × (slots_ptr l.slots ≡ slots_ptr l.fn.slots) × (slots_len l.slots ≡ slots_len l.fn.slots)
