@@ -1,0 +1,43 @@
+-- `turn` sets what both halves own to another value.
+use Rattle.tp_token.proofs.Walks.{◌≡◌, List, [], ◌∷◌, refl, proved, ftrue, flft, inst_fn, Fn, a_type, named, vunit, fact, ‵, raw, ◌⊛◌, ◌$◌, ◌∵◌, !, qed, move, join, frame, suffices, feq_i, enter, of_opd, unit_lit, returns, alloc_all, pass_all, free_all, look_at, sets, yes, fjoin, layouts, RefOf, ShrRef, shr_vals, shr_Tells, stay_dropped, Goes-dropped, RattleType, MutRef, mut_vals, mut_Tells, plain, nothing, heard, Stays, walk_of, stay_ref, Goes-ref, ends_at, Val}
+use base.Fml.{fsep}
+use Rattle.tp_token.proofs.Lent.{unpacks, packs, both, hears, tells, tells_last}
+use Rattle.tp_token.proofs.Twins.{turns}
+use Rattle.tp_token.specs.Owned.{seal_owns, key_owns}
+use Rattle.tp_token.specs.contracts.twin.Seal as seal
+use Rattle.tp_token.specs.contracts.twin.Key as key
+use Rattle.tp_token.specs.contracts.twin.turn as f
+use Rattle.tp_token.proofs.twin.turn.Statement.{statement}
+use Rattle.tp_token.proofs.twin.turn.Code as code
+
+module _ (T : RattleType) where
+  abbrev A : RattleType
+  A = seal.the_row (denote.Param.param 0 T)
+
+  abbrev B : RattleType
+  B = key.the_row (denote.Param.param 0 T)
+
+  abbrev stayed : Stays (f.ended T).signature.params (f.ended T).kept
+  stayed = (stay_ref (0 ∷ []) tt (plain (λ _. A)), (stay_ref (1 ∷ []) tt (plain (λ _. B)), (stay_dropped (RefOf (2 ∷ []) tt (plain (λ _. denote.Param.param 0 T)) (λ _. tt)) yes, tt)))
+
+  abbrev function : Fn
+  function = inst_fn (layouts (a_type ∷ []) (T, tt)) code.function
+
+pub turn_spec : {M : Type 1} → statement M
+turn_spec 𝓤 𝓛 𝓜 𝓡 wired T laws =
+    let c = f.clauses T 𝓛 𝓜.mem 𝓡.returns in let W = walk_of 𝓛 (f.ended T) (stayed T) c in let 𝓣 = contract.Running.tables 𝓤 𝓛.H 𝓜 𝓡 𝓡.env in
+    proved 𝓛 (f.ended T) (stayed T) c 𝓜 𝓡 (Goes-ref 𝓛 4 0 tt (plain (λ _. A T)), (Goes-ref 𝓛 4 1 tt (plain (λ _. B T)), (Goes-dropped 𝓛 4 (RefOf (2 ∷ []) tt (plain (λ _. denote.Param.param 0 T)) (λ _. tt)) yes (λ κs x f. refl), tt)))
+    (f.Key.name (layouts (a_type ∷ []) (T, tt))) (function T) (code.unfolded 𝓤 𝓛.H 𝓜 𝓡 wired (T, tt))
+    (λ κs. (mut_vals, (mut_vals, (shr_vals, tt)))) (λ κs. (mut_Tells (named 0) κs.0 (A T), (mut_Tells (named 1) κs.1.0 (B T), (shr_Tells (named 2) κs.1.1.0 (denote.Param.param 0 T), tt))))
+    (λ κs qs bounds a g are. let r = a.0 in let s = a.1.0 in let to = a.1.1.0 in
+    let r' = record r.now { value = to.now } in let s' = record s.now { value = to.now } in
+    let y : W.Ghost = ((κs, qs, bounds, a, (mut_vals r, (mut_vals s, (shr_vals to, tt)))), g) in
+    qed 𝓛 (((‵ (flft κs.0 qs.0) ⊛ ‵ (flft κs.1.0 qs.1.0) ⊛ ‵ (flft κs.1.1.0 qs.1.1.0) ⊛ ‵ (flft κs.1.1.1.0 qs.1.1.1.0) ⊛ ‵ ftrue) ⊛ ‵ (fsep ((MutRef (named 0) κs.0 (A T)).own_val r (mut_vals r)) (fsep ((MutRef (named 1) κs.1.0 (B T)).own_val s (mut_vals s)) (fsep ((ShrRef (named 2) κs.1.1.0 (denote.Param.param 0 T)).own_val to (shr_vals to)) ftrue))))
+    ∷ raw ((c κs a).requires g) ∷ []) ∵ move ! (1 ∷ []) $ hears ! (λ _. heard ! _ (λ one. unpacks (A T) (B T) r s ! (named 0) (named 1) $
+    enter ! _ _ _ _ _ $ alloc_all ! (λ l. pass_all ! refl ((tt, tt), ((tt, tt), ((tt, tt), tt))) $
+    both (A T) (B T) r s ! tt r' s' _ _ _ _ _ _ (λ vs. refl) (λ vs. refl) (λ vs. refl) (λ vs. refl) (turns 𝓛 T.coded r.now.name s.now.name r.now.value s.now.value to.now one) (λ same.
+    sets ! (of_opd ! (unit_lit !)) refl (tt, tt) $ returns ! (look_at ! 0 refl) $ free_all ! refl $
+    suffices ! _ (ends_at 𝓛 (f.ended T) (stayed T) c y vunit tt (r', (s', (tt, tt))) (tt, (tt, (tt, tt)))) $
+    nothing ! $ nothing ! $ fjoin ! $ packs (A T) (B T) (record r { now = r' }) (record s { now = s' }) ! (named 0) (named 1) $
+    move ! (1 ∷ []) $ feq_i ! (List Val) (vunit ∷ []) (vunit ∷ []) refl $ move ! (1 ∷ 0 ∷ []) $ join ! $ move ! (1 ∷ 0 ∷ []) $ join ! $ frame ! $
+    tells ! (refl, refl) $ tells ! same $ tells ! refl $ tells_last ! refl)))))
