@@ -46,6 +46,16 @@ pub fn pair<T>() -> (Seal<T>, Key<T>)
     )
 }
 
+// Sets both halves of a twin to the value that the contract names. A caller names it by what it lends as `_by`.
+fn set<T, W>(seal: &mut Seal<T>, key: &mut Key<T>, _by: &W)
+    ghost to: { T }
+    requires { seal.old.name ≡ key.old.name }
+    ensures names { (seal.new.name ≡ seal.old.name) × (key.new.name ≡ key.old.name) }
+    ensures agreed { seal.old.value ≡ key.old.value }
+    ensures seal { seal.new.value ≡ to }
+    ensures key { key.new.value ≡ to }
+{}
+
 /// Turns both halves of a twin to `to`. They showed the same before.
 pub fn turn<T>(seal: &mut Seal<T>, key: &mut Key<T>, to: &T)
     requires { seal.old.name ≡ key.old.name }
@@ -53,16 +63,19 @@ pub fn turn<T>(seal: &mut Seal<T>, key: &mut Key<T>, to: &T)
     ensures agreed { seal.old.value ≡ key.old.value }
     ensures seal { seal.new.value ≡ to.now }
     ensures key { key.new.value ≡ to.now }
-{}
+{
+    set(seal, key, to)
+}
 
 /// Changes nothing. The two halves of a twin show the same.
 pub fn agree<T>(seal: &mut Seal<T>, key: &mut Key<T>)
     requires { seal.old.name ≡ key.old.name }
     ensures names { (seal.new.name ≡ seal.old.name) × (key.new.name ≡ key.old.name) }
+    ensures values { (seal.new.value ≡ seal.old.value) × (key.new.value ≡ key.old.value) }
     ensures agreed { seal.old.value ≡ key.old.value }
-    ensures seal { seal.new.value ≡ seal.old.value }
-    ensures key { key.new.value ≡ key.old.value }
-{}
+{
+    set(seal, key, &())
+}
 
 unsafe impl<T> Send for Seal<T> {}
 
