@@ -1,0 +1,74 @@
+//! Slips: what is in exactly one hand.
+
+ghost use Rattle.std.specs.Prelude.{◌≡◌, ℕ, List, [], ◌++◌, length, take, drop, ◌+◌, ◌≤◌};
+ghost use Rattle.tp_token.specs.Owned.{slips_own};
+ghost use Rattle.tp_token.specs.Sound.{AreApart};
+
+use std::marker::{Model, PhantomData};
+
+/// A bundle of slips of one roll. Each shows a number and the item that was written there. Nobody can copy it.
+#[derive(Drop)]
+pub struct Slips<T> {
+    marker: PhantomData<T>,
+    pub ghost name: { ℕ },
+    pub ghost items: { List (ℕ × T) },
+}
+
+impl<T> Model for Slips<T> {
+    ghost also_owns = { λ s. slips_own T.row.coded.code s.name s.items };
+}
+
+/// A bundle without a slip, of the roll that the contract names.
+pub fn empty<T>() -> Slips<T>
+    ghost of_roll: { ℕ }
+    ensures name { result.name ≡ of_roll }
+    ensures items { result.items ≡ [] }
+{
+    Slips {
+        marker: PhantomData,
+    }
+}
+
+// Deals the slips of both bundles anew, in their order: `one` gets the first ones, as many as the contract names. The
+// number `_at` is there for a caller to name them by.
+fn deal<T>(one: &mut Slips<T>, two: &mut Slips<T>, _at: u64)
+    ghost kept: { ℕ }
+    requires { one.old.name ≡ two.old.name }
+    ensures names { (one.new.name ≡ one.old.name) × (two.new.name ≡ two.old.name) }
+    ensures one { one.new.items ≡ take kept (one.old.items ++ two.old.items) }
+    ensures two { two.new.items ≡ drop kept (one.old.items ++ two.old.items) }
+    ensures apart { AreApart one.old.items two.old.items }
+{}
+
+/// Moves all slips of `from` to the end of `to`.
+pub fn transfer<T>(to: &mut Slips<T>, from: &mut Slips<T>)
+    requires { to.old.name ≡ from.old.name }
+    ensures names { (to.new.name ≡ to.old.name) × (from.new.name ≡ from.old.name) }
+    ensures to { to.new.items ≡ to.old.items ++ from.old.items }
+    ensures from { from.new.items ≡ [] }
+{
+    deal(to, from, 0)
+}
+
+/// Moves the slips from the place `at` on out of `from`, to the front of `to`.
+pub fn part<T>(from: &mut Slips<T>, at: u64, to: &mut Slips<T>)
+    requires name { from.old.name ≡ to.old.name }
+    requires at { at ≤ length from.old.items }
+    ensures names { (from.new.name ≡ from.old.name) × (to.new.name ≡ to.old.name) }
+    ensures from { from.new.items ≡ take at from.old.items }
+    ensures to { to.new.items ≡ drop at from.old.items ++ to.old.items }
+{
+    deal(from, to, at)
+}
+
+/// Changes nothing. No slip of `one` is of a number of one in `two`.
+pub fn apart<T>(one: &mut Slips<T>, two: &mut Slips<T>)
+    requires { one.old.name ≡ two.old.name }
+    ensures names { (one.new.name ≡ one.old.name) × (two.new.name ≡ two.old.name) }
+    ensures slips { (one.new.items ≡ one.old.items) × (two.new.items ≡ two.old.items) }
+    ensures apart { AreApart one.old.items two.old.items }
+{
+    deal(one, two, 0)
+}
+
+unsafe impl<T> Send for Slips<T> {}
