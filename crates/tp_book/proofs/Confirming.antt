@@ -15,19 +15,21 @@ use Rattle.tp_model.specs.Entries.{process, takes, confirmed, does}
 use Rattle.tp_model.specs.Halves.{BookState, without, with_entry}
 use Rattle.tp_law_network.proofs.Partial.{cond_some}
 use Rattle.tp_book.specs.declared.note.Numbered.{Numbered}
-use Rattle.tp_book.specs.declared.port.HostPort.{HostPort}
+use Rattle.tp_port.specs.declared.port.HostPort.{HostPort}
 use Rattle.tp_book.specs.declared.book.Book.TheInside.{Inside}
-use Rattle.tp_book.specs.Kept.{Keeps, IsCounted, AreCounted}
-use Rattle.tp_book.specs.Ports.{PortValue}
-use Rattle.tp_book.specs.Start.{fresh_port}
+use Rattle.tp_book.specs.Kept.{Keeps}
+use Rattle.tp_port.specs.Counted.{IsCounted, AreCounted}
+use Rattle.tp_port.specs.Ports.{PortValue}
+use Rattle.tp_port.specs.Ports.{fresh_port}
 use Rattle.tp_book.specs.Book.{agreed, next_number}
 use Rattle.tp_book.specs.Inside.{state_of, value_of, in_hand, IsBook}
 use Rattle.tp_book.specs.Calls.{marks_of}
 use Rattle.tp_book.specs.Host.{port_in, confirmed_port, with_confirmed, after_confirm}
 use Rattle.tp_book.proofs.Commit.{Change, agreed_after}
-use Rattle.tp_book.proofs.Changes.{of_port-is, own_host_agreed}
+use Rattle.tp_book.proofs.Changes.{own_host_agreed}
+use Rattle.tp_port.proofs.Owns.{of_port-is}
 use Rattle.tp_book.proofs.Journalled.{state_after, numbers_after, fields_after}
-use Rattle.tp_book.proofs.HostTaken.{counted_set}
+use Rattle.tp_port.proofs.Counted.{counted_set}
 use Rattle.tp_book.specs.Kept.{AreRising}
 use Rattle.tp_book.proofs.Rising.{rising_to, rising_drop, rising_set}
 

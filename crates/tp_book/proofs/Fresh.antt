@@ -13,12 +13,15 @@ use Rattle.tp_model.specs.Order.{after}
 use Rattle.tp_model.specs.Sound.{Sound}
 use Rattle.tp_model.specs.Markers.{plain, markers, plain_network}
 use Rattle.tp_book.specs.Book.{agreed}
-use Rattle.tp_book.specs.Kept.{Keeps, IsCounted}
+use Rattle.tp_book.specs.Kept.{Keeps}
+use Rattle.tp_port.specs.Counted.{IsCounted}
 use Rattle.tp_book.specs.declared.book.Book.TheInside.{Inside}
 use Rattle.tp_book.specs.declared.parts.NetParts.{NetParts}
-use Rattle.tp_book.specs.Parts.{network_of, port_of}
+use Rattle.tp_book.specs.Parts.{network_of}
+use Rattle.tp_port.specs.Parts.{port_of}
 use Rattle.tp_book.specs.Inside.{state_of, value_of, IsBook}
-use Rattle.tp_book.specs.Start.{IsFresh, IsNetwork, fresh_port, first_book}
+use Rattle.tp_book.specs.Start.{IsFresh, IsNetwork, first_book}
+use Rattle.tp_port.specs.Ports.{fresh_port}
 use Rattle.tp_book.specs.Kept.{IsRising}
 
 pub map-replicate : {A B : Type 0} (f : A → B) (n : ℕ) (x : A) → map f (replicate n x) ≡ replicate n (f x)

@@ -1,5 +1,4 @@
 pub mod Commit
-pub mod Sending
 pub mod Changes
 pub mod Fields
 pub mod Journalled

@@ -22,13 +22,14 @@ use Rattle.tp_law_network.proofs.Reorder.{after_shape}
 use Rattle.tp_law_network.proofs.Sound.{sound_small}
 use Rattle.tp_law_network.proofs.Room.{length-kinds, on_line-plain}
 use Rattle.tp_law_machine.proofs.LinkLaws.{has_four_links}
-use Rattle.tp_book.specs.declared.parts.PortParts.{PortParts}
+use Rattle.tp_port.specs.declared.parts.PortParts.{PortParts}
 use Rattle.tp_book.specs.declared.state.NetState.{NetState}
 use Rattle.tp_book.specs.declared.book.Book.TheInside.{Inside}
 use Rattle.tp_book.specs.Book.{agreed, nodes_in}
-use Rattle.tp_book.specs.Kept.{Keeps, AreCounted}
-use Rattle.tp_book.specs.Parts.{port_of}
-use Rattle.tp_book.specs.Ports.{opened_port}
+use Rattle.tp_book.specs.Kept.{Keeps}
+use Rattle.tp_port.specs.Counted.{AreCounted}
+use Rattle.tp_port.specs.Parts.{port_of}
+use Rattle.tp_port.specs.Ports.{opened_port}
 use Rattle.tp_book.specs.Inside.{state_of, value_of, IsBook}
 use Rattle.tp_book.specs.Opened.{cut_of, now_of, kept_of, numbers_of, IsOpened, opened_book}
 use Rattle.tp_book.proofs.Fresh.{none_reserved}

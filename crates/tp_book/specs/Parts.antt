@@ -2,13 +2,9 @@
 use Rattle.std.specs.Prelude.{map}
 use Rattle.tp_model.specs.NodeState.{NodeState}
 use Rattle.tp_model.specs.Image.{node_at}
-use Rattle.tp_model.specs.Network.{Port, Network}
-use Rattle.tp_book.specs.declared.parts.PortParts.{PortParts}
+use Rattle.tp_model.specs.Network.{Network}
+use Rattle.tp_port.specs.Parts.{port_of}
 use Rattle.tp_book.specs.declared.parts.NetParts.{NetParts}
-
--- the port that the parts are
-abbrev pub port_of : PortParts → Port
-port_of p = record { pending = p.pending.items; in_base = p.in_base; outputs = p.outputs.items; out_base = p.out_base }
 
 -- the network that the parts are
 abbrev pub network_of : NetParts → Network NodeState

@@ -5,12 +5,8 @@ use Rattle.tp_model.specs.Node.{t414_ends}
 use Rattle.tp_model.specs.Network.{Network}
 use Rattle.tp_model.specs.Sound.{Sound}
 use Rattle.tp_model.specs.declared.limits.TheConstants.{MAX_NODES, MAX_PORTS}
-use Rattle.tp_book.specs.Ports.{PortValue}
+use Rattle.tp_port.specs.Ports.{fresh_port}
 use Rattle.tp_book.specs.Book.{BookValue}
-
--- a port at which nothing has happened
-abbrev pub fresh_port : PortValue
-fresh_port = record { port = record { pending = []; in_base = 0; outputs = []; out_base = 0 }; marks = [] }
 
 -- The network is sound, nothing is under way and nothing has happened at its ports.
 pub record IsFresh (s : Network NodeState) : Type 0 where

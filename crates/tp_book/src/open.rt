@@ -4,9 +4,9 @@ ghost use Rattle.std.specs.Prelude.{◌≡◌, IfOk};
 ghost use Rattle.tp_book.specs.Opened.{IsOpened, opened_book};
 
 use crate::book::Book;
-use crate::fill::{lines_with, ports_with};
 use crate::state::NetState;
 use std::alloc::{AllocError, Global};
+use tp_port::{lines_with, ports_with};
 
 impl Book {
     /// The book of an opened device, on which groups may fill so many bytes; nothing is reserved or made ready.

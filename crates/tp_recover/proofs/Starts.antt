@@ -9,9 +9,9 @@ use Rattle.tp_model.specs.declared.limits.TheConstants.{MAX_HELD}
 use Rattle.tp_model.specs.declared.wire.WireEnd.{WireEnd}
 use Rattle.tp_model.specs.CutImage.{is_line_of}
 use Rattle.tp_model.specs.Spelling.{has_record, are_lines}
-use Rattle.tp_book.specs.declared.parts.PortParts.{PortParts}
-use Rattle.tp_book.specs.Parts.{port_of}
-use Rattle.tp_book.specs.Ports.{PortValue, opened_port}
+use Rattle.tp_port.specs.declared.parts.PortParts.{PortParts}
+use Rattle.tp_port.specs.Parts.{port_of}
+use Rattle.tp_port.specs.Ports.{PortValue, opened_port}
 use Rattle.tp_node.specs.NodeContents.{NodeContents}
 use Rattle.tp_replay.specs.Flat.{network_of}
 use Rattle.tp_recover.specs.declared.cut.Cut.{Cut}

@@ -7,7 +7,7 @@ use Rattle.tp_model.specs.CutImage.{nodes_in, lines_in, ports_in}
 use Rattle.tp_model.specs.Network.{Network, Port}
 use Rattle.tp_model.specs.NodeState.{NodeState}
 use Rattle.tp_model.specs.Results.{◌>>=◌}
-use Rattle.tp_book.specs.Parts.{port_of}
+use Rattle.tp_port.specs.Parts.{port_of}
 use Rattle.tp_recover.specs.declared.cut.Cut.{Cut}
 use Rattle.tp_recover.specs.declared.cut.Places.{Places}
 use Rattle.tp_recover.specs.Nodes.{live}

@@ -12,7 +12,7 @@ ghost use Rattle.tp_model.specs.Opening.{base_of, cut_in, lines_place, nodes_pla
 ghost use Rattle.tp_model.specs.Spelling.{are_lines, IsCut};
 ghost use Rattle.tp_model.specs.Topology.{line_count};
 ghost use Rattle.tp_model.specs.declared.limits.TheConstants.{NUMBER_LIMIT};
-ghost use Rattle.tp_book.specs.Parts.{port_of};
+ghost use Rattle.tp_port.specs.Parts.{port_of};
 ghost use Rattle.tp_recover.specs.Cuts.{cut_network, records_at};
 ghost use Rattle.tp_recover.specs.Lines.{tokens_on};
 ghost use Rattle.tp_recover.specs.Nodes.{live, AreThawed, HaveImages};
@@ -28,13 +28,13 @@ use crate::topology::{MAX_LINES, Topology};
 use crate::unopened::Unopened;
 use std::alloc::{AllocError, Global};
 use tp_area::area_start;
-use tp_book::PortParts;
 use tp_disk::Disk;
 use tp_model::limits::{
     AREA_HEAD_BYTES, BASE_BYTES, HEAD_BYTES, LINE_BYTES, MAX_NODES, MAX_PORTS, PORT_BYTES,
 };
 use tp_model::{OpenFault, Token, WireEnd};
 use tp_node::Node;
+use tp_port::PortParts;
 
 /// A network as a snapshot cut it: its nodes, the tokens on each line, and its ports.
 #[derive(Drop)]

@@ -8,10 +8,10 @@ ghost use Rattle.tp_model.specs.Flight.{is_in_one_place, flights_in};
 ghost use Rattle.tp_recover.specs.Parts.{network_in};
 
 use crate::topology::line_of;
-use tp_book::PortParts;
 use tp_model::limits::{LINE_BYTES, MAX_NODES, MAX_PORTS};
 use tp_model::{OpenFault, Token, WireEnd};
 use tp_node::Node;
+use tp_port::PortParts;
 
 /// How many of the tokens are Data.
 fn datas(tokens: &[Token]) -> usize

@@ -3,7 +3,7 @@
 ghost use Rattle.std.specs.Prelude.{◌≡◌, true, ◌*◌, ◌+◌, ◌≤◌, ◌<◌, ◌^◌, ◌&&◌, IfOk, map, length, take, drop, nat_le};
 ghost use Rattle.std.specs.List.{list_all};
 ghost use Rattle.std.specs.Option.{option_map};
-ghost use Rattle.tp_book.specs.Parts.{port_of};
+ghost use Rattle.tp_port.specs.Parts.{port_of};
 ghost use Rattle.tp_model.specs.Bytes.{u64_at};
 ghost use Rattle.tp_model.specs.CutImage.{is_port_of, or_damaged, port_with, ports_in};
 ghost use Rattle.tp_model.specs.DiskHistory.{Counts};
@@ -14,10 +14,10 @@ use crate::device::read_bytes;
 use crate::number::{u16_at, u64_at};
 use crate::unopened::Unopened;
 use std::alloc::{AllocError, Global};
-use tp_book::PortParts;
 use tp_disk::Disk;
 use tp_model::OpenFault;
 use tp_model::limits::{MAX_HELD, PORT_BYTES};
+use tp_port::PortParts;
 
 /// Where a port's pending bytes and its outputs stand in its record.
 const PENDING_PLACE: usize = 20;

@@ -1,7 +1,7 @@
 //! The network of a cut, before the entries behind it are replayed.
 
 ghost use Rattle.std.specs.Prelude.{◌≡◌, ◌+◌, ◌*◌, ◌≤◌, All, IfOk, vec_len};
-ghost use Rattle.tp_book.specs.Parts.{port_of};
+ghost use Rattle.tp_port.specs.Parts.{port_of};
 ghost use Rattle.tp_model.specs.Device.{content_of};
 ghost use Rattle.tp_model.specs.DiskHistory.{Counts};
 ghost use Rattle.tp_model.specs.declared.limits.TheConstants.{HEAD_BYTES, MAX_HELD};
@@ -17,9 +17,10 @@ use crate::front::{CutFront, read_front};
 use crate::head::Head;
 use crate::unopened::Unopened;
 use std::alloc::{AllocError, Global};
-use tp_book::{CutNetwork, lines_with, ports_with};
+use tp_book::CutNetwork;
 use tp_disk::Disk;
 use tp_model::WireEnd;
+use tp_port::{lines_with, ports_with};
 use tp_replay::{FlatNetwork, Replay};
 
 /// An area before its groups are replayed: the fields in front of its cut, the cut as contracts see it, and the network.

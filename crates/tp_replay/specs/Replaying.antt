@@ -4,7 +4,7 @@ use Rattle.tp_model.specs.declared.entry.Entry.{Entry}
 use Rattle.tp_model.specs.declared.limits.TheConstants.{NUMBER_LIMIT}
 use Rattle.tp_model.specs.NodeState.{NodeState}
 use Rattle.tp_model.specs.Replay.{Replay}
-use Rattle.tp_book.specs.Kept.{AreCounted}
+use Rattle.tp_port.specs.Counted.{AreCounted}
 use Rattle.tp_book.specs.declared.note.Numbered.{Numbered}
 use Rattle.tp_replay.specs.declared.replaying.Replay.TheInside.{Inside}
 

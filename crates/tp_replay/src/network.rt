@@ -4,10 +4,10 @@ ghost use Rattle.std.specs.Prelude.{◌≡◌, ◌≤◌, ◌+◌, ◌*◌, leng
 ghost use Rattle.tp_replay.specs.Flat.{IsFlat, AreThawed, network_of};
 
 use std::marker::Model;
-use tp_book::HostPort;
 use tp_model::WireEnd;
 use tp_net::Lines;
 use tp_node::Node;
+use tp_port::HostPort;
 
 /// A network in one thread: its wires, nodes, lines and ports. No node is frozen.
 #[derive(Drop)]

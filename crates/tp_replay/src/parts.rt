@@ -3,15 +3,16 @@
 ghost use Rattle.std.specs.Prelude.{◌≡◌, ◌<◌, IfOk, Some, length, map};
 ghost use Rattle.tp_model.specs.Image.{node_of};
 ghost use Rattle.tp_model.specs.Network.{on_line};
-ghost use Rattle.tp_book.specs.Parts.{network_of, port_of};
+ghost use Rattle.tp_book.specs.Parts.{network_of};
 ghost use Rattle.tp_replay.specs.PartsOf.{ArePartsOf};
 
 use crate::image::images_of;
 use crate::network::FlatNetwork;
 use std::alloc::{AllocError, Global};
-use tp_book::{HostPort, NetParts, PortParts};
+use tp_book::NetParts;
 use tp_model::Token;
 use tp_net::Lines;
+use tp_port::all_parts;
 
 /// The tokens on a line.
 fn tokens_on(alloc: Global, lines: &Lines, line: usize) -> Result<Vec<Token>, AllocError>
@@ -36,29 +37,6 @@ fn all_tokens(alloc: Global, lines: &Lines) -> Result<Vec<Vec<Token>>, AllocErro
         tokens.push(tokens_on(alloc, lines, line)?)?;
     }
     Ok(tokens)
-}
-
-/// A port as its parts.
-fn parts_of(alloc: Global, port: &HostPort) -> Result<PortParts, AllocError>
-    ensures { IfOk result (λ parts. port_of parts ≡ port.now.port) }
-{
-    Ok(PortParts {
-        pending: Vec::from_slice(alloc, port.pending())?,
-        in_base: port.in_base(),
-        outputs: Vec::from_slice(alloc, port.outputs())?,
-        out_base: port.out_base(),
-    })
-}
-
-/// Each port as its parts.
-fn all_parts(alloc: Global, ports: &[HostPort]) -> Result<Vec<PortParts>, AllocError>
-    ensures { IfOk result (λ parts. map port_of parts.items ≡ map (λ port. port.port) ports.now) }
-{
-    let mut parts = Vec::new(alloc);
-    for i in 0..ports.len() {
-        parts.push(parts_of(alloc, &ports[i])?)?;
-    }
-    Ok(parts)
 }
 
 impl FlatNetwork {

@@ -10,8 +10,8 @@ ghost use Rattle.tp_replay.specs.Answers.{Applies, Leaves};
 use crate::fault::NotPossible;
 use crate::network::FlatNetwork;
 use arrayvec::ArrayVec;
-use tp_book::send_all;
 use tp_model::limits::MAX_STEPS;
+use tp_port::send_all;
 
 impl FlatNetwork {
     /// A node makes so many steps. Where it can't, it has made as many as it can.

@@ -14,10 +14,10 @@ ghost use Rattle.tp_replay.specs.Flat.{CanCount};
 use crate::fault::NotPossible;
 use crate::front::{can_take, stands_in_front};
 use crate::network::FlatNetwork;
-use tp_book::send_some;
 use tp_law_machine::carries_byte;
 use tp_model::{Token, WireEnd};
 use tp_node::NoFrame;
+use tp_port::send_some;
 
 impl FlatNetwork {
     /// The receiver of a line takes the token in front.

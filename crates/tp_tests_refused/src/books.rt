@@ -7,8 +7,9 @@ ghost use Rattle.tp_turn.specs.Tried.{lone_network};
 ghost use Rattle.tp_tests_refused.specs.Usable.{IsLone, IsUsable};
 
 use std::alloc::{AllocError, Global};
-use tp_book::{Book, NetParts, PortParts, Refusal};
+use tp_book::{Book, NetParts, Refusal};
 use tp_model::{Token, WireEnd};
+use tp_port::PortParts;
 use tp_turn::try_turns;
 
 /// Line 0 leads to the port, line 4 to the link, and links 1 to 3 have no wire.

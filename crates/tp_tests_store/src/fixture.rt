@@ -7,7 +7,8 @@ ghost use Rattle.tp_book.specs.Opened.{IsOpened};
 ghost use Rattle.tp_tests_store.specs.Lone.{lone_network, IsUsable};
 
 use std::alloc::{AllocError, Global};
-use tp_book::{Book, CutNetwork, NetParts, NetState, PortParts};
+use tp_book::{Book, CutNetwork, NetParts, NetState};
+use tp_port::PortParts;
 
 /// Its parts: the outputs are the letters "hi".
 fn parts(alloc: Global) -> Result<NetParts, AllocError>

@@ -15,11 +15,12 @@ use Rattle.tp_law_network.proofs.Reorder.{after_one}
 use Rattle.tp_law_machine.proofs.Partial.{slice_get-set_same}
 use Rattle.tp_book.specs.Book.{BookValue, agreed}
 use Rattle.tp_book.specs.Kept.{Keeps}
-use Rattle.tp_book.specs.Calls.{on_lines, answer_from, front_of, with_ready, after_take, TakeIsAgreed, HasTaken}
+use Rattle.tp_book.specs.Calls.{front_of, with_ready, after_take, TakeIsAgreed, HasTaken}
+use Rattle.tp_port.specs.Sends.{on_lines, answer_from}
 use Rattle.tp_book.specs.Refusals.{takeable_of, else_if, entry_refusal, ready_refusal, IsAnswer}
 use Rattle.tp_book.specs.declared.refusal.Refusal.TheVariants.{NothingToTake, StoreBroken}
 use Rattle.tp_book.proofs.Commit.{Change, change_leads}
-use Rattle.tp_book.proofs.Sending.{answer_on}
+use Rattle.tp_port.proofs.Sending.{answer_on}
 use Rattle.tp_book.proofs.Changes.{take_change}
 use Rattle.tp_turn.specs.Turns.{TookSo}
 use Rattle.tp_turn.specs.Books.{network_of, Grew, Did}

@@ -13,7 +13,8 @@ use Rattle.tp_law_network.proofs.Reorder.{after_one}
 use Rattle.tp_law_machine.proofs.Partial.{slice_get-set_same}
 use Rattle.tp_book.specs.Book.{BookValue, agreed}
 use Rattle.tp_book.specs.Kept.{Keeps}
-use Rattle.tp_book.specs.Calls.{on_lines, with_run, without_run, after_run, with_journalled, HasRun, RunIsAgreed}
+use Rattle.tp_book.specs.Calls.{with_run, without_run, after_run, with_journalled, HasRun, RunIsAgreed}
+use Rattle.tp_port.specs.Sends.{on_lines}
 use Rattle.tp_book.proofs.Changes.{run_change}
 use Rattle.tp_turn.specs.Turns.{RanOn}
 use Rattle.tp_turn.specs.Books.{network_of, Grew, Did}

@@ -6,9 +6,9 @@ ghost use Rattle.tpnet.specs.Shown.{area_number, head_line, next_line, node_line
 
 use std::alloc::{AllocError, Global};
 use std::fmt::Write;
-use tp_book::HostPort;
 use tp_model::Fault;
 use tp_node::Node;
+use tp_port::HostPort;
 use tp_replay::FlatNetwork;
 
 /// What is said of a device beside its network: the bytes of an area, which one is open, its generation, the entries in its

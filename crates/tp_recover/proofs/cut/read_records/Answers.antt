@@ -1,7 +1,7 @@
 use Rattle.std.proofs.Common.{◌≡◌, ◌∙◌, ap, sym, rules, Err, Ok, drop, map}
 use Rattle.tp_model.specs.CutImage.{nodes_in, lines_in, ports_in}
 use Rattle.tp_model.specs.Spelling.{are_lines}
-use Rattle.tp_book.specs.Parts.{port_of}
+use Rattle.tp_port.specs.Parts.{port_of}
 use Rattle.tp_recover.specs.Cuts.{cut_network, wired}
 use Rattle.tp_recover.specs.Lines.{tokens_on}
 use Rattle.tp_recover.specs.Nodes.{live}

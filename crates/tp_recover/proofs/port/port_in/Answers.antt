@@ -1,5 +1,5 @@
 use Rattle.std.proofs.Common.{◌∙◌, sym}
-use Rattle.tp_book.specs.Parts.{port_of}
+use Rattle.tp_port.specs.Parts.{port_of}
 use Rattle.tp_recover.proofs.Ports.{port_with-copied, held_few, shown_few}
 use Rattle.tp_recover.proofs.port.port_in.Goals as goal
 

@@ -1,6 +1,6 @@
 use Rattle.std.proofs.Common.{◌∙◌, sym, ap, length}
 use Rattle.std.specs.Option.{option_map}
-use Rattle.tp_book.specs.Parts.{port_of}
+use Rattle.tp_port.specs.Parts.{port_of}
 use Rattle.tp_model.specs.CutImage.{or_damaged}
 use Rattle.tp_recover.proofs.Passing.{found_is}
 use Rattle.tp_recover.proofs.Ports.{port_read}

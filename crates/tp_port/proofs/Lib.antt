@@ -1,0 +1,4 @@
+pub mod Lists
+pub mod Owns
+pub mod Sending
+pub mod Counted

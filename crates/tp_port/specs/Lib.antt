@@ -1,0 +1,5 @@
+pub mod Parts
+pub mod Ports
+pub mod Room
+pub mod Sends
+pub mod Counted

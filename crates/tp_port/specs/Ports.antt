@@ -1,0 +1,41 @@
+-- Ports as the book holds them.
+use Rattle.std.specs.Prelude.{◌≡◌, ℕ, List, [], ◌∷◌, ◌++◌, length, set, get_or, replicate, Option, Some, option_to_list}
+use Rattle.tp_model.specs.declared.link.Token.{Token}
+use Rattle.tp_model.specs.declared.link.Token.TheVariants.{Data, Ack, Marker}
+use Rattle.tp_model.specs.Network.{Port}
+use Rattle.tp_model.specs.Entries.{port_took}
+
+-- A port, and for each of its outputs the least mark that shows it: one more than the number of the entry that made it.
+-- What the opened state held is shown by every mark.
+pub record PortValue : Type 0 where
+  pub port : Port
+  pub marks : List ℕ
+
+-- a port at which nothing has happened
+abbrev pub fresh_port : PortValue
+fresh_port = record { port = record { pending = []; in_base = 0; outputs = []; out_base = 0 }; marks = [] }
+
+-- the marks after a token was taken whose output this mark shows
+abbrev pub marks_after : Token → List ℕ → ℕ → List ℕ
+marks_after (Data b) marks mark = marks ++ mark ∷ []
+marks_after Ack marks mark = marks
+marks_after Marker marks mark = marks
+
+-- a port of an opened state
+abbrev pub opened_port : Port → PortValue
+opened_port port = record { port = port; marks = replicate (length port.outputs) 0 }
+
+-- the port can take the token
+pub record CanTake (port : Port) (token : Token) : Type 0 where
+  pub after : Port × List Token
+  pub is : port_took token port ≡ Some after
+
+-- a port of a list, or one at which nothing has happened
+abbrev pub port_value : List PortValue → ℕ → PortValue
+port_value ports port = get_or ports port (record { port = record { pending = []; in_base = 0; outputs = []; out_base = 0 }; marks = [] })
+
+-- A port of a list took a token, whose output this mark shows, and answered; the others are as they were.
+pub record TookAt (old new : List PortValue) (port : ℕ) (token : Token) (mark : ℕ) (answer : Option Token) : Type 0 where
+  pub after : Port
+  pub took : port_took token (port_value old port).port ≡ Some (after, option_to_list answer)
+  pub is : new ≡ set old port (record { port = after; marks = marks_after token (port_value old port).marks mark })
