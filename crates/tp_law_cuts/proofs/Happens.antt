@@ -1,13 +1,14 @@
 -- Each act keeps what holds, and so a whole cut is always what it should be.
-use Rattle.std.proofs.Common.{◌≡◌, ℕ, ◌<◌, true, false, List, [], ◌∷◌, length, sym, subst, ◌∙◌, Option, Some, None}
+use Rattle.std.proofs.Common.{◌≡◌, ℕ, ◌<◌, true, false, List, [], ◌∷◌, ◌++◌, length, sym, subst, ◌∙◌, Option, Some, None}
 use Rattle.std.specs.Option.{option_map}
 use Rattle.tp_model.specs.declared.link.Token.TheVariants.{Marker}
 use Rattle.tp_model.specs.declared.entry.Entry.{Entry}
 use Rattle.tp_model.specs.Network.{Machine, Network, on_line, is_first}
 use Rattle.tp_model.specs.Entries.{process, takes, HasFourLinks}
-use Rattle.tp_model.specs.Markers.{NeverMarks}
+use Rattle.tp_model.specs.Order.{after, pre, post}
+use Rattle.tp_model.specs.Markers.{NeverMarks, plain_network}
 use Rattle.tp_model.specs.Snapshot.{Snapshot, MarkedNetwork, has_recorded, taker, collected, begun, recorded, journalled, line_closed, host_markers, node_markers}
-use Rattle.tp_model.specs.WholeCut.{WholeCut, all_some, whole, IsWhole}
+use Rattle.tp_model.specs.WholeCut.{WholeCut, count_in, all_some, whole, IsWhole}
 use Rattle.tp_model.specs.Acts.{Act, Begin, Record, Journal, Close, Trim, happens, acted, IsOpened, CutHolds}
 use Rattle.tp_law_network.proofs.Partial.{bind_some}
 use Rattle.tp_law_network.proofs.Local.{Step, step_of}
@@ -92,3 +93,12 @@ module _ {Node : Type 0} (M : Machine Node) (four : HasFourLinks M) (never : Nev
   -- and there is one exactly where a snapshot runs, all have recorded and each Marker was taken.
   pub whole_after : ((cut : WholeCut) → whole v ≡ Some cut → IsWhole v) × (IsWhole v → (cut : WholeCut) × (whole v ≡ Some cut))
   whole_after = (whole_only M v holds_after, whole_there M v holds_after)
+
+  -- The book's entries lead to the network as it is, in their own order
+  pub leads_after : after M v.start v.entries ≡ Some (plain_network v.live)
+  leads_after = holds_after.base.now
+
+  -- and in that of a whole cut.
+  pub both_after : (cut : WholeCut) → whole v ≡ Some cut
+      → after M v.start (pre (process v.start) (count_in cut) v.entries ++ post (process v.start) (count_in cut) v.entries) ≡ Some (plain_network v.live)
+  both_after cut is = let C = cut_after cut is in C.same ∙ leads_after

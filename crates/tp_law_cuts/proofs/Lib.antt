@@ -13,3 +13,4 @@ pub mod Happens
 pub mod Stays
 pub mod Halves
 pub mod Room
+pub mod Until

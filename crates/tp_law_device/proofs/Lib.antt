@@ -2,6 +2,7 @@ pub mod AreaReads
 pub mod Chosen
 pub mod Contents
 pub mod Cuts
+pub mod CutsAreSound
 pub mod Faults
 pub mod Formattable
 pub mod Formatted
@@ -22,4 +23,6 @@ pub mod SpeltAreas
 pub mod SpeltCuts
 pub mod Stand
 pub mod Switches
+pub mod UnmarkedLines
+pub mod Verdicts
 pub mod Wires

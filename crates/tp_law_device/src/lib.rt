@@ -2,26 +2,29 @@
 //! nothing; their contracts are the laws.
 #![tactic(auto)]
 
-ghost use Rattle.std.specs.Prelude.{◌≡◌, ◌≤◌, ◌<◌, ◌+◌, ◌^◌, ℕ, true, List, [], Some, Ok, length, take};
+ghost use Rattle.std.specs.Prelude.{◌≡◌, ◌≤◌, ◌<◌, ◌+◌, ◌^◌, ℕ, true, List, [], Some, Ok, length, map, take};
 ghost use Rattle.tp_model.specs.declared.entry.Entry.{Entry};
 ghost use Rattle.tp_model.specs.declared.limits.TheConstants.{HEAD_BYTES};
 ghost use Rattle.tp_model.specs.NodeState.{NodeState};
 ghost use Rattle.std.specs.List.{AllByRecursion};
 ghost use Rattle.tp_model.specs.Node.{t414, t414_ends};
-ghost use Rattle.tp_model.specs.Network.{Machine, Network};
-ghost use Rattle.tp_model.specs.Entries.{next};
-ghost use Rattle.tp_model.specs.Order.{AreIndependent};
+ghost use Rattle.tp_model.specs.Network.{Machine, Network, on_line};
+ghost use Rattle.tp_model.specs.Entries.{next, process};
+ghost use Rattle.tp_model.specs.Order.{after, AreIndependent, post};
+ghost use Rattle.tp_model.specs.CutOrder.{HasOrder};
+ghost use Rattle.tp_model.specs.Markers.{markers, plain_network};
 ghost use Rattle.tp_model.specs.Topology.{Topology, is_topology};
 ghost use Rattle.tp_model.specs.Device.{fits};
 ghost use Rattle.tp_model.specs.Head.{head_bytes, head_of};
 ghost use Rattle.tp_model.specs.Format.{start_of};
 ghost use Rattle.tp_model.specs.Journal.{is_roomy};
-ghost use Rattle.tp_model.specs.Opening.{Opened, StandsFor, verdict};
+ghost use Rattle.tp_model.specs.Opening.{Opened, StandsFor, held_of, verdict};
+ghost use Rattle.tp_model.specs.OpensTo.{OpensTo, book_of};
 ghost use Rattle.tp_model.specs.Spelling.{Stands};
 ghost use Rattle.tp_law_device.specs.FormattedWorld.{formatted_world, WasFormatted};
-ghost use Rattle.tp_model.specs.Sound.{Ends};
+ghost use Rattle.tp_model.specs.Sound.{Ends, Sound};
 ghost use Rattle.tp_model.specs.Snapshot.{MarkedNetwork};
-ghost use Rattle.tp_model.specs.WholeCut.{WholeCut, whole, IsWhole};
+ghost use Rattle.tp_model.specs.WholeCut.{WholeCut, count_in, whole, IsWhole};
 ghost use Rattle.tp_model.specs.Acts.{Act, acted, IsOpened, CutHolds};
 ghost use Rattle.tp_model.specs.Disk.{MayBe};
 ghost use Rattle.tp_model.specs.Areas.{AreasHold, next_number};
@@ -39,7 +42,9 @@ pub fn areas_hold()
 
 /// After each run over a device that was formatted, whatever a crash leaves stands for the network after a prefix of the
 /// journal, and the prefix has each entry below a mark that was ever read. Opening it goes on with the run. What the
-/// journal has below the mark at some moment, it has at each later one.
+/// journal has below the mark at some moment, it has at each later one. In one sentence: whatever a crash leaves opens, and
+/// opening answers the network after the first entries of the journal, as many as its next number says, each entry below a
+/// mark that was ever read among them.
 pub fn crashes_hold()
     ensures recovers { (start : Network NodeState) (events : List (Event NodeState)) (first last : World NodeState)
         → IsFormatted t414 device_areas start first → Run t414 device_areas first events last
@@ -49,6 +54,9 @@ pub fn crashes_hold()
         → (w.mark ≤ last.mark) × (take w.mark last.journal ≡ take w.mark w.journal) }
     ensures goes_on { (start : Network NodeState) (last : World NodeState) (bytes : List ℕ) → MayBe last.disk bytes → (r : Recovers t414 device_areas start last bytes)
         → Step t414 device_areas last (Reopens bytes r.held r.now) (reopened last bytes r.held r.now) }
+    ensures opens { (start : Network NodeState) (events : List (Event NodeState)) (first last : World NodeState)
+        → IsFormatted t414 device_areas start first → Run t414 device_areas first events last
+        → (bytes : List ℕ) → MayBe last.disk bytes → OpensTo start last bytes }
 {}
 
 /// The whole theorem, over a device that was formatted. Neighbours that are independent may be swapped; each whole cut is
@@ -103,8 +111,49 @@ pub fn devices_can_be_formatted()
 {}
 
 /// Opening answers exactly what is spelt: a device that has a head, an open area of highest generation, a cut and groups with
-/// a closed gate behind them opens as those, and a device that opens so is spelt so.
+/// a closed gate behind them opens as those, and a device that opens so is spelt so. Whatever the bytes, the entries that are
+/// kept lead from the kept cut to the network that is answered.
 pub fn opening_is_exact()
     ensures spelt { (bytes : List ℕ) (o : Opened) → Stands t414 t414_ends bytes o → verdict bytes ≡ Ok o }
     ensures read { (bytes : List ℕ) (o : Opened) → AllByRecursion (λ byte. byte < 256) bytes → verdict bytes ≡ Ok o → Stands t414 t414_ends bytes o }
+    ensures leads { (bytes : List ℕ) (o : Opened) → verdict bytes ≡ Ok o → after t414 o.cut (map (λ e. e.0) o.kept) ≡ Some o.now }
+{}
+
+/// Whatever the bytes of a device that opens: its kept cut and the network that is answered are sound; and the book that goes
+/// on from it, as a run goes on with it, is one that the law of cuts speaks of.
+pub fn openings_begin()
+    ensures sound { (bytes : List ℕ) (o : Opened) → verdict bytes ≡ Ok o → Sound t414_ends o.cut × Sound t414_ends o.now }
+    ensures book { (bytes : List ℕ) (o : Opened) → verdict bytes ≡ Ok o → IsOpened t414 (book_of o) }
+    ensures run { (w : World NodeState) (bytes : List ℕ) (o : Opened) → (reopened w bytes (held_of o) o.now).net ≡ book_of o }
+{}
+
+/// At each moment of a run over a device that was formatted, the journal is possible from the start on and leads to the network
+/// as it is, its Markers left out; so do the entries since the kept cut. There is at most one Marker on a line; a network
+/// that was sound at the start is sound, and then a line has at most three tokens.
+pub fn histories_hold()
+    ensures journal { (start : Network NodeState) (events : List (Event NodeState)) (first last : World NodeState)
+        → IsFormatted t414 device_areas start first → Run t414 device_areas first events last → after t414 start last.journal ≡ Some (plain_network last.net.live) }
+    ensures kept { (start : Network NodeState) (events : List (Event NodeState)) (first last : World NodeState)
+        → IsFormatted t414 device_areas start first → Run t414 device_areas first events last → after t414 last.net.start last.net.entries ≡ Some (plain_network last.net.live) }
+    ensures markers { (start : Network NodeState) (events : List (Event NodeState)) (first last : World NodeState)
+        → IsFormatted t414 device_areas start first → Run t414 device_areas first events last → (line : ℕ) → markers (on_line last.net.live.lines line) ≤ 1 }
+    ensures sound { (start : Network NodeState) (events : List (Event NodeState)) (first last : World NodeState)
+        → IsFormatted t414 device_areas start first → Run t414 device_areas first events last → Sound t414_ends start → Sound t414_ends last.net.live }
+    ensures room { (start : Network NodeState) (events : List (Event NodeState)) (first last : World NodeState)
+        → IsFormatted t414 device_areas start first → Run t414 device_areas first events last → Sound t414_ends start
+        → (line : ℕ) → length (on_line last.net.live.lines line) ≤ 3 }
+{}
+
+/// Over any number of checkpoints, crashes and openings: the base of the kept cut is the number of entries in it since the start,
+/// and these with the entries since are an order of the whole journal, got by swapping independent neighbours. So it is of a
+/// cut that is whole; and there is a whole cut exactly where a snapshot runs, all have recorded and each Marker was taken.
+pub fn cuts_are_orders()
+    ensures kept { (start : Network NodeState) (events : List (Event NodeState)) (first last : World NodeState)
+        → IsFormatted t414 device_areas start first → Run t414 device_areas first events last → HasOrder t414 start last.journal last.net.start last.net.entries last.base }
+    ensures cut { (start : Network NodeState) (events : List (Event NodeState)) (first last : World NodeState)
+        → IsFormatted t414 device_areas start first → Run t414 device_areas first events last → (cut : WholeCut) → (c : CutHolds t414 last.net cut)
+        → HasOrder t414 start last.journal c.consistent.state (post (process last.net.start) (count_in cut) last.net.entries) (last.base + cut.size) }
+    ensures whole { (start : Network NodeState) (events : List (Event NodeState)) (first last : World NodeState)
+        → IsFormatted t414 device_areas start first → Run t414 device_areas first events last
+        → ((cut : WholeCut) → whole last.net ≡ Some cut → IsWhole last.net) × (IsWhole last.net → (cut : WholeCut) × (whole last.net ≡ Some cut)) }
 {}

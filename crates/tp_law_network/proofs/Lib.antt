@@ -1,12 +1,13 @@
 pub mod Choice
+pub mod Counted
 pub mod Flight
 pub mod InPlace
 pub mod Lines
-pub mod Marks
-pub mod Room
-pub mod Sound
 pub mod Local
+pub mod Marks
 pub mod Partial
 pub mod Plain
 pub mod Reorder
+pub mod Room
+pub mod Sound
 pub mod Swap

@@ -2,12 +2,15 @@
 //! their contracts are laws of networks of this machine's nodes.
 #![tactic(auto)]
 
-ghost use Rattle.std.specs.Prelude.{◌≡◌, ◌≤◌, ◌+◌, ℕ, List, length};
+ghost use Rattle.std.specs.Prelude.{◌≡◌, ◌≤◌, ◌+◌, ℕ, List, Some, length, slice_get};
+ghost use Rattle.std.specs.List.{count_by};
 ghost use Rattle.tp_model.specs.declared.link.Token.{Token};
 ghost use Rattle.tp_model.specs.declared.entry.Entry.{Entry};
 ghost use Rattle.tp_model.specs.NodeState.{NodeState};
-ghost use Rattle.tp_model.specs.Network.{Network, steps, on_line};
+ghost use Rattle.tp_model.specs.Network.{Network, Port, steps, on_line};
 ghost use Rattle.tp_model.specs.Entries.{next};
+ghost use Rattle.tp_model.specs.Order.{after};
+ghost use Rattle.tp_model.specs.Counted.{accepted, came_out, is_input, is_output};
 ghost use Rattle.tp_model.specs.Sound.{Sound, datas, acks};
 ghost use Rattle.tp_model.specs.Markers.{markers};
 ghost use Rattle.tp_model.specs.Node.{t414, t414_ends};
@@ -22,4 +25,12 @@ pub fn entries_keep_soundness()
 /// However many steps a run has, it sends at most eight tokens: a Data and an Ack on each link.
 pub fn runs_send_few()
     ensures { (count : ℕ) (node : NodeState) (last : NodeState × List (ℕ × Token)) → steps t414 count node ≡ Some last → length last.1 ≤ 8 }
+{}
+
+/// A port's accepted number is how many bytes the host handed to it, and what came out of it how many bytes it took: after any
+/// entries each has grown by the entries of its kind.
+pub fn ports_count_entries()
+    ensures { (s t : Network NodeState) (es : List Entry) → after t414 s es ≡ Some t → (p : ℕ) (port : Port) → slice_get s.ports p ≡ Some port
+        → (later : Port) × (slice_get t.ports p ≡ Some later)
+        × (accepted later ≡ accepted port + count_by (is_input p) es) × (came_out later ≡ came_out port + count_by (is_output s.wires p) es) }
 {}

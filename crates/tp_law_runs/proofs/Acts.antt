@@ -29,6 +29,7 @@ module _ {Node : Type 0} (M : Machine Node) (A : Areas Node) (start : Network No
     parts = ap (λ es. es ++ e ∷ []) s.parts ∙ append_assoc s.first s.rest (e ∷ []);
     count = s.count;
     exact = s.exact;
+    order = s.order;
     no_less = s.no_less;
   }
 

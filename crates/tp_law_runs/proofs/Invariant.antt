@@ -8,6 +8,7 @@ use Rattle.tp_model.specs.Disk.{MayBe}
 use Rattle.tp_model.specs.Areas.{Areas, Held}
 use Rattle.tp_model.specs.WriteOrder.{Position, Resting, Body, Ready, Gate, Cleared, Tail, Opening, Opened, Broken}
 use Rattle.tp_model.specs.Runs.{World}
+use Rattle.tp_model.specs.CutOrder.{HasOrder}
 use Rattle.tp_law_cuts.proofs.Invariant.{Holds}
 use Rattle.tp_law_runs.specs.Standing.{Rests, Bodied, Readied, Gated, Clearing, Switching}
 use Rattle.tp_law_runs.proofs.Prefix.{Stands, Kept, Copied, held_of}
@@ -44,11 +45,13 @@ At M A start w (Opening copy upto) = WithKept M start w (λ h. Switching A h w.d
 At M A start w (Opened copy upto) = (A.verdict w.disk.bytes ≡ Some copy) × (w.disk.unsynced ≡ []) × CopiedOf M start w copy upto × (w.backlog ≡ []) × (w.stored ≡ upto)
 At M A start w Broken = (left : List ℕ) → MayBe w.disk left → Reads M A start w.journal w.stored left
 
--- The marker argument holds of the network with its book; the book's entries lead where the journal leads; the mark is
--- no more than what the synced gates reach, and each mark that was read no more than the mark.
+-- The marker argument holds of the network with its book; the book's entries lead where the journal leads, and with the
+-- entries in the kept cut they are an order of it; the mark is no more than what the synced gates reach, and each mark
+-- that was read no more than the mark.
 pub record Inv {Node : Type 0} (M : Machine Node) (A : Areas Node) (start : Network Node) (w : World Node) : Type 0 where
   pub net : Holds M w.net
   pub agree : after M w.net.start w.net.entries ≡ after M start w.journal
+  pub order : HasOrder M start w.journal w.net.start w.net.entries w.base
   pub mark : w.mark ≤ w.stored
   pub seen : AllByRecursion (λ r. r ≤ w.mark) w.seen
   pub at : At M A start w w.at

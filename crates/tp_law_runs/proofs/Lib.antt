@@ -1,8 +1,10 @@
 pub mod Acknowledged
 pub mod Acts
 pub mod Device
+pub mod History
 pub mod Invariant
 pub mod Moments
+pub mod Orders
 pub mod Planned
 pub mod Prefix
 pub mod Runs
@@ -12,3 +14,4 @@ pub mod SmallRun
 pub mod Stay
 pub mod Steps
 pub mod Switch
+pub mod Walks

@@ -7,9 +7,11 @@ use Rattle.tp_model.specs.Entries.{process}
 use Rattle.tp_model.specs.Order.{after, Cut, pre, post, made}
 use Rattle.tp_model.specs.Snapshot.{Snapshot}
 use Rattle.tp_model.specs.Areas.{Held, next_number, with_more, ArePossible}
+use Rattle.tp_model.specs.CutOrder.{HasOrder}
 use Rattle.tp_law_network.proofs.Choice.{length-pre-post}
 use Rattle.tp_law_network.proofs.Reorder.{after_front, front_possible, same_behind}
 use Rattle.tp_law_cuts.proofs.Stays.{HasCounts}
+use Rattle.tp_law_runs.proofs.Orders.{order_behind}
 
 -- What is held leads where the first entries of the journal lead, as many as its number says, and these are no fewer
 -- than `least`.
@@ -19,6 +21,7 @@ pub record Stands {Node : Type 0} (M : Machine Node) (start : Network Node) (jou
   pub parts : journal ≡ first ++ rest
   pub count : length first ≡ next_number h
   pub exact : after M h.network h.entries ≡ after M start first
+  pub order : HasOrder M start first h.network h.entries h.base
   pub no_less : least ≤ length first
 
 -- How the book's entries lie to the journal. Up to where the tail of the kept cut reached they are others, which lead
@@ -32,6 +35,7 @@ pub record Kept {Node : Type 0} (M : Machine Node) (start kept : Network Node) (
   pub all : journal ≡ front ++ (durable ++ (backlog ++ rest))
   pub count : length front ≡ base + length tail
   pub exact : after M kept tail ≡ after M start front
+  pub order : HasOrder M start front kept tail base
   pub reach : stored ≡ length front + length durable
 
 -- what the device then stands for
@@ -59,6 +63,7 @@ pub record Copied {Node : Type 0} (M : Machine Node) (start kept : Network Node)
   pub tail : copy.entries ≡ post (process kept) (in_counts counts) before
   pub size : copy.base ≡ base + length (pre (process kept) (in_counts counts) before)
   pub same : after M kept (pre (process kept) (in_counts counts) before ++ post (process kept) (in_counts counts) before) ≡ after M start first
+  pub order : HasOrder M start first copy.network copy.entries copy.base
   pub no_less : stored ≤ length first
 
 module _ {Node : Type 0} (M : Machine Node) (start kept : Network Node) (entries : List Entry) (base : ℕ) (journal : List Entry) (stored : ℕ) where
@@ -71,6 +76,7 @@ module _ {Node : Type 0} (M : Machine Node) (start kept : Network Node) (entries
     parts = K.all ∙ sym (append_assoc K.front K.durable (backlog ++ K.rest));
     count = let c = K.count in omega (arith, length-append K.front K.durable, length-append K.tail K.durable);
     exact = same_behind M kept start K.tail K.front K.durable K.exact;
+    order = order_behind M start K.front K.tail kept base K.durable K.order;
     no_less = let r = K.reach in omega (arith, length-append K.front K.durable);
   }
 
@@ -93,6 +99,7 @@ module _ {Node : Type 0} (M : Machine Node) (start kept : Network Node) (entries
       parts = K.all ∙ parts_with_group K.front K.durable es more K.rest backlog begins;
       count = let c = K.count in omega (arith, length-append (K.front ++ K.durable) es, length-append K.front K.durable, length-append (K.tail ++ K.durable) es, length-append K.tail K.durable);
       exact = same_behind M kept start (K.tail ++ K.durable) (K.front ++ K.durable) es (same_behind M kept start K.tail K.front K.durable K.exact);
+      order = order_behind M start (K.front ++ K.durable) (K.tail ++ K.durable) kept base es (order_behind M start K.front K.tail kept base K.durable K.order);
       no_less = let r = K.reach in omega (arith, length-append (K.front ++ K.durable) es, length-append K.front K.durable);
     }
 
@@ -116,6 +123,7 @@ module _ {Node : Type 0} (M : Machine Node) (start kept : Network Node) (entries
         all = K.all ∙ parts_with_group K.front K.durable es more K.rest backlog begins ∙ regroup K.front;
         count = K.count;
         exact = K.exact;
+        order = K.order;
         reach = let r = K.reach in omega (arith, length-append K.durable es);
       },
       subst P (ap (λ xs. record { network = kept; entries = xs; base = base }) (append_assoc K.tail K.durable es)) p,
@@ -144,6 +152,7 @@ module _ {Node : Type 0} (M : Machine Node) (start kept : Network Node) (entries
       all = ap (λ es. es ++ e ∷ []) K.all ∙ regroup K.front;
       count = K.count;
       exact = K.exact;
+      order = K.order;
       reach = K.reach;
     },
     p,
@@ -169,6 +178,7 @@ module _ {Node : Type 0} (M : Machine Node) (start kept : Network Node) (entries
           all = K.all ∙ ap (λ ys. K.front ++ (K.durable ++ ys)) (sym (append-nil (backlog ++ K.rest)));
           count = K.count;
           exact = K.exact;
+          order = K.order;
           reach = K.reach;
         },
         p,
@@ -184,7 +194,7 @@ module _ {Node : Type 0} (M : Machine Node) (start kept : Network Node) (entries
   pub forget_kept : (backlog : List Entry) (P : Held Node → Type 0) → (K : Kept M start kept entries base journal stored backlog) → P (held_of kept K.tail K.durable base)
       → (L : Kept M start kept entries base journal stored []) × P (held_of kept L.tail L.durable base)
   forget_kept backlog P K p = (
-    record { front = K.front; tail = K.tail; durable = K.durable; rest = backlog ++ K.rest; own = K.own; all = K.all; count = K.count; exact = K.exact; reach = K.reach },
+    record { front = K.front; tail = K.tail; durable = K.durable; rest = backlog ++ K.rest; own = K.own; all = K.all; count = K.count; exact = K.exact; order = K.order; reach = K.reach },
     p,
   )
 
@@ -205,7 +215,7 @@ module _ {Node : Type 0} (M : Machine Node) (start kept : Network Node) (entries
         omega (arith, ap length C.tail, length-pre-post (process kept) (in_counts C.counts) C.before)
 
     pub copied_stands : Stands M start journal stored copy
-    copied_stands = record { first = C.first; rest = C.since; parts = C.all; count = copied_count; exact = copied_exact; no_less = C.no_less }
+    copied_stands = record { first = C.first; rest = C.since; parts = C.all; count = copied_count; exact = copied_exact; order = C.order; no_less = C.no_less }
 
     pub copied_grows : (e : Entry) → Copied M start kept (entries ++ e ∷ []) base (journal ++ e ∷ []) stored snapshot copy upto
     copied_grows e = record {
@@ -223,6 +233,7 @@ module _ {Node : Type 0} (M : Machine Node) (start kept : Network Node) (entries
       tail = C.tail;
       size = C.size;
       same = C.same;
+      order = C.order;
       no_less = C.no_less;
     }
 
@@ -243,5 +254,6 @@ module _ {Node : Type 0} (M : Machine Node) (start kept : Network Node) (entries
       tail = C.tail;
       size = C.size;
       same = C.same;
+      order = C.order;
       no_less = C.no_less;
     }

@@ -19,6 +19,8 @@ use Rattle.tp_law_network.proofs.Reorder.{first_possible, front_possible, same_b
 use Rattle.tp_law_cuts.proofs.Invariant.{Inside, Holds}
 use Rattle.tp_law_runs.specs.Standing.{Rests}
 use Rattle.tp_law_runs.proofs.Moments.{broken_may}
+use Rattle.tp_model.specs.CutOrder.{HasOrder}
+use Rattle.tp_law_runs.proofs.Orders.{order_first, order_behind}
 use Rattle.tp_law_runs.proofs.Prefix.{Stands, copy_kept, forget_kept}
 use Rattle.tp_law_runs.proofs.Invariant.{Reads, WithKept, At, Inv}
 use Rattle.tp_law_runs.proofs.Acts.{same_at, grown_at}
@@ -75,7 +77,7 @@ module _ {Node : Type 0} (M : Machine Node) (four : HasFourLinks M) (never : Nev
     -- ## Openings
 
     -- the marker argument holds of a book that goes on from what was read
-    reopened_holds : (first : List Entry) (h : Held Node) (now : Network Node) → after M start first ≡ Some now → after M h.network h.entries ≡ Some now
+    pub reopened_holds : (first : List Entry) (h : Held Node) (now : Network Node) → after M start first ≡ Some now → after M h.network h.entries ≡ Some now
         → Holds M (record { start = h.network; entries = h.entries; live = now; snapshot = None; frozen = [] })
     reopened_holds first h now is replayed =
         let W = walk first (fresh start) (opened_holds M (fresh start) opened) refl now is in
@@ -100,6 +102,7 @@ module _ {Node : Type 0} (M : Machine Node) (four : HasFourLinks M) (never : Nev
         record {
           net = reopened_holds S.first h now (sym S.exact ∙ L.is) L.is;
           agree = S.exact;
+          order = S.order;
           mark = le_refl (next_number h);
           seen = all_up w.seen w.mark (next_number h) (omega (arith, I.mark, S.no_less, S.count)) I.seen;
           at = (
@@ -112,6 +115,7 @@ module _ {Node : Type 0} (M : Machine Node) (four : HasFourLinks M) (never : Nev
               all = sym (append-nil S.first);
               count = S.count;
               exact = S.exact;
+              order = S.order;
               reach = omega (arith, S.count);
             },
             record { reads = L.reads ∙ ap (λ es. Some (record { network = h.network; entries = es; base = h.base })) (sym (append-nil h.entries)); loose = tt },
@@ -149,11 +153,20 @@ module _ {Node : Type 0} (M : Machine Node) (four : HasFourLinks M) (never : Nev
     act_agrees kept entries journal (Close line) same = same
     act_agrees kept entries journal Trim same = same
 
+    act_orders : (kept : Network Node) (entries journal : List Entry) (base : ℕ) (act : Act) → HasOrder M start journal kept entries base → HasOrder M start (grown act journal) kept (grown act entries) base
+    act_orders kept entries journal base Begin order = order
+    act_orders kept entries journal base (Record i) order = order
+    act_orders kept entries journal base (Journal e) order = order_behind M start journal entries kept base (e ∷ []) order
+    act_orders kept entries journal base (Close line) order = order
+    act_orders kept entries journal base Trim order = order
+
     act_keeps : (w : World Node) → Inv M A start w → (act : Act) (net : MarkedNetwork Node) → is_trim act ≡ false → happens M w.net act ≡ Some net
         → Inv M A start (record w { net = net; journal = grown act w.journal })
     act_keeps w I act net other is = record {
       net = happens_holds M four never w.net net act I.net is;
       agree = (λ i. after M (book.0 i) (book.1 i)) ∙ act_agrees w.net.start w.net.entries w.journal act I.agree;
+      order = subst (λ s. HasOrder M start (grown act w.journal) s net.entries w.base) (sym book.0)
+          (subst (λ es. HasOrder M start (grown act w.journal) w.net.start es w.base) (sym book.1) (act_orders w.net.start w.net.entries w.journal w.base act I.order));
       mark = I.mark;
       seen = I.seen;
       at = subst (λ n. At M A start (record w { net = n; journal = grown act w.journal }) w.at) parts
@@ -175,6 +188,7 @@ module _ {Node : Type 0} (M : Machine Node) (four : HasFourLinks M) (never : Nev
     copies_keeps w I rests = record {
       net = I.net;
       agree = I.agree;
+      order = I.order;
       mark = I.mark;
       seen = I.seen;
       at = subst (At M A start (record w { backlog = drop (w.stored - w.base) w.net.entries })) (sym rests)
@@ -186,11 +200,12 @@ module _ {Node : Type 0} (M : Machine Node) (four : HasFourLinks M) (never : Nev
     copies_tail_keeps w I rests cut nodes has = record {
       net = I.net;
       agree = I.agree;
+      order = I.order;
       mark = I.mark;
       seen = I.seen;
       at = (
         forget_kept M start w.net.start w.net.entries w.base w.journal w.stored w.backlog (λ h. Rests A h w.disk) (resting w I rests).0 (resting w I rests).1,
-        copies M four A start w I.net I.agree cut nodes has (resting w I rests).0,
+        copies M four A start w I.net I.agree I.order cut nodes has (resting w I rests).0,
         refl,
       );
     }
@@ -200,6 +215,7 @@ module _ {Node : Type 0} (M : Machine Node) (four : HasFourLinks M) (never : Nev
     does_keeps w I call to row = record {
       net = I.net;
       agree = I.agree;
+      order = I.order;
       mark = omega (arith, I.mark, reached_up M A start w w.at I.at);
       seen = I.seen;
       at = done_at M A law start w (plain_network w.net.live) I.net.base.now w.at to call row I.at;
@@ -210,6 +226,7 @@ module _ {Node : Type 0} (M : Machine Node) (four : HasFourLinks M) (never : Nev
     breaks_keeps w I call to bytes row may = record {
       net = I.net;
       agree = I.agree;
+      order = I.order;
       mark = I.mark;
       seen = I.seen;
       at = λ later more. reads_within M A law start w (plain_network w.net.live) I.net.base.now w.at to call row I.at later (broken_may w.disk call bytes later may more);
@@ -220,17 +237,19 @@ module _ {Node : Type 0} (M : Machine Node) (four : HasFourLinks M) (never : Nev
     trims_keeps w I copy upto cut nodes is has = record {
       net = trim_holds M four w.net I.net cut nodes has.is has.images;
       agree = T.0;
+      order = T.1;
       mark = I.mark;
       seen = I.seen;
-      at = T.1;
+      at = T.2;
     }
       where
         a : At M A start w (Opened copy upto)
         a = subst (At M A start w) is I.at
 
         T : (after M (network_in w.net.start cut nodes) (post (process w.net.start) (count_in cut) w.net.entries) ≡ after M start w.journal)
+            × HasOrder M start w.journal (network_in w.net.start cut nodes) (post (process w.net.start) (count_in cut) w.net.entries) (w.base + cut.size)
             × WithKept M start (record w { net = trimmed w.net cut nodes; base = w.base + cut.size }) (λ h. Rests A h w.disk)
-        T = trims M four A start w I.net I.agree cut nodes has copy upto a.2 a.4 a.0 a.1 a.3
+        T = trims M four A start w I.net I.agree I.order cut nodes has copy upto a.2 a.4 a.0 a.1 a.3
 
     -- ## Each event
 
@@ -245,6 +264,7 @@ module _ {Node : Type 0} (M : Machine Node) (four : HasFourLinks M) (never : Nev
         record {
           net = I.net;
           agree = I.agree;
+          order = I.order;
           mark = omega (arith, I.mark);
           seen = all_up w.seen w.mark (max w.mark w.stored) (omega arith) I.seen;
           at = mark_at M A start w (max w.mark w.stored) w.seen w.at I.at;
@@ -254,6 +274,7 @@ module _ {Node : Type 0} (M : Machine Node) (four : HasFourLinks M) (never : Nev
         record {
           net = I.net;
           agree = I.agree;
+          order = I.order;
           mark = I.mark;
           seen = (le_refl w.mark, I.seen);
           at = mark_at M A start w w.mark (w.mark ∷ w.seen) w.at I.at;
@@ -271,6 +292,8 @@ module _ {Node : Type 0} (M : Machine Node) (four : HasFourLinks M) (never : Nev
     formatted_holds w F = record {
       net = subst (Holds M) (sym F.net) (opened_holds M (fresh start) F.opened);
       agree = ap (λ n. after M n.start n.entries) F.net ∙ ap (after M start) (sym F.none.1);
+      order = subst (λ journal. HasOrder M start journal w.net.start w.net.entries w.base) (sym F.none.1)
+          (subst (λ n. HasOrder M start [] n.start n.entries w.base) (sym F.net) (subst (HasOrder M start [] start []) (sym F.none.0) (order_first M start)));
       mark = omega (arith, F.none.2, F.none.3);
       seen = subst (AllByRecursion (λ r. r ≤ w.mark)) (sym F.none.4) tt;
       at = subst (At M A start w) (sym F.rests.0) (
@@ -283,6 +306,7 @@ module _ {Node : Type 0} (M : Machine Node) (four : HasFourLinks M) (never : Nev
           all = F.none.1 ∙ ap (λ es. es ++ []) (sym F.rests.1);
           count = omega (arith, F.none.0);
           exact = ap (λ n. after M n.start []) F.net;
+          order = subst (λ n. HasOrder M start [] n.start [] w.base) (sym F.net) (subst (HasOrder M start [] start []) (sym F.none.0) (order_first M start));
           reach = omega (arith, F.none.2);
         },
         record {

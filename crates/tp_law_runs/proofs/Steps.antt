@@ -61,6 +61,7 @@ module _ {Node : Type 0} (M : Machine Node) (A : Areas Node) (law : AreasHold M 
     tail = C.tail;
     size = C.size;
     same = C.same;
+    order = C.order;
     no_less = let n = C.number in omega arith;
   }
 

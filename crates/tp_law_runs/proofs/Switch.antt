@@ -10,11 +10,13 @@ use Rattle.tp_model.specs.Acts.{CutHolds}
 use Rattle.tp_model.specs.Disk.{AreWithin}
 use Rattle.tp_model.specs.Areas.{Areas, Held}
 use Rattle.tp_model.specs.Runs.{World, HasCut, copy_of}
+use Rattle.tp_model.specs.CutOrder.{HasOrder}
 use Rattle.tp_law_network.proofs.Choice.{pre-append_outside, post-append_outside}
 use Rattle.tp_law_network.proofs.Reorder.{same_behind}
 use Rattle.tp_law_cuts.proofs.Invariant.{Holds, Inside}
 use Rattle.tp_law_runs.specs.Standing.{Rests}
 use Rattle.tp_law_runs.proofs.Prefix.{Kept, held_of, in_counts, copied_exact, copied_count}
+use Rattle.tp_law_runs.proofs.Orders.{order_behind, order_cut}
 use Rattle.tp_law_runs.proofs.Acts.{same_counts}
 use Rattle.tp_law_runs.proofs.Invariant.{KeptOf, CopiedOf}
 use Rattle.tp_law_cuts.proofs.Kept.{cut_network}
@@ -28,7 +30,18 @@ counts_there M net counts holds H p = (subst (Inside M net) H.runs holds.inside)
 
 module _ {Node : Type 0} (M : Machine Node) (four : HasFourLinks M) where
   module _ (A : Areas Node) (start : Network Node) (w : World Node) (holds : Holds M w.net) (agree : after M w.net.start w.net.entries ≡ after M start w.journal)
+      (order : HasOrder M start w.journal w.net.start w.net.entries w.base)
       (cut : WholeCut) (nodes : List Node) (has : HasCut w.net cut nodes) where
+    -- the cut and the entries outside it are an order of the journal
+    pub cut_order : HasOrder M start w.journal (network_in w.net.start cut nodes) (post (process w.net.start) (count_in cut) w.net.entries) (w.base + cut.size)
+    cut_order =
+        let C = whole_holds M four w.net holds cut has.is in
+        let inside = pre (process w.net.start) (count_in cut) w.net.entries in
+        let outside = post (process w.net.start) (count_in cut) w.net.entries in
+        subst (λ n. HasOrder M start w.journal (network_in w.net.start cut nodes) outside (w.base + n)) (sym C.size)
+        (order_cut M start w.journal w.net.entries w.net.start (network_in w.net.start cut nodes) w.base inside outside order
+        (C.consistent.is ∙ ap Some (sym (cut_network M four w.net cut nodes C has.images))) C.order)
+
     -- the cut and its tail are copied
     pub copies : KeptOf M start w → CopiedOf M start w (copy_of w.net w.base cut nodes) (w.base + length w.net.entries)
     copies K =
@@ -52,13 +65,14 @@ module _ {Node : Type 0} (M : Machine Node) (four : HasFourLinks M) where
           tail = refl;
           size = ap (λ n. w.base + n) C.size;
           same = C.same ∙ agree;
+          order = cut_order;
           no_less = omega (arith, K.reach, ap length K.all, length-append K.front (K.durable ++ (w.backlog ++ K.rest)), length-append K.durable (w.backlog ++ K.rest));
         }
 
     -- a book that starts at a network, with these entries behind a cut of so many, agrees with journal and device
     abbrev Goes : Network Node → List Entry → ℕ → List Entry → Type 0
     Goes kept entries base backlog =
-        (after M kept entries ≡ after M start w.journal)
+        (after M kept entries ≡ after M start w.journal) × HasOrder M start w.journal kept entries base
         × ((K : Kept M start kept entries base w.journal w.stored backlog) × Rests A (held_of kept K.tail K.durable base) w.disk)
 
     -- The book is trimmed: it starts at the copied cut, and its entries are the copied tail and those since. The device
@@ -103,6 +117,8 @@ module _ {Node : Type 0} (M : Machine Node) (four : HasFourLinks M) where
         goes = (
           same_behind M copy.network start copy.entries C.first C.since (copied_exact M start w.net.start w.net.entries w.base w.journal w.stored w.net.snapshot copy upto C)
               ∙ ap (after M start) (sym C.all),
+          subst (λ journal. HasOrder M start journal copy.network (copy.entries ++ C.since) copy.base) (sym C.all)
+              (order_behind M start C.first copy.entries copy.network copy.base C.since C.order),
           (
             record {
               front = C.first;
@@ -113,6 +129,7 @@ module _ {Node : Type 0} (M : Machine Node) (four : HasFourLinks M) where
               all = C.all;
               count = copied_count M start w.net.start w.net.entries w.base w.journal w.stored w.net.snapshot copy upto C;
               exact = copied_exact M start w.net.start w.net.entries w.base w.journal w.stored w.net.snapshot copy upto C;
+              order = C.order;
               reach = omega (arith, reached, C.number);
             },
             record {

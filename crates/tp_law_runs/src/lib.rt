@@ -2,7 +2,8 @@
 //! contracts are the laws.
 #![tactic(auto)]
 
-ghost use Rattle.std.specs.Prelude.{◌≡◌, ◌≤◌, ◌<◌, ◌+◌, ℕ, List, Some, length, take};
+ghost use Rattle.std.specs.Prelude.{◌≡◌, ◌≤◌, ◌<◌, ◌+◌, ◌++◌, ℕ, List, [], Option, Some, length, take};
+ghost use Rattle.std.specs.List.{AllByRecursion};
 ghost use Rattle.tp_model.specs.declared.entry.Entry.{Entry};
 ghost use Rattle.tp_model.specs.NodeState.{NodeState};
 ghost use Rattle.tp_model.specs.Node.{t414};
@@ -12,8 +13,12 @@ ghost use Rattle.tp_model.specs.Order.{AreIndependent};
 ghost use Rattle.tp_model.specs.Snapshot.{MarkedNetwork};
 ghost use Rattle.tp_model.specs.WholeCut.{WholeCut, whole, IsWhole};
 ghost use Rattle.tp_model.specs.Acts.{Act, acted, IsOpened, CutHolds};
-ghost use Rattle.tp_model.specs.Disk.{MayBe};
-ghost use Rattle.tp_model.specs.Areas.{Areas, AreasHold, next_number};
+ghost use Rattle.tp_model.specs.Disk.{IsWithin, MayBe};
+ghost use Rattle.tp_model.specs.DiskHistory.{LeavesOnly, State};
+ghost use Rattle.tp_model.specs.StoreCalls.{clear_calls, group_calls, put_calls, switch_calls, tail_calls};
+ghost use Rattle.tp_model.specs.Areas.{Areas, AreasHold, Held, next_number};
+ghost use Rattle.tp_model.specs.WriteOrder.{Opened, Resting, Tail};
+ghost use Rattle.tp_model.specs.Walks.{AreWalked, RecoversTo, Walks};
 ghost use Rattle.tp_model.specs.Runs.{World, Event, Reopens, Step, Run, IsFormatted, Recovers, reopened};
 ghost use Rattle.tp_model.specs.Acknowledged.{IsAcknowledged, IsShown};
 ghost use Rattle.tp_law_runs.specs.Small.{small_areas};
@@ -67,4 +72,34 @@ pub fn areas_can_hold()
     ensures answers { (image : ℕ → Network NodeState) → EachAnswers t414 image }
     ensures formatted { IsFormatted t414 (small_areas t414 (λ code. one_port)) one_port (made_world (λ code. one_port)) }
     ensures stores { (x : ℕ) → Stores t414 (λ code. one_port) x }
+{}
+
+/// Whatever a call of the store does to the device is a piece of a run without an opening: each moment of the device is that of
+/// a world on the way. Where all its device calls were done, it leads to the world in which its work is done; where one of
+/// them failed, or the run stopped in it, to one in which nothing has changed but the device and the flusher's position.
+pub fn store_calls_walk()
+    ensures group { (areas : Areas NodeState) (w : World NodeState) (old new : State) (es more : List Entry) (gate : ℕ) (body : List ℕ)
+        → w.at ≡ Resting → w.disk ≡ old.now → w.backlog ≡ es ++ more → areas.group w.disk.bytes es ≡ Some (gate, body)
+        → AreWalked t414 areas (group_calls gate body) w (record w { stored = w.stored + length es; backlog = more }) old new }
+    ensures cleared { (areas : Areas NodeState) (w : World NodeState) (old new : State) (gate : Option ℕ)
+        → w.at ≡ Resting → w.disk ≡ old.now → areas.open_other w.disk.bytes ≡ gate → AreWalked t414 areas (clear_calls gate) w w old new }
+    ensures pieces { (areas : Areas NodeState) → AreasHold t414 areas → (w : World NodeState) (old new : State) (h : Held NodeState) (pieces : List (ℕ × List ℕ))
+        → w.at ≡ Resting → w.disk ≡ old.now → areas.verdict w.disk.bytes ≡ Some h → AllByRecursion (λ piece. IsWithin (areas.spare w.disk.bytes) (piece.0, length piece.1)) pieces
+        → AreWalked t414 areas (put_calls pieces) w w old new }
+    ensures tail { (areas : Areas NodeState) → AreasHold t414 areas → (w : World NodeState) (old new : State) (h copy : Held NodeState) (upto : ℕ) (pieces : List (ℕ × List ℕ))
+        → w.at ≡ Tail copy upto → w.disk ≡ old.now → areas.verdict w.disk.bytes ≡ Some h → AllByRecursion (λ piece. IsWithin (areas.spare w.disk.bytes) (piece.0, length piece.1)) pieces
+        → AreWalked t414 areas (tail_calls pieces) w w old new }
+    ensures switched { (areas : Areas NodeState) (w : World NodeState) (old new : State) (copy : Held NodeState) (upto gate : ℕ)
+        → w.at ≡ Tail copy upto → w.disk ≡ old.now → w.disk.unsynced ≡ [] → areas.other w.disk.bytes ≡ Some (gate, copy)
+        → AreWalked t414 areas (switch_calls gate) w (record w { at = Opened copy upto; stored = upto }) old new }
+{}
+
+/// Pieces of a run go one behind the other. In a run that began with a formatted device, a crash at any moment of such a piece
+/// leaves only what stands for the network after a prefix of the journal, which has each entry below the mark before it.
+pub fn walks_recover()
+    ensures joined { (areas : Areas NodeState) (w u v : World NodeState) (old mid new : State)
+        → Walks t414 areas w u old mid → Walks t414 areas u v mid new → Walks t414 areas w v old new }
+    ensures leave { (areas : Areas NodeState) → AreasHold t414 areas → (start : Network NodeState) (before : List (Event NodeState)) (first w v : World NodeState) (old new : State)
+        → IsFormatted t414 areas start first → Run t414 areas first before w → Walks t414 areas w v old new
+        → LeavesOnly old new (RecoversTo t414 areas start v.journal w.mark) }
 {}

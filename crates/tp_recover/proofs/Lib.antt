@@ -17,7 +17,5 @@ pub mod Room
 pub mod SameBytes
 pub mod Wires
 pub mod CutsAreFlat
-pub mod CutsAreSound
 pub mod HeldPorts
 pub mod ReplayedCuts
-pub mod UnmarkedLines

@@ -40,7 +40,7 @@ use Rattle.tp_replay.specs.Replaying.{numbered}
 use Rattle.tp_replay.proofs.Counted.{counted_next}
 use Rattle.tp_replay.proofs.Flat.{flat_next, markers_next}
 use Rattle.tp_replay.proofs.History.{history_of}
-use Rattle.tp_recover.proofs.UnmarkedLines.{lines_unmarked, plain_lines}
+use Rattle.tp_law_device.proofs.UnmarkedLines.{lines_unmarked, plain_lines}
 use Rattle.tp_recover.proofs.HeldPorts.{EachPort, IsHeld, held_next}
 use Rattle.tp_recover.proofs.CutsAreFlat.{cut_flat, cut_counted, cut_held}
 

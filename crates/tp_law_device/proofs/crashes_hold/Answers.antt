@@ -4,6 +4,7 @@ use Rattle.tp_model.specs.DeviceAreas.{device_areas}
 use Rattle.tp_law_runs.proofs.Runs.{run_recovers, goes_on}
 use Rattle.tp_law_runs.proofs.Stay.{stays}
 use Rattle.tp_law_device.proofs.Holds.{areas_keep}
+use Rattle.tp_law_device.proofs.Verdicts.{crash_opens}
 use Rattle.tp_law_device.proofs.crashes_hold.Goals as goal
 
 pub returns-clause-recovers : goal.returns-clause-recovers
@@ -14,3 +15,6 @@ returns-clause-stays c = stays t414 has_four_links never_marks device_areas (are
 
 pub returns-clause-goes_on : goal.returns-clause-goes_on
 returns-clause-goes_on c = goes_on t414 device_areas
+
+pub returns-clause-opens : goal.returns-clause-opens
+returns-clause-opens c = crash_opens
