@@ -1,0 +1,6 @@
+use Rattle.std.proofs.Common.{rules, arith}
+use Rattle.tp_mark.proofs.Steps.{loads}
+use Rattle.tp_mark.proofs.mark.Mark.load.Goals as goal
+
+pub load-pass-inside-requires : goal.load-pass-inside-requires
+load-pass-inside-requires c = (search rules, omega (arith, c.self.invariant), loads _ _ _)

@@ -1,0 +1,52 @@
+-- Sums over what passes hold, and over the numbers below a count.
+use Rattle.std.proofs.Common.{◌≡◌, ℕ, zero, suc, ◌+◌, ◌<◌, ◌≤◌, List, [], ◌∷◌, length, set, sum_by, sym, refl, ap, lt_of_not-le, arith}
+use Rattle.std.proofs.lemmas.List.Sums.{sum_by-cons}
+use mathlib.Core.Option.{some, some-injective, some-ne-none}
+use mathlib.Core.Logic.{dite}
+use native.Mathlib.Decide.{dec_le}
+use lib.ListN.{get_elem?}
+use Rattle.std.proofs.lemmas.Bool.Decides.{nat_tests}
+use Rattle.tp_ready.specs.View.{sum_below, one_at}
+
+module _ {A : Type 0} where
+  -- the sum after a change at one place
+  pub sum_by-set : (f : A → ℕ) (xs : List A) (i : ℕ) (x y : A) → get_elem? xs i ≡ some x → sum_by f (set xs i y) + f x ≡ sum_by f xs + f y
+  sum_by-set f [] i x y e = absurd (some-ne-none x (sym e))
+  sum_by-set f (a ∷ xs) zero x y e = let is : f a ≡ f x = ap f (some-injective a x e) in omega (arith, sum_by-cons f y xs, sum_by-cons f a xs)
+  sum_by-set f (a ∷ xs) (suc i) x y e = omega (arith, sum_by-cons f a (set xs i y), sum_by-cons f a xs, sum_by-set f xs i x y e)
+
+  pub sum_by-ones : (xs : List A) → sum_by (λ _. 1) xs ≡ length xs
+  sum_by-ones [] = refl
+  sum_by-ones (x ∷ xs) = omega (arith, sum_by-cons (λ (_ : A). 1) x xs, sum_by-ones xs)
+
+  -- one of the list is one of its places
+  pub at_below : (xs : List A) (i : ℕ) (x : A) → get_elem? xs i ≡ some x → i < length xs
+  at_below [] i x e = absurd (some-ne-none x (sym e))
+  at_below (a ∷ xs) zero x e = omega arith
+  at_below (a ∷ xs) (suc i) x e = omega (arith, at_below xs i x e)
+
+pub sum_below-ones : (n : ℕ) → sum_below (λ _. 1) n ≡ n
+sum_below-ones zero = refl
+sum_below-ones (suc n) = omega (arith, sum_below-ones n)
+
+pub one_at-same : (x : ℕ) → one_at x x ≡ 1
+one_at-same x = grind (arith, nat_tests)
+
+-- a number from n on weighs nothing among those below n
+pub sum_below-one_at-outside : (x n : ℕ) → n ≤ x → sum_below (one_at x) n ≡ 0
+sum_below-one_at-outside x zero le = refl
+sum_below-one_at-outside x (suc n) le =
+    let before = sum_below-one_at-outside x n (omega arith) in
+    let here : one_at x n ≡ 0 = grind (arith, nat_tests) in
+    omega arith
+
+one_at-le : (x y : ℕ) → one_at x y ≤ 1
+one_at-le x y = grind (arith, nat_tests)
+
+one_at-below : (x y : ℕ) → x < y → one_at x y ≡ 0
+one_at-below x y lt = grind (arith, nat_tests)
+
+pub sum_below-one_at : (x n : ℕ) → sum_below (one_at x) n ≤ 1
+sum_below-one_at x zero = omega arith
+sum_below-one_at x (suc n) =
+    dite (dec_le n x) (λ le. omega (arith, sum_below-one_at-outside x n le, one_at-le x n)) (λ not_le. omega (arith, sum_below-one_at x n, one_at-below x n (lt_of_not-le not_le)))

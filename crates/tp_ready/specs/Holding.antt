@@ -1,0 +1,13 @@
+-- What the type of a hand or of a turn says of its pass.
+use Rattle.std.specs.Prelude.{◌≡◌, ℕ, true, List, []}
+use Rattle.crossbeam_queue.specs.Passes.{Pass, view}
+use Rattle.tp_ready.specs.declared.view.View.{View}
+use Rattle.tp_ready.specs.Numbers.{Numbers}
+
+-- the queue of a pass, with its count
+abbrev pub numbers_of : Pass ℕ View → Numbers
+numbers_of p = record { queue = p.table_id; count = (view p).count }
+
+-- the pass holds the numbers, and no slot is out with it
+abbrev pub Holds : List ℕ → Pass ℕ View → Type 0
+Holds held p = ((view p).knows ≡ true) × ((view p).held ≡ held) × (p.me.1 ≡ [])

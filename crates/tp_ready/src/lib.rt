@@ -1,0 +1,12 @@
+//! The ready queue: the numbers of processes, each of which is in the queue or with one holder.
+#![tactic(auto)]
+
+mod hand;
+mod queue;
+mod rule;
+mod turn;
+mod view;
+
+pub use hand::Hand;
+pub use queue::ReadyQueue;
+pub use turn::Turn;

@@ -1,0 +1,116 @@
+//! The queue itself.
+ghost use Rattle.std.specs.Prelude.{◌≡◌, ◌≢◌, ◌<◌, ◌+◌, [], vec_len, All, IfOk, IfSome, MatchOption, Some, None};
+ghost use Rattle.crossbeam_queue.specs.Passes.{view, IsSamePass, IsPassOf, ruled_capacity};
+ghost use Rattle.tp_ready.specs.View.{maker};
+
+use crate::hand::Hand;
+use crate::rule::{Distinct, Gathers, Gives, Line, Makes, Parts, Port, PutsBack, Takes};
+use crate::turn::Turn;
+use std::alloc::{AllocError, Global};
+use std::marker::Model;
+use std::sync::Wait;
+
+/// The numbers of processes that wait for their turn, the longest waiting first. Contracts see its name, and how many numbers
+/// there are in the queue and with holders.
+#[derive(Drop)]
+pub struct ReadyQueue {
+    line: Line,
+}
+
+impl Model for ReadyQueue {
+    ghost use Rattle.tp_ready.specs.Numbers.{Numbers};
+    ghost use Rattle.crossbeam_queue.specs.Passes.{ruled_capacity};
+
+    ghost Value = { Numbers };
+
+    ghost view = { λ q. record { queue = q.line.table.shared.table_id; count = ruled_capacity q.line } };
+}
+
+impl ReadyQueue {
+    /// A queue of the numbers 0 to `last`, in order, and as many hands as `hands` says.
+    pub fn start<R: Wait>(
+        rt: &R,
+        alloc: Global,
+        last: u8,
+        hands: u8,
+    ) -> Result<(ReadyQueue, Vec<Hand>), AllocError>
+        ensures queue { IfOk result (λ s. s.0.count ≡ last + 1) }
+        ensures count { IfOk result (λ s. vec_len s.1 ≡ hands) }
+        ensures hands { IfOk result (λ s. All (λ hand. hand ≡ Some s.0) s.1.items) }
+    {
+        let (line, mut port) = Line::ruled(alloc, usize::from(last) + 1)?;
+        fill(rt, &line, &mut port);
+        let mut all = Vec::new(alloc);
+        for _ in 0..hands {
+            let theirs = line.another::<Gives>(&mut port);
+            all.push(Hand { port: Some(theirs) })?;
+        }
+        Ok((ReadyQueue { line }, all))
+    }
+
+    /// Takes the number that waits longest. `None` comes only where the queue was empty at some moment of the call, and then
+    /// `hand` is free as before.
+    pub fn take<R: Wait>(&self, rt: &R, hand: &mut Hand) -> Option<Turn>
+        requires { hand.old ≡ Some self.now }
+        ensures hand { MatchOption result (hand.new ≡ Some self.now) (λ turn. hand.new ≡ None) }
+        ensures turn { IfSome result (λ turn. (turn.of ≡ self.now) × (turn.number < self.now.count)) }
+    {
+        let Some(mut port) = hand.port.take() else {
+            unreachable!()
+        };
+        match self.line.pop_as::<Takes, R>(rt, &mut port) {
+            Some(number) => Some(Turn { number, port }),
+            None => {
+                hand.port = Some(port);
+                None
+            }
+        }
+    }
+
+    /// Puts the number of `turn` behind all that wait, and frees `hand`.
+    pub fn put_back<R: Wait>(&self, rt: &R, hand: &mut Hand, turn: Turn)
+        requires hand { hand.old ≡ None }
+        requires turn { turn.of ≡ self.now }
+        ensures { hand.new ≡ Some self.now }
+    {
+        let Turn { number, mut port } = turn;
+        let put = self.line.push_as::<PutsBack, R>(rt, &mut port, number);
+        if put.is_err() {
+            unreachable!()
+        }
+        hand.port = Some(port);
+    }
+
+    /// Changes nothing, and tells that two turns have different numbers.
+    pub fn apart(&self, one: &mut Turn, two: &mut Turn)
+        requires turns { (one.old.of ≡ self.now) × (two.old.of ≡ self.now) }
+        ensures same { (one.new ≡ one.old) × (two.new ≡ two.old) }
+        ensures apart { one.old.number ≢ two.old.number }
+    {
+        let theirs = self.line.another::<Gives>(&mut two.port);
+        self.line.absorb::<Gathers>(&mut one.port, theirs);
+        self.line.learn_as::<Distinct>(&mut one.port);
+        two.port = self.line.another::<Parts>(&mut one.port);
+    }
+}
+
+// Makes as many numbers as `line` has room for.
+fn fill<R: Wait>(rt: &R, line: &Line, port: &mut Port)
+    requires line { IsPassOf line.now port.old × (ruled_capacity line.now < 257) }
+    requires none { view port.old ≡ maker 0 }
+    ensures { IsSamePass port.old port.new × (view port.new ≡ maker (ruled_capacity line.now)) }
+{
+    for number in 0..line.capacity() {
+        make(rt, line, port, number as u8);
+    }
+}
+
+fn make<R: Wait>(rt: &R, line: &Line, port: &mut Port, number: u8)
+    requires line { IsPassOf line.now port.old × (number < ruled_capacity line.now) }
+    requires made { view port.old ≡ maker number }
+    ensures { IsSamePass port.old port.new × (view port.new ≡ maker (number + 1)) }
+{
+    if line.push_as::<Makes, R>(rt, port, number).is_err() {
+        unreachable!()
+    }
+}
