@@ -85,8 +85,11 @@ fn ended<J: Naming>(
         left,
         right,
     } = shared;
-    let (mut journal, mut left, mut right) =
-        (journal.into_inner(), left.into_inner(), right.into_inner());
+    let (mut journal, mut left, mut right) = (
+        journal.into_inner(),
+        left.into_inner(),
+        right.into_inner(),
+    );
     compare(&mut left, &mut right);
     let mut all = one;
     all.absorb(two);

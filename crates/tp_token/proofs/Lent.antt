@@ -6,16 +6,16 @@
 --     tells       a fact is shown, where the goal has it before others        tells_last     where it has it last
 --     makes       a token is made of what it is for, since its field has no bytes        token     its machine value
 -- Assumes `Logic`.
-use Rattle.std.proofs.Common.{◌≡◌, ℕ, List, [], ◌∷◌, refl, sym, MutBor}
+use Rattle.std.proofs.Common.{◌≡◌, List, [], ◌∷◌, refl, sym, MutBor}
 use seplogic.Ra.Ura.{Ura}
 use mir.Syntax.{Lifetime}
 use mir.Val.{Val, vstruct, vcons, vnil}
 use base.Logic.{SProp, ent, id⊢, sep, emp, guard}
-use base.Fml.{Fml, Lft, GName, Share, ftrue, fsep, fobs, fbor, flft}
+use base.Fml.{Fml, Lft, Share, fsep, fobs, fbor, flft}
 use contract.Monad.{fact, fact_i}
 use types.Logic.{Logic, sem}
 use types.SemTy.{Body}
-use types.Kit.{Goal, Soaks, Item, Seq, Step, step, prop, ‵, raw, ◌⊛◌, given, later, ◌$◌, by, move, keep, drop, split, join, fsplit, fsplit3, fjoin, fjoin3, feq_i, learn, frame, use0, use1, use2, await, rewrite}
+use types.Kit.{Goal, Soaks, Item, Seq, Step, step, prop, ‵, raw, ◌⊛◌, given, later, ◌$◌, by, move, drop, split, join, fsplit, fsplit3, fjoin, fjoin3, feq_i, learn, frame, use0, use1, use2, await, rewrite}
 use denote.RattleType.{RattleType}
 use denote.Memory.{mem}
 use denote.Ref.{MutRef, mut_vals}

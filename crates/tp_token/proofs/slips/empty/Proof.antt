@@ -1,5 +1,5 @@
 -- A bundle without a slip owns nothing, so `empty` makes it out of nothing.
-use Rattle.tp_token.proofs.Walks.{◌≡◌, [], ◌∷◌, refl, proved, ftrue, inst_fn, Fn, a_type, vstruct, vnil, ‵, raw, ◌⊛◌, ◌$◌, ◌∵◌, !, qed, move, keep, split, join, frame, suffices, enter, no_more, and_then, returns, alloc_all, pass_all, free_all, look_at, get, sets, agg, layouts, param, RattleType, alive, nothing, walk_of, ends_at}
+use Rattle.tp_token.proofs.Walks.{[], ◌∷◌, refl, proved, ftrue, inst_fn, Fn, a_type, vstruct, vnil, ‵, raw, ◌⊛◌, ◌$◌, ◌∵◌, !, qed, move, keep, split, join, frame, suffices, enter, no_more, and_then, returns, alloc_all, pass_all, free_all, look_at, get, sets, agg, layouts, param, RattleType, alive, nothing, walk_of, ends_at}
 use Rattle.tp_token.proofs.Lent.{token, makes, tells, tells_last}
 use Rattle.tp_token.specs.contracts.slips.Slips as slips
 use Rattle.tp_token.specs.contracts.slips.empty as f

@@ -1,5 +1,5 @@
 -- `pair` makes a name, and gives each of the two its half.
-use Rattle.tp_token.proofs.Walks.{◌≡◌, List, [], ◌∷◌, ◌++◌, refl, proved, ftrue, fsep, feq, inst_fn, Fn, a_type, Val, vstruct, vcons, vnil, of_list, ‵, raw, ◌⊛◌, ◌$◌, ◌∵◌, !, qed, move, keep, split, join, fjoin, fjoin3, fpack, frame, suffices, feq_i, enter, no_more, and_then, returns, alloc_all, pass_all, free_all, look_at, get, sets, agg, layouts, param, RattleType, Valss, owns, alive, nothing, walk_of, ends_at}
+use Rattle.tp_token.proofs.Walks.{List, [], ◌∷◌, ◌++◌, refl, proved, ftrue, fsep, feq, inst_fn, Fn, a_type, Val, vstruct, vcons, vnil, of_list, ‵, raw, ◌⊛◌, ◌$◌, ◌∵◌, !, qed, move, keep, split, join, fjoin, fjoin3, fpack, frame, suffices, feq_i, enter, no_more, and_then, returns, alloc_all, pass_all, free_all, look_at, get, sets, agg, layouts, param, RattleType, Valss, owns, alive, nothing, walk_of, ends_at}
 use types.Tokens.{name_new}
 use Rattle.tp_token.proofs.Lent.{token, makes, tells, tells_last}
 use Rattle.tp_token.specs.contracts.twin.Seal as seal
