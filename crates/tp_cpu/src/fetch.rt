@@ -8,7 +8,7 @@ use tp_isa::Decoder;
 use tp_mem::Mem;
 use tp_model::{DecodeFault, Instr};
 
-/// Reads the instruction at an address, byte by byte. The end of memory is the end of the bytes.
+/// Reads the instruction at `iptr`, byte by byte. The bytes end where memory does.
 #[inline(always)]
 pub(crate) fn fetch<M: Mem>(mem: &M, iptr: u32) -> Result<Instr, DecodeFault>
     ensures { result ≡ decoded (drop (offset iptr) (M.bytes mem.now)) }

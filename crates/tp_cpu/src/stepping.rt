@@ -13,7 +13,7 @@ use tp_proc::{
     KEPT_AT, NOT_PROCESS, Undone, dispatch_high, dispatch_low, interrupt, load, pass, restore,
 };
 
-/// Why a node halts at bytes that are no instruction. Bytes that end too soon end outside memory.
+/// Says why a node halts at bytes that spell no instruction. Bytes that end too soon end outside memory.
 #[inline(always)]
 fn fault_of(fault: DecodeFault) -> Fault
     ensures { result ≡ fault_of fault }
@@ -25,7 +25,7 @@ fn fault_of(fault: DecodeFault) -> Fault
     }
 }
 
-/// Does an instruction that was read. It counts in the slice, and the instruction pointer moves past it first.
+/// Does the instruction that was read. First it counts in the slice, and the instruction pointer moves past it.
 #[inline(always)]
 fn execute<M: Mem>(cpu: &mut Cpu, mem: &mut M, instr: Instr) -> Result<(), Undone>
     ensures does { Does (executed (Ok instr)) (MayRefuse (M.may_refuse mem.old)) cpu.old (M.bytes mem.old) result cpu.new (M.bytes mem.new) }
@@ -56,7 +56,7 @@ fn instruction<M: Mem>(cpu: &mut Cpu, mem: &mut M) -> Result<(), Undone>
     }
 }
 
-/// With nothing to run: a high process comes first, then the low one that was interrupted, then another low one.
+/// Finds work for an idle processor: the front high process, then the low process that was interrupted, then the front low one.
 fn idle<M: Mem>(cpu: &mut Cpu, mem: &mut M) -> Option<Result<(), Undone>>
     ensures acts { Acts idle (MayRefuse (M.may_refuse mem.old)) cpu.old (M.bytes mem.old) result cpu.new (M.bytes mem.new) }
     ensures kept { M.frozen mem.new ≡ M.frozen mem.old }
@@ -72,7 +72,7 @@ fn idle<M: Mem>(cpu: &mut Cpu, mem: &mut M) -> Option<Result<(), Undone>>
     }
 }
 
-/// What the processor does in its state.
+/// Does what the processor does in its state.
 #[inline(always)]
 fn act<M: Mem>(cpu: &mut Cpu, mem: &mut M) -> Option<Result<(), Undone>>
     ensures acts { Acts (λ cpu. in_state cpu.state cpu) (MayRefuse (M.may_refuse mem.old)) cpu.old (M.bytes mem.old) result cpu.new (M.bytes mem.new) }

@@ -18,7 +18,7 @@ pub struct Decoder {
 impl Decoder {
     ghost use Rattle.tp_isa.specs.Decoding.{reads_on};
 
-    /// A decoder in front of an instruction's first byte.
+    /// Starts in front of an instruction's first byte.
     #[inline]
     pub fn new() -> Self
         ensures answer { (bytes : List ℕ) → reads_on result bytes ≡ decoded bytes }
@@ -30,7 +30,7 @@ impl Decoder {
         }
     }
 
-    /// Takes the next byte. It answers where that byte ends the instruction or leaves none possible.
+    /// Takes the next byte. Answers the instruction that `byte` ends, or why there is none; `None` while more bytes are needed.
     #[inline(always)]
     pub fn feed(&mut self, byte: u8) -> Option<Result<Instr, DecodeFault>>
         ensures answer { (rest : List ℕ) → MatchOption result (reads_on self.old (byte ∷ rest) ≡ reads_on self.new rest) (λ r. reads_on self.old (byte ∷ rest) ≡ r) }
@@ -43,7 +43,7 @@ impl Decoder {
         }
     }
 
-    /// Takes a prefix byte, where there is room for one more.
+    /// Takes a prefix byte, and refuses the 17th.
     #[inline(always)]
     fn prefix(&mut self, byte: u8) -> Option<Result<Instr, DecodeFault>>
         requires { is_prefix byte ≡ true }
@@ -60,7 +60,7 @@ impl Decoder {
     }
 }
 
-/// The operand register after a prefix byte.
+/// Gives the operand register after the prefix byte `byte`.
 #[inline(always)]
 fn prefixed(operand: u32, byte: u8) -> u32
     requires { operand % 16 ≡ 0 }
@@ -75,7 +75,7 @@ fn prefixed(operand: u32, byte: u8) -> u32
     }
 }
 
-/// The operand register with a byte's low four bits in its low end.
+/// Puts the low four bits of `byte` into the low end of the operand register.
 #[inline(always)]
 fn filled(operand: u32, byte: u8) -> u32
     requires { operand % 16 ≡ 0 }
@@ -85,7 +85,7 @@ fn filled(operand: u32, byte: u8) -> u32
     operand + u32::from(byte % 16)
 }
 
-/// The instruction that bytes begin with.
+/// Reads the instruction that `bytes` begin with.
 pub fn decode(bytes: &[u8]) -> Result<Instr, DecodeFault>
     ensures { result ≡ decoded bytes.now }
 {
@@ -98,7 +98,7 @@ pub fn decode(bytes: &[u8]) -> Result<Instr, DecodeFault>
     Err(DecodeFault::NeedMore)
 }
 
-/// The instruction of a function with an operand, spelt by so many bytes.
+/// Makes the instruction `fun` with `operand`, spelt by `len` bytes. Refuses an operation that isn't listed.
 #[inline(always)]
 fn instr_at(fun: Fun, operand: u32, len: u8) -> Result<Instr, DecodeFault>
     ensures { result ≡ instr_at (Some fun) operand len }
@@ -113,7 +113,7 @@ fn instr_at(fun: Fun, operand: u32, len: u8) -> Result<Instr, DecodeFault>
     }
 }
 
-/// The function of an instruction's last byte. A prefix byte has none.
+/// Gives the function of an instruction's last byte; `None` for a prefix byte.
 #[inline(always)]
 pub fn fun_at(byte: u8) -> Option<Fun>
     ensures value { result ≡ fun_of (byte / 16) }
@@ -139,7 +139,7 @@ pub fn fun_at(byte: u8) -> Option<Fun>
     }
 }
 
-/// The operation that `opr` selects by this operand.
+/// Gives the operation that `opr` selects by the operand `number`, if one is listed.
 #[inline]
 pub fn op_at(number: u32) -> Option<Op>
     ensures { result ≡ op_of number }

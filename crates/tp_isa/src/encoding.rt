@@ -9,7 +9,7 @@ use arrayvec::ArrayVec;
 use std::alloc::AllocError;
 use tp_model::Fun;
 
-/// Appends the spelling of a function with its operand. Where memory is wanting, the vector is as before.
+/// Appends to `out` the spelling of `fun` with `operand`. Where memory is refused, `out` is as before.
 pub fn encode(fun: Fun, operand: i32, out: &mut Vec<u8>) -> Result<(), AllocError>
     ensures ok { OnOk result (out.new.items ≡ out.old.items ++ spelling fun (cast_unsigned w32 operand)) }
     ensures err { OnErr result (out.new.items ≡ out.old.items) }
@@ -19,7 +19,7 @@ pub fn encode(fun: Fun, operand: i32, out: &mut Vec<u8>) -> Result<(), AllocErro
     out.extend_from_slice(&bytes)
 }
 
-/// The spelling of a function with a word.
+/// Appends the spelling of `fun` with a word.
 fn spell(fun: Fun, operand: u32, bytes: &mut ArrayVec<u8, 8>)
     requires { bytes.old.items ≡ [] }
     ensures { bytes.new.items ≡ spelling fun operand }
@@ -32,7 +32,7 @@ fn spell(fun: Fun, operand: u32, bytes: &mut ArrayVec<u8, 8>)
     }
 }
 
-/// A code with an operand from 0 on, with at most so many bytes before it.
+/// Appends the spelling of `code` with an operand that isn't negative, in at most `more` bytes and one.
 fn spell_natural(more: u8, code: u8, operand: u32, bytes: &mut ArrayVec<u8, 8>)
     requires code { code < 16 }
     requires room { array_vec_len bytes.old + more < 8 }
@@ -45,7 +45,7 @@ fn spell_natural(more: u8, code: u8, operand: u32, bytes: &mut ArrayVec<u8, 8>)
     bytes.push(coded(code, operand));
 }
 
-/// A byte of a code with the low four bits of an operand.
+/// Makes a byte of `code` and the low four bits of `operand`.
 fn coded(code: u8, operand: u32) -> u8
     requires { code < 16 }
     ensures { result ≡ coded code operand }
@@ -53,7 +53,7 @@ fn coded(code: u8, operand: u32) -> u8
     16 * code + (operand % 16) as u8
 }
 
-/// The upper four bits of a function's byte.
+/// Gives the upper four bits of the function's byte.
 fn code(fun: Fun) -> u8
     ensures value { result ≡ code fun }
     ensures bound { result < 16 }

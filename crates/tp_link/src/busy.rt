@@ -2,7 +2,7 @@
 
 use thiserror::Error;
 
-/// The end is at work on something else. It stays as it was.
+/// The end is in use. It stays as it was.
 #[derive(Clone, Copy, Debug, PartialEq, Eq, Error)]
 #[error("LinkBusy")]
 pub struct LinkBusy;

@@ -9,7 +9,7 @@ use crate::transfer::{advanced, has_more};
 use std::marker::Model;
 use tp_model::{Arrival, InEnd, News, Started, Token, Transfer};
 
-/// Takes the bytes that come. A byte for which nobody waits is held without an acknowledge.
+/// Takes the bytes that come. A byte for which nobody waits is held, without an acknowledge.
 #[derive(Clone, Copy)]
 pub struct InEngine {
     end: InEnd,
@@ -26,7 +26,7 @@ impl Model for InEngine {
 }
 
 impl InEngine {
-    /// An end as it stands.
+    /// Makes an engine of an input end.
     pub fn new(end: InEnd) -> InEngine
         ensures { result ≡ end }
     {
@@ -39,7 +39,7 @@ impl InEngine {
         self.end
     }
 
-    /// Whether a byte came that nobody has taken.
+    /// Whether the end holds a byte that nobody has taken.
     pub fn is_holding(self) -> bool
         ensures { result ≡ is_holding self }
     {
@@ -49,7 +49,7 @@ impl InEngine {
         }
     }
 
-    /// Begins a message. A byte that is held is its first, and is acknowledged.
+    /// Begins the message `transfer`. A held byte is its first one, and is acknowledged.
     pub fn start(&mut self, transfer: Transfer) -> Result<Started, LinkBusy>
         ensures { Answers (in_started transfer self.old) self.old result self.new }
     {
@@ -74,7 +74,7 @@ impl InEngine {
         }
     }
 
-    /// Takes a byte that comes, where none is held.
+    /// Takes a byte that comes, while none is held.
     pub fn on_data(&mut self, byte: u8) -> Arrival
         requires { IsSome (in_arrived byte self.old) }
         ensures { in_arrived byte self.old ≡ Some (self.new, result) }
@@ -99,7 +99,7 @@ impl InEngine {
         }
     }
 
-    /// The alternative of a process waits for a byte. Answers whether one is held already.
+    /// Enables the end for the alternative of `process`. Answers whether a byte is held already.
     pub fn enable(&mut self, process: u32) -> Result<bool, LinkBusy>
         ensures { Answers (in_enabled process self.old) self.old result self.new }
     {
@@ -114,7 +114,7 @@ impl InEngine {
         }
     }
 
-    /// The alternative of a process no longer waits. Answers whether a byte is held.
+    /// Disables the end for the alternative of `process`. Answers whether a byte is held.
     pub fn disable(&mut self, process: u32) -> Result<bool, LinkBusy>
         ensures { Answers (in_disabled process self.old) self.old result self.new }
     {
@@ -129,7 +129,7 @@ impl InEngine {
     }
 }
 
-/// The end behind a byte of a message that went to memory.
+/// Gives the end behind a byte of a message that went to memory.
 fn filled(transfer: Transfer) -> InEnd
     ensures { result ≡ filled transfer }
 {
@@ -140,7 +140,7 @@ fn filled(transfer: Transfer) -> InEnd
     }
 }
 
-/// For whom a byte of a message is news: for its process, where it is the last one.
+/// Says for whom a byte of a message is news: for its process, where the byte is the last one.
 fn news_of(transfer: Transfer) -> News
     ensures { result ≡ (if has_more transfer then News.Nobody else News.Process transfer.process) }
 {
@@ -151,7 +151,7 @@ fn news_of(transfer: Transfer) -> News
     }
 }
 
-/// Nothing leaves and nothing goes to memory.
+/// Sends nothing, and puts nothing into memory.
 fn quiet(news: News) -> Arrival
     ensures { result ≡ record { token = None; place = None; news = news } }
 {

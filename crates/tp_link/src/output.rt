@@ -26,7 +26,7 @@ impl Model for OutEngine {
 }
 
 impl OutEngine {
-    /// An end as it stands.
+    /// Makes an engine of an output end.
     pub fn new(end: OutEnd) -> OutEngine
         ensures { result ≡ end }
     {
@@ -39,7 +39,7 @@ impl OutEngine {
         self.end
     }
 
-    /// Whether a byte was sent whose acknowledge hasn't come.
+    /// Whether the end waits for an acknowledge.
     pub fn is_waiting(self) -> bool
         ensures { result ≡ is_waiting self }
     {
@@ -49,7 +49,7 @@ impl OutEngine {
         }
     }
 
-    /// The address of the byte that leaves at the next acknowledge, if any is left.
+    /// Gives the address of the byte that leaves at the next acknowledge, if one is left.
     pub fn next_pointer(self) -> Option<u32>
         ensures { result ≡ next_pointer self }
     {
@@ -60,7 +60,7 @@ impl OutEngine {
         }
     }
 
-    /// Begins a message with its first byte, which leaves.
+    /// Begins the message `transfer`, whose first byte leaves.
     pub fn start(&mut self, transfer: Transfer, byte: u8) -> Result<Token, LinkBusy>
         ensures { Answers (out_started transfer byte self.old) self.old result self.new }
     {
@@ -71,7 +71,7 @@ impl OutEngine {
         Ok(Token::Data(byte))
     }
 
-    /// Takes an acknowledge. `next` is the byte that then leaves, if one is left.
+    /// Takes an acknowledge. `next` is the byte that leaves then, if one is left.
     pub fn on_ack(&mut self, next: Option<u8>) -> Arrival
         requires { IsSome (out_acked next self.old) }
         ensures { out_acked next self.old ≡ Some (self.new, result) }
@@ -94,7 +94,7 @@ impl OutEngine {
     }
 }
 
-/// A token leaves, and nobody hears of it.
+/// Sends a token, and tells nobody.
 fn sends(token: Token) -> Arrival
     ensures { result ≡ record { token = Some token; place = None; news = News.Nobody } }
 {

@@ -106,7 +106,7 @@ impl Head {
         }
     }
 
-    /// Writes the bytes in front of a memory of so many pages.
+    /// Writes the bytes in front of a memory of `pages` pages.
     pub(crate) fn write(&self, pages: u16, out: &mut [u8])
         requires { IMAGE_HEAD_BYTES ≤ length out.old }
         ensures { (memory : List ℕ) → page_count memory ≡ pages → out.new ≡ image_head (state_with self.now memory) ++ drop IMAGE_HEAD_BYTES out.old }

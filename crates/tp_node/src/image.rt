@@ -9,7 +9,7 @@ use crate::head::Head;
 use crate::rules::{are_inputs, are_outputs, is_memory};
 use tp_model::limits::{IMAGE_HEAD_BYTES, PAGE_BYTES, SLICE};
 
-/// Whether a node with this head and a memory of so many bytes keeps the rules of images.
+/// Whether a node with `head` and `len` bytes of memory keeps the rules of images.
 #[tactic(auto, unfolding(tp_model::specs::Image::is_node))]
 fn keeps_rules(head: &Head, len: usize) -> bool
     ensures { (memory : List ℕ) → length memory ≡ len → result ≡ is_node (state_with head.now memory) }

@@ -148,7 +148,7 @@ impl Node {
         }
     }
 
-    /// Makes at most so many steps. What leaves goes into `out`, each token with its link.
+    /// Makes at most `max` steps. What leaves goes into `out`, each token with its link.
     pub fn run(&mut self, max: u16, out: &mut ArrayVec<(u8, Token), 8>) -> Ran
         requires { out.old.items ≡ [] }
         ensures asked { result.max ≡ max }

@@ -11,7 +11,7 @@ use tp_model::{InEnd, OutEnd, Transfer};
 
 const FIRST: u32 = 0x8000_0000;
 
-/// Memory of so many bytes is whole pages, as many as a node may have.
+/// Whether `len` bytes of memory are whole pages, as many as a node may have.
 pub(crate) fn is_memory(len: usize) -> bool
     ensures { (memory : List ℕ) → length memory ≡ len → result ≡ is_memory memory }
 {
@@ -19,7 +19,7 @@ pub(crate) fn is_memory(len: usize) -> bool
     len % PAGE_BYTES == 0 && MIN_PAGES <= pages && pages <= MAX_PAGES
 }
 
-/// A message under way has a byte left, and all that is left lies inside memory of so many bytes.
+/// Whether a message under way has a byte left, and all that is left lies inside `len` bytes of memory.
 fn is_under_way(len: usize, transfer: Transfer) -> bool
     ensures { (memory : List ℕ) → length memory ≡ len → result ≡ is_under_way memory transfer }
 {
@@ -45,7 +45,7 @@ fn is_in_end(len: usize, end: InEnd) -> bool
     }
 }
 
-/// Each output end keeps its rule beside a memory of so many bytes.
+/// Whether each output end keeps its rule beside `len` bytes of memory.
 pub(crate) fn are_outputs(len: usize, ends: &[OutEngine]) -> bool
     ensures { (memory : List ℕ) → length memory ≡ len → result ≡ list_all (is_out_end memory) ends.now }
 {
@@ -57,7 +57,7 @@ pub(crate) fn are_outputs(len: usize, ends: &[OutEngine]) -> bool
     true
 }
 
-/// Each input end keeps its rule beside a memory of so many bytes.
+/// Whether each input end keeps its rule beside `len` bytes of memory.
 pub(crate) fn are_inputs(len: usize, ends: &[InEngine]) -> bool
     ensures { (memory : List ℕ) → length memory ≡ len → result ≡ list_all (is_in_end memory) ends.now }
 {

@@ -84,7 +84,7 @@ fn why_none(halt: Option<Fault>) -> Why
     }
 }
 
-/// Makes at most so many steps.
+/// Makes at most `max` steps.
 pub(crate) fn run<M: Mem>(
     head: &mut Head,
     mem: &mut M,

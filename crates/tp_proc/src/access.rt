@@ -7,7 +7,7 @@ ghost use Rattle.tp_proc.specs.Ends.{Finds, Writes, MayRefuse};
 use crate::undone::{BAD_ADDRESS, Undone};
 use tp_mem::{Mem, WriteFault};
 
-/// The word of an address.
+/// Reads the word at `address`.
 #[inline(always)]
 pub fn load<M: Mem>(mem: &M, address: u32) -> Result<u32, Undone>
     ensures { Finds (word_at (M.bytes mem.now) address) result }
@@ -18,7 +18,7 @@ pub fn load<M: Mem>(mem: &M, address: u32) -> Result<u32, Undone>
     }
 }
 
-/// Writes the word of an address.
+/// Writes the word at `address`.
 #[inline(always)]
 pub fn store<M: Mem>(mem: &mut M, address: u32, word: u32) -> Result<(), Undone>
     ensures written { Writes (stored (M.bytes mem.old) ((address, word) ∷ [])) (MayRefuse (M.may_refuse mem.old)) (M.bytes mem.old) result (M.bytes mem.new) }
@@ -44,7 +44,7 @@ pub fn store_all<M: Mem>(mem: &mut M, writes: &[(u32, u32)]) -> Result<(), Undon
     }
 }
 
-/// Copies `count` bytes, which are read whole first, and then writes words.
+/// Copies `count` bytes, all read before the first is written, and then writes words.
 #[inline(always)]
 pub fn change<M: Mem>(
     mem: &mut M,

@@ -10,7 +10,7 @@ use crate::access::{change, load, store_all};
 use crate::undone::{BAD_ADDRESS, Undone};
 use tp_mem::{Mem, WriteFault};
 
-/// The word of an address, as it is behind the first word.
+/// Reads a word as it is once the first word is stored.
 #[inline(always)]
 pub(crate) fn load_after<M: Mem>(
     mem: &M,
@@ -37,7 +37,7 @@ fn load_behind<M: Mem>(mem: &M, at: u32, word: u32, address: u32) -> Result<u32,
     load(mem, address)
 }
 
-/// Writes words behind the first one.
+/// Writes the first word, and then others.
 #[inline(always)]
 pub(crate) fn store_after<M: Mem>(
     mem: &mut M,
@@ -53,7 +53,7 @@ pub(crate) fn store_after<M: Mem>(
     }
 }
 
-/// Copies a block behind the first word, and then writes words.
+/// Writes the first word, copies a block, and then writes words.
 #[inline(always)]
 pub(crate) fn change_after<M: Mem>(
     mem: &mut M,

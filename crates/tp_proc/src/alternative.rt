@@ -23,7 +23,7 @@ pub const READY: u32 = 0x8000_0003;
 /// What stands at the workspace while no branch is chosen.
 pub const NONE_CHOSEN: u32 = 0xFFFF_FFFF;
 
-/// Whether a word is the state of an alternative.
+/// Whether `state` is the state of an alternative.
 #[inline(always)]
 pub fn is_alternative(state: u32) -> bool
     ensures { result ≡ is_alternative state }
@@ -31,7 +31,7 @@ pub fn is_alternative(state: u32) -> bool
     state == ENABLING || state == WAITING || state == READY
 }
 
-/// The process of a descriptor is queued where its alternative waited in this state.
+/// Queues the process of `descriptor` where its alternative was waiting.
 #[inline(always)]
 pub(crate) fn signal(state: u32, descriptor: u32, cpu: &mut Cpu)
     ensures { cpu.new ≡ signalled state descriptor cpu.old }
@@ -85,7 +85,7 @@ pub fn altwt<M: Mem>(cpu: &mut Cpu, mem: &mut M) -> Result<(), Undone>
     Ok(())
 }
 
-/// A says whether a branch was chosen, by what stood at the workspace.
+/// Puts into A whether the branch is chosen, by what stood at the workspace.
 #[inline(always)]
 pub fn note_choice(word: u32, cpu: &mut Cpu)
     ensures { cpu.new ≡ chosen word cpu.old }
@@ -107,7 +107,7 @@ pub fn choose<M: Mem>(cpu: &mut Cpu, mem: &mut M) -> Result<(), Undone>
     Ok(())
 }
 
-/// A branch isn't ready.
+/// Passes over a branch that isn't ready.
 #[inline(always)]
 pub fn pass_over(cpu: &mut Cpu)
     ensures { cpu.new ≡ passed_over cpu.old }
@@ -115,7 +115,7 @@ pub fn pass_over(cpu: &mut Cpu)
     cpu.regs.a = 0;
 }
 
-/// C moves into B.
+/// Moves C into B.
 #[inline(always)]
 pub fn drop_b(cpu: &mut Cpu)
     ensures { cpu.new ≡ without_b cpu.old }

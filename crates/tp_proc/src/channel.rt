@@ -18,7 +18,7 @@ use crate::workspaces::{descriptor_of, saved_at, state_at, workspace};
 use tp_mem::Mem;
 use tp_model::{ChannelWord, Cpu, InRequest, OutRequest, Regs, Wish};
 
-/// What the address of a channel names.
+/// Says what the address of a channel names: an output link, an input link or a word of memory.
 #[inline(always)]
 pub fn channel_at(address: u32) -> ChannelWord
     ensures { result ≡ channel_at address }
@@ -33,7 +33,7 @@ pub fn channel_at(address: u32) -> ChannelWord
     }
 }
 
-/// A message on a channel that is a word of memory: so many bytes, to or from a pointer.
+/// A message on a channel that is a word of memory: `count` bytes, to or from `pointer`.
 #[derive(Clone, Copy)]
 struct Message {
     channel: u32,
@@ -49,7 +49,7 @@ struct Block {
     count: u32,
 }
 
-/// The first process at a channel waits there.
+/// Waits as the first process at a channel.
 #[tactic(auto, using(crate::proofs::Behind::behind))]
 fn waits_first<M: Mem>(
     cpu: &mut Cpu,
@@ -78,7 +78,7 @@ fn waits_first<M: Mem>(
     Ok(())
 }
 
-/// The second process at a channel copies the message, queues the first one and goes on.
+/// Meets the first process at a channel: copies the message, queues the first process and goes on.
 #[tactic(auto, using(crate::proofs::Behind::behind))]
 fn meets<M: Mem>(
     cpu: &mut Cpu,
@@ -101,7 +101,7 @@ fn meets<M: Mem>(
     Ok(())
 }
 
-/// Writes what an output leaves that finds an alternative in this state.
+/// Writes what an output leaves where it finds an alternative in this state.
 #[tactic(auto, using(crate::proofs::Behind::signals))]
 fn write_signal<M: Mem>(
     cpu: &Cpu,
@@ -130,7 +130,7 @@ fn write_signal<M: Mem>(
     store_after(mem, first, &[own, pointer, saved])
 }
 
-/// An output that finds an alternative in this state makes that ready and waits.
+/// Makes the alternative that an output found ready, and waits.
 #[tactic(auto, using(crate::proofs::Behind::behind))]
 fn waits_for_alternative<M: Mem>(
     cpu: &mut Cpu,
@@ -172,7 +172,7 @@ fn input<M: Mem>(cpu: &mut Cpu, mem: &mut M, message: Message) -> Result<(), Und
     meets(cpu, mem, None, block, channel, partner)
 }
 
-/// Outputs a message, behind a first word that is to be stored.
+/// Stores the first word, if there is one, and outputs a message.
 #[tactic(auto, using(crate::proofs::Behind::behind))]
 fn output<M: Mem>(
     cpu: &mut Cpu,
@@ -200,7 +200,7 @@ fn output<M: Mem>(
     meets(cpu, mem, first, block, channel, partner)
 }
 
-/// The instruction that inputs: count A, channel B, pointer C.
+/// Does `in`: count A, channel B, pointer C.
 pub fn chan_in<M: Mem>(cpu: &mut Cpu, mem: &mut M) -> Result<(), Undone>
     ensures does { Does (λ cpu. input_at (channel_at cpu.regs.b) cpu) (MayRefuse (M.may_refuse mem.old)) cpu.old (M.bytes mem.old) result cpu.new (M.bytes mem.new) }
     ensures kept { M.frozen mem.new ≡ M.frozen mem.old }
@@ -228,7 +228,7 @@ pub fn chan_in<M: Mem>(cpu: &mut Cpu, mem: &mut M) -> Result<(), Undone>
     }
 }
 
-/// The instruction that outputs: count A, channel B, pointer C.
+/// Does `out`: count A, channel B, pointer C.
 pub fn chan_out<M: Mem>(cpu: &mut Cpu, mem: &mut M) -> Result<(), Undone>
     ensures does { Does (λ cpu. output_at (channel_at cpu.regs.b) cpu) (MayRefuse (M.may_refuse mem.old)) cpu.old (M.bytes mem.old) result cpu.new (M.bytes mem.new) }
     ensures kept { M.frozen mem.new ≡ M.frozen mem.old }
@@ -256,7 +256,7 @@ pub fn chan_out<M: Mem>(cpu: &mut Cpu, mem: &mut M) -> Result<(), Undone>
     }
 }
 
-/// The instructions that output A from the workspace, on the channel B: one byte of it, or all four.
+/// Does `outbyte` or `outword`: stores A at the workspace, and outputs `count` bytes of it, 1 or 4, on the channel B.
 pub fn chan_out_word<M: Mem>(cpu: &mut Cpu, mem: &mut M, count: u32) -> Result<(), Undone>
     ensures does { Does (λ cpu. output_word_at (channel_at cpu.regs.b) count cpu) (MayRefuse (M.may_refuse mem.old)) cpu.old (M.bytes mem.old) result cpu.new (M.bytes mem.new) }
     ensures kept { M.frozen mem.new ≡ M.frozen mem.old }
@@ -302,7 +302,7 @@ fn enable<M: Mem>(cpu: &mut Cpu, mem: &mut M) -> Result<(), Undone>
     Ok(())
 }
 
-/// The instruction that enables a branch: guard A, channel B.
+/// Does `enbc`: guard A, channel B.
 pub fn alt_enable<M: Mem>(cpu: &mut Cpu, mem: &mut M) -> Result<(), Undone>
     ensures does { Does (λ cpu. enable_at (channel_at cpu.regs.b) cpu) (MayRefuse (M.may_refuse mem.old)) cpu.old (M.bytes mem.old) result cpu.new (M.bytes mem.new) }
     ensures kept { M.frozen mem.new ≡ M.frozen mem.old }
@@ -342,7 +342,7 @@ fn disable<M: Mem>(cpu: &mut Cpu, mem: &mut M) -> Result<(), Undone>
     choose(cpu, mem)
 }
 
-/// The instruction that disables a branch: offset A, guard B, channel C.
+/// Does `disc`: offset A, guard B, channel C.
 pub fn alt_disable<M: Mem>(cpu: &mut Cpu, mem: &mut M) -> Result<(), Undone>
     ensures does { Does (λ cpu. disable_at (channel_at cpu.regs.c) cpu) (MayRefuse (M.may_refuse mem.old)) cpu.old (M.bytes mem.old) result cpu.new (M.bytes mem.new) }
     ensures kept { M.frozen mem.new ≡ M.frozen mem.old }

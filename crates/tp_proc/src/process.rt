@@ -13,10 +13,10 @@ use crate::workspaces::{descriptor_of, is_low, saved_at, workspace};
 use tp_mem::Mem;
 use tp_model::{Cpu, Regs, State, limits};
 
-/// How many instructions a low process has before it makes room.
+/// How many instructions a low process has before it is sliced.
 const SLICE: u16 = limits::SLICE as u16;
 
-/// The three registers are empty; Error stays.
+/// Clears A, B and C; Error stays.
 #[inline(always)]
 fn emptied(regs: Regs) -> Regs
     ensures { result ≡ emptied regs }
@@ -29,7 +29,7 @@ fn emptied(regs: Regs) -> Regs
     }
 }
 
-/// Starts the process of a workspace, in a state, from where it had stopped.
+/// Starts the process of the workspace `front` in `state`, from where it had stopped.
 #[inline(always)]
 fn start<M: Mem>(cpu: &mut Cpu, mem: &M, front: u32, state: State) -> Result<(), Undone>
     ensures { Does (started front state) (MayRefuse (M.may_refuse mem.now)) cpu.old (M.bytes mem.now) result cpu.new (M.bytes mem.now) }
@@ -63,7 +63,7 @@ pub fn dispatch_low<M: Mem>(cpu: &mut Cpu, mem: &M) -> Result<(), Undone>
     Ok(())
 }
 
-/// The process that runs ends, and nothing is saved.
+/// Ends the process that runs, and saves nothing.
 #[inline]
 pub fn end(cpu: &mut Cpu)
     ensures { cpu.new ≡ stopped cpu.old }
@@ -84,7 +84,7 @@ pub fn stop<M: Mem>(cpu: &mut Cpu, mem: &mut M) -> Result<(), Undone>
     Ok(())
 }
 
-/// An instruction of a low process counts in its slice, up to the length of a slice.
+/// Counts an instruction of a low process in its slice, up to the length of a slice.
 #[inline(always)]
 fn count(cpu: &mut Cpu)
     ensures { cpu.new ≡ counted cpu.old }
@@ -98,7 +98,7 @@ fn count(cpu: &mut Cpu)
     }
 }
 
-/// Goes behind an instruction, which counts.
+/// Moves the instruction pointer to `next`, behind an instruction, which counts.
 #[inline(always)]
 pub fn pass(cpu: &mut Cpu, next: u32)
     ensures { cpu.new ≡ past next cpu.old }
@@ -107,7 +107,7 @@ pub fn pass(cpu: &mut Cpu, next: u32)
     cpu.iptr = next;
 }
 
-/// Whether a low process has had its slice.
+/// Whether a low process runs and its slice is over.
 #[inline(always)]
 pub fn must_slice(cpu: &Cpu) -> bool
     ensures { result ≡ must_slice cpu.now }
@@ -115,7 +115,7 @@ pub fn must_slice(cpu: &Cpu) -> bool
     is_low(cpu) && cpu.slice >= SLICE
 }
 
-/// The low process that runs is at the back of its queue, to go on later.
+/// Puts the low process that runs at the back of its queue.
 #[inline]
 fn leave(cpu: &mut Cpu)
     ensures { cpu.new ≡ sliced cpu.old }
@@ -124,7 +124,7 @@ fn leave(cpu: &mut Cpu)
     end(cpu);
 }
 
-/// The low process that runs makes room, to go on at an address.
+/// Slices the low process that runs: it goes on at `to` later.
 pub fn slice<M: Mem>(cpu: &mut Cpu, mem: &mut M, to: u32) -> Result<(), Undone>
     ensures does { Does (makes_room to []) (MayRefuse (M.may_refuse mem.old)) cpu.old (M.bytes mem.old) result cpu.new (M.bytes mem.new) }
     ensures kept { M.frozen mem.new ≡ M.frozen mem.old }
@@ -138,7 +138,7 @@ pub fn slice<M: Mem>(cpu: &mut Cpu, mem: &mut M, to: u32) -> Result<(), Undone>
     Ok(())
 }
 
-/// Jumps to an address, where a low process whose slice is over makes room.
+/// Jumps to `to`. A low process whose slice is over is sliced there.
 #[inline(always)]
 pub fn jump<M: Mem>(cpu: &mut Cpu, mem: &mut M, to: u32) -> Result<(), Undone>
     ensures does { Does (jump to []) (MayRefuse (M.may_refuse mem.old)) cpu.old (M.bytes mem.old) result cpu.new (M.bytes mem.new) }
@@ -151,7 +151,7 @@ pub fn jump<M: Mem>(cpu: &mut Cpu, mem: &mut M, to: u32) -> Result<(), Undone>
     Ok(())
 }
 
-/// Makes room like `slice`, behind the two words of a loop.
+/// Writes the two words of a loop, and then slices like `slice`.
 fn slice_looping<M: Mem>(
     cpu: &mut Cpu,
     mem: &mut M,
@@ -171,7 +171,7 @@ fn slice_looping<M: Mem>(
     Ok(())
 }
 
-/// Jumps like `jump`, behind the two words of a loop.
+/// Writes the two words of a loop, and then jumps like `jump`.
 #[inline]
 pub fn jump_looping<M: Mem>(
     cpu: &mut Cpu,
@@ -214,7 +214,7 @@ pub fn interrupt<M: Mem>(cpu: &mut Cpu, mem: &mut M) -> Result<(), Undone>
     Ok(())
 }
 
-/// Goes on with the low process that was kept under this descriptor.
+/// Goes on with the interrupted low process of `descriptor`.
 pub fn restore<M: Mem>(cpu: &mut Cpu, mem: &mut M, descriptor: u32) -> Result<(), Undone>
     ensures does { Does (restore descriptor) (MayRefuse (M.may_refuse mem.old)) cpu.old (M.bytes mem.old) result cpu.new (M.bytes mem.new) }
     ensures kept { M.frozen mem.new ≡ M.frozen mem.old }
@@ -236,7 +236,7 @@ pub fn restore<M: Mem>(cpu: &mut Cpu, mem: &mut M, descriptor: u32) -> Result<()
     Ok(())
 }
 
-/// Starts a process with the workspace A at N + B, at the priority of the one that runs. N is the next instruction.
+/// Does `startp`: queues a process with the workspace A that begins at N + B, at the priority of the one that runs. N is the next instruction.
 pub fn startp<M: Mem>(cpu: &mut Cpu, mem: &mut M) -> Result<(), Undone>
     ensures does { Does startp (MayRefuse (M.may_refuse mem.old)) cpu.old (M.bytes mem.old) result cpu.new (M.bytes mem.new) }
     ensures kept { M.frozen mem.new ≡ M.frozen mem.old }
@@ -252,7 +252,7 @@ pub fn startp<M: Mem>(cpu: &mut Cpu, mem: &mut M) -> Result<(), Undone>
     Ok(())
 }
 
-/// Queues the process of the descriptor A.
+/// Does `runp`: queues the process of the descriptor A.
 pub fn runp<M: Mem>(cpu: &mut Cpu, mem: &mut M) -> Result<(), Undone>
     ensures does { Does runp (MayRefuse (M.may_refuse mem.old)) cpu.old (M.bytes mem.old) result cpu.new (M.bytes mem.new) }
     ensures kept { M.frozen mem.new ≡ M.frozen mem.old }
@@ -260,7 +260,7 @@ pub fn runp<M: Mem>(cpu: &mut Cpu, mem: &mut M) -> Result<(), Undone>
     enqueue(cpu, mem, cpu.regs.a)
 }
 
-/// Ends one of the processes that count down the word behind A. The last one goes on for all.
+/// Does `endp`: counts down the word behind A. The last process goes on for all, and each other one ends.
 pub fn endp<M: Mem>(cpu: &mut Cpu, mem: &mut M) -> Result<(), Undone>
     ensures does { Does endp (MayRefuse (M.may_refuse mem.old)) cpu.old (M.bytes mem.old) result cpu.new (M.bytes mem.new) }
     ensures kept { M.frozen mem.new ≡ M.frozen mem.old }

@@ -15,7 +15,7 @@ use tp_model::{Cpu, Queue};
 /// The word that names no process.
 pub const NOT_PROCESS: u32 = 0x8000_0000;
 
-/// What is written where a process joins the back of a queue.
+/// Gives the write that links `wptr` behind the back of a queue, if there is one.
 #[inline(always)]
 pub(crate) fn link_write(wptr: u32, queue: Queue) -> Option<(u32, u32)>
     ensures { option_to_list result ≡ link_writes wptr queue }
@@ -27,7 +27,7 @@ pub(crate) fn link_write(wptr: u32, queue: Queue) -> Option<(u32, u32)>
     }
 }
 
-/// The queue with a process at its back.
+/// Gives the queue with a process at its back.
 #[inline(always)]
 pub(crate) fn joined(wptr: u32, queue: Queue) -> Queue
     ensures { result ≡ joined wptr queue }
@@ -45,7 +45,7 @@ pub(crate) fn joined(wptr: u32, queue: Queue) -> Queue
     }
 }
 
-/// What is written where the process of a descriptor joins the queue of its priority.
+/// Gives the write that links the process of `descriptor` into the queue of its priority, if there is one.
 #[inline]
 pub fn queue_write(descriptor: u32, cpu: &Cpu) -> Option<(u32, u32)>
     ensures { option_to_list result ≡ queue_writes descriptor cpu.now }
@@ -57,7 +57,7 @@ pub fn queue_write(descriptor: u32, cpu: &Cpu) -> Option<(u32, u32)>
     }
 }
 
-/// The process of a descriptor is at the back of the queue of its priority.
+/// Puts the process of `descriptor` at the back of the queue of its priority. The link isn't written.
 #[inline]
 pub fn queue(descriptor: u32, cpu: &mut Cpu)
     ensures { cpu.new ≡ queued descriptor cpu.old }
@@ -69,7 +69,7 @@ pub fn queue(descriptor: u32, cpu: &mut Cpu)
     }
 }
 
-/// Queues the process of a descriptor.
+/// Queues the process of `descriptor`, with its link in memory.
 pub fn enqueue<M: Mem>(cpu: &mut Cpu, mem: &mut M, descriptor: u32) -> Result<(), Undone>
     ensures does { Does (λ cpu memory. leaves (stored memory (queue_writes descriptor cpu)) (queued descriptor cpu)) (MayRefuse (M.may_refuse mem.old)) cpu.old (M.bytes mem.old) result cpu.new (M.bytes mem.new) }
     ensures kept { M.frozen mem.new ≡ M.frozen mem.old }
@@ -81,7 +81,7 @@ pub fn enqueue<M: Mem>(cpu: &mut Cpu, mem: &mut M, descriptor: u32) -> Result<()
     Ok(())
 }
 
-/// What a queue is when its front process has left it.
+/// Gives the queue once its front process has left it.
 #[inline(always)]
 pub(crate) fn rest_of_queue<M: Mem>(queue: Queue, mem: &M) -> Result<Queue, Undone>
     ensures { Finds (rest_of_queue queue (M.bytes mem.now)) result }

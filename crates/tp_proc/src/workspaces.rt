@@ -5,7 +5,7 @@ ghost use Rattle.tp_model.specs.Processor.{workspace, has_low_priority, saved_at
 
 use tp_model::{Cpu, State};
 
-/// The workspace of a descriptor.
+/// Gives the workspace of `descriptor`.
 #[inline(always)]
 pub fn workspace(descriptor: u32) -> u32
     ensures { result ≡ workspace descriptor }
@@ -13,7 +13,7 @@ pub fn workspace(descriptor: u32) -> u32
     descriptor / 4 * 4
 }
 
-/// Whether a descriptor names a low process.
+/// Whether `descriptor` names a low process.
 #[inline(always)]
 pub fn has_low_priority(descriptor: u32) -> bool
     ensures { result ≡ has_low_priority descriptor }
@@ -21,7 +21,7 @@ pub fn has_low_priority(descriptor: u32) -> bool
     descriptor % 2 == 1
 }
 
-/// Where a stopped process has its instruction pointer.
+/// Gives the address of word -1, where a stopped process has its instruction pointer.
 #[inline(always)]
 pub fn saved_at(wptr: u32) -> u32
     ensures { result ≡ saved_at wptr }
@@ -29,7 +29,7 @@ pub fn saved_at(wptr: u32) -> u32
     wptr.wrapping_sub(4)
 }
 
-/// Where a queued process names the next one.
+/// Gives the address of word -2, where a queued process names the next one.
 #[inline(always)]
 pub fn link_at(wptr: u32) -> u32
     ensures { result ≡ link_at wptr }
@@ -37,7 +37,7 @@ pub fn link_at(wptr: u32) -> u32
     wptr.wrapping_sub(8)
 }
 
-/// Where a process has its message's pointer, or the state of its alternative.
+/// Gives the address of word -3, where a process has its message's pointer or the state of its alternative.
 #[inline(always)]
 pub fn state_at(wptr: u32) -> u32
     ensures { result ≡ state_at wptr }
@@ -56,7 +56,7 @@ pub fn is_low(cpu: &Cpu) -> bool
     }
 }
 
-/// The descriptor of the process that runs.
+/// Gives the descriptor of the process that runs.
 #[inline(always)]
 pub fn descriptor_of(cpu: &Cpu) -> u32
     ensures { result ≡ descriptor_of cpu.now }
