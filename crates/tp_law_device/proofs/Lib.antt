@@ -1,4 +1,5 @@
 pub mod AreaReads
+pub mod Checkpoints
 pub mod Chosen
 pub mod Contents
 pub mod Cuts
@@ -10,6 +11,7 @@ pub mod FreshCuts
 pub mod FreshHeads
 pub mod Fronts
 pub mod Groups
+pub mod GroupsFit
 pub mod Heads
 pub mod Holds
 pub mod Listings

@@ -85,7 +85,7 @@ module _ (M : Machine NodeState) (E : Ends NodeState) (bytes : List ℕ) (o : Op
       | inr last ↦ inl (let a = last.0 in let b = last.1 in omega (arith, end_low M E bytes o R, end_within M E bytes o R))
     ]
 
-    loose_gate : open_in area left (not o.second) ≡ open_in area bytes (not o.second)
+    pub loose_gate : open_in area left (not o.second) ≡ open_in area bytes (not o.second)
     loose_gate = ap (λ byte. is_open byte) (same other (spare_apart other (inr (inr refl))) (beside other (le_refl other) (omega arith)))
 
     loose_other : OtherStays M E bytes o R left size

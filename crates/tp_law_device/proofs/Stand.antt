@@ -2,13 +2,14 @@
 use Rattle.std.proofs.Common.{◌≡◌, ℕ, inl, inr, not, List, [], ◌∷◌, sym, ◌∙◌, arith, Ok}
 use Rattle.std.specs.List.{AllByRecursion}
 use Rattle.std.proofs.lemmas.Bool.{cases_Bool}
+use Rattle.tp_model.specs.declared.entry.Entry.{Entry}
 use Rattle.tp_model.specs.NodeState.{NodeState}
 use Rattle.tp_model.specs.Image.{IsNode}
 use Rattle.tp_model.specs.Network.{Machine, Network}
 use Rattle.tp_model.specs.Sound.{Ends}
 use Rattle.tp_model.specs.Topology.{Topology}
 use Rattle.tp_model.specs.Device.{content_of}
-use Rattle.tp_model.specs.Spelling.{IsCut, Stands}
+use Rattle.tp_model.specs.Spelling.{IsCut, Spells, Stands}
 use Rattle.tp_model.specs.Opening.{Opened, chosen_area, opening, verdict}
 use Rattle.tp_model.specs.Node.{t414, t414_ends}
 use Rattle.tp_law_machine.proofs.Images.{node_of-image}
@@ -37,24 +38,28 @@ cut_back E t base s C = record {
   base_fits = C.base_fits;
 }
 
+pub spelt_area : (M : Machine NodeState) (E : Ends NodeState) (t : Topology) (content : List ℕ) (generation base : ℕ) (s : Network NodeState) (groups : List (List (Entry × ℕ))) (now : Network NodeState)
+    → Spells M E t content generation base s groups now → SpeltArea M E t content generation base s groups now
+spelt_area M E t content generation base s groups now S = record {
+  gate = S.gate;
+  rest = S.rest;
+  shut = S.shut;
+  spelled = S.spelled;
+  generation_fits = S.generation_fits;
+  cut = cut_back E t base s S.cut;
+  each = S.each;
+  numbers = S.numbers;
+  last = S.last;
+  leads = S.leads;
+}
+
 pub stands_opens : (M : Machine NodeState) (E : Ends NodeState) (bytes : List ℕ) (o : Opened) → Stands M E bytes o → opening M E bytes ≡ Ok o
 stands_opens M E bytes o S =
     let t = o.head.topology in
     let area = o.head.area in
     let content = content_of area o.second bytes in
     let L = has_shape t S.topology in
-    let A : SpeltArea M E t content o.generation o.base o.cut S.groups o.now = record {
-      gate = S.spells.gate;
-      rest = S.spells.rest;
-      shut = S.spells.shut;
-      spelled = S.spells.spelled;
-      generation_fits = S.spells.generation_fits;
-      cut = cut_back E t o.base o.cut S.spells.cut;
-      each = S.spells.each;
-      numbers = S.spells.numbers;
-      last = S.spells.last;
-      leads = S.spells.leads;
-    } in
+    let A = spelt_area M E t content o.generation o.base o.cut S.groups o.now S.spells in
     let age : age_in area bytes o.second ≡ o.generation = front_generation E t L o.generation o.base o.cut A.cut content _ A.spelled A.generation_fits in
     let chosen : chosen_area area bytes ≡ Ok o.second = elim (cases_Bool (open_in area bytes (not o.second))) [
       | inr closed ↦ chosen_alone area bytes o.second S.gate closed

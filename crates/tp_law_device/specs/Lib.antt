@@ -1,1 +1,2 @@
+pub mod Checkpoints
 pub mod FormattedWorld

@@ -2,9 +2,9 @@
 //! nothing; their contracts are the laws.
 #![tactic(auto)]
 
-ghost use Rattle.std.specs.Prelude.{◌≡◌, ◌≤◌, ◌<◌, ◌+◌, ◌^◌, ℕ, true, List, [], Some, Ok, length, map, take};
+ghost use Rattle.std.specs.Prelude.{◌≡◌, ◌≤◌, ◌<◌, ◌+◌, ◌*◌, ◌^◌, ℕ, true, false, List, [], Some, Ok, length, map, take};
 ghost use Rattle.tp_model.specs.declared.entry.Entry.{Entry};
-ghost use Rattle.tp_model.specs.declared.limits.TheConstants.{HEAD_BYTES};
+ghost use Rattle.tp_model.specs.declared.limits.TheConstants.{AREA_HEAD_BYTES, HEAD_BYTES};
 ghost use Rattle.tp_model.specs.NodeState.{NodeState};
 ghost use Rattle.std.specs.List.{AllByRecursion};
 ghost use Rattle.tp_model.specs.Node.{t414, t414_ends};
@@ -17,10 +17,12 @@ ghost use Rattle.tp_model.specs.Topology.{Topology, is_topology};
 ghost use Rattle.tp_model.specs.Device.{fits};
 ghost use Rattle.tp_model.specs.Head.{head_bytes, head_of};
 ghost use Rattle.tp_model.specs.Format.{start_of};
-ghost use Rattle.tp_model.specs.Journal.{is_roomy};
+ghost use Rattle.tp_model.specs.Journal.{cut_length, entry_room, is_full, is_full_for_cut, is_roomy, reserve, room};
+ghost use Rattle.tp_model.specs.Group.{group_length};
 ghost use Rattle.tp_model.specs.Opening.{Opened, StandsFor, held_of, verdict};
 ghost use Rattle.tp_model.specs.OpensTo.{OpensTo, book_of};
-ghost use Rattle.tp_model.specs.Spelling.{Stands};
+ghost use Rattle.tp_model.specs.Spelling.{IsGroup, Spells, Stands, entries_in, groups_bytes};
+ghost use Rattle.tp_law_device.specs.Checkpoints.{SpellsCopy, Switches};
 ghost use Rattle.tp_law_device.specs.FormattedWorld.{formatted_world, WasFormatted};
 ghost use Rattle.tp_model.specs.Sound.{Ends, Sound};
 ghost use Rattle.tp_model.specs.Snapshot.{MarkedNetwork};
@@ -28,8 +30,9 @@ ghost use Rattle.tp_model.specs.WholeCut.{WholeCut, count_in, whole, IsWhole};
 ghost use Rattle.tp_model.specs.Acts.{Act, acted, IsOpened, CutHolds};
 ghost use Rattle.tp_model.specs.Disk.{MayBe};
 ghost use Rattle.tp_model.specs.Areas.{AreasHold, next_number};
-ghost use Rattle.tp_model.specs.DeviceAreas.{areas_of, device_areas};
-ghost use Rattle.tp_model.specs.Runs.{World, Event, Reopens, Step, Run, IsFormatted, Recovers, reopened};
+ghost use Rattle.tp_model.specs.DeviceAreas.{areas_of, device_areas, has_room, other_content, other_is_open, other_start};
+ghost use Rattle.tp_model.specs.WriteOrder.{Resting};
+ghost use Rattle.tp_model.specs.Runs.{World, Event, HasCut, Reopens, Step, Run, IsFormatted, Recovers, copy_of, reopened};
 ghost use Rattle.tp_model.specs.Acknowledged.{IsAcknowledged, IsShown};
 
 /// What each write leaves on a device, whatever bytes stand there: opening reads nothing behind the other area's closed
@@ -156,4 +159,33 @@ pub fn cuts_are_orders()
     ensures whole { (start : Network NodeState) (events : List (Event NodeState)) (first last : World NodeState)
         → IsFormatted t414 device_areas start first → Run t414 device_areas first events last
         → ((cut : WholeCut) → whole last.net ≡ Some cut → IsWhole last.net) × (IsWhole last.net → (cut : WholeCut) × (whole last.net ≡ Some cut)) }
+{}
+
+/// As long as the journal isn't full, groups end inside their area. However entries are divided into groups, behind a cut image
+/// there is room for them, for one more group, and for the closed gate behind it, where each entry is reckoned at 32 bytes;
+/// whatever the bytes of a device that opens, the next group has room behind the entries that are kept; and what the tests
+/// of a full journal let pass keeps to that.
+pub fn groups_fit()
+    ensures divided { (t : Topology) (area : ℕ) (groups : List (List (Entry × ℕ))) (more : List (Entry × ℕ)) → AllByRecursion IsGroup groups → 1 ≤ length more
+        → entry_room * (length (entries_in groups) + length more) ≤ room t area
+        → AREA_HEAD_BYTES + cut_length t + length (groups_bytes groups) + group_length (length more) < area }
+    ensures opened { (bytes : List ℕ) (o : Opened) → verdict bytes ≡ Ok o → (count : ℕ) → 1 ≤ count → entry_room * (length o.kept + count) ≤ room o.head.topology o.head.area
+        → has_room o count ≡ true }
+    ensures ordinary { (most lines entries reserved number more : ℕ) → is_full (Some most) lines entries reserved number more ≡ false
+        → entry_room * (entries + reserved + more) + reserve lines ≤ most }
+    ensures reserved { (most entries reserved number : ℕ) → is_full_for_cut (Some most) entries reserved number ≡ false
+        → entry_room * (entries + reserved + 1) ≤ most }
+{}
+
+/// A checkpoint is a piece of a run. Where the other area is closed, what it spells is what the device stands for once its gate is
+/// open; so from a world whose flusher rests and whose cut is whole, with pieces that make the other area spell the copy,
+/// a run copies cut and tail, writes them, syncs, opens the gate, syncs and trims the book: its last world's device opens as
+/// the other area, and holds the copy.
+pub fn checkpoints_switch()
+    ensures other { (bytes : List ℕ) (o : Opened) → verdict bytes ≡ Ok o → other_is_open o bytes ≡ false
+        → (generation base : ℕ) (s : Network NodeState) (groups : List (List (Entry × ℕ))) (now : Network NodeState)
+        → Spells t414 t414_ends o.head.topology (other_content o bytes) generation base s groups now → o.generation < generation
+        → device_areas.other bytes ≡ Some (other_start o, record { network = s; entries = map (λ e. e.0) (entries_in groups); base = base }) }
+    ensures switches { (w : World NodeState) (cut : WholeCut) (nodes : List NodeState) (o : Opened) (pieces : List (ℕ × List ℕ)) (generation : ℕ)
+        → w.at ≡ Resting → HasCut w.net cut nodes → SpellsCopy w o pieces (copy_of w.net w.base cut nodes) generation → Switches w o cut nodes generation }
 {}

@@ -1,6 +1,5 @@
 -- What a run's journal is at each moment, and which orders of it the cuts stand for.
 use Rattle.std.proofs.Common.{◌≡◌, ℕ, ◌+◌, ◌≤◌, List, length, take, sym, ap, subst, ◌∙◌, arith, Some}
-use Rattle.std.proofs.lemmas.List.{take_at}
 use Rattle.tp_model.specs.Network.{Machine, Network, on_line}
 use Rattle.tp_model.specs.Entries.{process, HasFourLinks}
 use Rattle.tp_model.specs.Order.{after, pre, post}
@@ -17,7 +16,7 @@ use Rattle.tp_law_network.proofs.Room.{sound_marked}
 use Rattle.tp_law_cuts.proofs.Room.{few_markers, line_room}
 use Rattle.tp_law_cuts.proofs.Whole.{whole_only, whole_there}
 use Rattle.tp_law_runs.proofs.Orders.{order_cut}
-use Rattle.tp_law_runs.proofs.Prefix.{Stands}
+use Rattle.tp_law_runs.proofs.Prefix.{Stands, stands_taken}
 use Rattle.tp_law_runs.proofs.Invariant.{Inv}
 use Rattle.tp_law_runs.proofs.Runs.{reads_now, formatted_run}
 
@@ -72,5 +71,5 @@ module _ {Node : Type 0} (M : Machine Node) (four : HasFourLinks M) (never : Nev
       let R = reads_now M four never A law start formatted.opened last holds bytes may in
       let same : R.held ≡ r.held = let both = sym R.is ∙ r.reads in cc in
       let S = subst (Stands M start last.journal last.stored) same R.stands in
-      let cut : take (next_number r.held) last.journal ≡ S.first = ap (take (next_number r.held)) S.parts ∙ take_at S.first S.rest (next_number r.held) S.count in
+      let cut = stands_taken M start last.journal last.stored r.held S in
       subst (λ journal. HasOrder M start journal r.held.network r.held.entries r.held.base) (sym cut) S.order

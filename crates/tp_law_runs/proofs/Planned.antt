@@ -9,10 +9,10 @@ use Rattle.tp_model.specs.DiskHistory.{State}
 use Rattle.tp_model.specs.StoreCalls.{all_done, moments_of, group_calls, clear_calls, put_calls, tail_calls, switch_calls}
 use Rattle.tp_model.specs.Areas.{Areas, AreasHold, Held, gate_open}
 use Rattle.tp_model.specs.WriteOrder.{Position, Resting, Body, Tail, Opening, Opened, Broken, Allows, putting, looking, clearing, clear_done, add_body, body_done, add_gate, gate_done, tail_putting, tail_syncing, switching, switch_done, reached, left}
-use Rattle.tp_model.specs.Runs.{World, Does, Breaks}
+use Rattle.tp_model.specs.Runs.{World, Event, Does, Breaks, Run}
 use Rattle.tp_model.specs.Walks.{Chained, AreWalked}
 use Rattle.tp_law_runs.specs.Standing.{Rests}
-use Rattle.tp_law_runs.specs.Planned.{moved, ArePlanned, AreQuiet, calls_of, worlds_of, all_moved, group_plan, clear_plan, put_then, switch_plan}
+use Rattle.tp_law_runs.specs.Planned.{moved, ArePlanned, AreQuiet, calls_of, worlds_of, all_moved, all_does, group_plan, clear_plan, put_then, switch_plan}
 use Rattle.tp_law_runs.proofs.Moments.{may_be_written}
 use Rattle.tp_law_runs.proofs.Device.{put_may, put_room}
 use Rattle.tp_law_runs.proofs.Walks.{no_step, one_step, chained_from, disks}
@@ -30,6 +30,10 @@ module _ {Node : Type 0} (M : Machine Node) (A : Areas Node) where
   planned_chain w (step ∷ plan) planned =
       let u : World Node = moved w step.0 step.1 in
       (no_step M A w, chained_from M A w u (all_moved u plan) (worlds_of u plan) (one_step M A w u (Does step.0 step.1) refl (planned.0, refl)) (planned_chain u plan planned.1))
+
+  pub planned_run : (w : World Node) (plan : List (Call × Position Node)) → ArePlanned A w plan → Run M A w (all_does plan) (all_moved w plan)
+  planned_run w [] planned = refl
+  planned_run w (step ∷ plan) planned = (moved w step.0 step.1, (planned.0, refl), planned_run (moved w step.0 step.1) plan planned.1)
 
   planned_disks : (w : World Node) (plan : List (Call × Position Node)) → disks M A (worlds_of w plan) ≡ moments_of (calls_of plan) w.disk
   planned_disks w [] = refl
@@ -218,6 +222,21 @@ module _ {Node : Type 0} (M : Machine Node) (A : Areas Node) where
   tail_walks law w old new h copy upto pieces =
       put_then_walks law h (Tail copy upto) (tail_still copy upto) w old new pieces ((Sync, Tail copy upto) ∷ [])
       (λ u there. (subst (λ pos. Allows A u.disk u.backlog pos Sync (Tail copy upto)) (sym there) (tail_syncing copy upto), tt)) (refl, tt)
+
+  -- the events of this, and the world after them
+  pub tail_run : AreasHold M A → (w : World Node) (h copy : Held Node) (upto : ℕ) (pieces : List (ℕ × List ℕ)) → w.at ≡ Tail copy upto
+      → A.verdict w.disk.bytes ≡ Some h → AreInside (A.spare w.disk.bytes) pieces
+      → (events : List (Event Node)) × Run M A w events (record w { disk = all_done (tail_calls pieces) w.disk })
+  tail_run law w h copy upto pieces at reads inside =
+      let pos : Position Node = Tail copy upto in
+      let last : List (Call × Position Node) = (Sync, pos) ∷ [] in
+      let S = tail_still copy upto in
+      let plan = put_then pos pieces last in
+      let planned = put_planned law h pos S w pieces last
+      (λ u there. (subst (λ p. Allows A u.disk u.backlog p Sync pos) (sym there) (tail_syncing copy upto), tt)) at reads inside in
+      let end : all_moved w plan ≡ record w { disk = all_done (tail_calls pieces) w.disk } =
+      stays_moved pos S w plan (put_stays pos pieces last (refl, tt)) at ∙ ap (λ calls. record w { disk = all_done calls w.disk }) (put_then_calls pos pieces last) in
+      (all_does plan, subst (λ (v : World Node). Run M A w (all_does plan) v) end (planned_run w plan planned))
 
   -- ## The areas are switched
 

@@ -1,6 +1,7 @@
 -- How what the device holds, and what a copy for it holds, lie to the journal.
-use Rattle.std.proofs.Common.{◌≡◌, ℕ, ◌+◌, ◌-◌, ◌≤◌, List, [], ◌∷◌, ◌++◌, length, drop, get_or, sym, ap, subst, ◌∙◌, arith, append_assoc, append-nil, length-append, Option, Some}
+use Rattle.std.proofs.Common.{◌≡◌, ℕ, ◌+◌, ◌-◌, ◌≤◌, List, [], ◌∷◌, ◌++◌, length, take, drop, get_or, sym, ap, subst, ◌∙◌, arith, append_assoc, append-nil, length-append, Option, Some}
 use Rattle.std.proofs.Math.Seq.{drop-append_seam}
+use Rattle.std.proofs.lemmas.List.{take_at}
 use Rattle.tp_model.specs.declared.entry.Entry.{Entry}
 use Rattle.tp_model.specs.Network.{Machine, Network}
 use Rattle.tp_model.specs.Entries.{process}
@@ -23,6 +24,9 @@ pub record Stands {Node : Type 0} (M : Machine Node) (start : Network Node) (jou
   pub exact : after M h.network h.entries ≡ after M start first
   pub order : HasOrder M start first h.network h.entries h.base
   pub no_less : least ≤ length first
+
+pub stands_taken : {Node : Type 0} (M : Machine Node) (start : Network Node) (journal : List Entry) (least : ℕ) (h : Held Node) → (S : Stands M start journal least h) → take (next_number h) journal ≡ S.first
+stands_taken M start journal least h S = ap (λ es. take (next_number h) es) S.parts ∙ take_at S.first S.rest (next_number h) S.count
 
 -- How the book's entries lie to the journal. Up to where the tail of the kept cut reached they are others, which lead
 -- to the same network; from there on they are the same: those on the device, those copied, and the rest.

@@ -21,7 +21,7 @@ use Rattle.tp_law_runs.specs.Standing.{Rests}
 use Rattle.tp_law_runs.proofs.Moments.{broken_may}
 use Rattle.tp_model.specs.CutOrder.{HasOrder}
 use Rattle.tp_law_runs.proofs.Orders.{order_first, order_behind}
-use Rattle.tp_law_runs.proofs.Prefix.{Stands, copy_kept, forget_kept}
+use Rattle.tp_law_runs.proofs.Prefix.{Stands, stands_taken, copy_kept, forget_kept}
 use Rattle.tp_law_runs.proofs.Invariant.{Reads, WithKept, At, Inv}
 use Rattle.tp_law_runs.proofs.Acts.{same_at, grown_at}
 use Rattle.tp_law_runs.proofs.Steps.{reads_at, reads_within, done_at}
@@ -133,7 +133,7 @@ module _ {Node : Type 0} (M : Machine Node) (four : HasFourLinks M) (never : Nev
         S = subst (Stands M start w.journal w.stored) same R.stands
 
         cut : take (next_number h) w.journal ≡ S.first
-        cut = ap (take (next_number h)) S.parts ∙ take_at S.first S.rest (next_number h) S.count
+        cut = stands_taken M start w.journal w.stored h S
 
     -- ## Acts
 

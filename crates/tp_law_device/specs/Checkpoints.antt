@@ -1,0 +1,44 @@
+-- A checkpoint as a piece of a run: what it asks, and what it leads to.
+use Rattle.std.specs.Prelude.{◌≡◌, ◌<◌, ℕ, ◌+◌, false, not, List, map, length, Ok}
+use Rattle.std.specs.List.{AllByRecursion}
+use Rattle.tp_model.specs.declared.entry.Entry.{Entry}
+use Rattle.tp_model.specs.NodeState.{NodeState}
+use Rattle.tp_model.specs.Node.{t414, t414_ends}
+use Rattle.tp_model.specs.Network.{Network}
+use Rattle.tp_model.specs.WholeCut.{WholeCut, trimmed}
+use Rattle.tp_model.specs.Disk.{IsWithin}
+use Rattle.tp_model.specs.StoreCalls.{all_done, put_calls}
+use Rattle.tp_model.specs.Areas.{Held}
+use Rattle.tp_model.specs.DeviceAreas.{device_areas, other_is_open, other_content}
+use Rattle.tp_model.specs.Opening.{Opened, held_of, verdict}
+use Rattle.tp_model.specs.Spelling.{Spells, entries_in}
+use Rattle.tp_model.specs.WriteOrder.{Resting}
+use Rattle.tp_model.specs.Runs.{World, Event, Run, copy_of}
+
+-- The world's device opens as `o`, whose other area is closed. The pieces lie behind that area's gate; once they are written,
+-- the area spells the copy, with a higher generation.
+pub record SpellsCopy (w : World NodeState) (o : Opened) (pieces : List (ℕ × List ℕ)) (copy : Held NodeState) (generation : ℕ) : Type 0 where
+  pub opens : verdict w.disk.bytes ≡ Ok o
+  pub closed : other_is_open o w.disk.bytes ≡ false
+  pub inside : AllByRecursion (λ piece. IsWithin (device_areas.spare w.disk.bytes) (piece.0, length piece.1)) pieces
+  pub groups : List (List (Entry × ℕ))
+  pub now : Network NodeState
+  pub spells : Spells t414 t414_ends o.head.topology (other_content o (all_done (put_calls pieces) w.disk).bytes) generation copy.base copy.network groups now
+  pub entries : map (λ e. e.0) (entries_in groups) ≡ copy.entries
+  pub later : o.generation < generation
+
+-- A run leads from the world to one in which the book is trimmed to the cut, and whose device opens as the other area, with
+-- that generation, and holds the cut and all entries outside it.
+pub record Switches (w : World NodeState) (o : Opened) (cut : WholeCut) (nodes : List NodeState) (generation : ℕ) : Type 0 where
+  pub events : List (Event NodeState)
+  pub last : World NodeState
+  pub run : Run t414 device_areas w events last
+  pub rests : last.at ≡ Resting
+  pub net : last.net ≡ trimmed w.net cut nodes
+  pub base : last.base ≡ w.base + cut.size
+  pub journal : last.journal ≡ w.journal
+  pub opened : Opened
+  pub reads : verdict last.disk.bytes ≡ Ok opened
+  pub holds : held_of opened ≡ copy_of w.net w.base cut nodes
+  pub second : opened.second ≡ not o.second
+  pub age : opened.generation ≡ generation
