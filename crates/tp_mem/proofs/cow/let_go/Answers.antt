@@ -1,0 +1,28 @@
+use Rattle.std.proofs.Common.{◌≡◌, ◌<◌, ◌≤◌, ℕ, Option, Some, None, length, get_or, sym, ap, ◌∙◌, arith}
+use Rattle.std.proofs.lemmas.List.{get_or_default}
+use Rattle.tp_mem.specs.Copies.{copied_in}
+use Rattle.tp_mem.proofs.Copies.{copy_single, AreCopies-gone, free_in-gone, copied_in-next, copied_in-past}
+use Rattle.tp_mem.proofs.cow.let_go.Goals as goal
+
+pub give_copy-requires : goal.give_copy-requires
+give_copy-requires c =
+    let within : c.loop-page.page < length c.loop-page.copies = omega arith in
+    let at = get_or_default _ _ None _ within ∙ sym c.take-copy.ensures.value in
+    copy_single _ _ _ _ at c.loop-page.invariant.0
+
+pub loop-page-preserved : goal.loop-page-preserved
+loop-page-preserved c =
+    let within : c.loop-page.page < length c.loop-page.copies = omega arith in
+    let at = get_or_default _ _ None _ within ∙ sym c.take-copy.ensures.value in
+    ?
+
+pub returns-clause-gone : goal.returns-clause-gone
+returns-clause-gone c =
+    let past : length c.loop-page.copies ≤ c.loop-page.page = omega arith in
+    copied_in-past _ _ past c.loop-page.invariant.2
+
+pub returns-clause-free : goal.returns-clause-free
+returns-clause-free c =
+    let past : length c.loop-page.copies ≤ c.loop-page.page = omega arith in
+    let none = copied_in-past _ _ past c.loop-page.invariant.2 in
+    omega (arith, none)
