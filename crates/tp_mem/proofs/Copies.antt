@@ -274,3 +274,9 @@ page_of-frozen_from page live (copy ∷ copies) frames (suc i) within inside own
 pub copy_single : (frames : Frames) (copies : List (Option ℕ)) (i : ℕ) (copy : Option ℕ) → get_or copies i None ≡ copy → AreCopies frames copies → ForSome copy (λ id. owners_of frames id ≡ 1)
 copy_single frames copies i None at own = λ id is. absurd (cc)
 copy_single frames copies i (Some here) at own = λ id is. let e : here ≡ id = cc in ap (λ k. owners_of frames k) (sym e) ∙ (AreCopies-at frames copies i here own at).0
+
+pub take_past : (n : ℕ) (bytes : List ℕ) → length bytes ≤ n → take n bytes ≡ bytes
+take_past zero [] past = refl
+take_past zero (byte ∷ bytes) past = absurd (omega arith)
+take_past (suc n) [] past = refl
+take_past (suc n) (byte ∷ bytes) past = ap (λ bs. byte ∷ bs) (take_past n bytes (omega arith))

@@ -1,5 +1,5 @@
 -- What is so of every memory that copies pages before it writes stays so.
-use Rattle.std.proofs.Common.{◌≡◌, ℕ, zero, suc, ◌+◌, ◌-◌, ◌*◌, ◌<◌, ◌≤◌, Bool, true, false, cond, List, [], ◌∷◌, length, Option, Some, None, get_or, set, replicate, refl, sym, ap, subst, ◌∙◌, arith}
+use Rattle.std.proofs.Common.{◌≡◌, ℕ, zero, suc, ◌+◌, ◌-◌, ◌*◌, ◌<◌, ◌≤◌, Bool, true, false, cond, List, [], ◌∷◌, length, Option, Some, None, get_or, set, replicate, refl, sym, ap, subst, ◌∙◌, arith, IsSome}
 use Rattle.std.proofs.lemmas.List.{length-set, length-replicate}
 use Rattle.tp_model.specs.Frames.{Held, Frames, frame, held_owners, owners_of, free_in}
 use Rattle.tp_model.specs.SharedPages.{private_in}
@@ -8,11 +8,30 @@ use Rattle.tp_mem.specs.Contents.{page_of}
 use Rattle.tp_mem.specs.Copies.{Paged, frozen_from, frozen_of, spare_in, shared_of, copied_in, AreCopies, IsPaged}
 use Rattle.tp_mem.proofs.Copies.{copy_of, AreCopies-with, copied_in-with, shared_of-with, shared_of-thawed, private_in-shared_of, length-shared_of, shared_at, frozen_from-with}
 
+abbrev pub paged : List ℕ → Option (List ℕ) → List Bool → ℕ → Paged
+paged live frozen shared spare = record { live = live; frozen = frozen; shared = shared; spare = spare }
+
 -- an entry that is written twice
 pub set-twice : {A : Type 0} (xs : List A) (i : ℕ) (x y : A) → set (set xs i x) i y ≡ set xs i y
 set-twice [] i x y = refl
 set-twice (here ∷ xs) zero x y = refl
 set-twice (here ∷ xs) (suc i) x y = ap (λ ys. here ∷ ys) (set-twice xs i x y)
+
+-- what contracts see, part by part
+pub paged_same : (live : List ℕ) (frozen others : Option (List ℕ)) (shared pages : List Bool) (spare frames : ℕ) → frozen ≡ others → shared ≡ pages → spare ≡ frames
+    → paged live frozen shared spare ≡ paged live others pages frames
+paged_same live frozen others shared pages spare frames a b c = ap (λ x. paged live x shared spare) a ∙ ap (λ x. paged live others x spare) b ∙ ap (λ x. paged live others pages x) c
+
+pub with_shared : (memory : Paged) (pages : List Bool) → pages ≡ memory.shared → memory ≡ record memory { shared = pages }
+with_shared memory pages same = ap (λ ps. record memory { shared = ps }) (sym same)
+
+pub frozen_is : (is_frozen : Bool) (bytes : List ℕ) → IsSome (cond is_frozen (Some bytes) None) → is_frozen ≡ true
+frozen_is true bytes some = refl
+frozen_is false bytes some = absurd (let no : false ≡ true = some in cc)
+
+pub is_frozen_some : (is_frozen : Bool) (bytes : List ℕ) → is_frozen ≡ true → IsSome (cond is_frozen (Some bytes) None)
+is_frozen_some true bytes frozen = refl
+is_frozen_some false bytes frozen = absurd (cc)
 
 module _ (live : List ℕ) (shared : List Bool) (copies : List (Option ℕ)) (frames : Frames) (is_frozen : Bool) (paged : IsPaged live shared copies frames is_frozen) where
   pub few_flags : length shared ≤ 1024

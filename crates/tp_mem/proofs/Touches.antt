@@ -161,3 +161,30 @@ words_untouched pages (word ∷ words) page none shared =
 
 pub or_false : (a b c : Bool) → a ≡ false → b ≡ false → c ≡ false → (a || (b || c)) ≡ false
 or_false a b c none_a none_b none_c = ap (λ x. x || (b || c)) none_a ∙ ap (λ x. x || c) none_b ∙ none_c
+
+-- ---- from the first page on
+zero_plus : (n : ℕ) → 0 + n ≡ n
+zero_plus n = omega arith
+
+pub parted-next : (n : ℕ) (pages : List Bool) (ranges : List (ℕ × ℕ))
+    → set (parted_to 0 n pages ranges) n (get_or (parted_to 0 n pages ranges) n false && not (list_any (touches n) ranges)) ≡ parted_to 0 (n + 1) pages ranges
+parted-next n pages ranges =
+    ap (λ b. set (parted_to 0 n pages ranges) n (b && not (list_any (touches n) ranges))) (get_or-parted_to 0 n pages ranges)
+    ∙ ap (λ k. set (parted_to 0 n pages ranges) n (get_or pages n false && not (list_any (touches k) ranges))) (sym (zero_plus n)) ∙ parted_to-next 0 n pages ranges
+
+pub parted-room : (n : ℕ) (pages : List Bool) (ranges : List (ℕ × ℕ)) → n < length pages
+    → private_in (parted_to 0 n pages ranges) + want (get_or (parted_to 0 n pages ranges) n false) (list_any (touches n) ranges) ≤ private_in pages + wanted_from 0 pages ranges
+parted-room n pages ranges within =
+    let here = ap (λ b. want b (list_any (touches n) ranges)) (get_or-parted_to 0 n pages ranges) ∙ ap (λ k. want (get_or pages n false) (list_any (touches k) ranges)) (sym (zero_plus n)) in
+    omega (arith, here, private_in-parted_to 0 n pages ranges, wanted_from-next 0 n pages ranges within)
+
+and_false : (b : Bool) → (b && false) ≡ false
+and_false true = refl
+and_false false = refl
+
+-- a page that stays as it is
+pub kept_page : (pages : List Bool) (page : ℕ) (is_touched : Bool) → (get_or pages page false ≡ true → is_touched ≡ false) → set pages page (get_or pages page false && not is_touched) ≡ pages
+kept_page pages page is_touched none = ap (λ b. set pages page b) (and_not (get_or pages page false) is_touched none) ∙ set-get_or pages page false
+
+pub parted_page : (pages : List Bool) (page : ℕ) (is_touched : Bool) → is_touched ≡ true → set pages page false ≡ set pages page (get_or pages page false && not is_touched)
+parted_page pages page is_touched touched = ap (λ b. set pages page b) (sym (ap (λ t. get_or pages page false && not t) touched ∙ and_false (get_or pages page false)))
