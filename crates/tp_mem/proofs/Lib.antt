@@ -1,1 +1,4 @@
+pub mod Copies
+pub mod Paged
+pub mod Touches
 pub mod Writes

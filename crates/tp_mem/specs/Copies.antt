@@ -1,6 +1,6 @@
 -- How a memory is made up that copies a page before the first write to it: each page of the frozen bytes is either the
 -- live one, while it is shared, or a copy in a frame.
-use Rattle.std.specs.Prelude.{◌≡◌, ℕ, ◌+◌, ◌*◌, ◌≤◌, Bool, true, false, not, ◌&&◌, List, [], ◌∷◌, ◌++◌, length, Option, Some, None, is_some, if◌then◌else◌}
+use Rattle.std.specs.Prelude.{◌≡◌, ℕ, ◌+◌, ◌*◌, ◌≤◌, Bool, true, false, not, ◌&&◌, List, [], ◌∷◌, ◌++◌, length, set, Option, Some, None, is_some, if◌then◌else◌}
 use Rattle.tp_model.specs.Frames.{Frames, owners_of, bytes_of, free_in}
 use Rattle.tp_model.specs.declared.limits.TheConstants.{PAGE_BYTES}
 use Rattle.tp_mem.specs.Contents.{page_of}
@@ -45,6 +45,11 @@ AreCopies frames [] = Unit {0}
 AreCopies frames (None ∷ copies) = AreCopies frames copies
 AreCopies frames (Some id ∷ copies) =
     (owners_of frames id ≡ 1) × (length (bytes_of frames id) ≡ PAGE_BYTES) × IsElsewhere id copies × AreCopies frames copies
+
+-- the frames without the copy of a page, if it has one
+abbrev pub without_copy : Frames → Option ℕ → Frames
+without_copy frames None = frames
+without_copy frames (Some id) = set frames id None
 
 -- what is so of every such memory
 pub record IsPaged (live : List ℕ) (shared : List Bool) (copies : List (Option ℕ)) (frames : Frames) (is_frozen : Bool) : Type 0 where

@@ -1,9 +1,9 @@
 //! Which pages the ranges of writes have bytes in.
 
-ghost use Rattle.std.specs.Prelude.{◌≡◌, ℕ, ◌+◌, ◌*◌, ◌<◌, ◌≤◌, ◌^◌, ◌∷◌, false, length, IsTrue};
+ghost use Rattle.std.specs.Prelude.{◌≡◌, ℕ, ◌+◌, ◌*◌, ◌/◌, ◌<◌, ◌≤◌, ◌^◌, ◌∷◌, true, false, ◌&&◌, if◌then◌else◌, length, get_or};
 ghost use Rattle.std.specs.List.{list_any};
-ghost use Rattle.tp_model.specs.SharedPages.{block_ranges, word_ranges, touches, wanted_from, shared_from};
-ghost use Rattle.tp_mem.specs.Ranges.{are_inside};
+ghost use Rattle.tp_model.specs.Memory.{word_offset};
+ghost use Rattle.tp_model.specs.SharedPages.{block_ranges, word_ranges, touches, wanted_from};
 
 use crate::address::{offset, word_offset};
 use tp_model::limits::PAGE_BYTES;
@@ -36,18 +36,87 @@ fn touches(page: usize, range: Range) -> bool
         && PAGE_BYTES * page < range.0 + range.1
 }
 
+/// Whether a word that is written lies in a page.
+fn has_word(page: usize, words: &[(u32, u32)]) -> bool
+    requires page { page ≤ 1024 }
+    ensures { result ≡ list_any (λ word. touches page (word_offset word.0, 4)) words.now }
+{
+    words
+        .iter()
+        .any(|word| touches(page, (word_offset(word.0), 4)))
+}
+
 /// Whether two ranges, or words that are written, have bytes in a page.
+#[tactic(auto, using(crate::proofs::Touches::words_touch))]
 pub(crate) fn is_touched(page: usize, first: Range, block: Range, words: &[(u32, u32)]) -> bool
     requires page { page ≤ 1024 }
     requires first { first.0 + first.1 < 2 ^ 33 }
     requires block { block.0 + block.1 < 2 ^ 33 }
     ensures { result ≡ list_any (touches page) (first ∷ block ∷ word_ranges words.now) }
 {
-    touches(page, first)
-        || touches(page, block)
-        || words
-            .iter()
-            .any(|word| touches(page, (word_offset(word.0), 4)))
+    touches(page, first) || touches(page, block) || has_word(page, words)
+}
+
+/// Whether a page is shared.
+#[inline(always)]
+pub(crate) fn is_shared(shared: &[bool], page: usize) -> bool
+    ensures { result ≡ get_or shared.now page false }
+{
+    shared.get(page).copied().unwrap_or(false)
+}
+
+/// Whether a range has bytes in a shared page.
+#[inline(always)]
+fn shares_range(shared: &[bool], range: Range) -> bool
+    requires small { range.0 + range.1 < 2 ^ 33 }
+    ensures { result ≡ false → (page : ℕ) → get_or shared.now page false ≡ true → touches page range ≡ false }
+{
+    for page in range.0 / PAGE_BYTES..(range.0 + range.1 + PAGE_BYTES - 1) / PAGE_BYTES {
+        if is_shared(shared, page) {
+            return true;
+        }
+    }
+    false
+}
+
+/// Whether a word that is written lies in a shared page.
+#[inline(always)]
+fn shares_word(shared: &[bool], words: &[(u32, u32)]) -> bool
+    ensures { result ≡ list_any (λ word. get_or shared.now (word_offset word.0 / PAGE_BYTES) false) words.now }
+{
+    words
+        .iter()
+        .any(|word| is_shared(shared, word_offset(word.0) / PAGE_BYTES))
+}
+
+/// Whether two ranges, or words that are written, may have bytes in a shared page.
+#[inline(always)]
+pub(crate) fn shares(shared: &[bool], first: Range, block: Range, words: &[(u32, u32)]) -> bool
+    requires first { first.0 + first.1 < 2 ^ 33 }
+    requires block { block.0 + block.1 < 2 ^ 33 }
+    ensures { result ≡ false → (page : ℕ) → get_or shared.now page false ≡ true → list_any (touches page) (first ∷ block ∷ word_ranges words.now) ≡ false }
+{
+    if shares_range(shared, first) {
+        return true;
+    }
+    if shares_range(shared, block) {
+        return true;
+    }
+    shares_word(shared, words)
+}
+
+/// One where a page is shared and has such bytes.
+fn wants(is_shared: bool, page: usize, first: Range, block: Range, words: &[(u32, u32)]) -> usize
+    requires page { page ≤ 1024 }
+    requires first { first.0 + first.1 < 2 ^ 33 }
+    requires block { block.0 + block.1 < 2 ^ 33 }
+    ensures { result ≡ (if is_shared && list_any (touches page) (first ∷ block ∷ word_ranges words.now) then 1 else 0) }
+{
+    if is_shared && is_touched(page, first, block, words) {
+        1
+    } else {
+        0
+    }
 }
 
 /// How many of the shared pages have such bytes.
@@ -59,9 +128,7 @@ pub(crate) fn wanted(shared: &[bool], first: Range, block: Range, words: &[(u32,
 {
     let mut count = 0;
     for page in 0..shared.len() {
-        if shared[page] && is_touched(page, first, block, words) {
-            count += 1;
-        }
+        count += wants(shared[page], page, first, block, words);
     }
     count
 }

@@ -1,0 +1,190 @@
+-- Which pages stay shared behind writes.
+use Rattle.std.proofs.Common.{◌≡◌, ℕ, zero, suc, ◌+◌, ◌-◌, ◌*◌, ◌/◌, ◌%◌, ◌<◌, ◌≤◌, Bool, true, false, not, ◌&&◌, ◌||◌, if◌then◌else◌, cond, List, [], ◌∷◌, length, get_or, set, map, drop, replicate, refl, sym, ap, subst, ◌∙◌, arith, ltb}
+use Rattle.std.proofs.lemmas.List.{set-get_or}
+use Rattle.std.proofs.lemmas.Bool.{ltb-true, and_parts}
+use Rattle.std.proofs.Math.Seq.{drop-cons}
+use Rattle.std.specs.List.{list_any}
+use Rattle.tp_model.specs.Memory.{word_offset}
+use Rattle.tp_model.specs.SharedPages.{Kept, word_ranges, touches, shared_from, wanted_from, private_in, kept_behind, LacksFrames}
+
+-- the words that are written, as ranges
+pub list_any-word_ranges : (p : ℕ × ℕ → Bool) (words : List (ℕ × ℕ)) → list_any p (word_ranges words) ≡ list_any (λ word. p (word_offset word.0, 4)) words
+list_any-word_ranges p [] = refl
+list_any-word_ranges p (word ∷ words) = ap (λ b. p (word_offset word.0, 4) || b) (list_any-word_ranges p words)
+
+pub ruleset words_touch = (list_any-word_ranges)
+
+-- the first n pages, from one on, as ranges leave them
+abbrev pub parted_to : ℕ → ℕ → List Bool → List (ℕ × ℕ) → List Bool
+parted_to page n [] ranges = []
+parted_to page zero (is_shared ∷ pages) ranges = is_shared ∷ pages
+parted_to page (suc n) (is_shared ∷ pages) ranges = (is_shared && not (list_any (touches page) ranges)) ∷ parted_to (page + 1) n pages ranges
+
+pub parted_to-none : (page : ℕ) (pages : List Bool) (ranges : List (ℕ × ℕ)) → parted_to page 0 pages ranges ≡ pages
+parted_to-none page [] ranges = refl
+parted_to-none page (is_shared ∷ pages) ranges = refl
+
+pub parted_to-all : (page n : ℕ) (pages : List Bool) (ranges : List (ℕ × ℕ)) → length pages ≤ n → parted_to page n pages ranges ≡ shared_from page pages ranges
+parted_to-all page n [] ranges all = refl
+parted_to-all page zero (is_shared ∷ pages) ranges all = absurd (omega arith)
+parted_to-all page (suc n) (is_shared ∷ pages) ranges all = ap (λ ps. (is_shared && not (list_any (touches page) ranges)) ∷ ps) (parted_to-all (page + 1) n pages ranges (omega arith))
+
+pub length-parted_to : (page n : ℕ) (pages : List Bool) (ranges : List (ℕ × ℕ)) → length (parted_to page n pages ranges) ≡ length pages
+length-parted_to page n [] ranges = refl
+length-parted_to page zero (is_shared ∷ pages) ranges = refl
+length-parted_to page (suc n) (is_shared ∷ pages) ranges = ap suc (length-parted_to (page + 1) n pages ranges)
+
+-- the next page is as it was
+pub get_or-parted_to : (page n : ℕ) (pages : List Bool) (ranges : List (ℕ × ℕ)) → get_or (parted_to page n pages ranges) n false ≡ get_or pages n false
+get_or-parted_to page n [] ranges = refl
+get_or-parted_to page zero (is_shared ∷ pages) ranges = refl
+get_or-parted_to page (suc n) (is_shared ∷ pages) ranges = get_or-parted_to (page + 1) n pages ranges
+
+pub parted_to-next : (page n : ℕ) (pages : List Bool) (ranges : List (ℕ × ℕ)) → set (parted_to page n pages ranges) n (get_or pages n false && not (list_any (touches (page + n)) ranges)) ≡ parted_to page (n + 1) pages ranges
+parted_to-next page n [] ranges = refl
+parted_to-next page zero (is_shared ∷ pages) ranges =
+    let here : page + 0 ≡ page = omega arith in
+    ap (λ p. (is_shared && not (list_any (touches p) ranges)) ∷ pages) here ∙ ap (λ ps. (is_shared && not (list_any (touches page) ranges)) ∷ ps) (sym (parted_to-none (page + 1) pages ranges))
+parted_to-next page (suc n) (is_shared ∷ pages) ranges =
+    let here : page + suc n ≡ page + 1 + n = omega arith in
+    let next : suc n + 1 ≡ suc (n + 1) = omega arith in
+    ap (λ p. (is_shared && not (list_any (touches page) ranges)) ∷ set (parted_to (page + 1) n pages ranges) n (get_or pages n false && not (list_any (touches p) ranges))) here
+    ∙ ap (λ ps. (is_shared && not (list_any (touches page) ranges)) ∷ ps) (parted_to-next (page + 1) n pages ranges)
+    ∙ ap (λ k. parted_to page k (is_shared ∷ pages) ranges) (sym next)
+
+-- one where a shared page is touched
+abbrev pub want : Bool → Bool → ℕ
+want is_shared is_touched = if is_shared && is_touched then 1 else 0
+
+private_want : (is_shared is_touched : Bool) → (if is_shared && not is_touched then 0 else 1) ≡ (if is_shared then 0 else 1) + want is_shared is_touched
+private_want true true = refl
+private_want true false = refl
+private_want false is_touched = refl
+
+-- the pages that aren't shared, and those that are wanted still, are as many all along
+pub private_in-parted_to : (page n : ℕ) (pages : List Bool) (ranges : List (ℕ × ℕ)) → private_in (parted_to page n pages ranges) + wanted_from (page + n) (drop n pages) ranges ≡ private_in pages + wanted_from page pages ranges
+private_in-parted_to page zero [] ranges = refl
+private_in-parted_to page (suc n) [] ranges = refl
+private_in-parted_to page zero (is_shared ∷ pages) ranges =
+    let here : page + 0 ≡ page = omega arith in ap (λ p. private_in (is_shared ∷ pages) + wanted_from p (is_shared ∷ pages) ranges) here
+private_in-parted_to page (suc n) (is_shared ∷ pages) ranges =
+    let here : page + suc n ≡ page + 1 + n = omega arith in
+    let same = ap (λ p. wanted_from p (drop n pages) ranges) here in
+    omega (arith, same, private_in-parted_to (page + 1) n pages ranges, private_want is_shared (list_any (touches page) ranges))
+
+pub wanted_from-next : (page n : ℕ) (pages : List Bool) (ranges : List (ℕ × ℕ)) → n < length pages
+    → wanted_from (page + n) (drop n pages) ranges ≡ want (get_or pages n false) (list_any (touches (page + n)) ranges) + wanted_from (page + n + 1) (drop (n + 1) pages) ranges
+wanted_from-next page n pages ranges within =
+    let next : n + 1 ≡ suc n = omega arith in
+    ap (λ ps. wanted_from (page + n) ps ranges) (drop-cons pages n false within)
+    ∙ ap (λ k. want (get_or pages n false) (list_any (touches (page + n)) ranges) + wanted_from (page + n + 1) (drop k pages) ranges) (sym next)
+
+pub wanted_from-past : (page n : ℕ) (pages : List Bool) (ranges : List (ℕ × ℕ)) → length pages ≤ n → wanted_from page (drop n pages) ranges ≡ 0
+wanted_from-past page zero [] ranges past = refl
+wanted_from-past page (suc n) [] ranges past = refl
+wanted_from-past page zero (is_shared ∷ pages) ranges past = absurd (omega arith)
+wanted_from-past page (suc n) (is_shared ∷ pages) ranges past = wanted_from-past page n pages ranges (omega arith)
+
+-- ranges that have bytes in the same pages
+pub shared_from-same : (page : ℕ) (pages : List Bool) (ranges others : List (ℕ × ℕ)) → ((p : ℕ) → list_any (touches p) ranges ≡ list_any (touches p) others) → shared_from page pages ranges ≡ shared_from page pages others
+shared_from-same page [] ranges others same = refl
+shared_from-same page (is_shared ∷ pages) ranges others same =
+    ap (λ b. (is_shared && not b) ∷ shared_from (page + 1) pages ranges) (same page) ∙ ap (λ ps. (is_shared && not (list_any (touches page) others)) ∷ ps) (shared_from-same (page + 1) pages ranges others same)
+
+pub wanted_from-same : (page : ℕ) (pages : List Bool) (ranges others : List (ℕ × ℕ)) → ((p : ℕ) → list_any (touches p) ranges ≡ list_any (touches p) others) → wanted_from page pages ranges ≡ wanted_from page pages others
+wanted_from-same page [] ranges others same = refl
+wanted_from-same page (is_shared ∷ pages) ranges others same =
+    ap (λ b. want is_shared b + wanted_from (page + 1) pages ranges) (same page) ∙ ap (λ n. want is_shared (list_any (touches page) others) + n) (wanted_from-same (page + 1) pages ranges others same)
+
+and_not : (is_shared is_touched : Bool) → (is_shared ≡ true → is_touched ≡ false) → (is_shared && not is_touched) ≡ is_shared
+and_not false is_touched none = refl
+and_not true is_touched none = ap not (none refl)
+
+-- where no shared page is touched, all stay as they are
+pub shared_from-untouched : (page : ℕ) (pages : List Bool) (ranges : List (ℕ × ℕ)) → ((i : ℕ) → get_or pages i false ≡ true → list_any (touches (page + i)) ranges ≡ false) → shared_from page pages ranges ≡ pages
+shared_from-untouched page [] ranges none = refl
+shared_from-untouched page (is_shared ∷ pages) ranges none =
+    let here : page + 0 ≡ page = omega arith in
+    ap (λ b. b ∷ shared_from (page + 1) pages ranges) (and_not is_shared (list_any (touches page) ranges) (λ shared. ap (λ p. list_any (touches p) ranges) (sym here) ∙ none 0 shared))
+    ∙ ap (λ ps. is_shared ∷ ps) (shared_from-untouched (page + 1) pages ranges (λ i shared. let place : page + 1 + i ≡ page + suc i = omega arith in ap (λ p. list_any (touches p) ranges) place ∙ none (suc i) shared))
+
+pub shared_from-nothing : (page : ℕ) (pages : List Bool) (ranges : List (ℕ × ℕ)) → ((p : ℕ) → list_any (touches p) ranges ≡ false) → shared_from page pages ranges ≡ pages
+shared_from-nothing page pages ranges none = shared_from-untouched page pages ranges (λ i shared. none (page + i))
+
+-- what is kept behind other ranges that have bytes in the same pages
+pub kept_behind-same : (kept : Kept) (ranges others : List (ℕ × ℕ)) → ((p : ℕ) → list_any (touches p) ranges ≡ list_any (touches p) others)
+    → record kept { shared = shared_from 0 kept.shared ranges } ≡ kept_behind kept others
+kept_behind-same kept ranges [] same = ap (λ pages. record kept { shared = pages }) (shared_from-nothing 0 kept.shared ranges same)
+kept_behind-same kept ranges (other ∷ others) same = ap (λ pages. record kept { shared = pages }) (shared_from-same 0 kept.shared ranges (other ∷ others) same)
+
+pub LacksFrames-same : (kept : Kept) (ranges others : List (ℕ × ℕ)) → ((p : ℕ) → list_any (touches p) ranges ≡ list_any (touches p) others) → LacksFrames kept ranges → LacksFrames kept others
+LacksFrames-same kept ranges others same lacks = record { frozen = lacks.frozen; outnumbered = omega (arith, lacks.outnumbered, wanted_from-same 0 kept.shared ranges others same) }
+
+-- ---- ranges in shared pages
+pub not_true : (b : Bool) → ¬ (b ≡ true) → b ≡ false
+not_true true not_so = absurd (not_so refl)
+not_true false not_so = refl
+
+-- where a range has bytes in a page
+pub record Meets (page at len : ℕ) : Type 0 where
+  pub some : 0 < len
+  pub begins : at < 1024 * page + 1024
+  pub ends : 1024 * page < at + len
+
+pub touches-meets : (page at len : ℕ) → touches page (at, len) ≡ true → Meets page at len
+touches-meets page at len touched =
+    let outer = and_parts (ltb 0 len && ltb at (1024 * page + 1024)) (ltb (1024 * page) (at + len)) touched in
+    let inner = and_parts (ltb 0 len) (ltb at (1024 * page + 1024)) outer.0 in
+    record { some = ltb-true 0 len inner.0; begins = ltb-true at (1024 * page + 1024) inner.1; ends = ltb-true (1024 * page) (at + len) outer.1 }
+
+-- pages that a loop over a range found not to be shared
+pub range_untouched : (pages : List Bool) (at len page : ℕ) → ((p : ℕ) → at / 1024 ≤ p → p < (at + len + 1023) / 1024 → get_or pages p false ≡ false) → get_or pages page false ≡ true → touches page (at, len) ≡ false
+range_untouched pages at len page none shared = not_true (touches page (at, len)) (λ touched.
+    let meets = touches-meets page at len touched in
+    let not_shared = none page (omega (arith, meets.begins)) (omega (arith, meets.ends)) in absurd (cc))
+
+word_untouched : (pages : List Bool) (address page : ℕ) → get_or pages (word_offset address / 1024) false ≡ false → get_or pages page false ≡ true → touches page (word_offset address, 4) ≡ false
+word_untouched pages address page none shared = not_true (touches page (word_offset address, 4)) (λ touched.
+    let meets = touches-meets page (word_offset address) 4 touched in
+    let here : word_offset address / 1024 ≡ page = omega (arith, meets.begins, meets.ends) in
+    let not_shared : get_or pages page false ≡ false = ap (λ p. get_or pages p false) (sym here) ∙ none in absurd (cc))
+
+or_parts : (a b : Bool) → (a || b) ≡ false → (a ≡ false) × (b ≡ false)
+or_parts true b none = absurd (cc)
+or_parts false b none = (refl, none)
+
+pub words_untouched : (pages : List Bool) (words : List (ℕ × ℕ)) (page : ℕ) → list_any (λ word. get_or pages (word_offset word.0 / 1024) false) words ≡ false → get_or pages page false ≡ true → list_any (touches page) (word_ranges words) ≡ false
+words_untouched pages [] page none shared = refl
+words_untouched pages (word ∷ words) page none shared =
+    let parts = or_parts (get_or pages (word_offset word.0 / 1024) false) (list_any (λ w. get_or pages (word_offset w.0 / 1024) false) words) none in
+    ap (λ b. b || list_any (touches page) (word_ranges words)) (word_untouched pages word.0 page parts.0 shared) ∙ words_untouched pages words page parts.1 shared
+
+pub or_false : (a b c : Bool) → a ≡ false → b ≡ false → c ≡ false → (a || (b || c)) ≡ false
+or_false a b c none_a none_b none_c = ap (λ x. x || (b || c)) none_a ∙ ap (λ x. x || c) none_b ∙ none_c
+
+-- ---- from the first page on
+zero_plus : (n : ℕ) → 0 + n ≡ n
+zero_plus n = omega arith
+
+pub parted-next : (n : ℕ) (pages : List Bool) (ranges : List (ℕ × ℕ))
+    → set (parted_to 0 n pages ranges) n (get_or (parted_to 0 n pages ranges) n false && not (list_any (touches n) ranges)) ≡ parted_to 0 (n + 1) pages ranges
+parted-next n pages ranges =
+    ap (λ b. set (parted_to 0 n pages ranges) n (b && not (list_any (touches n) ranges))) (get_or-parted_to 0 n pages ranges)
+    ∙ ap (λ k. set (parted_to 0 n pages ranges) n (get_or pages n false && not (list_any (touches k) ranges))) (sym (zero_plus n)) ∙ parted_to-next 0 n pages ranges
+
+pub parted-room : (n : ℕ) (pages : List Bool) (ranges : List (ℕ × ℕ)) → n < length pages
+    → private_in (parted_to 0 n pages ranges) + want (get_or (parted_to 0 n pages ranges) n false) (list_any (touches n) ranges) ≤ private_in pages + wanted_from 0 pages ranges
+parted-room n pages ranges within =
+    let here = ap (λ b. want b (list_any (touches n) ranges)) (get_or-parted_to 0 n pages ranges) ∙ ap (λ k. want (get_or pages n false) (list_any (touches k) ranges)) (sym (zero_plus n)) in
+    omega (arith, here, private_in-parted_to 0 n pages ranges, wanted_from-next 0 n pages ranges within)
+
+and_false : (b : Bool) → (b && false) ≡ false
+and_false true = refl
+and_false false = refl
+
+-- a page that stays as it is
+pub kept_page : (pages : List Bool) (page : ℕ) (is_touched : Bool) → (get_or pages page false ≡ true → is_touched ≡ false) → set pages page (get_or pages page false && not is_touched) ≡ pages
+kept_page pages page is_touched none = ap (λ b. set pages page b) (and_not (get_or pages page false) is_touched none) ∙ set-get_or pages page false
+
+pub parted_page : (pages : List Bool) (page : ℕ) (is_touched : Bool) → is_touched ≡ true → set pages page false ≡ set pages page (get_or pages page false && not is_touched)
+parted_page pages page is_touched touched = ap (λ b. set pages page b) (sym (ap (λ t. get_or pages page false && not t) touched ∙ and_false (get_or pages page false)))
