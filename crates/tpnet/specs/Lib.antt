@@ -1,4 +1,5 @@
 pub mod Args
+pub mod Front
 pub mod Shown
 pub mod Opens
 pub mod Attempt

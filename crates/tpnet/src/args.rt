@@ -1,9 +1,10 @@
 //! The words of the command line.
 
-ghost use Rattle.std.specs.Prelude.{◌≡◌, ◌≤◌, ◌++◌, IfOk, codes, list_any, string_bytes};
+ghost use Rattle.std.specs.Prelude.{◌≡◌, ◌≤◌, true, IfOk, IfSome, string_bytes};
 ghost use Rattle.std.specs.Fmt.{decimal};
-ghost use Rattle.tpnet.specs.Args.{IsInRange, WasTyped, has_value, has_word, is_value, is_word};
+ghost use Rattle.tpnet.specs.Args.{IsInRange, WasTyped, has_value, has_word, is_value, is_word, was_typed};
 
+use crate::help::{FORMAT_REFUSALS, OPENING_REFUSALS, TRY_REFUSALS};
 use clap::{Arg, ArgAction, ArgMatches, Command};
 use std::alloc::{AllocError, AllocFailed, Global};
 use std::fmt;
@@ -36,6 +37,9 @@ pub struct NewDevice {
 
 /// The most bytes that an area is made with.
 pub const MAX_AREA: u64 = 1 << 40;
+
+/// The most turns of a trial.
+pub const MAX_TURNS: u64 = 4_294_967_295;
 
 /// Why the words ask for nothing. Each ends the program with status 2.
 #[derive(Drop)]
@@ -223,6 +227,14 @@ fn has_value(words: &[String], ending: &str) -> bool
     words.iter().any(|word| is_value(word, ending))
 }
 
+/// Whether this value was typed: a word is it, or ends with `=` and it.
+fn was_typed(alloc: Global, words: &[String], text: &str) -> Result<bool, AllocError>
+    ensures { IfOk result (λ typed. typed ≡ was_typed words.now text.now) }
+{
+    let ending = format!(in alloc; "={text}")?;
+    Ok(has_word(words, text) || has_value(words, ending.as_str()))
+}
+
 /// The number whose decimal this text is.
 fn number_of(alloc: Global, text: &str) -> Result<Option<u64>, AllocError>
     ensures { IfOk result (λ found. IfSome found (λ number. text.now ≡ decimal number)) }
@@ -238,27 +250,117 @@ fn number_of(alloc: Global, text: &str) -> Result<Option<u64>, AllocError>
     }
 }
 
-/// The number that a word names, which has to be at most `most`.
+/// The number that was typed for `id`, which has to be at most `most`.
 fn number_in(
     alloc: Global,
     words: &[String],
     found: &ArgMatches,
     id: &str,
     most: u64,
-    fault: ArgFault,
-) -> Result<u64, ArgFault>
-    ensures range { IfOk result (λ number. number ≤ most) }
-    ensures typed { IfOk result (λ number. WasTyped words.now (decimal number)) }
+) -> Result<Option<u64>, ArgFault>
+    ensures range { IfOk result (λ found. IfSome found (λ number. number ≤ most)) }
+    ensures typed { IfOk result (λ found. IfSome found (λ number. was_typed words.now (decimal number) ≡ true)) }
 {
     let Some(text) = found.get_str(id) else {
         return Err(ArgFault::Missing);
     };
-    let ending = format!(in alloc; "={text}")?;
-    if !has_word(words, text) && !has_value(words, ending.as_str()) {
+    if !was_typed(alloc, words, text)? {
         return Err(ArgFault::Missing);
     }
     match number_of(alloc, text)? {
-        Some(number) if number <= most => Ok(number),
-        _ => Err(fault),
+        Some(number) if number <= most => Ok(Some(number)),
+        _ => Ok(None),
+    }
+}
+
+fn turns_of(alloc: Global, words: &[String], found: &ArgMatches) -> Result<u32, ArgFault>
+    ensures { IfOk result (λ turns. was_typed words.now (decimal turns) ≡ true) }
+{
+    match number_in(alloc, words, found, "turns", MAX_TURNS)? {
+        Some(turns) => Ok(turns as u32),
+        None => Err(ArgFault::Turns),
+    }
+}
+
+fn area_of(alloc: Global, words: &[String], found: &ArgMatches) -> Result<u64, ArgFault>
+    ensures range { IfOk result (λ area. area ≤ MAX_AREA) }
+    ensures typed { IfOk result (λ area. was_typed words.now (decimal area) ≡ true) }
+{
+    match number_in(alloc, words, found, "AREA", MAX_AREA)? {
+        Some(area) => Ok(area),
+        None => Err(ArgFault::Area),
+    }
+}
+
+/// The text that was typed for `id`.
+fn text_of(
+    alloc: Global,
+    words: &[String],
+    found: &ArgMatches,
+    id: &str,
+) -> Result<String, ArgFault>
+    ensures { IfOk result (λ text. has_word (string_bytes text) words.now ≡ true) }
+{
+    let Some(text) = found.get_str(id) else {
+        return Err(ArgFault::Missing);
+    };
+    if !has_word(words, text) {
+        return Err(ArgFault::Missing);
+    }
+    Ok(String::from_str(alloc, text)?)
+}
+
+fn asked_try(alloc: Global, words: &[String], found: &ArgMatches) -> Result<Asked, ArgFault>
+    ensures range { IfOk result IsInRange }
+    ensures typed { IfOk result (WasTyped words.now) }
+{
+    Ok(Asked::Try {
+        image: text_of(alloc, words, found, "IMAGE")?,
+        turns: turns_of(alloc, words, found)?,
+    })
+}
+
+fn asked_format(alloc: Global, words: &[String], found: &ArgMatches) -> Result<Asked, ArgFault>
+    ensures range { IfOk result IsInRange }
+    ensures typed { IfOk result (WasTyped words.now) }
+{
+    Ok(Asked::Format(NewDevice {
+        device: text_of(alloc, words, found, "DEVICE")?,
+        topology: text_of(alloc, words, found, "TOPOLOGY")?,
+        images: text_of(alloc, words, found, "DIR")?,
+        area: area_of(alloc, words, found)?,
+        only_new: found.get_flag("new"),
+    }))
+}
+
+/// What a command line asks for that names a command.
+fn asked_in(alloc: Global, words: &[String], matches: &ArgMatches) -> Result<Asked, ArgFault>
+    ensures range { IfOk result IsInRange }
+    ensures typed { IfOk result (WasTyped words.now) }
+{
+    match matches.subcommand() {
+        Some(("try", found)) => asked_try(alloc, words, found),
+        Some(("format", found)) => asked_format(alloc, words, found),
+        Some(("recover", found)) => Ok(Asked::Recover {
+            device: text_of(alloc, words, found, "DEVICE")?,
+        }),
+        Some(("show", found)) => Ok(Asked::Show {
+            device: text_of(alloc, words, found, "DEVICE")?,
+        }),
+        _ => Err(ArgFault::Missing),
+    }
+}
+
+/// Reads the words of a command line, the program's name first. Each number is the decimal that was typed, and in its range;
+/// each text is one of the words.
+pub fn read_args(alloc: Global, words: &[String]) -> Result<Asked, ArgFault>
+    ensures range { IfOk result IsInRange }
+    ensures typed { IfOk result (WasTyped words.now) }
+{
+    let command = command(alloc)?;
+    match command.try_get_matches_from(words) {
+        Ok(matches) => asked_in(alloc, words, &matches),
+        Err(error) if !error.use_stderr() => Ok(Asked::Help(format!(in alloc; "{error}")?)),
+        Err(error) => Err(ArgFault::Words(error)),
     }
 }

@@ -4,10 +4,11 @@ ghost use Rattle.std.specs.Prelude.{◌≡◌, ◌≤◌, None, OnOk, IfErr};
 ghost use Rattle.std.specs.Io.KnownBytes.{Appends};
 ghost use Rattle.tp_turn.specs.Tried.{fresh_image};
 ghost use Rattle.tpnet.specs.Attempt.{Shows, Answers};
+ghost use Rattle.tpnet.specs.Front.{AppendsFront};
 
 use crate::refusal::Refusal;
 use std::alloc::Global;
-use std::io::Write;
+use std::io::{ErrorKind, Write};
 use tp_turn::try_turns;
 
 /// The most steps of a run, where a node is tried.
@@ -21,12 +22,36 @@ pub fn refuse<E: Write>(err: &mut E, refusal: Refusal) -> u8
     1
 }
 
-/// Writes bytes as they are.
+/// Writes bytes as they are. A front of them stands on the output, whatever is answered.
 pub(crate) fn put<O: Write>(out: &mut O, bytes: &[u8]) -> Result<(), Refusal>
     ensures written { OnOk result (Appends (O.contents out.old) (O.contents out.new) bytes.now) }
     ensures refused { IfErr result (λ refusal. refusal ≡ Refusal.DeviceFailed) }
+    ensures front { AppendsFront (O.contents out.old) (O.contents out.new) bytes.now }
 {
-    out.write_all(bytes).map_err(|_| Refusal::DeviceFailed)
+    let mut written = 0;
+    for _ in 0..u64::MAX {
+        if written >= bytes.len() {
+            return Ok(());
+        }
+        match out.write(&bytes[written..]) {
+            Ok(0) => return Err(Refusal::DeviceFailed),
+            Ok(count) => written += count,
+            Err(error) if error.kind() == ErrorKind::Interrupted => {}
+            Err(_) => return Err(Refusal::DeviceFailed),
+        }
+    }
+    Err(Refusal::DeviceFailed)
+}
+
+/// Prints how to call the program. Answers the status.
+pub fn print_help<O: Write, E: Write>(text: &str, out: &mut O, err: &mut E) -> u8
+    ensures status { result ≤ 1 }
+    ensures printed { result ≡ 0 → Appends (O.contents out.old) (O.contents out.new) text.now }
+{
+    match put(out, text.as_bytes()) {
+        Ok(()) => 0,
+        Err(refusal) => refuse(err, refusal),
+    }
 }
 
 /// Runs the node of an image for so many turns, its own and the host's in turns, and shows what its port puts out.

@@ -8,10 +8,11 @@ use crate::commands::{refuse, try_on};
 use crate::formatting::format_on;
 use crate::opening::{recover_on, show_on};
 use crate::refusal::Refusal;
-use std::fs::{File, Files};
+use std::fs::{Files, OpenFile};
 use std::io::Write;
+use std::os::unix::fs::FileExt;
 use std::{fs, io};
-use tp_disk::FileDisk;
+use tp_disk::{Counted, NewDisk, NotedFile, RawFile};
 use tp_model::limits::HEAD_BYTES;
 use tp_net::{Named, Topology};
 
@@ -62,11 +63,28 @@ fn read_images<R: Files + AllocGlobal>(
     Ok(images)
 }
 
-/// A file that has room for the head and two areas.
-fn make_file<R: Files<File = File>>(rt: &R, path: &str, area: u64) -> Result<FileDisk, Refusal>
-    requires { area ≤ MAX_AREA }
+/// Why a device wasn't made.
+fn making_refusal(error: &io::Error) -> Refusal {
+    match error.kind() {
+        io::ErrorKind::AlreadyExists => Refusal::DeviceExists,
+        _ => Refusal::DeviceFailed,
+    }
+}
+
+/// A device that has room for the head and two areas, in a file that is made for it, or in one that is there.
+fn new_disk<R: Files<File = F>, F: FileExt + OpenFile + Drop>(
+    rt: &R,
+    new: &NewDevice,
+) -> Result<NewDisk<F>, Refusal>
+    requires { new.now.area ≤ MAX_AREA }
 {
-    FileDisk::create(rt, path, HEAD_BYTES as u64 + 2 * area).map_err(|_| Refusal::DeviceFailed)
+    let (path, size) = (new.device.as_str(), HEAD_BYTES as u64 + 2 * new.area);
+    let made = if new.only_new {
+        NewDisk::create_new(rt, path, size)
+    } else {
+        NewDisk::create(rt, path, size)
+    };
+    made.map_err(|error| making_refusal(&error))
 }
 
 /// What is formatted: the topology, and the image of each node.
@@ -80,32 +98,32 @@ fn read_network<'a, R: Files + AllocGlobal>(
     Ok((named, images))
 }
 
-/// `tpnet format`, on files.
-pub fn format_file<R: Files<File = File> + AllocGlobal, O: Write, E: Write>(
-    rt: &R,
-    wanted: &NewDevice,
-    out: &mut O,
-    err: &mut E,
-) -> u8
-    requires { wanted.now.area ≤ MAX_AREA }
+/// `tpnet format`, on files. A file that is there stays as it is until nothing is left to refuse.
+pub fn format_file<
+    R: Files<File = F> + AllocGlobal,
+    F: FileExt + OpenFile + Drop,
+    O: Write,
+    E: Write,
+>(rt: &R, new: &NewDevice, out: &mut O, err: &mut E) -> u8
+    requires { new.now.area ≤ MAX_AREA }
     ensures { result ≤ 1 }
 {
-    let text = match read_file(rt, wanted.topology.as_str()) {
+    let text = match read_file(rt, new.topology.as_str()) {
         Ok(text) => text,
         Err(refusal) => return refuse(err, refusal),
     };
-    let (named, images) = match read_network(rt, text.as_slice(), wanted.images.as_str()) {
+    let (named, images) = match read_network(rt, text.as_slice(), new.images.as_str()) {
         Ok(network) => network,
         Err(refusal) => return refuse(err, refusal),
     };
     let _rules = named.topology.pages();
-    match make_file(rt, wanted.device.as_str(), wanted.area) {
+    match new_disk(rt, new) {
         Ok(mut disk) => format_on(
             rt.alloc(),
             &mut disk,
             &named.topology,
             images.as_slice(),
-            wanted.area,
+            new.area,
             out,
             err,
         ),
@@ -113,32 +131,40 @@ pub fn format_file<R: Files<File = File> + AllocGlobal, O: Write, E: Write>(
     }
 }
 
-/// `tpnet recover`, on a device's file.
-pub fn recover_file<R: Files<File = File> + AllocGlobal, O: Write, E: Write>(
+/// The device in a file that is there, to be read alone.
+fn disk_to_read<R: Files<File = F>, F: FileExt + OpenFile + Drop>(
     rt: &R,
     device: &str,
-    out: &mut O,
-    err: &mut E,
-) -> u8
+) -> Result<Counted<RawFile<NotedFile<F>>>, Refusal> {
+    Counted::open_to_read(rt, device).map_err(|_| Refusal::ReadFailed)
+}
+
+/// `tpnet recover`, on a device's file, which stays as it is.
+pub fn recover_file<
+    R: Files<File = F> + AllocGlobal,
+    F: FileExt + OpenFile + Drop,
+    O: Write,
+    E: Write,
+>(rt: &R, device: &str, out: &mut O, err: &mut E) -> u8
     ensures { result ≤ 1 }
 {
-    match FileDisk::open(rt, device) {
+    match disk_to_read(rt, device) {
         Ok(mut disk) => recover_on(rt.alloc(), &mut disk, out, err),
-        Err(_) => refuse(err, Refusal::ReadFailed),
+        Err(refusal) => refuse(err, refusal),
     }
 }
 
-/// `tpnet show`, on a device's file.
-pub fn show_file<R: Files<File = File> + AllocGlobal, O: Write, E: Write>(
-    rt: &R,
-    device: &str,
-    out: &mut O,
-    err: &mut E,
-) -> u8
+/// `tpnet show`, on a device's file, which stays as it is.
+pub fn show_file<
+    R: Files<File = F> + AllocGlobal,
+    F: FileExt + OpenFile + Drop,
+    O: Write,
+    E: Write,
+>(rt: &R, device: &str, out: &mut O, err: &mut E) -> u8
     ensures { result ≤ 1 }
 {
-    match FileDisk::open(rt, device) {
+    match disk_to_read(rt, device) {
         Ok(mut disk) => show_on(rt.alloc(), &mut disk, out, err),
-        Err(_) => refuse(err, Refusal::ReadFailed),
+        Err(refusal) => refuse(err, refusal),
     }
 }

@@ -3,10 +3,17 @@
 
 mod args;
 mod commands;
+#[cfg(test)]
+mod faults;
+#[cfg(test)]
+mod file_tests;
 mod files;
 #[cfg(test)]
 mod format_tests;
 mod formatting;
+mod help;
+#[cfg(test)]
+mod limit_tests;
 mod opening;
 #[cfg(test)]
 mod opening_tests;

@@ -2,6 +2,8 @@
 
 ghost use Rattle.std.specs.Prelude.{◌≡◌, ◌≤◌, IsErr, OnOk};
 ghost use Rattle.tp_model.specs.Opening.{verdict};
+ghost use Rattle.tp_recover.specs.Reading.{LeavesNothingNew};
+ghost use Rattle.tpnet.specs.Front.{PrintsFront};
 ghost use Rattle.tpnet.specs.Opens.{IsUnwritten, Prints, front_of, recovered, shown};
 
 use crate::commands::{put, refuse};
@@ -28,6 +30,8 @@ fn front_of(opened: &Opened) -> Front
 
 fn recover<D: Disk, O: Write>(alloc: Global, disk: &mut D, out: &mut O) -> Result<(), Refusal>
     ensures done { D.keeps → OnOk result (Prints recovered (D.state disk.old).now.bytes (O.contents out.old) (O.contents out.new)) }
+    ensures leaves { D.keeps → LeavesNothingNew (D.state disk.old) (D.state disk.new) }
+    ensures front { D.keeps → PrintsFront recovered (D.state disk.old).now.bytes (O.contents out.old) (O.contents out.new) }
     ensures kept { D.keeps → IsUnwritten (D.failures_of disk.old) (D.failures_of disk.new) (D.state disk.old).now (D.state disk.new).now }
     ensures refused { D.keeps → IsErr (verdict (D.state disk.old).now.bytes) → (IsErr result) × (O.contents out.new ≡ O.contents out.old) }
 {
@@ -40,6 +44,8 @@ fn recover<D: Disk, O: Write>(alloc: Global, disk: &mut D, out: &mut O) -> Resul
 
 fn show<D: Disk, O: Write>(alloc: Global, disk: &mut D, out: &mut O) -> Result<(), Refusal>
     ensures done { D.keeps → OnOk result (Prints shown (D.state disk.old).now.bytes (O.contents out.old) (O.contents out.new)) }
+    ensures leaves { D.keeps → LeavesNothingNew (D.state disk.old) (D.state disk.new) }
+    ensures front { D.keeps → PrintsFront shown (D.state disk.old).now.bytes (O.contents out.old) (O.contents out.new) }
     ensures kept { D.keeps → IsUnwritten (D.failures_of disk.old) (D.failures_of disk.new) (D.state disk.old).now (D.state disk.new).now }
     ensures refused { D.keeps → IsErr (verdict (D.state disk.old).now.bytes) → (IsErr result) × (O.contents out.new ≡ O.contents out.old) }
 {
@@ -51,7 +57,7 @@ fn show<D: Disk, O: Write>(alloc: Global, disk: &mut D, out: &mut O) -> Result<(
 }
 
 /// `tpnet recover`, on a device. Answers the program's status: 0 where the device opens and exactly its line was printed, else 1.
-/// Nothing is written to the device. Of one that doesn't open nothing is printed.
+/// Nothing is written to the device, and a crash finds nothing that the call made. Of one that doesn't open nothing is printed.
 pub fn recover_on<D: Disk, O: Write, E: Write>(
     alloc: Global,
     disk: &mut D,
@@ -60,6 +66,8 @@ pub fn recover_on<D: Disk, O: Write, E: Write>(
 ) -> u8
     ensures status { result ≤ 1 }
     ensures done { D.keeps → result ≡ 0 → Prints recovered (D.state disk.old).now.bytes (O.contents out.old) (O.contents out.new) }
+    ensures leaves { D.keeps → LeavesNothingNew (D.state disk.old) (D.state disk.new) }
+    ensures front { D.keeps → PrintsFront recovered (D.state disk.old).now.bytes (O.contents out.old) (O.contents out.new) }
     ensures kept { D.keeps → IsUnwritten (D.failures_of disk.old) (D.failures_of disk.new) (D.state disk.old).now (D.state disk.new).now }
     ensures refused { D.keeps → IsErr (verdict (D.state disk.old).now.bytes) → (result ≡ 1) × (O.contents out.new ≡ O.contents out.old) }
 {
@@ -70,7 +78,7 @@ pub fn recover_on<D: Disk, O: Write, E: Write>(
 }
 
 /// `tpnet show`, on a device. Answers the program's status: 0 where the device opens and exactly its lines were printed, else 1.
-/// Nothing is written to the device. Of one that doesn't open nothing is printed.
+/// Nothing is written to the device, and a crash finds nothing that the call made. Of one that doesn't open nothing is printed.
 pub fn show_on<D: Disk, O: Write, E: Write>(
     alloc: Global,
     disk: &mut D,
@@ -79,6 +87,8 @@ pub fn show_on<D: Disk, O: Write, E: Write>(
 ) -> u8
     ensures status { result ≤ 1 }
     ensures done { D.keeps → result ≡ 0 → Prints shown (D.state disk.old).now.bytes (O.contents out.old) (O.contents out.new) }
+    ensures leaves { D.keeps → LeavesNothingNew (D.state disk.old) (D.state disk.new) }
+    ensures front { D.keeps → PrintsFront shown (D.state disk.old).now.bytes (O.contents out.old) (O.contents out.new) }
     ensures kept { D.keeps → IsUnwritten (D.failures_of disk.old) (D.failures_of disk.new) (D.state disk.old).now (D.state disk.new).now }
     ensures refused { D.keeps → IsErr (verdict (D.state disk.old).now.bytes) → (result ≡ 1) × (O.contents out.new ≡ O.contents out.old) }
 {

@@ -4,12 +4,14 @@ ghost use Rattle.std.specs.Prelude.{◌≡◌, ◌≤◌};
 ghost use Rattle.tpnet.specs.Args.{IsInRange};
 
 use crate::args::{Asked, read_args};
+use crate::commands::print_help;
 use crate::files::{format_file, recover_file, show_file, try_file};
-use std::fs::{File, Files};
+use std::fs::{Files, OpenFile};
 use std::io::Write;
+use std::os::unix::fs::FileExt;
 
 /// Does what was asked for. Answers the program's status: 0 where it was done, 1 where it was refused.
-fn carry_out<R: Files<File = File> + AllocGlobal, O: Write, E: Write>(
+fn carry_out<R: Files<File = F> + AllocGlobal, F: FileExt + OpenFile + Drop, O: Write, E: Write>(
     rt: &R,
     asked: &Asked,
     out: &mut O,
@@ -19,16 +21,17 @@ fn carry_out<R: Files<File = File> + AllocGlobal, O: Write, E: Write>(
     ensures { result ≤ 1 }
 {
     match asked {
+        Asked::Help(text) => print_help(text.as_str(), out, err),
         Asked::Try { image, turns } => try_file(rt, image.as_str(), *turns, out, err),
-        Asked::Format(wanted) => format_file(rt, wanted, out, err),
+        Asked::Format(new) => format_file(rt, new, out, err),
         Asked::Recover { device } => recover_file(rt, device.as_str(), out, err),
         Asked::Show { device } => show_file(rt, device.as_str(), out, err),
     }
 }
 
 /// Does what the words of a command line ask for, the program's name first. Answers the program's status: that of the
-/// command, or 2 where the words ask for nothing; no file is opened then.
-pub fn answer<R: Files<File = File> + AllocGlobal, O: Write, E: Write>(
+/// command, or 2 where the words ask for nothing; no file is opened then. Asking for help is no fault.
+pub fn answer<R: Files<File = F> + AllocGlobal, F: FileExt + OpenFile + Drop, O: Write, E: Write>(
     rt: &R,
     words: &[String],
     out: &mut O,

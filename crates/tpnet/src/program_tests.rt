@@ -14,8 +14,13 @@ const NOTHING: &[&[&str]] = &[
     &["try", "--turns", "4"],
     &["try", "@a.img", "--turns", "four"],
     &["try", "@a.img", "--turns", "4294967296"],
+    &["try", "@a.img", "--turns", "+4"],
+    &["try", "@a.img", "--turns", "0004"],
+    &["try", "@a.img", "--turns", ""],
     &["format", "@device", "@net.txt", "@"],
     &["format", "@device", "@net.txt", "@", "x"],
+    &["format", "@device", "@net.txt", "@", "+16384"],
+    &["format", "@device", "@net.txt", "@", "016384"],
     &["format", "@device", "@net.txt", "@", "1099511627777"],
     &["format", "@device", "@net.txt", "@", "18446744073709551616"],
     &["recover"],
@@ -52,6 +57,7 @@ fn the_greatest_numbers(rt: HostRuntime) -> Result<(), Fail> {
     let line = scratch.line(alloc, &["format", "d", "t", "i", "1099511627776"])?;
     match read_args(alloc, line.as_slice()) {
         Ok(Asked::Format(new)) => {
+            assert!(rt; !new.only_new);
             assert_eq!(rt; new.device.as_str(), "d");
             assert_eq!(rt; new.topology.as_str(), "t");
             assert_eq!(rt; new.images.as_str(), "i");
@@ -133,26 +139,66 @@ const FAULTS: &[(&[u8], &str)] = &[
     (b"node a 4\nnode none 4\nport h\n", "tpnet: ReadFailed\n"),
 ];
 
-/// A topology or an image that is refused leaves the device's file as it was; an area that is too small makes it anew.
+/// A topology or an image that is refused makes no file.
 #[test]
-fn what_a_refused_format_leaves(rt: HostRuntime) -> Result<(), Fail> {
+fn topologies_that_are_refused(rt: HostRuntime) -> Result<(), Fail> {
     let scratch = Scratch::new(&rt, "refused")?;
     scratch.put(&rt, "a.img", letter(rt.alloc())?.as_slice())?;
-    scratch.put(&rt, "device", b"what stood here")?;
     let words = ["format", "@device", "@net.txt", "@", "16384"];
     for (text, name) in FAULTS {
         scratch.put(&rt, "net.txt", text)?;
         assert!(rt; scratch.is_refused(&rt, &words, name)?);
-        let left = scratch.read(&rt, "device")?;
-        assert_eq!(rt; left.as_slice(), b"what stood here".as_slice());
+        assert!(rt; !scratch.has(&rt, "device")?);
     }
     scratch.put(&rt, "net.txt", b"node a 4\nport h\n")?;
-    let small = ["format", "@device", "@net.txt", "@", "100"];
-    assert!(rt; scratch.is_refused(&rt, &small, "tpnet: AreaFull\n")?);
-    let left = scratch.read(&rt, "device")?;
-    assert_eq!(rt; left.len(), 712);
-    assert!(rt; left.iter().all(|byte| *byte == 0));
     let nowhere = ["format", "@nowhere/device", "@net.txt", "@", "16384"];
     assert!(rt; scratch.is_refused(&rt, &nowhere, "tpnet: DeviceFailed\n")?);
+    scratch.remove(&rt)
+}
+
+/// Words that ask how to call the program, and what the answer has.
+const HELP: &[(&[&str], &str)] = &[
+    (&["--help"], "Usage: tpnet"),
+    (&["-h"], "recover"),
+    (&["help"], "format"),
+    (&["help", "show"], "NoOpenArea"),
+    (&["try", "--help"], "BadImage"),
+    (&["format", "--help"], "AreaFull"),
+    (&["recover", "-h"], "Damaged"),
+    (&["--version"], "tpnet 0.1.0\nproved with rattle-kit-"),
+];
+
+#[test]
+fn asking_is_no_fault(rt: HostRuntime) -> Result<(), Fail> {
+    let scratch = Scratch::new(&rt, "help")?;
+    for (words, part) in HELP {
+        let output = scratch.run(&rt, words)?;
+        assert_eq!(rt; output.status, 0);
+        assert!(rt; output.err.is_empty());
+        let text = String::from_utf8(output.out)?;
+        assert!(rt; text.as_str().contains(*part));
+    }
+    scratch.remove(&rt)
+}
+
+/// Three nodes, not in the order of their names.
+const THREE: &[u8] = b"node c 4\nnode a 4\nnode b 4\nport h\nwire c.0 h\n";
+
+#[test]
+fn images_stand_in_the_order_of_the_topology(rt: HostRuntime) -> Result<(), Fail> {
+    let scratch = Scratch::new(&rt, "three")?;
+    scratch.put(&rt, "net.txt", THREE)?;
+    for (name, letter_of) in [("a.img", b'A'), ("b.img", b'B'), ("c.img", b'C')] {
+        let mut image = letter(rt.alloc())?;
+        place(&mut image, 172 + 0x109, &[letter_of]);
+        scratch.put(&rt, name, image.as_slice())?;
+    }
+    let words = ["format", "@device", "@net.txt", "@", "32768"];
+    assert_eq!(rt; scratch.run(&rt, &words)?.status, 0);
+    let device = scratch.read(&rt, "device")?;
+    for (node, letter_of) in [b'C', b'A', b'B'].iter().enumerate() {
+        let at = 533 + 4268 * node + 172 + 0x109;
+        assert_eq!(rt; part(device.as_slice(), at, 1), [*letter_of].as_slice());
+    }
     scratch.remove(&rt)
 }

@@ -24,6 +24,9 @@ pub enum Refusal {
     /// A file can't be read.
     #[error("ReadFailed")]
     ReadFailed,
+    /// The device's file is there already, where it has to be new.
+    #[error("DeviceExists")]
+    DeviceExists,
     /// What was to be written couldn't be.
     #[error("DeviceFailed")]
     DeviceFailed,

@@ -3,7 +3,8 @@
 use crate::program::answer;
 use std::alloc::Global;
 use std::fs;
-use std::fs::{File, Files};
+use std::fs::{Files, OpenFile};
+use std::os::unix::fs::FileExt;
 use std::test::Fail;
 
 /// The folder. It is made empty, and `remove` removes it.
@@ -78,7 +79,7 @@ impl Scratch {
     }
 
     /// What the program does for these words.
-    pub(crate) fn run<R: Files<File = File> + AllocGlobal>(
+    pub(crate) fn run<R: Files<File = F> + AllocGlobal, F: FileExt + OpenFile + Drop>(
         &self,
         rt: &R,
         words: &[&str],
@@ -91,16 +92,14 @@ impl Scratch {
     }
 
     /// Whether these words are refused with that line on standard error, and print nothing.
-    pub(crate) fn is_refused<R: Files<File = File> + AllocGlobal>(
+    pub(crate) fn is_refused<R: Files<File = F> + AllocGlobal, F: FileExt + OpenFile + Drop>(
         &self,
         rt: &R,
         words: &[&str],
         name: &str,
     ) -> Result<bool, Fail> {
         let output = self.run(rt, words)?;
-        Ok(output.status == 1
-            && output.out.is_empty()
-            && output.err.as_slice() == name.as_bytes())
+        Ok(output.status == 1 && output.out.is_empty() && output.err.as_slice() == name.as_bytes())
     }
 
     /// Removes the folder.

@@ -5,7 +5,9 @@ use Rattle.tp_model.specs.NodeState.{NodeState}
 use Rattle.tp_turn.specs.declared.trial.Tried.{Tried}
 use Rattle.tp_turn.specs.Tried.{fresh_image, TriedAs}
 use Rattle.tpnet.specs.declared.refusal.Refusal.{Refusal}
-use Rattle.tpnet.specs.declared.refusal.Refusal.TheVariants.{DeviceFailed}
+use Rattle.tp_turn.specs.declared.trial.TryFault.{TryFault}
+use Rattle.tp_turn.specs.declared.trial.TryFault.TheVariants.{BadImage, Memory}
+use Rattle.tpnet.specs.declared.refusal.Refusal.TheVariants.{DeviceFailed, Trial}
 use Rattle.tpnet.specs.declared.commands.TheConstants.{TRY_QUANTUM}
 use Rattle.tpnet.specs.Attempt.{Answers}
 use Rattle.tpnet.proofs.commands.attempt.Goals as goal
@@ -21,3 +23,14 @@ pub returns-in-Ok : goal.returns-in-Ok
 returns-in-Ok g c =
     shown c.args.image.now c.args.turns (g.O.Write.contents c.args.out.now) (g.O.Write.contents c.put.new.out) c.in-Ok.tried (fresh_image c.args.image.now) c.put.result refl c.in-Ok.ensures
     (rw (← c.as_slice.ensures.value) c.put.ensures.written) c.put.ensures.refused
+
+-- nothing was tried, and nothing written
+untried : (image : List ℕ) (turns : ℕ) (was : Option (List ℕ)) (fault : TryFault) (o : Option NodeState) → fresh_image image ≡ o → TriedAs o turns TRY_QUANTUM (Err fault)
+    → Answers image turns was was (Err (Trial fault))
+untried image turns was BadImage None is tried = (is, refl)
+untried image turns was BadImage (Some node) is tried = absurd tried
+untried image turns was Memory None is tried = absurd tried
+untried image turns was Memory (Some node) is tried = (ap is_some is, refl)
+
+pub returns-in-Err : goal.returns-in-Err
+returns-in-Err g c = untried c.args.image.now c.args.turns (g.O.Write.contents c.args.out.now) c.in-Err.fault (fresh_image c.args.image.now) refl c.in-Err.ensures

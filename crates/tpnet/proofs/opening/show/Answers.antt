@@ -1,5 +1,6 @@
-use Rattle.std.proofs.Common.{◌≡◌, ◌∙◌, ap, subst, Ok, Err, Result, OnOk}
+use Rattle.std.proofs.Common.{◌≡◌, ◌∙◌, ap, subst, inr, Ok, Err, Result, OnOk}
 use Rattle.std.specs.Io.KnownBytes.{Appends}
+use Rattle.tpnet.specs.Front.{AppendsFront}
 use Rattle.tpnet.specs.Shown.{shown_text}
 use Rattle.tpnet.specs.Opens.{front_of, shown}
 use Rattle.tpnet.proofs.opening.show.Goals as goal
@@ -20,3 +21,12 @@ returns-clause-done g c keeps =
       printed = subst (λ bytes. Appends (g.O.Write.contents c.args.out.now) (g.O.Write.contents c.put.new.out) bytes) text appended;
     })
     c.put.ensures.written
+
+pub returns-clause-front : goal.returns-clause-front
+returns-clause-front g c keeps =
+    let opened = c.in_ok-opened.opened in
+    let text = c.as_bytes.ensures.value ∙ c.in-Ok.ensures
+    ∙ ap (λ front. shown_text front c.network.result.now) c.front_of.ensures
+    ∙ ap (shown_text (front_of opened)) c.network.ensures in
+    inr (opened, c.in_ok-opened.ensures.is keeps,
+        subst (λ bytes. AppendsFront (g.O.Write.contents c.args.out.now) (g.O.Write.contents c.put.new.out) bytes) text c.put.ensures.front)

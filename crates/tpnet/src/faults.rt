@@ -1,0 +1,211 @@
+//! A file system in which calls on one file fail.
+
+use std::alloc::{Allocator, Global};
+use std::cell::Cell;
+use std::fs::{Files, Metadata, OpenFile, OpenOptions};
+use std::io;
+use std::io::{Read, Seek, SeekFrom, Write};
+use std::os::unix::fs::FileExt;
+use std::rt::Alloc;
+
+/// What becomes of the calls on a file.
+#[derive(Drop)]
+pub(crate) struct Faults {
+    /// How many calls are done before the one that fails.
+    pub(crate) left: Cell<u64>,
+    /// Whether the calls behind it are done.
+    pub(crate) goes_on: bool,
+    /// The most bytes of one read or write.
+    pub(crate) most: usize,
+    /// Whether the file was opened for writing.
+    pub(crate) writable: Cell<bool>,
+    /// How many other files and folders were synced.
+    pub(crate) synced: Cell<u64>,
+}
+
+impl Faults {
+    /// The call of that number fails, and those behind it unless it goes on.
+    pub(crate) fn at(number: u64, goes_on: bool) -> Faults {
+        Faults {
+            left: Cell::new(number),
+            goes_on,
+            most: usize::MAX,
+            writable: Cell::new(false),
+            synced: Cell::new(0),
+        }
+    }
+
+    /// No call fails, and none moves more than `most` bytes.
+    pub(crate) fn short(most: usize) -> Faults {
+        Faults {
+            left: Cell::new(u64::MAX),
+            goes_on: true,
+            most,
+            writable: Cell::new(false),
+            synced: Cell::new(0),
+        }
+    }
+
+    /// Whether the next call is done.
+    fn pass(&self) -> io::Result<()> {
+        let left = self.left.get();
+        if left > 0 {
+            self.left.set(left - 1);
+            return Ok(());
+        }
+        if self.goes_on {
+            self.left.set(u64::MAX);
+        }
+        Err(io::Error::from(io::ErrorKind::StorageFull))
+    }
+}
+
+/// A file, whose calls fail where it has faults.
+#[derive(Drop)]
+pub(crate) struct FaultyFile<'a, F: Drop> {
+    file: F,
+    faults: &'a Faults,
+    is_device: bool,
+}
+
+impl<'a, F: Drop> FaultyFile<'a, F> {
+    fn pass(&self) -> io::Result<()> {
+        if self.is_device {
+            self.faults.pass()
+        } else {
+            Ok(())
+        }
+    }
+}
+
+impl<'a, F: Read + Drop> Read for FaultyFile<'a, F> {
+    fn read(&mut self, buf: &mut [u8]) -> io::Result<usize> {
+        self.file.read(buf)
+    }
+}
+
+impl<'a, F: Write + Drop> Write for FaultyFile<'a, F> {
+    fn write(&mut self, buf: &[u8]) -> io::Result<usize> {
+        self.file.write(buf)
+    }
+
+    fn flush(&mut self) -> io::Result<()> {
+        self.file.flush()
+    }
+}
+
+impl<'a, F: Seek + Drop> Seek for FaultyFile<'a, F> {
+    fn seek(&mut self, to: SeekFrom) -> io::Result<u64> {
+        self.file.seek(to)
+    }
+}
+
+impl<'a, F: FileExt + Drop> FileExt for FaultyFile<'a, F> {
+    fn read_at(&self, buf: &mut [u8], offset: u64) -> io::Result<usize> {
+        self.pass()?;
+        let most = buf.len().min(self.faults.most);
+        self.file.read_at(&mut buf[..most], offset)
+    }
+
+    fn write_at(&self, buf: &[u8], offset: u64) -> io::Result<usize> {
+        self.pass()?;
+        let most = buf.len().min(self.faults.most);
+        self.file.write_at(&buf[..most], offset)
+    }
+}
+
+impl<'a, F: OpenFile + Drop> OpenFile for FaultyFile<'a, F> {
+    fn metadata(&self) -> io::Result<Metadata> {
+        self.pass()?;
+        self.file.metadata()
+    }
+
+    fn set_len(&self, size: u64) -> io::Result<()> {
+        self.pass()?;
+        self.file.set_len(size)
+    }
+
+    fn sync_all(&self) -> io::Result<()> {
+        self.pass()?;
+        if !self.is_device {
+            self.faults
+                .synced
+                .set(self.faults.synced.get().saturating_add(1));
+        }
+        self.file.sync_all()
+    }
+
+    fn sync_data(&self) -> io::Result<()> {
+        self.pass()?;
+        self.file.sync_data()
+    }
+}
+
+/// The files below, with faults of those whose path ends with `device`.
+#[derive(Drop)]
+pub(crate) struct FaultyFiles<'a, R> {
+    pub(crate) below: &'a R,
+    pub(crate) faults: &'a Faults,
+}
+
+impl<'a, R: Alloc<A = Global>> Alloc for FaultyFiles<'a, R> {
+    type A = Global;
+
+    fn alloc(&self) -> Global {
+        self.below.alloc()
+    }
+}
+
+impl<'a, R: Files> Files for FaultyFiles<'a, R> {
+    type File = FaultyFile<'a, R::File>;
+
+    type Dir = R::Dir;
+
+    fn open_file(&self, how: &OpenOptions, path: &str) -> io::Result<FaultyFile<'a, R::File>> {
+        let is_device = path.ends_with("device");
+        if is_device && how.asks_write() {
+            self.faults.writable.set(true);
+        }
+        Ok(FaultyFile {
+            file: self.below.open_file(how, path)?,
+            faults: self.faults,
+            is_device,
+        })
+    }
+
+    fn open_dir(&self, path: &str) -> io::Result<R::Dir> {
+        self.below.open_dir(path)
+    }
+
+    fn metadata(&self, path: &str) -> io::Result<Metadata> {
+        self.below.metadata(path)
+    }
+
+    fn symlink_metadata(&self, path: &str) -> io::Result<Metadata> {
+        self.below.symlink_metadata(path)
+    }
+
+    fn copy(&self, from: &str, to: &str) -> io::Result<u64> {
+        self.below.copy(from, to)
+    }
+
+    fn rename(&self, from: &str, to: &str) -> io::Result<()> {
+        self.below.rename(from, to)
+    }
+
+    fn remove_file(&self, path: &str) -> io::Result<()> {
+        self.below.remove_file(path)
+    }
+
+    fn create_dir(&self, path: &str) -> io::Result<()> {
+        self.below.create_dir(path)
+    }
+
+    fn remove_dir(&self, path: &str) -> io::Result<()> {
+        self.below.remove_dir(path)
+    }
+
+    fn remove_dir_all<B: Allocator>(&self, alloc: B, path: &str) -> io::Result<()> {
+        self.below.remove_dir_all(alloc, path)
+    }
+}

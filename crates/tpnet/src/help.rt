@@ -1,0 +1,32 @@
+//! What the help of each command says of its refusals.
+
+/// What `tpnet try` refuses.
+pub const TRY_REFUSALS: &str = "Refusals (status 1):
+  ReadFailed    IMAGE can't be read: look at its path and its rights
+  BadImage      IMAGE is no node's image, or a link of it is at work: make it with tools/make-image
+  DeviceFailed  standard output can't be written
+  Memory        there is no memory left: take an image with fewer pages";
+
+/// What `tpnet format` refuses.
+pub const FORMAT_REFUSALS: &str =
+    "Refusals (status 1); a refused format leaves a file that is there as it was:
+  ReadFailed    TOPOLOGY or an image can't be read: look at its path and its rights
+  Syntax L      line L of TOPOLOGY is malformed; at 0 a node or a port is missing
+  TwoWires      a link or port has two wires, or a wire leads from a link to itself
+  UnknownNode   a wire names what no line above declares
+  TooMany       there are more than 16 nodes or 8 ports
+  DeviceExists  with --new: DEVICE is there already
+  DeviceFailed  DEVICE can't be made or written, or standard output can't: look at rights and room
+  BadImage      an image is none, has other pages than its node, or a link of it is at work
+  AreaFull      AREA is too small: take more
+  Memory        there is no memory left";
+
+/// What a command refuses that opens a device.
+pub const OPENING_REFUSALS: &str = "Refusals (status 1); nothing is written to DEVICE:
+  ReadFailed    DEVICE can't be opened or read: look at its path and its rights
+  NotFormatted  DEVICE is none: make one with tpnet format
+  BadVersion    DEVICE is of another version of tpnet
+  NoOpenArea    neither area is open: format was stopped, or the device was written over
+  Damaged AT    what stands at offset AT breaks its rule: restore a copy
+  DeviceFailed  standard output can't be written
+  Memory        there is no memory left";
