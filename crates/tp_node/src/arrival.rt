@@ -35,6 +35,7 @@ fn wake<M: Mem>(cpu: &mut Cpu, mem: &mut M, first: First, descriptor: u32) -> Re
     ensures hears { Hears (wake descriptor) (first_stored first (M.bytes mem.old)) (IsSome (M.frozen mem.old)) cpu.old (M.bytes mem.old) result cpu.new (M.bytes mem.new) }
     ensures kept { M.frozen mem.new ≡ M.frozen mem.old }
 {
+    // Memory has whole words: its length says so.
     let _len = mem.len();
     match queue_write(descriptor, cpu) {
         None => {

@@ -77,6 +77,7 @@ fn output_after<M: Mem>(
     ensures kept { M.frozen mem.new ≡ M.frozen mem.old }
 {
     let OutRequest { pointer, count, .. } = request;
+    // Memory has whole words: its length says so.
     let _len = mem.len();
     if count == 0 {
         hold(mem, first)?;

@@ -128,11 +128,6 @@ const CHOICES: &[Story<'static>] = &[
     },
 ];
 
-#[test]
-fn choices(rt: HostRuntime) -> Result<(), Fail> {
-    play_all(&rt, rt.alloc(), CHOICES)
-}
-
 /// A guard that is false leaves its channel alone, and one that nobody came for is taken back.
 const GUARDS_THAT_ARE_NOT_READY: &[Row<'static>] = &[
     // enbc of a false guard, of an empty channel, of one that is its own
@@ -169,11 +164,6 @@ const GUARDS_THAT_ARE_NOT_READY: &[Row<'static>] = &[
     ),
 ];
 
-#[test]
-fn guards_that_are_not_ready(rt: HostRuntime) -> Result<(), Fail> {
-    check_rows(&rt, rt.alloc(), GUARDS_THAT_ARE_NOT_READY)
-}
-
 /// A skip guard that is false, one that is true, and one that comes after another was chosen.
 const SKIPS: &[Row<'static>] = &[
     (&[0x24, 0xF9], &[Stack(0, 2, 3)], &[]),
@@ -195,6 +185,13 @@ const SKIPS: &[Row<'static>] = &[
 ];
 
 #[test]
-fn skips(rt: HostRuntime) -> Result<(), Fail> {
-    check_rows(&rt, rt.alloc(), SKIPS)
+fn alternatives(rt: HostRuntime) -> Result<(), Fail> {
+    play_all(&rt, rt.alloc(), CHOICES)?;
+    check_rows(
+        &rt,
+        rt.alloc(),
+        "guards that are not ready",
+        GUARDS_THAT_ARE_NOT_READY,
+    )?;
+    check_rows(&rt, rt.alloc(), "skips", SKIPS)
 }

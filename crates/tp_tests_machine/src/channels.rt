@@ -113,11 +113,6 @@ const MEETINGS: &[Story<'static>] = &[
     },
 ];
 
-#[test]
-fn meetings(rt: HostRuntime) -> Result<(), Fail> {
-    play_all(&rt, rt.alloc(), MEETINGS)
-}
-
 const MESSAGES: &[Story<'static>] = &[
     Story {
         name: "a channel in the last word of memory, and a message that ends with it",
@@ -216,11 +211,6 @@ const MESSAGES: &[Story<'static>] = &[
     },
 ];
 
-#[test]
-fn messages(rt: HostRuntime) -> Result<(), Fail> {
-    play_all(&rt, rt.alloc(), MESSAGES)
-}
-
 /// What lies outside halts the node: the channel; the range of the first to come, and of the second; the first's word -3;
 /// the pointer that the first left; the workspace of an output out of a register.
 const OUTSIDE: &[Halting<'static>] = &[
@@ -269,6 +259,8 @@ const OUTSIDE: &[Halting<'static>] = &[
 ];
 
 #[test]
-fn outside(rt: HostRuntime) -> Result<(), Fail> {
-    check_halts(&rt, rt.alloc(), OUTSIDE)
+fn channels(rt: HostRuntime) -> Result<(), Fail> {
+    play_all(&rt, rt.alloc(), MEETINGS)?;
+    play_all(&rt, rt.alloc(), MESSAGES)?;
+    check_halts(&rt, rt.alloc(), "outside", OUTSIDE)
 }

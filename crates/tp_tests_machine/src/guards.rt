@@ -96,11 +96,6 @@ const CHOICES: &[Story<'static>] = &[
     },
 ];
 
-#[test]
-fn choices(rt: HostRuntime) -> Result<(), Fail> {
-    play_all(&rt, rt.alloc(), CHOICES)
-}
-
 /// Of enbc: a false guard, a held byte, an idle end, and one that the own process enabled.
 const ENABLING: &[Row<'static>] = &[
     (
@@ -124,11 +119,6 @@ const ENABLING: &[Row<'static>] = &[
         &[Stack(1, 7, 7)],
     ),
 ];
-
-#[test]
-fn enabling(rt: HostRuntime) -> Result<(), Fail> {
-    check_rows(&rt, rt.alloc(), ENABLING)
-}
 
 /// The same of disc.
 const DISABLING: &[Row<'static>] = &[
@@ -157,11 +147,6 @@ const DISABLING: &[Row<'static>] = &[
         &[Stack(0, 1, 0x8000_0010), Quiet(0)],
     ),
 ];
-
-#[test]
-fn disabling(rt: HostRuntime) -> Result<(), Fail> {
-    check_rows(&rt, rt.alloc(), DISABLING)
-}
 
 /// A link of the wrong direction, also where the guard is false, and an end that others use.
 const WRONG_AND_BUSY_ENDS: &[Halting<'static>] = &[
@@ -194,11 +179,6 @@ const WRONG_AND_BUSY_ENDS: &[Halting<'static>] = &[
         4,
     ),
 ];
-
-#[test]
-fn wrong_and_busy_ends(rt: HostRuntime) -> Result<(), Fail> {
-    check_halts(&rt, rt.alloc(), WRONG_AND_BUSY_ENDS)
-}
 
 const HALTED: &[Story<'static>] = &[
     Story {
@@ -264,6 +244,14 @@ const HALTED: &[Story<'static>] = &[
 ];
 
 #[test]
-fn halted(rt: HostRuntime) -> Result<(), Fail> {
+fn guards(rt: HostRuntime) -> Result<(), Fail> {
+    check_rows(&rt, rt.alloc(), "enabling", ENABLING)?;
+    check_rows(&rt, rt.alloc(), "disabling", DISABLING)?;
+    check_halts(&rt, rt.alloc(), "wrong and busy ends", WRONG_AND_BUSY_ENDS)
+}
+
+#[test]
+fn choices_and_halted_nodes(rt: HostRuntime) -> Result<(), Fail> {
+    play_all(&rt, rt.alloc(), CHOICES)?;
     play_all(&rt, rt.alloc(), HALTED)
 }

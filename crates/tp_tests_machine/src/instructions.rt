@@ -52,11 +52,6 @@ const ACCESSES: &[Row<'static>] = &[
     ),
 ];
 
-#[test]
-fn accesses(rt: HostRuntime) -> Result<(), Fail> {
-    check_rows(&rt, rt.alloc(), ACCESSES)
-}
-
 /// j 3, j -2, cj 5 taken and not, ldpi, call 5, ret, gcall; ajw 2, ajw -1, gajw
 const JUMPS: &[Row<'static>] = &[
     (&[0x03], &[Stack(1, 2, 3)], &[Iptr(0x8000_0104)]),
@@ -95,11 +90,6 @@ const JUMPS: &[Row<'static>] = &[
         &[Wptr(0x8000_0300), A(0x8000_0200)],
     ),
 ];
-
-#[test]
-fn jumps(rt: HostRuntime) -> Result<(), Fail> {
-    check_rows(&rt, rt.alloc(), JUMPS)
-}
 
 /// A block is read whole before it is written, and one of no bytes may lie anywhere.
 const MOVES: &[Row<'static>] = &[
@@ -140,12 +130,6 @@ const LAST_TURNS: &[Row<'static>] = &[
         &[Word(0x8000_0000, 0)],
     ),
 ];
-
-#[test]
-fn moves_and_loops(rt: HostRuntime) -> Result<(), Fail> {
-    check_rows(&rt, rt.alloc(), MOVES)?;
-    check_rows(&rt, rt.alloc(), LAST_TURNS)
-}
 
 /// stoperr without an error, ldpri, seterr, testerr of a set and of a clear flag; startp, also with low bits; runp of a high and
 /// of a low descriptor; endp of the last process
@@ -195,11 +179,6 @@ const PROCESSES: &[Row<'static>] = &[
         &[Word(0x8000_0304, 0), Iptr(0x8000_0180), Wptr(0x8000_0300)],
     ),
 ];
-
-#[test]
-fn processes(rt: HostRuntime) -> Result<(), Fail> {
-    check_rows(&rt, rt.alloc(), PROCESSES)
-}
 
 const ENDINGS: &[Story<'static>] = &[
     Story {
@@ -277,11 +256,6 @@ const ENDINGS: &[Story<'static>] = &[
     },
 ];
 
-#[test]
-fn endings(rt: HostRuntime) -> Result<(), Fail> {
-    play_all(&rt, rt.alloc(), ENDINGS)
-}
-
 /// Bytes that are no instruction: ldtimer, a prefix byte too many, and instructions that lie outside memory.
 const NO_INSTRUCTIONS: &[Halting<'static>] = &[
     (&[0x22, 0xF2], &[], 2),
@@ -322,8 +296,22 @@ const PROCESSES_OUTSIDE: &[Halting<'static>] = &[
 ];
 
 #[test]
+fn accesses_and_jumps(rt: HostRuntime) -> Result<(), Fail> {
+    check_rows(&rt, rt.alloc(), "accesses", ACCESSES)?;
+    check_rows(&rt, rt.alloc(), "jumps", JUMPS)?;
+    check_rows(&rt, rt.alloc(), "moves", MOVES)
+}
+
+#[test]
+fn loops_and_processes(rt: HostRuntime) -> Result<(), Fail> {
+    check_rows(&rt, rt.alloc(), "last turns", LAST_TURNS)?;
+    check_rows(&rt, rt.alloc(), "processes", PROCESSES)?;
+    play_all(&rt, rt.alloc(), ENDINGS)
+}
+
+#[test]
 fn halts(rt: HostRuntime) -> Result<(), Fail> {
-    check_halts(&rt, rt.alloc(), NO_INSTRUCTIONS)?;
-    check_halts(&rt, rt.alloc(), ACCESSES_OUTSIDE)?;
-    check_halts(&rt, rt.alloc(), PROCESSES_OUTSIDE)
+    check_halts(&rt, rt.alloc(), "no instructions", NO_INSTRUCTIONS)?;
+    check_halts(&rt, rt.alloc(), "accesses outside", ACCESSES_OUTSIDE)?;
+    check_halts(&rt, rt.alloc(), "processes outside", PROCESSES_OUTSIDE)
 }

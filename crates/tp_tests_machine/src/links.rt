@@ -69,11 +69,6 @@ const SENDING: &[Story<'static>] = &[
     },
 ];
 
-#[test]
-fn sending(rt: HostRuntime) -> Result<(), Fail> {
-    play_all(&rt, rt.alloc(), SENDING)
-}
-
 const RECEIVING: &[Story<'static>] = &[
     Story {
         name: "each byte is acknowledged once it is in memory",
@@ -161,11 +156,6 @@ const RECEIVING: &[Story<'static>] = &[
     },
 ];
 
-#[test]
-fn receiving(rt: HostRuntime) -> Result<(), Fail> {
-    play_all(&rt, rt.alloc(), RECEIVING)
-}
-
 /// ldl 3, ldl 2, ldl 1, out
 const SENDS: &[u8] = &[0x73, 0x72, 0x71, 0xFB];
 
@@ -226,11 +216,6 @@ const WIRED_TO_ITSELF: &[Story<'static>] = &[
     },
 ];
 
-#[test]
-fn wired_to_itself(rt: HostRuntime) -> Result<(), Fail> {
-    play_all(&rt, rt.alloc(), WIRED_TO_ITSELF)
-}
-
 /// A message of no bytes does nothing, whatever its end is at and wherever its bytes would be.
 const MESSAGES_OF_NO_BYTES: &[Row<'static>] = &[
     (
@@ -250,11 +235,6 @@ const MESSAGES_OF_NO_BYTES: &[Row<'static>] = &[
         &[],
     ),
 ];
-
-#[test]
-fn messages_of_no_bytes(rt: HostRuntime) -> Result<(), Fail> {
-    check_rows(&rt, rt.alloc(), MESSAGES_OF_NO_BYTES)
-}
 
 /// The direction of the link is tested first, also for no bytes; then whether the end is in use, wherever the message is.
 const WRONG_AND_BUSY_ENDS: &[Halting<'static>] = &[
@@ -306,11 +286,6 @@ const WRONG_AND_BUSY_ENDS: &[Halting<'static>] = &[
     ),
 ];
 
-#[test]
-fn wrong_and_busy_ends(rt: HostRuntime) -> Result<(), Fail> {
-    check_halts(&rt, rt.alloc(), WRONG_AND_BUSY_ENDS)
-}
-
 /// Last come the range of the message and the word that a stop writes. But an output out of a register stores that first.
 const OUTSIDE: &[Halting<'static>] = &[
     (&[0xFB], &[Stack(2, 0x8000_0000, 0x8000_0FFF)], 1),
@@ -337,6 +312,20 @@ const OUTSIDE: &[Halting<'static>] = &[
 ];
 
 #[test]
-fn outside(rt: HostRuntime) -> Result<(), Fail> {
-    check_halts(&rt, rt.alloc(), OUTSIDE)
+fn messages(rt: HostRuntime) -> Result<(), Fail> {
+    play_all(&rt, rt.alloc(), SENDING)?;
+    play_all(&rt, rt.alloc(), RECEIVING)?;
+    play_all(&rt, rt.alloc(), WIRED_TO_ITSELF)
+}
+
+#[test]
+fn ends(rt: HostRuntime) -> Result<(), Fail> {
+    check_rows(
+        &rt,
+        rt.alloc(),
+        "messages of no bytes",
+        MESSAGES_OF_NO_BYTES,
+    )?;
+    check_halts(&rt, rt.alloc(), "wrong and busy ends", WRONG_AND_BUSY_ENDS)?;
+    check_halts(&rt, rt.alloc(), "outside", OUTSIDE)
 }

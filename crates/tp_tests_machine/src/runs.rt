@@ -78,11 +78,6 @@ const PRINTING: &[Story<'static>] = &[
     },
 ];
 
-#[test]
-fn printing(rt: HostRuntime) -> Result<(), Fail> {
-    play_all(&rt, rt.alloc(), PRINTING)
-}
-
 const PROCESSES: &[Story<'static>] = &[
     Story {
         name: "a process starts a high one, which interrupts it, stops, and leaves it to go on",
@@ -140,11 +135,6 @@ const PROCESSES: &[Story<'static>] = &[
         ],
     },
 ];
-
-#[test]
-fn processes(rt: HostRuntime) -> Result<(), Fail> {
-    play_all(&rt, rt.alloc(), PROCESSES)
-}
 
 const SLICES: &[Story<'static>] = &[
     Story {
@@ -228,6 +218,8 @@ const SLICES: &[Story<'static>] = &[
 ];
 
 #[test]
-fn slices(rt: HostRuntime) -> Result<(), Fail> {
+fn runs(rt: HostRuntime) -> Result<(), Fail> {
+    play_all(&rt, rt.alloc(), PRINTING)?;
+    play_all(&rt, rt.alloc(), PROCESSES)?;
     play_all(&rt, rt.alloc(), SLICES)
 }

@@ -55,6 +55,7 @@ fn play(rt: &impl Abort, alloc: Global, story: &Story<'_>) -> Result<(), Fail> {
     Ok(())
 }
 
+/// Plays each story.
 pub fn play_all(rt: &impl Abort, alloc: Global, stories: &[Story<'_>]) -> Result<(), Fail> {
     for story in stories {
         play(rt, alloc, story)?;
@@ -77,10 +78,16 @@ fn is_row(alloc: Global, row: &Row<'_>) -> Result<bool, Fail> {
     Ok(ran && same)
 }
 
-pub fn check_rows(rt: &impl Abort, alloc: Global, rows: &[Row<'_>]) -> Result<(), Fail> {
+/// Makes the step of each row of a table.
+pub fn check_rows(
+    rt: &impl Abort,
+    alloc: Global,
+    name: &str,
+    rows: &[Row<'_>],
+) -> Result<(), Fail> {
     for (i, row) in rows.iter().enumerate() {
         let same = is_row(alloc, row)?;
-        assert!(rt; same, "row {i}");
+        assert!(rt; same, "{name}, row {i}");
     }
     Ok(())
 }
@@ -96,10 +103,16 @@ fn is_halt(alloc: Global, row: &Halting<'_>) -> Result<bool, Fail> {
     Ok(ran && same && bench.rests(Why::Halted))
 }
 
-pub fn check_halts(rt: &impl Abort, alloc: Global, rows: &[Halting<'_>]) -> Result<(), Fail> {
+/// Makes the step of each row of a table, each of which halts.
+pub fn check_halts(
+    rt: &impl Abort,
+    alloc: Global,
+    name: &str,
+    rows: &[Halting<'_>],
+) -> Result<(), Fail> {
     for (i, row) in rows.iter().enumerate() {
         let same = is_halt(alloc, row)?;
-        assert!(rt; same, "row {i}");
+        assert!(rt; same, "{name}, row {i}");
     }
     Ok(())
 }

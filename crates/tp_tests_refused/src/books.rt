@@ -89,6 +89,7 @@ pub(crate) fn make_ready(book: &mut Book) -> Result<Token, Refusal>
     requires { IsUsable book.old }
     ensures { OnErr result (IsUsable book.new) }
 {
+    // A book has a line for each link and port, which `receiver` asks.
     book.known();
     if book.nodes() != 1 || book.ports() != 1 {
         return Err(Refusal::NothingToTake);

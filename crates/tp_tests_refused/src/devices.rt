@@ -86,6 +86,7 @@ fn a_device_is_formatted_again(rt: HostRuntime) -> Result<(), Fail> {
         Ok(disk) => disk,
         Err(_) => MemDisk::zeroed(alloc, SIZE)?,
     };
+    // A topology keeps its rules: its page counts say so, which `format` asks.
     let _rules = topology.pages();
     if let Err(fault) = format(alloc, &mut disk, &topology, &images, AREA) {
         assert_eq!(rt; fault, FormatFault::Memory);
@@ -118,6 +119,7 @@ fn a_bad_image_stays_bad(rt: HostRuntime) -> Result<(), Fail> {
         Ok(disk) => disk,
         Err(_) => MemDisk::zeroed(alloc, SIZE)?,
     };
+    // A topology keeps its rules: its page counts say so, which `format` asks.
     let _rules = topology.pages();
     let mut answer = format(alloc, &mut disk, &topology, &images, AREA);
     if answer == Err(FormatFault::Memory) {

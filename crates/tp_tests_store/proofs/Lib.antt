@@ -1,2 +1,1 @@
-pub mod EachPasses
 pub mod Lone

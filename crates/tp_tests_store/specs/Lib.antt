@@ -1,2 +1,1 @@
-pub mod CanCount
 pub mod Lone

@@ -1,19 +1,82 @@
-//! What a host hands in, confirms and is shown.
+//! What a host hands in, confirms and is shown, call by call.
 
 ghost use Rattle.tp_tests_store.specs.Lone.{IsUsable};
 
+use crate::calls::{hand_in, is_shown};
 use crate::fixture::book;
+use std::alloc::Global;
+use std::process::Abort;
 use std::test::Fail;
+use tp_book::Refusal::{JournalFull, PortFull, StoreBroken};
 use tp_book::{Book, Refusal};
 
-/// Hands bytes in, and gives the receipt's number.
-pub(crate) fn hand_in(book: &mut Book, bytes: &[u8]) -> Result<u64, Refusal>
-    requires { IsUsable book.old }
-    ensures { IsUsable book.new }
-{
-    let receipt = book.host_in(0, bytes)?;
-    Ok(receipt.number())
+/// What the book's port has put out when it is opened.
+const OUTPUTS: &[u8] = b"hi";
+
+/// A call of the host, or the store breaks.
+#[derive(Clone, Copy, Debug)]
+enum Call<'a> {
+    HandIn(&'a [u8]),
+    Confirm(u64),
+    Break,
 }
+
+/// A call; its answer, the receipt's number or the refusal, and none where it may not be made; and then the next number, how many
+/// bytes were accepted, and how many outputs were confirmed.
+type Row<'a> = (Call<'a>, Option<Result<u64, Refusal>>, (u64, u64, u64));
+
+/// The bytes that groups may fill, and calls one after another.
+type Story<'a> = (Option<u64>, &'a [Row<'a>]);
+
+const STORIES: &[Story<'static>] = &[
+    // Bytes are accepted all or none, as many as the port has room for.
+    (
+        None,
+        &[
+            (Call::HandIn(b"ab"), Some(Ok(4)), (4, 2, 0)),
+            (Call::HandIn(b""), Some(Ok(4)), (4, 2, 0)),
+            (Call::HandIn(&[0; 4095]), Some(Err(PortFull)), (4, 2, 0)),
+            (Call::HandIn(&[0; 4094]), Some(Ok(4098)), (4098, 4096, 0)),
+            (Call::HandIn(b"c"), Some(Err(PortFull)), (4098, 4096, 0)),
+        ],
+    ),
+    // Confirmed outputs go.
+    (
+        None,
+        &[
+            (Call::Confirm(0), Some(Ok(2)), (2, 0, 0)),
+            (Call::Confirm(3), None, (2, 0, 0)),
+            (Call::Confirm(1), Some(Ok(3)), (3, 0, 1)),
+            (Call::Confirm(1), Some(Ok(3)), (3, 0, 1)),
+            (Call::Confirm(2), Some(Ok(4)), (4, 0, 2)),
+        ],
+    ),
+    // A broken store takes nothing new.
+    (
+        None,
+        &[
+            (Call::HandIn(b"a"), Some(Ok(3)), (3, 1, 0)),
+            (Call::Break, None, (3, 1, 0)),
+            (Call::HandIn(b"b"), Some(Err(StoreBroken)), (3, 1, 0)),
+            (Call::HandIn(&[0; 4097]), Some(Err(StoreBroken)), (3, 1, 0)),
+            (Call::HandIn(b""), Some(Ok(3)), (3, 1, 0)),
+            (Call::Confirm(1), Some(Err(StoreBroken)), (3, 1, 0)),
+            (Call::Confirm(0), Some(Ok(3)), (3, 1, 0)),
+        ],
+    ),
+    // With one line 96 bytes are kept for a snapshot, and each entry takes at most 32: so two find room in 167, and no third.
+    (
+        Some(96 + 64 + 7),
+        &[
+            (Call::HandIn(b"abc"), Some(Err(JournalFull)), (2, 0, 0)),
+            (Call::HandIn(b"a"), Some(Ok(3)), (3, 1, 0)),
+            (Call::Confirm(2), Some(Ok(4)), (4, 1, 2)),
+            (Call::HandIn(b"b"), Some(Err(JournalFull)), (4, 1, 2)),
+            (Call::HandIn(b""), Some(Ok(4)), (4, 1, 2)),
+            (Call::Confirm(2), Some(Ok(4)), (4, 1, 2)),
+        ],
+    ),
+];
 
 /// Confirms the outputs up to a position, and gives the receipt's number; none where there are no such outputs.
 fn confirm(book: &mut Book, upto: u64) -> Option<Result<u64, Refusal>>
@@ -29,94 +92,69 @@ fn confirm(book: &mut Book, upto: u64) -> Option<Result<u64, Refusal>>
     }
 }
 
-/// Whether a mark shows outputs from a position on, and these.
-pub(crate) fn is_shown(book: &Book, mark: u64, from: u64, bytes: &[u8]) -> bool
+fn make(book: &mut Book, call: Call<'_>) -> Option<Result<u64, Refusal>>
+    requires { IsUsable book.old }
+    ensures { IsUsable book.new }
+{
+    match call {
+        Call::HandIn(bytes) => Some(hand_in(book, bytes)),
+        Call::Confirm(upto) => confirm(book, upto),
+        Call::Break => {
+            book.break_store();
+            None
+        }
+    }
+}
+
+/// Whether the port shows the outputs that aren't confirmed, whatever the mark is.
+fn shows_the_rest(book: &Book, confirmed: u64) -> bool
     requires { IsUsable book.now }
 {
-    if from < book.out_base(0) || from > book.shown_upto(0, mark) {
-        return false;
+    let rest = OUTPUTS.get(confirmed as usize..).unwrap_or(b"");
+    book.outputs(0) == rest
+        && book.shown_upto(0, 0) == 2
+        && is_shown(book, 0, confirmed, rest)
+        && is_shown(book, 9, 2, b"")
+}
+
+/// Whether the book says so.
+fn is_so(book: &Book, next: u64, accepted: u64, confirmed: u64) -> bool
+    requires { IsUsable book.now }
+{
+    book.base() == 2
+        && book.next() == next
+        && book.accepted(0) == accepted
+        && book.room(0) as u64 == 4096u64.saturating_sub(accepted)
+        && book.out_base(0) == confirmed
+        && shows_the_rest(book, confirmed)
+}
+
+/// Whether it has one port, without a wire, and no node.
+fn is_lone(book: &Book) -> bool
+    requires { IsUsable book.now }
+{
+    // A book has a line for each link and port, which `receiver` asks.
+    book.known();
+    book.nodes() == 0 && book.ports() == 1 && book.receiver(0).is_none()
+}
+
+fn play<R: AllocGlobal + Abort>(rt: &R, alloc: Global, story: &Story<'_>) -> Result<(), Fail> {
+    let (room, rows) = *story;
+    let mut book = book(alloc, room)?;
+    let told = is_lone(&book) && is_so(&book, 2, 0, 0);
+    assert!(rt; told);
+    for row in rows {
+        let (call, answer, (next, accepted, confirmed)) = *row;
+        let told = make(&mut book, call) == answer && is_so(&book, next, accepted, confirmed);
+        assert!(rt; told, "{call:?}");
     }
-    book.shown(0, mark, from) == bytes
-}
-
-#[test]
-fn an_opened_book_shows_what_it_held(rt: HostRuntime) -> Result<(), Fail> {
-    let book = book(rt.alloc(), None)?;
-    assert_eq!(rt; book.next(), 2);
-    assert_eq!(rt; book.base(), 2);
-    assert_eq!(rt; book.nodes(), 0);
-    assert_eq!(rt; book.ports(), 1);
-    assert!(rt; book.receiver(0).is_none());
-    assert_eq!(rt; book.accepted(0), 0);
-    assert_eq!(rt; book.room(0), 4096);
-    assert_eq!(rt; book.out_base(0), 0);
-    assert_eq!(rt; book.outputs(0), b"hi".as_slice());
-    assert_eq!(rt; book.shown_upto(0, 0), 2);
-    assert!(rt; is_shown(&book, 0, 0, b"hi"));
-    assert!(rt; is_shown(&book, 0, 1, b"i"));
-    assert!(rt; is_shown(&book, 0, 2, b""));
     Ok(())
 }
 
 #[test]
-fn bytes_are_accepted_all_or_none(rt: HostRuntime) -> Result<(), Fail> {
-    let mut book = book(rt.alloc(), None)?;
-    let many = Vec::from_elem(rt.alloc(), 0u8, 4095)?;
-    assert_eq!(rt; hand_in(&mut book, b"ab"), Ok(4));
-    assert_eq!(rt; hand_in(&mut book, b""), Ok(4));
-    assert_eq!(rt; book.accepted(0), 2);
-    assert_eq!(rt; book.room(0), 4094);
-    assert_eq!(rt; hand_in(&mut book, &many), Err(Refusal::PortFull));
-    assert_eq!(rt; book.accepted(0), 2);
-    assert_eq!(rt; hand_in(&mut book, &many[1..]), Ok(4098));
-    assert_eq!(rt; book.room(0), 0);
-    assert_eq!(rt; hand_in(&mut book, b"c"), Err(Refusal::PortFull));
-    assert_eq!(rt; book.next(), 4098);
-    assert_eq!(rt; book.base(), 2);
-    Ok(())
-}
-
-#[test]
-fn confirmed_outputs_go(rt: HostRuntime) -> Result<(), Fail> {
-    let mut book = book(rt.alloc(), None)?;
-    assert_eq!(rt; confirm(&mut book, 0), Some(Ok(2)));
-    assert_eq!(rt; confirm(&mut book, 3), None);
-    assert_eq!(rt; confirm(&mut book, 1), Some(Ok(3)));
-    assert_eq!(rt; book.out_base(0), 1);
-    assert_eq!(rt; book.outputs(0), b"i".as_slice());
-    assert!(rt; is_shown(&book, 0, 1, b"i"));
-    assert_eq!(rt; confirm(&mut book, 1), Some(Ok(3)));
-    assert_eq!(rt; confirm(&mut book, 2), Some(Ok(4)));
-    assert_eq!(rt; book.outputs(0), b"".as_slice());
-    assert_eq!(rt; book.shown_upto(0, 9), 2);
-    Ok(())
-}
-
-#[test]
-fn a_broken_store_takes_nothing_new(rt: HostRuntime) -> Result<(), Fail> {
-    let mut book = book(rt.alloc(), None)?;
-    let many = Vec::from_elem(rt.alloc(), 0u8, 4097)?;
-    assert_eq!(rt; hand_in(&mut book, b"a"), Ok(3));
-    book.break_store();
-    assert_eq!(rt; hand_in(&mut book, b"b"), Err(Refusal::StoreBroken));
-    assert_eq!(rt; hand_in(&mut book, &many), Err(Refusal::StoreBroken));
-    assert_eq!(rt; hand_in(&mut book, b""), Ok(3));
-    assert_eq!(rt; confirm(&mut book, 1), Some(Err(Refusal::StoreBroken)));
-    assert_eq!(rt; confirm(&mut book, 0), Some(Ok(3)));
-    assert_eq!(rt; book.accepted(0), 1);
-    Ok(())
-}
-
-/// With one line 96 bytes are kept for a snapshot, and each entry takes at most 32: so two find room in 167, and no third.
-#[test]
-fn a_full_journal_takes_nothing_more(rt: HostRuntime) -> Result<(), Fail> {
-    let mut book = book(rt.alloc(), Some(96 + 64 + 7))?;
-    assert_eq!(rt; hand_in(&mut book, b"abc"), Err(Refusal::JournalFull));
-    assert_eq!(rt; book.accepted(0), 0);
-    assert_eq!(rt; hand_in(&mut book, b"a"), Ok(3));
-    assert_eq!(rt; confirm(&mut book, 2), Some(Ok(4)));
-    assert_eq!(rt; hand_in(&mut book, b"b"), Err(Refusal::JournalFull));
-    assert_eq!(rt; hand_in(&mut book, b""), Ok(4));
-    assert_eq!(rt; confirm(&mut book, 2), Some(Ok(4)));
+fn each_call_of_the_host(rt: HostRuntime) -> Result<(), Fail> {
+    for story in STORIES {
+        play(&rt, rt.alloc(), story)?;
+    }
     Ok(())
 }

@@ -1,25 +1,15 @@
-//! Tests of what is stored and read: worked examples and values computed by hand. They say what no proof can: that the
-//! definitions mean what was meant.
+//! Tests of what is stored and read without a device: topology texts, entries and groups as bytes, a book's calls for the host.
+//! Their values were computed by hand. They say what no proof can: that the definitions mean what was meant.
 #![tactic(auto)]
 
-#[cfg(test)]
-mod append_faults;
-#[cfg(test)]
-mod devices;
+pub mod calls;
 #[cfg(test)]
 mod entries;
-#[cfg(test)]
-mod filled_areas;
 mod fixture;
-#[cfg(test)]
-mod format_faults;
 #[cfg(test)]
 mod groups;
 #[cfg(test)]
 mod host_calls;
-#[cfg(test)]
-mod opened_books;
-mod possible;
 #[cfg(test)]
 mod topologies;
 #[cfg(test)]

@@ -8,7 +8,7 @@ use Rattle.tp_model.specs.NodeState.{NodeState}
 use Rattle.tp_model.specs.Network.{Network, Port}
 use Rattle.tp_port.specs.Ports.{PortValue}
 use Rattle.tp_replay.specs.Flat.{CanCount}
-use Rattle.tp_tests_store.specs.CanCount.{can_count}
+use Rattle.tp_tests_opening.specs.CanCount.{can_count}
 
 pub each_passes : {A : Type 0} (p : A → Bool) (xs : List A) → list_all p xs ≡ true → AllByRecursion (λ x. p x ≡ true) xs
 each_passes p [] passed = tt

@@ -1,0 +1,146 @@
+//! Groups appended until an area is full.
+
+use crate::devices::{append, disk_of, fresh, is_same, replayed, what_is_held};
+use std::process::Abort;
+use std::test::Fail;
+use tp_area::{Store, StoreFault};
+use tp_disk::{Disk, MemDisk};
+use tp_model::Entry;
+use tp_recover::open_store;
+
+/// Entries that are always possible here.
+const INPUTS: [Entry; 64] = [Entry::HostIn {
+    port: 0,
+    byte: 0x78,
+}; 64];
+
+/// The bytes of an area; groups that fill it, each with how many entries it has and the place where it ends; the next number then;
+/// and how many entries a group has that doesn't fit behind them.
+struct Filling<'a> {
+    area: u64,
+    groups: &'a [(usize, u64)],
+    next: u64,
+    refused: &'a [usize],
+}
+
+/// The first area's groups have the bytes from 13,033 to 16,896, of which the last is a gate. A group of n entries takes 16
+/// and 16 n bytes: three of 64 leave 743, which is room for 45 entries and the gate behind them. Where 752 bytes are left, 46
+/// entries fill them, and no gate fits behind; where 753 are, it does.
+const FILLINGS: &[Filling<'static>] = &[
+    Filling {
+        area: 16_384,
+        groups: &[(64, 14_073), (64, 15_113), (64, 16_153)],
+        next: 192,
+        refused: &[46, 63, 64],
+    },
+    Filling {
+        area: 16_384,
+        groups: &[(64, 14_073), (64, 15_113), (64, 16_153), (45, 16_889)],
+        next: 237,
+        refused: &[1, 2, 64],
+    },
+    Filling {
+        area: 16_393,
+        groups: &[(64, 14_073), (64, 15_113), (64, 16_153)],
+        next: 192,
+        refused: &[46],
+    },
+    Filling {
+        area: 16_394,
+        groups: &[(64, 14_073), (64, 15_113), (64, 16_153), (46, 16_905)],
+        next: 238,
+        refused: &[1],
+    },
+];
+
+/// The first `count` entries.
+fn inputs(all: &[Entry], count: usize) -> &[Entry] {
+    all.get(..count).unwrap_or(&[])
+}
+
+/// Whether a group of `count` entries doesn't fit, and nothing changes.
+fn refuses<R: AllocGlobal + Abort>(
+    rt: &R,
+    store: &mut Store<MemDisk>,
+    count: usize,
+) -> Result<bool, Fail> {
+    let place = store.place;
+    let bytes = Vec::from_slice(rt.alloc(), store.disk.bytes())?;
+    let told = append(rt, store, inputs(&INPUTS, count)) == Err(StoreFault::AreaFull);
+    Ok(
+        told && store.disk.bytes() == bytes.as_slice()
+            && store.disk.failures() == 0
+            && store.place == place
+            && !store.broken,
+    )
+}
+
+/// Whether no group of these counts fits.
+fn refuses_all<R: AllocGlobal + Abort>(
+    rt: &R,
+    store: &mut Store<MemDisk>,
+    counts: &[usize],
+) -> Result<bool, Fail> {
+    for count in counts {
+        if !refuses(rt, store, *count)? {
+            return Ok(false);
+        }
+    }
+    Ok(true)
+}
+
+/// Appends groups. Answers whether each ends where it ought to.
+fn fill<R: AllocGlobal + Abort>(
+    rt: &R,
+    store: &mut Store<MemDisk>,
+    groups: &[(usize, u64)],
+) -> Result<bool, Fail> {
+    for (count, end) in groups {
+        append(rt, store, inputs(&INPUTS, *count))?;
+        if store.place.end != *end {
+            return Ok(false);
+        }
+    }
+    Ok(true)
+}
+
+/// Whether a device holds what a plain replay of these groups gives.
+fn is_replayed<R: AllocGlobal>(
+    rt: &R,
+    first: &[u8],
+    bytes: &[u8],
+    groups: &[(usize, u64)],
+) -> Result<bool, Fail> {
+    let alloc = rt.alloc();
+    let all = INPUTS;
+    let mut entries = Vec::new(alloc);
+    for (count, _) in groups {
+        entries.push(inputs(&all, *count))?;
+    }
+    let held = what_is_held(alloc, bytes)?;
+    Ok(is_same(&held, &replayed(alloc, first, &entries)?))
+}
+
+/// Whether a store is full then, before and after the device is opened again.
+fn fills<R: AllocGlobal + Abort>(rt: &R, filling: &Filling<'_>) -> Result<bool, Fail> {
+    let alloc = rt.alloc();
+    let first = fresh(alloc, filling.area)?;
+    let (_, mut store) = open_store(alloc, disk_of(alloc, &first)?)?;
+    let is_filled = fill(rt, &mut store, filling.groups)?;
+    let is_full = refuses_all(rt, &mut store, filling.refused)?;
+    let (opened, mut store) = open_store(alloc, store.into_disk())?;
+    let end = filling.groups.last().map(|group| group.1);
+    let is_kept = opened.next() == filling.next && end == Some(opened.end());
+    let is_full_again = refuses_all(rt, &mut store, filling.refused)?;
+    let told = is_filled && is_full && is_kept && is_full_again;
+    Ok(told && is_replayed(rt, &first, store.disk.bytes(), filling.groups)?)
+}
+
+#[test]
+fn areas_are_filled(rt: HostRuntime) -> Result<(), Fail> {
+    for (i, filling) in FILLINGS.iter().enumerate() {
+        let told = fills(&rt, filling)?;
+        assert!(rt; told, "filling {i}");
+    }
+    Ok(())
+}

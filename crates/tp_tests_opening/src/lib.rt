@@ -1,0 +1,15 @@
+//! Tests of devices in memory that are formatted, written and opened: worked examples and values computed by hand. They say
+//! what no proof can: that the definitions mean what was meant.
+#![tactic(auto)]
+
+#[cfg(test)]
+mod append_faults;
+#[cfg(test)]
+mod devices;
+#[cfg(test)]
+mod filled_areas;
+#[cfg(test)]
+mod format_faults;
+#[cfg(test)]
+mod opened_books;
+mod possible;
