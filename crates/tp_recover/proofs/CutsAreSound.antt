@@ -13,7 +13,7 @@ use Rattle.tp_model.specs.Sound.{Ends, Wired, Sound}
 use Rattle.tp_model.specs.Topology.{Topology, node_count, is_end, is_line, joins_link, leads_back, is_topology}
 use Rattle.tp_model.specs.Spelling.{IsCut}
 use Rattle.tp_law_network.proofs.InPlace.{sound_in_place}
-use Rattle.tp_area.proofs.Topologies.{HasShape, has_shape, wire_leads_back}
+use Rattle.tp_net.proofs.Topologies.{HasShape, has_shape, wire_leads_back}
 use Rattle.tp_recover.proofs.UnmarkedLines.{line_of_each, unwired_empty}
 
 -- ## Wires

@@ -6,7 +6,7 @@ ghost use Rattle.tp_replay.specs.Flat.{IsFlat, AreThawed, network_of};
 use std::marker::Model;
 use tp_book::HostPort;
 use tp_model::WireEnd;
-use tp_net::Lines;
+use tp_net::{Lines, port_line};
 use tp_node::Node;
 
 /// A network in one thread: its wires, nodes, lines and ports. No node is frozen.
@@ -77,6 +77,6 @@ impl FlatNetwork {
         requires { port ≤ 1024 }
         ensures { result ≡ 4 * length self.now.nodes + port }
     {
-        4 * self.nodes.len() + port
+        port_line(self.nodes.len(), port)
     }
 }

@@ -17,6 +17,7 @@ use crate::network::FlatNetwork;
 use tp_book::send_some;
 use tp_law_machine::carries_byte;
 use tp_model::{Token, WireEnd};
+use tp_net::link_line;
 use tp_node::NoFrame;
 
 impl FlatNetwork {
@@ -58,7 +59,8 @@ impl FlatNetwork {
             Err(NoFrame) => unreachable!(),
         };
         self.lines.pop(line);
-        send_some(&self.wires, &mut self.lines, 4 * i + link as usize, answer);
+        let reply = link_line(i, usize::from(link));
+        send_some(&self.wires, &mut self.lines, reply, answer);
     }
 
     /// The port that the line goes to takes the token in front where it can, and answers on its own line.
