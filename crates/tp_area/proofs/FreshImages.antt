@@ -20,85 +20,6 @@ use Rattle.tp_node.specs.FromImage.{ReadsImage}
 use Rattle.tp_area.specs.declared.fault.FormatFault.{FormatFault}
 use Rattle.tp_area.specs.Formatting.{Checks}
 
--- ## Idle links
-
-out_idle : (b : Bool) (t : Transfer) → is_idle_out (cond b OutIdle (Waits t)) ≡ b
-out_idle true t = refl
-out_idle false t = refl
-
-in_idle : (a b c : Bool) (byte process : ℕ) (t : Transfer) → is_idle_in (cond a (InIdle (cond b None (Some byte))) (cond c (Inputs t) (Enabled process))) ≡ (a && b)
-in_idle true true c byte process t = refl
-in_idle true false c byte process t = refl
-in_idle false b true byte process t = refl
-in_idle false b false byte process t = refl
-
-outs_are : (n m : ℕ) (bytes : List ℕ) → n ≡ suc m
-    → list_all is_idle_out (ends_at out_end_at n bytes) ≡ ((get_or bytes 0 0 == 0) && list_all is_idle_out (ends_at out_end_at m (drop 16 bytes)))
-unfolding ends_at
-outs_are n m bytes is =
-    ap (λ k. list_all is_idle_out (ends_at out_end_at k bytes)) is
-    ∙ ap (λ b. b && list_all is_idle_out (ends_at out_end_at m (drop 16 bytes))) (out_idle (get_or bytes 0 0 == 0) _)
-
-ins_are : (n m : ℕ) (bytes : List ℕ) → n ≡ suc m
-    → list_all is_idle_in (ends_at in_end_at n bytes) ≡ (((get_or bytes 0 0 == 0) && (get_or bytes 1 0 == 0)) && list_all is_idle_in (ends_at in_end_at m (drop 16 bytes)))
-unfolding ends_at
-ins_are n m bytes is =
-    ap (λ k. list_all is_idle_in (ends_at in_end_at k bytes)) is
-    ∙ ap (λ b. b && list_all is_idle_in (ends_at in_end_at m (drop 16 bytes))) (in_idle (get_or bytes 0 0 == 0) (get_or bytes 1 0 == 0) _ _ _ _)
-
--- the first end and those behind it
-first_byte : (bytes : List ℕ) (i : ℕ) → i < 16 → get_or (take 16 bytes) i 0 ≡ get_or bytes i 0
-first_byte bytes i lt = get_or-take 16 bytes i 0 lt
-
-pub outs_more : (k : ℕ) (bytes end behind : List ℕ) (answer : Bool) → k < 4 → end ≡ take 16 bytes → behind ≡ drop 16 bytes → answer ≡ (get_or end 0 0 == 0)
-    → list_all is_idle_out (ends_at out_end_at (4 - k) bytes) ≡ (answer && list_all is_idle_out (ends_at out_end_at (4 - (k + 1)) behind))
-outs_more k bytes end behind answer lt front back is =
-    let here : (get_or bytes 0 0 == 0) ≡ answer = ap (λ n. n == 0) (sym (first_byte bytes 0 (omega arith))) ∙ ap (λ xs. get_or xs 0 0 == 0) (sym front) ∙ sym is in
-    outs_are (4 - k) (4 - (k + 1)) bytes (omega arith)
-    ∙ ap (λ b. b && list_all is_idle_out (ends_at out_end_at (4 - (k + 1)) (drop 16 bytes))) here
-    ∙ ap (λ xs. answer && list_all is_idle_out (ends_at out_end_at (4 - (k + 1)) xs)) (sym back)
-
-pub ins_more : (k : ℕ) (bytes end behind : List ℕ) (answer : Bool) → k < 4 → end ≡ take 16 bytes → behind ≡ drop 16 bytes → answer ≡ ((get_or end 0 0 == 0) && (get_or end 1 0 == 0))
-    → list_all is_idle_in (ends_at in_end_at (4 - k) bytes) ≡ (answer && list_all is_idle_in (ends_at in_end_at (4 - (k + 1)) behind))
-ins_more k bytes end behind answer lt front back is =
-    let here : ((get_or bytes 0 0 == 0) && (get_or bytes 1 0 == 0)) ≡ answer =
-    ap (λ n. (n == 0) && (get_or bytes 1 0 == 0)) (sym (first_byte bytes 0 (omega arith)))
-    ∙ ap (λ n. (get_or (take 16 bytes) 0 0 == 0) && (n == 0)) (sym (first_byte bytes 1 (omega arith)))
-    ∙ ap (λ xs. (get_or xs 0 0 == 0) && (get_or xs 1 0 == 0)) (sym front) ∙ sym is in
-    ins_are (4 - k) (4 - (k + 1)) bytes (omega arith)
-    ∙ ap (λ b. b && list_all is_idle_in (ends_at in_end_at (4 - (k + 1)) (drop 16 bytes))) here
-    ∙ ap (λ xs. answer && list_all is_idle_in (ends_at in_end_at (4 - (k + 1)) xs)) (sym back)
-
--- an end decides where it is busy, and leaves it to the others where it is idle
-pub busy : (answer rest all whole : Bool) → all ≡ (answer && rest) → all ≡ whole → answer ≡ false → false ≡ whole
-busy answer rest all whole is goes not = ap (λ b. b && rest) (sym not) ∙ sym is ∙ goes
-
-pub idle : (answer rest all whole : Bool) → all ≡ (answer && rest) → all ≡ whole → answer ≡ true → rest ≡ whole
-idle answer rest all whole is goes so = ap (λ b. b && rest) (sym so) ∙ sym is ∙ goes
-
--- all links, of what is behind two places
-pub links_are : (image : List ℕ) (outs inns : Bool) → outs ≡ list_all is_idle_out (ends_at out_end_at 4 (take (length image - 44) (drop 44 image)))
-    → inns ≡ list_all is_idle_in (ends_at in_end_at 4 (take (length image - 108) (drop 108 image)))
-    → (outs && inns) ≡ (list_all is_idle_out (ends_at out_end_at 4 (drop 44 image)) && list_all is_idle_in (ends_at in_end_at 4 (drop 108 image)))
-links_are image outs inns o i =
-    ap (λ b. b && inns) (o ∙ ap (λ xs. list_all is_idle_out (ends_at out_end_at 4 xs)) (take_rest image 44))
-    ∙ ap (λ b. list_all is_idle_out (ends_at out_end_at 4 (drop 44 image)) && b) (i ∙ ap (λ xs. list_all is_idle_in (ends_at in_end_at 4 xs)) (take_rest image 108))
-
-pub links_busy : (image : List ℕ) (outs : Bool) → outs ≡ list_all is_idle_out (ends_at out_end_at 4 (take (length image - 44) (drop 44 image))) → outs ≡ false
-    → false ≡ (list_all is_idle_out (ends_at out_end_at 4 (drop 44 image)) && list_all is_idle_in (ends_at in_end_at 4 (drop 108 image)))
-links_busy image outs o not =
-    let inns = list_all is_idle_in (ends_at in_end_at 4 (take (length image - 108) (drop 108 image))) in
-    ap (λ b. b && inns) (sym not) ∙ links_are image outs inns o refl
-
--- no end is left
-pub outs_none : (k : ℕ) (bytes : List ℕ) → 4 ≤ k → list_all is_idle_out (ends_at out_end_at (4 - k) bytes) ≡ true
-unfolding ends_at
-outs_none k bytes le = let none : 4 - k ≡ 0 = omega arith in ap (λ n. list_all is_idle_out (ends_at out_end_at n bytes)) none
-
-pub ins_none : (k : ℕ) (bytes : List ℕ) → 4 ≤ k → list_all is_idle_in (ends_at in_end_at (4 - k) bytes) ≡ true
-unfolding ends_at
-ins_none k bytes le = let none : 4 - k ≡ 0 = omega arith in ap (λ n. list_all is_idle_in (ends_at in_end_at n bytes)) none
-
 -- ## Images
 
 -- the node of an image, and how long the image is
@@ -128,6 +49,12 @@ unfolding node_of
 image_is bytes n e =
     let found = cond_some (is_node (node_at bytes) && bytes_eq (take 172 bytes) (image_head (node_at bytes))) (node_at bytes) n e in
     subst (IsImageOf bytes) found.1 (node_at_is bytes (and_parts (is_node (node_at bytes)) _ found.0).0)
+
+-- what the node of an image has at its links
+pub links_at : (bytes : List ℕ)
+    → has_idle_links (node_at bytes) ≡ (list_all is_idle_out (ends_at out_end_at 4 (drop 44 bytes)) && list_all is_idle_in (ends_at in_end_at 4 (drop 108 bytes)))
+unfolding node_at
+links_at bytes = refl
 
 -- ## The answers
 
@@ -176,10 +103,6 @@ fresh_image pages count bytes node answer read size same has so =
     good_image (fresh_node pages bytes) node.live
     (image_checked pages count bytes node answer read size has ∙ ap (λ b. cond ((count == pages) && b) (Some node.live) None) so
     ∙ ap (λ b. cond (b && true) (Some node.live) None) (eq-eqb count pages same))
-
--- so many bytes, for its head to be there
-pub image_long : (bytes : List ℕ) (node : NodeContents) → ReadsImage (node_of bytes) (Ok node) → 172 ≤ length bytes
-image_long bytes node read = let is = image_is bytes node.live (image_read (node_of bytes) node read) in let size = is.size in omega arith
 
 -- a refusal of one image refuses them all
 pub all_refused : {A B : Type 0} (o : Option A) (all : Option B) (fault : FormatFault) → Checks o (Err fault) → (is_some o ≡ false → is_some all ≡ false) → Checks all (Err fault)

@@ -9,8 +9,6 @@ pub mod StoreCrashes
 pub mod Appends
 pub mod PutLaws
 pub mod FreshImages
-pub mod Topologies
-pub mod HeadBytes
 pub mod FormatBytes
 pub mod FormatCalls
 pub mod OtherArea

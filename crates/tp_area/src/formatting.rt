@@ -8,23 +8,24 @@ ghost use Rattle.tp_model.specs.Disk.{SameOutside};
 ghost use Rattle.tp_model.specs.DiskHistory.{Counts, LeavesOnly};
 ghost use Rattle.tp_model.specs.Format.{start_of};
 ghost use Rattle.tp_model.specs.Journal.{cut_length, images_length};
-ghost use Rattle.tp_model.specs.Topology.{is_topology, line_count};
+ghost use Rattle.tp_model.specs.Topology.{line_count};
 ghost use Rattle.tp_area.specs.Formatting.{Answers, Formatted, IsOldOrNew, Wrote, area_front, failed_calls, is_early, with_areas};
 ghost use Rattle.tp_area.specs.Puts.{ButFor, Puts};
 
 use crate::fault::FormatFault;
-use crate::head::head_bytes;
 use crate::images::check_images;
 use crate::puts::{put_images, put_piece, put_zeros};
-use crate::room::{has_room, images_length, records_length};
-use byteorder::{ByteOrder, LittleEndian};
 use std::alloc::Global;
 use tp_disk::{DeviceFailed, Disk, write_through};
-use tp_model::limits::{AREA_HEAD_BYTES, BASE_BYTES, GATE_CLOSED, GATE_OPEN, HEAD_BYTES};
+use tp_layout::{
+    CutFront, FIELDS_BYTES, area_start, cut_length, fits, head_bytes, images_length, put_fields,
+    records_length,
+};
+use tp_model::limits::{GATE_CLOSED, GATE_OPEN};
 use tp_net::Topology;
 
 /// Bytes of an area in front of its images.
-const FRONT_BYTES: usize = AREA_HEAD_BYTES + BASE_BYTES;
+const FRONT_BYTES: usize = 1 + FIELDS_BYTES;
 
 /// How the first area is filled: the bytes of its images, of its cut, and of the records behind the images with the closed
 /// gate behind those.
@@ -35,33 +36,18 @@ struct Lengths {
     rest: u64,
 }
 
-/// How many bytes a network's first area is filled with.
+/// How many bytes the first area of a network is filled with.
 fn lengths_of(topology: &Topology) -> Lengths
-    requires { is_topology topology.now ≡ true }
     ensures images { result.images ≡ images_length topology.now }
     ensures cut { result.cut ≡ cut_length topology.now }
     ensures rest { result.rest ≡ LINE_BYTES * line_count topology.now + PORT_BYTES * topology.now.ports + 1 }
     ensures bound { result.cut < 2 ^ 32 }
 {
-    let pages = topology.pages();
-    let ports = topology.port_count() as u64;
-    let records = records_length(4 * pages.len() as u64 + ports, ports);
-    let images = images_length(pages);
     Lengths {
-        images,
-        cut: BASE_BYTES as u64 + images + records,
-        rest: records + 1,
+        images: images_length(topology),
+        cut: cut_length(topology),
+        rest: records_length(topology) + 1,
     }
-}
-
-/// Whether a device of so many bytes has room for areas of so many.
-fn is_large_enough(size: u64, topology: &Topology, cut: u64, area: u64) -> bool
-    requires valid { is_topology topology.now ≡ true }
-    requires cut { cut ≡ cut_length topology.now }
-    ensures { result ≡ fits size topology.now area }
-{
-    let lines = 4 * topology.pages().len() as u64 + topology.port_count() as u64;
-    has_room(size, lines, cut, area)
 }
 
 /// Writes what the first area begins with: its gate, open; generation 1; its cut's length; and that the cut holds no entry.
@@ -70,10 +56,12 @@ fn put_front(cut: u32, out: &mut [u8])
     requires { FRONT_BYTES ≤ length out.old }
     ensures { out.new ≡ area_front cut ++ drop FRONT_BYTES out.old }
 {
+    let front = CutFront {
+        generation: 1,
+        base: 0,
+    };
     out[0] = GATE_OPEN;
-    LittleEndian::write_u64(&mut out[1..], 1);
-    LittleEndian::write_u32(&mut out[9..], cut);
-    LittleEndian::write_u64(&mut out[AREA_HEAD_BYTES..], 0);
+    put_fields(front, cut, &mut out[1..]);
 }
 
 /// Puts the first area, as far as it is written: its lines and ports are empty, so they are zeros, as the closed gate is.
@@ -93,7 +81,7 @@ fn put_first_area<D: Disk>(
 {
     let mut front = [0; FRONT_BYTES];
     put_front(lengths.cut as u32, &mut front);
-    let start = HEAD_BYTES as u64;
+    let start = area_start(0, false);
     let behind = start + FRONT_BYTES as u64;
     put_piece(disk, start, &front)?;
     put_images(disk, behind, images)?;
@@ -122,12 +110,12 @@ fn write_all<D: Disk>(
         area (D.state disk.old).now.bytes) left) }
 {
     put_first_area(disk, images, lengths)?;
-    put_piece(disk, HEAD_BYTES as u64 + area, &[GATE_CLOSED])?;
+    put_piece(disk, area_start(area, true), &[GATE_CLOSED])?;
     disk.sync()?;
     write_through(disk, 0, head)
 }
 
-/// Formats a device for the network of these images, one a node, with areas of so many bytes: the first area is open, with
+/// Formats a device for the network of `images`, one a node, with areas of `area` bytes: the first area is open, with
 /// generation 1, the network and no entry; the second one is closed. Memory is taken for one node's memory at a time.
 pub fn format<D: Disk>(
     alloc: Global,
@@ -136,7 +124,6 @@ pub fn format<D: Disk>(
     images: &[Vec<u8>],
     area: u64,
 ) -> Result<(), FormatFault>
-    requires valid { is_topology topology.now ≡ true }
     ensures answer { Answers (start_of topology.now (map (λ image. image.items) images.now)) (fits (D.size_of disk.old) topology.now area) result }
     ensures early { is_early result ≡ true → disk.new ≡ disk.old }
     ensures failures { D.failures_of disk.new ≡ D.failures_of disk.old + failed_calls result }
@@ -146,11 +133,10 @@ pub fn format<D: Disk>(
 {
     check_images(alloc, topology.pages(), images)?;
     let lengths = lengths_of(topology);
-    if !is_large_enough(disk.size(), topology, lengths.cut, area) {
+    if !fits(disk.size(), topology, area) {
         return Err(FormatFault::AreaFull);
     }
-    let ports = topology.port_count() as u8;
-    let head = head_bytes(topology.pages(), ports, topology.wires(), area);
+    let head = head_bytes(topology, area);
     let Ok(()) = write_all(disk, head.as_slice(), area, images, lengths) else {
         return Err(FormatFault::DeviceFailed);
     };

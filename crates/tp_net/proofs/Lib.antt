@@ -5,3 +5,5 @@ pub mod Kept
 pub mod Reading
 pub mod Wired
 pub mod Shapes
+pub mod Topologies
+pub mod Wires

@@ -1,3 +1,4 @@
 pub mod Ends
 pub mod Steps
 pub mod NodeNames
+pub mod Parts

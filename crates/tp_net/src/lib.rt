@@ -1,10 +1,13 @@
-//! The network's shape, read from a text, and its lines.
+//! The network's shape, read from a text or made of its parts, and its lines.
 #![tactic(auto)]
 
+mod ends;
 mod line;
+mod rules;
 mod said;
 mod topology;
 mod words;
 
+pub use ends::{MAX_LINES, back, end_of, line_of, link_line, port_line, receiver};
 pub use line::{LINE_TOKENS, Lines};
 pub use topology::{Named, Topology};

@@ -6,8 +6,10 @@ ghost use Rattle.tp_model.specs.TopologyText.{after_ends, after_line, after_node
 ghost use Rattle.tp_model.specs.Topology.{end_of, is_topology};
 ghost use Rattle.tp_net.specs.Steps.{IsRead, IsStep};
 
+use crate::ends::{MAX_LINES, end_of, port_line};
 use crate::topology::Topology;
 use crate::words::{EndName, end_in, has_space_around, is_skipped, name_in, pages_in, words};
+use arrayvec::ArrayVec;
 use indexmap::{IndexMap, IndexSet};
 use std::alloc::{AllocError, Global};
 use std::marker::Model;
@@ -244,19 +246,15 @@ impl<'a> Said<'a> {
         Ok(())
     }
 
-    /// How many lines there are.
-    fn line_count(&self) -> usize
-        ensures value { result ≡ 4 * length self.now.nodes + length self.now.ports }
-        ensures bound { result ≤ 4 * length self.now.nodes + MAX_PORTS }
-    {
-        4 * self.nodes.len() + self.ports.len()
-    }
-
     /// The pages of each node.
-    fn pages(&self, alloc: Global) -> Result<Vec<u16>, AllocError>
-        ensures { IfOk result (λ pages. pages.items ≡ map (λ node. node.1) self.now.nodes) }
+    fn pages(&self) -> ArrayVec<u16, MAX_NODES>
+        ensures { result.items ≡ map (λ node. node.1) self.now.nodes }
     {
-        self.nodes.values().copied().collect(alloc)
+        let mut pages = ArrayVec::new();
+        for count in self.nodes.values().copied() {
+            pages.push(count);
+        }
+        pages
     }
 
     /// The name of each node.
@@ -267,30 +265,28 @@ impl<'a> Said<'a> {
     }
 
     /// The end that receives each line.
-    fn receivers(&self, alloc: Global) -> Result<Vec<Option<WireEnd>>, AllocError>
-        ensures { IfOk result (λ ends. ends.items ≡ (topology_of self.now).wires) }
+    fn receivers(&self) -> ArrayVec<Option<WireEnd>, MAX_LINES>
+        ensures { result.items ≡ (topology_of self.now).wires }
     {
         let nodes = self.nodes.len();
-        let count = self.line_count();
-        let mut ends = Vec::with_capacity(alloc, count)?;
+        let count = port_line(nodes, self.ports.len());
+        let mut ends = ArrayVec::new();
         for line in 0..count {
-            ends.push(other_end(end_of(nodes, line), self.wires.as_slice()))?;
+            ends.push(other_end(end_of(nodes, line), self.wires.as_slice()));
         }
-        Ok(ends)
+        ends
     }
 
-    /// What was said as a whole.
-    pub(crate) fn finish(&self, alloc: Global) -> Result<Topology, NetFault>
+    /// The topology that was said.
+    pub(crate) fn finish(&self) -> Result<Topology, NetFault>
         requires { IfOk (finished self.now) (λ t. is_topology t ≡ true) }
         ensures { IsRead (finished self.now) result }
     {
         if self.nodes.is_empty() || self.ports.is_empty() {
             return Err(NetFault::Syntax(0));
         }
-        let (Ok(pages), Ok(wires)) = (self.pages(alloc), self.receivers(alloc)) else {
-            return Err(NetFault::Memory);
-        };
-        Ok(Topology::new(pages, self.ports.len(), wires))
+        let ports = self.ports.len() as u8;
+        Ok(Topology::new(self.pages(), ports, self.receivers()))
     }
 }
 
@@ -309,19 +305,7 @@ fn other_end(end: WireEnd, wires: &[(WireEnd, WireEnd)]) -> Option<WireEnd>
     None
 }
 
-/// The end that sends a line, with so many nodes.
-fn end_of(nodes: usize, line: usize) -> WireEnd
-    requires few { nodes ≤ MAX_NODES }
-    requires there { line < 4 * nodes + MAX_PORTS }
-    ensures { result ≡ end_of nodes line }
-{
-    if line < 4 * nodes {
-        WireEnd::Link((line / 4) as u8, (line % 4) as u8)
-    } else {
-        WireEnd::Port((line - 4 * nodes) as u8)
-    }
-}
-
+/// Whether two ends are the same.
 fn same_end(first: WireEnd, second: WireEnd) -> bool
     ensures { result ≡ same_end first second }
 {

@@ -1,24 +1,29 @@
 //! A network's shape.
 
-ghost use Rattle.std.specs.Prelude.{◌≡◌, true, Ok, IfOk, MatchResult, map};
+ghost use Rattle.std.specs.Prelude.{◌≡◌, ◌≤◌, true, Ok, IfOk, MatchResult, length, map};
 ghost use Rattle.std.specs.Str.Lines.{lines};
-ghost use Rattle.tp_model.specs.Topology.{is_topology};
+ghost use Rattle.tp_model.specs.Topology.{is_topology, line_count};
 ghost use Rattle.tp_model.specs.TopologyText.{nothing_said, read_lines, read_text};
 ghost use Rattle.tp_net.specs.NodeNames.{node_names};
+ghost use Rattle.tp_net.specs.Parts.{if_topology, parts};
 ghost use Rattle.tp_net.specs.Steps.{IsFaultOf, IsRead};
 
+use crate::ends::{MAX_LINES, port_line};
+use crate::rules::is_topology;
 use crate::said::Said;
 use crate::words::next_line;
+use arrayvec::ArrayVec;
 use std::alloc::Global;
 use std::marker::Model;
+use tp_model::limits::{MAX_NODES, MAX_PORTS};
 use tp_model::{NetFault, WireEnd};
 
-/// A network's nodes, ports and wires. Nodes and ports are numbers.
+/// A network's nodes, ports and wires. Nodes and ports are numbers. It takes no memory.
 #[derive(Drop)]
 pub struct Topology {
-    pages: Vec<u16>,
-    ports: usize,
-    wires: Vec<Option<WireEnd>>,
+    pages: ArrayVec<u16, MAX_NODES>,
+    ports: u8,
+    wires: ArrayVec<Option<WireEnd>, MAX_LINES>,
 }
 
 impl Model for Topology {
@@ -33,7 +38,11 @@ impl Model for Topology {
 }
 
 impl Topology {
-    pub(crate) fn new(pages: Vec<u16>, ports: usize, wires: Vec<Option<WireEnd>>) -> Topology
+    pub(crate) fn new(
+        pages: ArrayVec<u16, MAX_NODES>,
+        ports: u8,
+        wires: ArrayVec<Option<WireEnd>, MAX_LINES>,
+    ) -> Topology
         requires { is_topology (record { pages = pages.items; ports = ports; wires = wires.items }) ≡ true }
         ensures { result ≡ record { pages = pages.items; ports = ports; wires = wires.items } }
     {
@@ -44,12 +53,28 @@ impl Topology {
         }
     }
 
+    /// The topology of `pages` of each node, `ports` ports, and `wires`, the end that receives each line; `None` where they
+    /// break a rule.
+    pub fn of_parts(
+        pages: ArrayVec<u16, MAX_NODES>,
+        ports: u8,
+        wires: ArrayVec<Option<WireEnd>, MAX_LINES>,
+    ) -> Option<Topology>
+        ensures { result ≡ if_topology (parts pages.items ports wires.items) }
+    {
+        if is_topology(pages.as_slice(), ports, wires.as_slice()) {
+            Some(Topology::new(pages, ports, wires))
+        } else {
+            None
+        }
+    }
+
     /// Reads a text that has a line for each node, each port and each wire. A text that isn't one has its first fault in
     /// the order of its lines.
     pub fn read(alloc: Global, text: &[u8]) -> Result<Topology, NetFault>
         ensures { IsRead (read_text text.now) result }
     {
-        said_in(alloc, text)?.finish(alloc)
+        said_in(alloc, text)?.finish()
     }
 
     /// Reads a text as `read` does, and keeps its nodes' names.
@@ -58,7 +83,7 @@ impl Topology {
         ensures names { IfOk result (λ found. map (λ name. name.now) found.names.items ≡ node_names text.now) }
     {
         let said = said_in(alloc, text)?;
-        let topology = said.finish(alloc)?;
+        let topology = said.finish()?;
         let Ok(names) = said.names(alloc) else {
             return Err(NetFault::Memory);
         };
@@ -69,6 +94,7 @@ impl Topology {
     pub fn pages(&self) -> &[u16]
         ensures value { result.now ≡ self.now.pages }
         ensures rules { is_topology self.now ≡ true }
+        ensures few { length result.now ≤ MAX_NODES }
     {
         self.pages.as_slice()
     }
@@ -77,16 +103,26 @@ impl Topology {
     pub fn port_count(&self) -> usize
         ensures value { result ≡ self.now.ports }
         ensures rules { is_topology self.now ≡ true }
+        ensures few { result ≤ MAX_PORTS }
     {
-        self.ports
+        usize::from(self.ports)
     }
 
     /// The end that receives each line, those of the links before those of the ports.
     pub fn wires(&self) -> &[Option<WireEnd>]
         ensures value { result.now ≡ self.now.wires }
         ensures rules { is_topology self.now ≡ true }
+        ensures few { length result.now ≤ MAX_LINES }
     {
         self.wires.as_slice()
+    }
+
+    /// How many lines there are.
+    pub fn line_count(&self) -> usize
+        ensures value { result ≡ line_count self.now }
+        ensures bound { result ≤ MAX_LINES }
+    {
+        port_line(self.pages.len(), usize::from(self.ports))
     }
 }
 

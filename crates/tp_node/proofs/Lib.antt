@@ -6,3 +6,4 @@ pub mod OneMore
 pub mod Pieces
 pub mod Room
 pub mod Taken
+pub mod IdleLinks

@@ -10,6 +10,16 @@ use byteorder::{ByteOrder, LittleEndian};
 use tp_link::{InEngine, OutEngine};
 use tp_model::{InEnd, OutEnd, Transfer};
 
+/// The links of a node.
+pub(crate) const LINKS: usize = 4;
+
+/// Where a node's output ends and its input ends stand in its image, and the bytes of each.
+pub(crate) const OUTPUTS_PLACE: usize = 44;
+
+pub(crate) const INPUTS_PLACE: usize = OUTPUTS_PLACE + END_BYTES * LINKS;
+
+pub(crate) const END_BYTES: usize = 16;
+
 const NO_TRANSFER: Transfer = Transfer {
     process: 0,
     pointer: 0,

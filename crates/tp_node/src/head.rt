@@ -8,7 +8,7 @@ ghost use Rattle.tp_model.specs.Image.{words_of, cpu_at, page_count, image_head}
 ghost use Rattle.tp_node.specs.StateWith.{state_with};
 
 use crate::code::{halt_byte, halt_of, state_byte, state_of};
-use crate::ends::{inputs_at, outputs_at, put_inputs, put_outputs};
+use crate::ends::{INPUTS_PLACE, OUTPUTS_PLACE, inputs_at, outputs_at, put_inputs, put_outputs};
 use crate::number::{u16_at, u32_at};
 use byteorder::{ByteOrder, LittleEndian};
 use tp_link::{InEngine, OutEngine};
@@ -101,8 +101,8 @@ impl Head {
     {
         Head {
             cpu: cpu_at(bytes),
-            outputs: outputs_at(bytes, 44),
-            inputs: inputs_at(bytes, 108),
+            outputs: outputs_at(bytes, OUTPUTS_PLACE),
+            inputs: inputs_at(bytes, INPUTS_PLACE),
         }
     }
 
@@ -125,7 +125,7 @@ impl Head {
             state_byte(state),
             slice,
         );
-        put_outputs(&mut out[44..], &self.outputs);
-        put_inputs(&mut out[108..], &self.inputs);
+        put_outputs(&mut out[OUTPUTS_PLACE..], &self.outputs);
+        put_inputs(&mut out[INPUTS_PLACE..], &self.inputs);
     }
 }

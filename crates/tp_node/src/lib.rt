@@ -7,6 +7,7 @@ mod ends;
 mod fault;
 mod first;
 mod head;
+mod idle;
 mod image;
 mod input;
 mod memory;
@@ -18,6 +19,8 @@ mod run;
 mod step;
 mod take;
 
+pub use code::halt_byte;
 pub use fault::{ImageFault, NoFrame};
+pub use idle::has_idle_links;
 pub use node::Node;
 pub use run::{Ran, Why};

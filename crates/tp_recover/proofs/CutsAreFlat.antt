@@ -24,7 +24,7 @@ use Rattle.tp_law_device.proofs.ReadCuts.{cut_read}
 use Rattle.tp_node.proofs.Images.{node_of-short}
 use Rattle.tp_port.specs.Counted.{IsCounted, AreCounted}
 use Rattle.tp_replay.specs.Flat.{IsFlat}
-use Rattle.tp_area.proofs.Topologies.{has_shape}
+use Rattle.tp_net.proofs.Topologies.{has_shape}
 use Rattle.tp_law_device.proofs.UnmarkedLines.{lines_unmarked}
 use Rattle.tp_law_device.proofs.CutsAreSound.{cut_nodes, cut_wires, cut_lines, cut_sound}
 use Rattle.tp_recover.proofs.HeldPorts.{EachPort, IsHeld}

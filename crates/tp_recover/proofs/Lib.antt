@@ -1,10 +1,7 @@
 pub mod Areas
 pub mod GroupsRead
 pub mod Cuts
-pub mod Heads
 pub mod Nodes
-pub mod Numbers
-pub mod Parts
 pub mod Passing
 pub mod Leaving
 pub mod Ports
@@ -14,8 +11,6 @@ mod ReadParts
 mod Starts
 mod Openings
 pub mod Room
-pub mod SameBytes
-pub mod Wires
 pub mod CutsAreFlat
 pub mod HeldPorts
 pub mod ReplayedCuts

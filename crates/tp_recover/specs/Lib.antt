@@ -1,8 +1,5 @@
 pub mod AfterGroups
 pub mod Cuts
-pub mod Fronts
-pub mod Heads
-pub mod Lines
 pub mod Nodes
 pub mod Opens
 pub mod Parts

@@ -1,24 +1,8 @@
--- The record of a port, of which nothing is claimed.
-use Rattle.std.specs.Prelude.{◌≡◌, true, ℕ, ◌+◌, ◌-◌, Bool, ◌&&◌, ◌==◌, nat_le, List, take, drop, bytes_eq}
-use Rattle.std.specs.List.{list_all, AllByRecursion}
-use Rattle.tp_model.specs.declared.limits.TheConstants.{MAX_HELD, PORT_BYTES}
-use Rattle.tp_model.specs.Bytes.{u64_at}
+-- Ports that were read.
+use Rattle.std.specs.Prelude.{◌≡◌, true, ℕ, List}
+use Rattle.std.specs.List.{AllByRecursion}
 use Rattle.tp_model.specs.Network.{Port}
-use Rattle.tp_model.specs.CutImage.{is_port_of, port_at, port_bytes}
-
--- a record stands in front of these bytes, of a port of a cut of so many entries
-abbrev pub is_port_at : ℕ → List ℕ → Bool
-is_port_at base bytes = bytes_eq (take PORT_BYTES bytes) (port_bytes (port_at bytes)) && is_port_of base (port_at bytes)
-
-abbrev pub is_zero : ℕ → Bool
-is_zero byte = byte == 0
-
--- the same where the record's numbers of bytes are these: what fills it up is 00, and the positions are reached
-abbrev pub keeps_rules : ℕ → ℕ → ℕ → List ℕ → Bool
-keeps_rules base held shown bytes =
-    list_all is_zero (take (MAX_HELD - held) (drop (20 + held) bytes))
-    && (list_all is_zero (drop (20 + MAX_HELD + shown) bytes)
-    && (nat_le (u64_at bytes 0) base && nat_le (u64_at bytes 8 + shown) base))
+use Rattle.tp_model.specs.CutImage.{is_port_of}
 
 -- each is a port of a cut of so many entries
 abbrev pub ArePorts : ℕ → List Port → Type 0

@@ -5,23 +5,16 @@ ghost use Rattle.tp_model.specs.DiskHistory.{Counts};
 ghost use Rattle.tp_model.specs.Device.{area_start};
 ghost use Rattle.tp_model.specs.Opening.{choice, chosen_area};
 ghost use Rattle.tp_recover.specs.Reading.{has_read, found, Answers, IsKept, LeavesNothingNew, TakesNone};
-ghost use Rattle.tp_recover.specs.Fronts.{area_front};
+ghost use Rattle.tp_layout.specs.Fronts.{area_front};
 
 use crate::device::read_array;
-use crate::number::u64_at;
 use crate::unopened::Unopened;
-use tp_area::area_start;
 use tp_disk::Disk;
+use tp_layout::{AREA_FRONT_BYTES, AreaFront, area_front, area_start};
 use tp_model::OpenFault;
-use tp_model::limits::{GATE_OPEN, HEAD_BYTES};
+use tp_model::limits::HEAD_BYTES;
 
-/// The front of an area: whether its gate is open, and its generation.
-#[derive(Clone, Copy)]
-pub(crate) struct AreaFront {
-    pub(crate) is_open: bool,
-    pub(crate) generation: u64,
-}
-
+/// Reads the front of the area that begins at `start`.
 fn read_area_front<D: Disk>(disk: &mut D, start: u64) -> Result<AreaFront, Unopened>
     requires { start + 9 ≤ D.size_of disk.old }
     ensures takes_none { TakesNone result }
@@ -30,22 +23,11 @@ fn read_area_front<D: Disk>(disk: &mut D, start: u64) -> Result<AreaFront, Unope
     ensures leaves { D.keeps → LeavesNothingNew (D.state disk.old) (D.state disk.new) }
     ensures is { D.keeps → Answers (λ front. front) (found (area_front start (D.state disk.old).now.bytes)) result }
 {
-    let bytes: [u8; 9] = read_array(disk, start)?;
+    let bytes: [u8; AREA_FRONT_BYTES] = read_array(disk, start)?;
     Ok(area_front(&bytes))
 }
 
-/// The front of the area that begins with these bytes.
-fn area_front(bytes: &[u8]) -> AreaFront
-    requires { 9 ≤ length bytes.now }
-    ensures { result ≡ area_front 0 bytes.now }
-{
-    AreaFront {
-        is_open: bytes[0] == GATE_OPEN,
-        generation: u64_at(bytes, 1),
-    }
-}
-
-/// Which area is taken by the fronts of both, the second one of which begins here.
+/// Which area is taken by the fronts of both, the second one of which begins at `at`.
 fn choose(at: u64, first: AreaFront, second: AreaFront) -> Result<bool, OpenFault>
     ensures { result ≡ choice at first.is_open second.is_open first.generation second.generation }
 {
@@ -59,7 +41,7 @@ fn choose(at: u64, first: AreaFront, second: AreaFront) -> Result<bool, OpenFaul
     }
 }
 
-/// Which area of a device is taken, each of which has so many bytes: whether it is the second one.
+/// Which area of a device is taken, each of which has `area` bytes: whether it is the second one.
 pub fn read_choice<D: Disk>(disk: &mut D, area: u64) -> Result<bool, Unopened>
     requires some { 9 ≤ area }
     requires inside { HEAD_BYTES + 2 * area ≤ D.size_of disk.old }

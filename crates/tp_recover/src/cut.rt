@@ -8,31 +8,28 @@ ghost use Rattle.tp_model.specs.DiskHistory.{Counts};
 ghost use Rattle.tp_model.specs.Flight.{flights_in};
 ghost use Rattle.tp_model.specs.Journal.{image_length};
 ghost use Rattle.tp_model.specs.Node.{t414_ends};
-ghost use Rattle.tp_model.specs.Opening.{base_of, cut_in, lines_place, nodes_place, ports_place};
+ghost use Rattle.tp_model.specs.Opening.{base_of, cut_in};
 ghost use Rattle.tp_model.specs.Spelling.{are_lines, IsCut};
 ghost use Rattle.tp_model.specs.Topology.{line_count};
 ghost use Rattle.tp_model.specs.declared.limits.TheConstants.{NUMBER_LIMIT};
 ghost use Rattle.tp_port.specs.Parts.{port_of};
 ghost use Rattle.tp_recover.specs.Cuts.{cut_network, records_at};
-ghost use Rattle.tp_recover.specs.Lines.{tokens_on};
+ghost use Rattle.tp_layout.specs.Lines.{tokens_on};
 ghost use Rattle.tp_recover.specs.Nodes.{live, AreThawed, HaveImages};
 ghost use Rattle.tp_recover.specs.Ports.{ArePorts};
 ghost use Rattle.tp_recover.specs.Reading.{has_read, Answers, IsKept, LeavesNothingNew};
 
 use crate::flights::{CutParts, flights};
-use crate::head::Head;
-use crate::line::{LineTokens, read_lines};
+use crate::line::read_lines;
 use crate::node::read_nodes;
 use crate::port::read_ports;
-use crate::topology::{MAX_LINES, Topology};
 use crate::unopened::Unopened;
 use std::alloc::{AllocError, Global};
-use tp_area::area_start;
 use tp_disk::Disk;
-use tp_model::limits::{
-    AREA_HEAD_BYTES, BASE_BYTES, HEAD_BYTES, LINE_BYTES, MAX_NODES, MAX_PORTS, PORT_BYTES,
-};
+use tp_layout::{Head, LineTokens, Places, area_start};
+use tp_model::limits::{HEAD_BYTES, LINE_BYTES, MAX_NODES, MAX_PORTS, PORT_BYTES};
 use tp_model::{OpenFault, Token, WireEnd};
+use tp_net::MAX_LINES;
 use tp_node::Node;
 use tp_port::PortParts;
 
@@ -42,34 +39,6 @@ pub struct Cut {
     pub nodes: Vec<Node>,
     pub lines: Vec<Vec<Token>>,
     pub ports: Vec<PortParts>,
-}
-
-/// Where the first image, the first line's record and the first port's record stand.
-#[derive(Clone, Copy)]
-pub(crate) struct Places {
-    pub(crate) nodes: u64,
-    pub(crate) lines: u64,
-    pub(crate) ports: u64,
-}
-
-impl Places {
-    /// The places in a content that begins here.
-    fn of(topology: &Topology, at: u64) -> Places
-        requires { at + 2 ^ 33 < 2 ^ 64 }
-        ensures nodes { result.nodes ≡ at + nodes_place }
-        ensures lines { result.lines ≡ at + lines_place topology.now }
-        ensures ports { result.ports ≡ at + ports_place topology.now }
-        ensures bound { result.ports < at + 2 ^ 32 }
-    {
-        let nodes = at + (AREA_HEAD_BYTES - 1 + BASE_BYTES) as u64;
-        let lines = nodes + topology.images_length();
-        let ports = lines + LINE_BYTES as u64 * topology.line_count() as u64;
-        Places {
-            nodes,
-            lines,
-            ports,
-        }
-    }
 }
 
 /// The tokens on a line as a list.
@@ -97,14 +66,14 @@ fn token_lists(alloc: Global, lines: &[LineTokens]) -> Result<Vec<Vec<Token>>, A
     Ok(lists)
 }
 
-/// Reads the records of a cut of so many entries: of nodes with so many pages each, of the lines with these wires, and of
-/// so many ports.
+/// Reads the records of a cut of `base` entries: of nodes with `pages` pages each, of the lines with `wires`, and of `ports`
+/// ports.
 fn read_records<D: Disk>(
     alloc: Global,
     disk: &mut D,
     pages: &[u16],
     wires: &[Option<WireEnd>],
-    ports: u8,
+    ports: usize,
     base: u64,
     places: Places,
 ) -> Result<Cut, Unopened>
@@ -185,7 +154,7 @@ pub fn read_cut<D: Disk>(
         disk,
         topology.pages(),
         topology.wires(),
-        topology.ports(),
+        topology.port_count(),
         base,
         places,
     )?;

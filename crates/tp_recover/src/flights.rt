@@ -7,7 +7,6 @@ ghost use Rattle.tp_model.specs.Sound.{datas, acks, end_waits, end_holds};
 ghost use Rattle.tp_model.specs.Flight.{is_in_one_place, flights_in};
 ghost use Rattle.tp_recover.specs.Parts.{network_in};
 
-use crate::topology::line_of;
 use tp_model::limits::{LINE_BYTES, MAX_NODES, MAX_PORTS};
 use tp_model::{OpenFault, Token, WireEnd};
 use tp_node::Node;
@@ -84,16 +83,12 @@ fn on_line<'a>(parts: CutParts<'a>, line: usize) -> &'a [Token]
     }
 }
 
-/// The line that comes back on the wire of a line.
+/// The line that comes back on the wire of line `line`.
 fn back(parts: CutParts<'_>, line: usize) -> Option<usize>
-    requires few { length parts.nodes.now ≤ MAX_NODES }
-    requires there { line < length parts.wires.now }
+    requires { length parts.nodes.now ≤ MAX_NODES }
     ensures { result ≡ back (network_in parts.entry) line }
 {
-    match parts.wires[line] {
-        Some(end) => Some(line_of(parts.nodes.len(), end)),
-        None => None,
-    }
+    tp_net::back(parts.wires, parts.nodes.len(), line)
 }
 
 /// Whether the byte under way on a line's wire, in its direction, is in one place.

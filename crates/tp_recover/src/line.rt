@@ -1,81 +1,22 @@
 //! The lines of a cut.
 
 ghost use Rattle.std.specs.Prelude.{◌≡◌, ◌*◌, ◌+◌, ◌<◌, ◌≤◌, ◌^◌, true, map, length, drop, IfOk};
-ghost use Rattle.std.specs.Option.{option_map};
 ghost use Rattle.tp_model.specs.DiskHistory.{Counts};
-ghost use Rattle.tp_model.specs.CutImage.{is_line_of, line_bytes, line_with, lines_in, tokens_of};
+ghost use Rattle.tp_model.specs.CutImage.{lines_in};
 ghost use Rattle.tp_model.specs.Spelling.{are_lines};
 ghost use Rattle.tp_model.specs.declared.opening.OpenFault.{OpenFault};
 ghost use Rattle.tp_recover.specs.declared.unopened.Unopened.{Unopened};
-ghost use Rattle.tp_recover.specs.Lines.{tokens_on};
+ghost use Rattle.tp_layout.specs.Lines.{tokens_on};
 ghost use Rattle.tp_recover.specs.Reading.{has_read, Answers, IsKept, LeavesNothingNew};
 
 use crate::device::read_bytes;
-use crate::topology::MAX_LINES;
 use crate::unopened::Unopened;
 use std::alloc::Global;
 use tp_disk::Disk;
+use tp_layout::{LineTokens, line_in};
 use tp_model::limits::LINE_BYTES;
 use tp_model::{OpenFault, WireEnd};
-
-/// The tokens on a line of a cut, first the one that comes next.
-#[derive(Clone, Copy, Debug, PartialEq, Eq)]
-pub enum LineTokens {
-    Empty,
-    Data(u8),
-    Ack,
-    DataAck(u8),
-    AckData(u8),
-}
-
-impl LineTokens {
-    /// The tokens that the fields of a record spell, if they spell some.
-    fn of_fields(count: u8, first: u8, byte: u8) -> LineTokens
-        ensures { tokens_on result ≡ tokens_of count first byte }
-    {
-        match (count, first) {
-            (0, _) => LineTokens::Empty,
-            (1, 1) => LineTokens::Data(byte),
-            (1, _) => LineTokens::Ack,
-            (_, 1) => LineTokens::DataAck(byte),
-            (_, _) => LineTokens::AckData(byte),
-        }
-    }
-
-    /// The record of a line with these tokens.
-    fn record(self) -> [u8; LINE_BYTES]
-        ensures { result ≡ line_bytes (tokens_on self) }
-    {
-        match self {
-            LineTokens::Empty => [0, 0, 0, 0],
-            LineTokens::Data(byte) => [1, 1, 0, byte],
-            LineTokens::Ack => [1, 2, 0, 0],
-            LineTokens::DataAck(byte) => [2, 1, 2, byte],
-            LineTokens::AckData(byte) => [2, 2, 1, byte],
-        }
-    }
-
-    /// Whether a line with this wire may have these tokens.
-    fn may_be_on(self, wire: Option<WireEnd>) -> bool
-        ensures { result ≡ is_line_of wire (tokens_on self) }
-    {
-        wire.is_some() || matches!(self, LineTokens::Empty)
-    }
-}
-
-/// The tokens of a line with this wire, whose record these bytes are, if they are one.
-fn line_in(wire: Option<WireEnd>, bytes: &[u8]) -> Option<LineTokens>
-    requires { length bytes.now ≡ LINE_BYTES }
-    ensures { option_map tokens_on result ≡ line_with wire bytes.now }
-{
-    let line = LineTokens::of_fields(bytes[0], bytes[1], bytes[3]);
-    let record = line.record();
-    if bytes[..] == record[..] && line.may_be_on(wire) {
-        Some(line)
-    } else {
-        None
-    }
-}
+use tp_net::MAX_LINES;
 
 /// The tokens of the lines with these wires, whose records stand here, one behind the other.
 pub(crate) fn lines_in(

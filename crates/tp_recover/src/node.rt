@@ -8,10 +8,10 @@ ghost use Rattle.tp_recover.specs.Nodes.{live, AreThawed, HasImage, HaveImages};
 ghost use Rattle.tp_recover.specs.Reading.{has_read, Answers, IsKept, LeavesNothingNew};
 
 use crate::device::read_bytes;
-use crate::topology::image_length;
 use crate::unopened::Unopened;
 use std::alloc::Global;
 use tp_disk::Disk;
+use tp_layout::image_length;
 use tp_model::OpenFault;
 use tp_node::{ImageFault, Node};
 

@@ -13,12 +13,12 @@ ghost use Rattle.tp_recover.specs.Starts.{read_in, read_of, IsStart};
 ghost use Rattle.tp_replay.specs.Flat.{IsFlat};
 
 use crate::cut::{Cut, read_cut};
-use crate::front::{CutFront, read_front};
-use crate::head::Head;
+use crate::front::read_front;
 use crate::unopened::Unopened;
 use std::alloc::{AllocError, Global};
 use tp_book::CutNetwork;
 use tp_disk::Disk;
+use tp_layout::{CutFront, Head};
 use tp_model::WireEnd;
 use tp_port::{lines_with, ports_with};
 use tp_replay::{FlatNetwork, Replay};

@@ -2,14 +2,23 @@
 
 ghost use Rattle.std.specs.Prelude.{◌≡◌, if◌then◌else◌, map, Some, IfOk};
 ghost use Rattle.tp_book.specs.Opened.{cut_of, now_of, IsOpened};
+ghost use Rattle.tp_model.specs.Journal.{room};
 ghost use Rattle.tp_model.specs.Opening.{next_of};
 ghost use Rattle.tp_replay.specs.Replaying.{numbered};
 
 use crate::opening::Opened;
 use std::alloc::{AllocError, Global};
 use tp_book::NetState;
+use tp_layout::journal_room;
 
 impl Opened {
+    /// The bytes that groups may fill in an area, to which a book's journal is bound.
+    pub fn journal_room(&self) -> u64
+        ensures { result ≡ room self.now.head.topology self.now.head.area }
+    {
+        journal_room(self.head.topology(), self.head.area())
+    }
+
     /// The state that a book is opened from: the network's parts are made anew, and the entries are moved.
     ///
     /// It can be opened whatever the device was, also where it doesn't keep the model.

@@ -5,7 +5,7 @@ ghost use Rattle.tp_replay.specs.Flat.{IsFlat, AreThawed, network_of};
 
 use std::marker::Model;
 use tp_model::WireEnd;
-use tp_net::Lines;
+use tp_net::{Lines, port_line};
 use tp_node::Node;
 use tp_port::HostPort;
 
@@ -77,6 +77,6 @@ impl FlatNetwork {
         requires { port ≤ 1024 }
         ensures { result ≡ 4 * length self.now.nodes + port }
     {
-        4 * self.nodes.len() + port
+        port_line(self.nodes.len(), port)
     }
 }

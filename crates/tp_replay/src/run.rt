@@ -11,6 +11,7 @@ use crate::fault::NotPossible;
 use crate::network::FlatNetwork;
 use arrayvec::ArrayVec;
 use tp_model::limits::MAX_STEPS;
+use tp_net::link_line;
 use tp_port::send_all;
 
 impl FlatNetwork {
@@ -28,7 +29,7 @@ impl FlatNetwork {
         }
         let mut sent = ArrayVec::new();
         let ran = self.nodes[i].run(count, &mut sent);
-        send_all(&self.wires, &mut self.lines, 4 * i, &sent);
+        send_all(&self.wires, &mut self.lines, link_line(i, 0), &sent);
         if ran.count() == count {
             Ok(())
         } else {

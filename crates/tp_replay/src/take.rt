@@ -16,6 +16,7 @@ use crate::front::{can_take, stands_in_front};
 use crate::network::FlatNetwork;
 use tp_law_machine::carries_byte;
 use tp_model::{Token, WireEnd};
+use tp_net::link_line;
 use tp_node::NoFrame;
 use tp_port::send_some;
 
@@ -58,7 +59,8 @@ impl FlatNetwork {
             Err(NoFrame) => unreachable!(),
         };
         self.lines.pop(line);
-        send_some(&self.wires, &mut self.lines, 4 * i + link as usize, answer);
+        let reply = link_line(i, usize::from(link));
+        send_some(&self.wires, &mut self.lines, reply, answer);
     }
 
     /// The port that the line goes to takes the token in front where it can, and answers on its own line.

@@ -3,7 +3,6 @@ pub mod Leads
 pub mod Grown
 pub mod Ran
 pub mod HostTook
-pub mod Idle
 pub mod Turned
 pub mod Lone
 pub mod Formatted

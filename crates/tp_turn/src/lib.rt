@@ -3,7 +3,6 @@
 
 mod back;
 mod host;
-mod image;
 mod law;
 mod run;
 mod take;

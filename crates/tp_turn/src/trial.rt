@@ -6,14 +6,13 @@ ghost use Rattle.tp_book.specs.Book.{outputs_of};
 ghost use Rattle.tp_book.specs.Parts.{network_of};
 ghost use Rattle.tp_turn.specs.Tried.{fresh_image, lone_network, ReadsFresh, TriedAs};
 
-use crate::image::has_idle_links;
 use crate::turn::lone_turns;
 use std::alloc::{AllocError, Global};
 use thiserror::Error;
 use tp_book::{Book, NetParts, Numbered, Refusal};
 use tp_model::limits::MAX_STEPS;
 use tp_model::{Entry, WireEnd};
-use tp_node::{ImageFault, Node};
+use tp_node::{ImageFault, Node, has_idle_links};
 use tp_port::PortParts;
 
 /// Line 0 leads to the port, line 4 to the link, and links 1 to 3 have no wire.

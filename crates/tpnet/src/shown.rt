@@ -6,8 +6,7 @@ ghost use Rattle.tpnet.specs.Shown.{area_number, head_line, next_line, node_line
 
 use std::alloc::{AllocError, Global};
 use std::fmt::Write;
-use tp_model::Fault;
-use tp_node::Node;
+use tp_node::{Node, halt_byte};
 use tp_port::HostPort;
 use tp_replay::FlatNetwork;
 
@@ -27,18 +26,6 @@ fn area_number(second: bool) -> u8
     ensures { result ≡ area_number second }
 {
     if second { 1 } else { 0 }
-}
-
-fn halt_code(halt: Option<Fault>) -> u8
-    ensures { result ≡ halt_byte halt }
-{
-    match halt {
-        None => 0,
-        Some(Fault::BadAddress) => 1,
-        Some(Fault::UnknownOp) => 2,
-        Some(Fault::LongPrefix) => 3,
-        Some(Fault::LinkBusy) => 4,
-    }
 }
 
 fn push_head(text: &mut String, nodes: usize, ports: usize, area: u64) -> Result<(), AllocError>
@@ -67,7 +54,7 @@ fn push_open(text: &mut String, front: Front) -> Result<(), AllocError>
 fn push_node(text: &mut String, number: usize, node: &Node) -> Result<(), AllocError>
     ensures { OnOk result (string_bytes text.new ≡ string_bytes text.old ++ node_line number (halt_byte node.now.live.cpu.halt)) }
 {
-    let halt = halt_code(node.halt());
+    let halt = halt_byte(node.halt());
     write!(text, "node {number} halt {halt}\n")
 }
 

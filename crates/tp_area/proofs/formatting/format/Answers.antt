@@ -2,27 +2,13 @@ use Rattle.std.proofs.Common.{◌≡◌, ◌∙◌, ℕ, List, Vec, Global, map,
 use Rattle.std.specs.Prelude.{sum_by}
 use Rattle.tp_model.specs.Journal.{image_length}
 use Rattle.tp_area.specs.Formatting.{Checks}
-use Rattle.tp_model.specs.Head.{head_bytes}
-use Rattle.tp_model.specs.Topology.{Topology, is_topology}
 use Rattle.tp_model.specs.Format.{fresh_nodes}
 use Rattle.tp_model.specs.Device.{fits}
-use Rattle.tp_area.proofs.Topologies.{has_shape, parts_again}
 use Rattle.tp_area.proofs.FormatBytes.{start_with, checked_length, formatted_by, format_leaves, early_leaves, answers_done}
 use Rattle.tp_area.proofs.formatting.format.Goals as goal
 
 abbrev items : Vec ℕ Global → List ℕ
 items image = image.items
-
-pub overflow_cast-ports : goal.overflow_cast-ports
-overflow_cast-ports g c =
-    let shape = has_shape c.args.topology.now c.requires.valid in
-    omega (arith, shape.few_ports, c.port_count-ports.ensures.value)
-
-pub head_bytes-head-requires : goal.head_bytes-head-requires
-head_bytes-head-requires g c =
-    subst (λ (t : Topology). is_topology t ≡ true)
-    (parts_again c.args.topology.now c.pages-2.result.now c.port_count-ports.result c.wires.result.now c.pages-2.ensures.value c.port_count-ports.ensures.value c.wires.ensures.value)
-    c.requires.valid
 
 pub write_all-requires-clause-images : goal.write_all-requires-clause-images
 write_all-requires-clause-images g c =
@@ -34,7 +20,7 @@ returns-clause-answer g c =
     let t = c.args.topology.now in
     let images = map items c.args.images.now in
     let large : fits (g.D.Disk.size_of c.args.disk.now) t c.args.area ≡ true =
-    ap (λ n. fits n t c.args.area) (sym c.size.ensures) ∙ sym c.is_large_enough.ensures ∙ c.if-not-is_large_enough.false in
+    ap (λ n. fits n t c.args.area) (sym c.size.ensures) ∙ sym c.fits.ensures ∙ c.if-not-fits.false in
     answers_done (fresh_nodes t.pages images) (start_with t) (fits (g.D.Disk.size_of c.args.disk.now) t c.args.area)
     (subst (λ pages. Checks (fresh_nodes pages images) (Ok tt)) c.pages.ensures.value c.in_ok-check_images.ensures) large
 
@@ -42,21 +28,19 @@ pub returns-clause-formatted : goal.returns-clause-formatted
 returns-clause-formatted g c k =
     let t = c.args.topology.now in
     let whole = g.met.D.Disk.whole k c.args.disk.now in
-    let large : fits c.size.result t c.args.area ≡ true = sym c.is_large_enough.ensures ∙ c.if-not-is_large_enough.false in
+    let large : fits c.size.result t c.args.area ≡ true = sym c.fits.ensures ∙ c.if-not-fits.false in
     formatted_by items t c.args.images.now c.pages.result.now c.as_slice.result.now c.args.area c.size.result c.lengths_of-lengths.result.cut c.lengths_of-lengths.result.rest
     (g.D.Disk.state c.args.disk.now) (g.D.Disk.state c.write_all.new.disk)
     c.pages.ensures.value c.in_ok-check_images.ensures large (whole ∙ sym c.size.ensures)
-    (c.as_slice.ensures.value ∙ c.head_bytes-head.ensures.bytes
-    ∙ ap (λ (s : Topology). head_bytes s c.args.area)
-    (sym (parts_again t c.pages-2.result.now c.port_count-ports.result c.wires.result.now c.pages-2.ensures.value c.port_count-ports.ensures.value c.wires.ensures.value)))
+    (c.as_slice.ensures.value ∙ c.head_bytes-head.ensures.bytes)
     (ap length c.as_slice.ensures.value ∙ c.head_bytes-head.ensures.len)
     c.lengths_of-lengths.ensures.cut c.lengths_of-lengths.ensures.rest (c.in-Ok.ensures.wrote k)
 
 pub returns-in_err-check_images-clause-leaves : goal.returns-in_err-check_images-clause-leaves
 returns-in_err-check_images-clause-leaves g c k = early_leaves c.args.topology.now (map items c.args.images.now) c.args.area (g.D.Disk.state c.args.disk.now)
 
-pub returns-then-not-is_large_enough-clause-leaves : goal.returns-then-not-is_large_enough-clause-leaves
-returns-then-not-is_large_enough-clause-leaves g c k = early_leaves c.args.topology.now (map items c.args.images.now) c.args.area (g.D.Disk.state c.args.disk.now)
+pub returns-then-not-fits-clause-leaves : goal.returns-then-not-fits-clause-leaves
+returns-then-not-fits-clause-leaves g c k = early_leaves c.args.topology.now (map items c.args.images.now) c.args.area (g.D.Disk.state c.args.disk.now)
 
 pub returns-in_default-clause-leaves : goal.returns-in_default-clause-leaves
 returns-in_default-clause-leaves g c k =

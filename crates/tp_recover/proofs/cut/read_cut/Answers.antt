@@ -13,7 +13,7 @@ use Rattle.tp_recover.proofs.Cuts.{cut_in-records, cut_ok, cut_fault, cut_error,
 use Rattle.tp_recover.specs.Nodes.{live, HaveImages}
 use Rattle.tp_recover.proofs.ReadParts.{parts_cut}
 use Rattle.tp_recover.proofs.Room.{area_room}
-use Rattle.tp_area.proofs.Topologies.{HasShape, has_shape}
+use Rattle.tp_net.proofs.Topologies.{HasShape, has_shape}
 use Rattle.tp_recover.proofs.cut.read_cut.Given as given
 use Rattle.tp_recover.proofs.cut.read_cut.Goals as goal
 use Rattle.tp_recover.proofs.cut.read_cut.Goals.{After-read_records, After-wires, After-wires-2}
@@ -30,26 +30,26 @@ read_records-requires-clause-lines g c =
 pub check_flights-requires-clause-few_ports : goal.check_flights-requires-clause-few_ports
 check_flights-requires-clause-few_ports g c =
     let shape = lent g (goal.at.check_flights-requires-clause-few_ports g c).After-wires in
-    omega (arith, shape.few_ports, c.in_ok-cut.ensures.ports, c.ports.ensures)
+    omega (arith, shape.few_ports, c.in_ok-cut.ensures.ports, c.port_count.ensures.value)
 
 pub check_flights-requires-clause-wired : goal.check_flights-requires-clause-wired
 check_flights-requires-clause-wired g c =
     let shape = lent g (goal.at.check_flights-requires-clause-wired g c).After-wires in
-    omega (arith, shape.lines, ap length c.wires-2.ensures.value, ap length c.pages.ensures.value, c.in_ok-cut.ensures.nodes, c.in_ok-cut.ensures.ports, c.ports.ensures)
+    omega (arith, shape.lines, ap length c.wires-2.ensures.value, ap length c.pages.ensures.value, c.in_ok-cut.ensures.nodes, c.in_ok-cut.ensures.ports, c.port_count.ensures.value)
 
 -- the cut is that of the records that were read
 is_cut : (g : given.Over) (c : After-read_records g) → (k : g.D.Disk.keeps)
     → c.args.base ≡ base_of (content_of c.args.head.now.area c.args.second (g.D.Disk.state c.args.disk.now).now.bytes)
     → cut_in t414_ends c.args.head.now.topology (area_start c.args.head.now.area c.args.second + 1) (content_of c.args.head.now.area c.args.second (g.D.Disk.state c.args.disk.now).now.bytes)
-    ≡ (records_at c.pages.result.now c.wires.result.now c.ports.result c.args.base c.of-places.result (g.D.Disk.state c.args.disk.now).now.bytes >>= tested t414_ends c.of-places.result.lines (line_count c.args.head.now.topology))
+    ≡ (records_at c.pages.result.now c.wires.result.now c.port_count.result c.args.base c.of-places.result (g.D.Disk.state c.args.disk.now).now.bytes >>= tested t414_ends c.of-places.result.lines (line_count c.args.head.now.topology))
 is_cut g c k base =
     let t = c.args.head.now.topology in
     let value = c.topology-topology.ensures.value in
     let shape = has_shape t c.topology-topology.ensures.valid in
     let start : c.area_start-start.result ≡ area_start c.args.head.now.area c.args.second = c.area_start-start.ensures ∙ ap (λ a. area_start a c.args.second) c.area.ensures.value in
-    cut_in-records t414_ends t c.args.head.now.area c.args.second c.args.base c.ports.result c.pages.result.now c.wires.result.now c.of-places.result (g.D.Disk.state c.args.disk.now).now.bytes
+    cut_in-records t414_ends t c.args.head.now.area c.args.second c.args.base c.port_count.result c.pages.result.now c.wires.result.now c.of-places.result (g.D.Disk.state c.args.disk.now).now.bytes
     (area_room t c.args.head.now.area c.area.ensures.roomy) shape.lines
-    (c.pages.ensures.value ∙ ap (λ s. s.pages) value) (c.wires.ensures.value ∙ ap (λ s. s.wires) value) (c.ports.ensures ∙ ap (λ s. s.ports) value) base
+    (c.pages.ensures.value ∙ ap (λ s. s.pages) value) (c.wires.ensures.value ∙ ap (λ s. s.wires) value) (c.port_count.ensures.value ∙ ap (λ s. s.ports) value) base
     (c.of-places.ensures.nodes ∙ ap (λ s. s + 1 + nodes_place) start)
     (c.of-places.ensures.lines ∙ ap (λ s. s + 1 + lines_place c.topology-topology.result.now) start ∙ ap (λ s. area_start c.args.head.now.area c.args.second + 1 + lines_place s) value)
     (c.of-places.ensures.ports ∙ ap (λ s. s + 1 + ports_place c.topology-topology.result.now) start ∙ ap (λ s. area_start c.args.head.now.area c.args.second + 1 + ports_place s) value)
@@ -58,7 +58,7 @@ pub returns-in_err-cut-clause-is : goal.returns-in_err-cut-clause-is
 returns-in_err-cut-clause-is g c k base =
     let told : c.from_residual.result ≡ Err c.in_err-cut.field-0.0 = search rules in
     cut_error (cut_network c.args.head.now.topology.wires) t414_ends c.of-places.result.lines (line_count c.args.head.now.topology) _
-    (records_at c.pages.result.now c.wires.result.now c.ports.result c.args.base c.of-places.result (g.D.Disk.state c.args.disk.now).now.bytes) c.in_err-cut.field-0.0 c.from_residual.result
+    (records_at c.pages.result.now c.wires.result.now c.port_count.result c.args.base c.of-places.result (g.D.Disk.state c.args.disk.now).now.bytes) c.in_err-cut.field-0.0 c.from_residual.result
     (is_cut g (goal.at.returns-in_err-cut-clause-is g c).After-read_records k base) (c.in_err-cut.ensures.is k) told
 
 -- the wires that were lent, both times
@@ -72,7 +72,7 @@ returns-in-Ok-clause-is g c k base =
     let shape = has_shape t c.topology-topology.ensures.valid in
     let wires = wires_are g (goal.at.returns-in-Ok-clause-is g c).After-wires-2 in
     cut_ok t414_ends c.of-places.result.lines (line_count t) (cut_network c.wires.result.now c.in_ok-cut.cut) _
-    (records_at c.pages.result.now c.wires.result.now c.ports.result c.args.base c.of-places.result (g.D.Disk.state c.args.disk.now).now.bytes)
+    (records_at c.pages.result.now c.wires.result.now c.port_count.result c.args.base c.of-places.result (g.D.Disk.state c.args.disk.now).now.bytes)
     (is_cut g (goal.at.returns-in-Ok-clause-is g c).After-read_records k base) (c.in_ok-cut.ensures.is k) c.in-Ok.field-0
     (ap (λ ws. flights_in t414_ends (cut_network ws c.in_ok-cut.cut) c.of-places.result.lines 0 (line_count t)) wires.0
     ∙ ap (λ n. flights_in t414_ends (cut_network t.wires c.in_ok-cut.cut) c.of-places.result.lines 0 n) (sym shape.lines)
@@ -86,7 +86,7 @@ returns-in-Err-clause-is g c k base =
     let shape = has_shape t c.topology-topology.ensures.valid in
     let wires = wires_are g (goal.at.returns-in-Err-clause-is g c).After-wires-2 in
     cut_fault t414_ends c.of-places.result.lines (line_count t) (cut_network c.wires.result.now c.in_ok-cut.cut) _
-    (records_at c.pages.result.now c.wires.result.now c.ports.result c.args.base c.of-places.result (g.D.Disk.state c.args.disk.now).now.bytes) c.in-Err.fault
+    (records_at c.pages.result.now c.wires.result.now c.port_count.result c.args.base c.of-places.result (g.D.Disk.state c.args.disk.now).now.bytes) c.in-Err.fault
     (is_cut g (goal.at.returns-in-Err-clause-is g c).After-read_records k base) (c.in_ok-cut.ensures.is k)
     (ap (λ ws. flights_in t414_ends (cut_network ws c.in_ok-cut.cut) c.of-places.result.lines 0 (line_count t)) wires.0
     ∙ ap (λ n. flights_in t414_ends (cut_network t.wires c.in_ok-cut.cut) c.of-places.result.lines 0 n) (sym shape.lines)
@@ -99,7 +99,7 @@ returns-in-Ok-clause-nodes g c =
     c.in_ok-cut.ensures.nodes ∙ ap length c.pages.ensures.value ∙ ap (λ s. length s.pages) c.topology-topology.ensures.value
 
 pub returns-in-Ok-clause-ports : goal.returns-in-Ok-clause-ports
-returns-in-Ok-clause-ports g c = c.in_ok-cut.ensures.ports ∙ c.ports.ensures ∙ ap (λ s. s.ports) c.topology-topology.ensures.value
+returns-in-Ok-clause-ports g c = c.in_ok-cut.ensures.ports ∙ c.port_count.ensures.value ∙ ap (λ s. s.ports) c.topology-topology.ensures.value
 
 pub returns-in-Ok-clause-images : goal.returns-in-Ok-clause-images
 returns-in-Ok-clause-images g c = c.in_ok-cut.ensures.images.images
@@ -124,7 +124,7 @@ returns-in-Ok-clause-cut g c few =
     parts_cut t414_ends t c.args.base c.of-places.result.lines (map live cut.nodes.items) (map (λ line. line.items) cut.lines.items) (map port_of cut.ports.items)
     (subst (λ pages. HaveImages pages (map live cut.nodes.items)) (c.pages.ensures.value ∙ ap (λ s. s.pages) c.topology-topology.ensures.value) c.in_ok-cut.ensures.images)
     (ap (λ ws. are_lines ws (map (λ line. line.items) cut.lines.items)) (sym wires.0) ∙ c.in_ok-cut.ensures.lines)
-    (length-map cut.ports.items port_of ∙ c.in_ok-cut.ensures.ports ∙ c.ports.ensures ∙ ap (λ s. s.ports) c.topology-topology.ensures.value)
+    (length-map cut.ports.items port_of ∙ c.in_ok-cut.ensures.ports ∙ c.port_count.ensures.value ∙ ap (λ s. s.ports) c.topology-topology.ensures.value)
     c.in_ok-cut.ensures.reached
     (ap (λ n. flights_in t414_ends (cut_network t.wires cut) c.of-places.result.lines 0 n) (sym shape.lines)
     ∙ ap (λ ws. flights_in t414_ends (cut_network ws cut) c.of-places.result.lines 0 (length ws)) (sym wires.1)

@@ -1,17 +1,17 @@
 use Rattle.std.proofs.Common.{◌≡◌, ◌∙◌, sym, ap, arith}
 use Rattle.tp_model.specs.Device.{area_start, content_of}
 use Rattle.tp_model.specs.Journal.{cut_length}
-use Rattle.tp_recover.specs.Fronts.{front_given}
+use Rattle.tp_layout.specs.Fronts.{front_given}
 use Rattle.tp_recover.proofs.Areas.{front_given-read}
 use Rattle.tp_recover.proofs.Passing.{found_is}
 use Rattle.tp_recover.proofs.Room.{area_room}
 use Rattle.tp_recover.proofs.front.read_front.Given as given
 use Rattle.tp_recover.proofs.front.read_front.Goals as goal
-use Rattle.tp_recover.proofs.front.read_front.Goals.{After-front_of}
+use Rattle.tp_recover.proofs.front.read_front.Goals.{After-cut_front}
 
 -- what the fields say was answered
-is_front : (g : given.Over) (c : After-front_of g) → (k : g.D.Disk.keeps)
-    → front_given c.args.head.now.topology (area_start c.args.head.now.area c.args.second) (content_of c.args.head.now.area c.args.second (g.D.Disk.state c.args.disk.now).now.bytes) ≡ c.front_of.result
+is_front : (g : given.Over) (c : After-cut_front g) → (k : g.D.Disk.keeps)
+    → front_given c.args.head.now.topology (area_start c.args.head.now.area c.args.second) (content_of c.args.head.now.area c.args.second (g.D.Disk.state c.args.disk.now).now.bytes) ≡ c.cut_front.result
 is_front g c k =
     let t = c.args.head.now.topology in
     let area = c.args.head.now.area in
@@ -21,10 +21,10 @@ is_front g c k =
     front_given-read t (area_start area c.args.second) area c.args.second c.area_start-start.result xs c.in_ok-bytes.bytes
     (omega (arith, area_room t area c.area.ensures.roomy)) start (sym (found_is _ _ (c.in_ok-bytes.ensures.bytes k)))
     ∙ ap (λ s. front_given t s c.in_ok-bytes.bytes) (sym start)
-    ∙ sym (c.front_of.ensures.is t wanted)
+    ∙ sym (c.cut_front.ensures.is t wanted)
 
 pub returns-in-Ok-clause-is : goal.returns-in-Ok-clause-is
-returns-in-Ok-clause-is g c k = is_front g (goal.at.returns-in-Ok-clause-is g c).After-front_of k ∙ c.in-Ok.is
+returns-in-Ok-clause-is g c k = is_front g (goal.at.returns-in-Ok-clause-is g c).After-cut_front k ∙ c.in-Ok.is
 
 pub returns-in-Err-clause-is : goal.returns-in-Err-clause-is
-returns-in-Err-clause-is g c k = is_front g (goal.at.returns-in-Err-clause-is g c).After-front_of k ∙ c.in-Err.is
+returns-in-Err-clause-is g c k = is_front g (goal.at.returns-in-Err-clause-is g c).After-cut_front k ∙ c.in-Err.is

@@ -1,7 +1,7 @@
 use Rattle.std.proofs.Common.{◌∙◌, sym, arith}
 use Rattle.tp_model.specs.Head.{head_of}
 use Rattle.tp_recover.proofs.Passing.{told_value, told_fault, found_is}
-use Rattle.tp_recover.proofs.Heads.{head_of-short, head_of-read}
+use Rattle.tp_layout.proofs.Heads.{head_of-short, head_of-read}
 use Rattle.tp_recover.proofs.Leaving.{none_leaves}
 use Rattle.tp_recover.proofs.head.read_head.Goals as goal
 use Rattle.tp_recover.proofs.head.read_head.Goals.{in-Ok, in-Err, Joined-head_in}

@@ -1,4 +1,4 @@
-use Rattle.std.proofs.Common.{◌≡◌, ◌<◌, ◌≤◌, length, arith, sym, refl, ap, ◌∙◌}
+use Rattle.std.proofs.Common.{◌≡◌, ◌*◌, ◌<◌, ◌≤◌, length, arith, sym, refl, ap, ◌∙◌}
 use Rattle.std.specs.Prelude.{is_some}
 use Rattle.std.proofs.lemmas.Bool.{true≢false}
 use Rattle.std.proofs.lemmas.Option.{slice_get_past, slice_get_read}
@@ -28,7 +28,8 @@ send_all-requires-clause-known c =
     let there = slice_get_read n.nodes.items (length n.nodes.items) c.args.node c.index_mut.result.now refl below c.index_mut.ensures.value in
     let few = c.is_count.ensures.few c.if-not-is_count.false in
     let most : c.run-ran.result.count ≤ MAX_STEPS = omega (arith, c.run-ran.ensures.asked, why_most c.run-ran.result.why c.args.count c.run-ran.result.count _ c.run-ran.new.self.live c.run-ran.ensures.why) in
-    rw (c.deref.ensures.value, c.deref-2.ensures.0) (ran_known n c.self.invariant c.args.node c.index_mut.result.now c.run-ran.new.self there c.run-ran.ensures.kept c.run-ran.result.count c.run-ran.new.out.items c.run-ran.ensures.steps most)
+    let first : c.link_line.result ≡ 4 * c.args.node = omega (arith, c.link_line.ensures) in
+    rw (first, c.deref.ensures.value, c.deref-2.ensures.0) (ran_known n c.self.invariant c.args.node c.index_mut.result.now c.run-ran.new.self there c.run-ran.ensures.kept c.run-ran.result.count c.run-ran.new.out.items c.run-ran.ensures.steps most)
 
 pub send_all-requires-clause-room : goal.send_all-requires-clause-room
 send_all-requires-clause-room c =
@@ -37,7 +38,8 @@ send_all-requires-clause-room c =
     let there = slice_get_read n.nodes.items (length n.nodes.items) c.args.node c.index_mut.result.now refl below c.index_mut.ensures.value in
     let few = c.is_count.ensures.few c.if-not-is_count.false in
     let most : c.run-ran.result.count ≤ MAX_STEPS = omega (arith, c.run-ran.ensures.asked, why_most c.run-ran.result.why c.args.count c.run-ran.result.count _ c.run-ran.new.self.live c.run-ran.ensures.why) in
-    rw (c.deref.ensures.value, c.deref-2.ensures.0) (ran_room n c.self.invariant c.args.node c.index_mut.result.now c.run-ran.new.self there c.run-ran.ensures.kept c.run-ran.result.count c.run-ran.new.out.items c.run-ran.ensures.steps most)
+    let first : c.link_line.result ≡ 4 * c.args.node = omega (arith, c.link_line.ensures) in
+    rw (first, c.deref.ensures.value, c.deref-2.ensures.0) (ran_room n c.self.invariant c.args.node c.index_mut.result.now c.run-ran.new.self there c.run-ran.ensures.kept c.run-ran.result.count c.run-ran.new.out.items c.run-ran.ensures.steps most)
 
 pub invariant_of-self : goal.invariant_of-self
 invariant_of-self c =
@@ -46,7 +48,8 @@ invariant_of-self c =
     let there = slice_get_read n.nodes.items (length n.nodes.items) c.args.node c.index_mut.result.now refl below c.index_mut.ensures.value in
     let few = c.is_count.ensures.few c.if-not-is_count.false in
     let most : c.run-ran.result.count ≤ MAX_STEPS = omega (arith, c.run-ran.ensures.asked, why_most c.run-ran.result.why c.args.count c.run-ran.result.count _ c.run-ran.new.self.live c.run-ran.ensures.why) in
-    let on = rw (c.deref.ensures.value, c.deref-2.ensures.0) at c.send_all.ensures in
+    let first : c.link_line.result ≡ 4 * c.args.node = omega (arith, c.link_line.ensures) in
+    let on = rw (first, c.deref.ensures.value, c.deref-2.ensures.0) at c.send_all.ensures in
     ran_inside n c.self.invariant c.args.node c.index_mut.result.now c.run-ran.new.self there c.run-ran.ensures.kept c.run-ran.result.count c.run-ran.new.out.items c.run-ran.ensures.steps most c.send_all.new.lines on
 
 pub returns-clause-applies : goal.returns-clause-applies
@@ -56,7 +59,8 @@ returns-clause-applies c =
     let there = slice_get_read n.nodes.items (length n.nodes.items) c.args.node c.index_mut.result.now refl below c.index_mut.ensures.value in
     let few = c.is_count.ensures.few c.if-not-is_count.false in
     let most : c.run-ran.result.count ≤ MAX_STEPS = omega (arith, c.run-ran.ensures.asked, why_most c.run-ran.result.why c.args.count c.run-ran.result.count _ c.run-ran.new.self.live c.run-ran.ensures.why) in
-    let on = rw (c.deref.ensures.value, c.deref-2.ensures.0) at c.send_all.ensures in
+    let first : c.link_line.result ≡ 4 * c.args.node = omega (arith, c.link_line.ensures) in
+    let on = rw (first, c.deref.ensures.value, c.deref-2.ensures.0) at c.send_all.ensures in
     let least = c.is_count.ensures.some c.if-not-is_count.false in
     elim c.if-count.branch [
       | then-count w ↦
@@ -76,7 +80,8 @@ returns-clause-err c =
     let there = slice_get_read n.nodes.items (length n.nodes.items) c.args.node c.index_mut.result.now refl below c.index_mut.ensures.value in
     let few = c.is_count.ensures.few c.if-not-is_count.false in
     let most : c.run-ran.result.count ≤ MAX_STEPS = omega (arith, c.run-ran.ensures.asked, why_most c.run-ran.result.why c.args.count c.run-ran.result.count _ c.run-ran.new.self.live c.run-ran.ensures.why) in
-    let on = rw (c.deref.ensures.value, c.deref-2.ensures.0) at c.send_all.ensures in
+    let first : c.link_line.result ≡ 4 * c.args.node = omega (arith, c.link_line.ensures) in
+    let on = rw (first, c.deref.ensures.value, c.deref-2.ensures.0) at c.send_all.ensures in
     elim c.if-count.branch [
       | then-count w ↦ rw w.result-is tt
       | else-count w ↦

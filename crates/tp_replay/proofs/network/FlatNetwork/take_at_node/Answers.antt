@@ -1,4 +1,4 @@
-use Rattle.std.proofs.Common.{◌<◌, length, arith, sym, refl, ap, ◌∙◌}
+use Rattle.std.proofs.Common.{◌≡◌, ◌+◌, ◌*◌, ◌<◌, length, arith, sym, refl, ap, ◌∙◌}
 use Rattle.std.specs.Prelude.{is_some}
 use Rattle.std.proofs.lemmas.Bool.{true≢false}
 use Rattle.std.proofs.lemmas.Option.{slice_get_read}
@@ -43,7 +43,8 @@ send_some-requires-clause-room c =
     let there = slice_get_read n.nodes.items (length n.nodes.items) c.args.node c.index_mut.result.now refl below c.index_mut.ensures.value in
     let did = takes_ok _ _ c.args.link c.index_mut.result.now.live c.take.new.self.live c.in-Ok.answer c.in-Ok.ensures.takes in
     let M = node_takes (state_of n) c.args.line c.args.node c.args.link c.args.token c.index_mut.result.now.live c.take.new.self.live (on_link c.args.link c.in-Ok.answer) to front at did in
-    rw (c.deref.ensures.value, c.pop.ensures.after, answer_on c.args.node c.args.link c.in-Ok.answer) (room n c.self.invariant (Take c.args.line c.args.token) (without_front n.lines c.args.line) _ _ M)
+    let back : c.link_line-reply.result ≡ 4 * c.args.node + c.args.link = omega (arith, c.link_line-reply.ensures, c.from.ensures) in
+    rw (back, c.deref.ensures.value, c.pop.ensures.after, answer_on c.args.node c.args.link c.in-Ok.answer) (room n c.self.invariant (Take c.args.line c.args.token) (without_front n.lines c.args.line) _ _ M)
 
 pub invariant_of-self : goal.invariant_of-self
 invariant_of-self c =
@@ -55,7 +56,8 @@ invariant_of-self c =
     let there = slice_get_read n.nodes.items (length n.nodes.items) c.args.node c.index_mut.result.now refl below c.index_mut.ensures.value in
     let did = takes_ok _ _ c.args.link c.index_mut.result.now.live c.take.new.self.live c.in-Ok.answer c.in-Ok.ensures.takes in
     let M = node_takes (state_of n) c.args.line c.args.node c.args.link c.args.token c.index_mut.result.now.live c.take.new.self.live (on_link c.args.link c.in-Ok.answer) to front at did in
-    let on = rw (c.deref.ensures.value, c.pop.ensures.after, answer_on c.args.node c.args.link c.in-Ok.answer) at c.send_some.ensures in
+    let back : c.link_line-reply.result ≡ 4 * c.args.node + c.args.link = omega (arith, c.link_line-reply.ensures, c.from.ensures) in
+    let on = rw (back, c.deref.ensures.value, c.pop.ensures.after, answer_on c.args.node c.args.link c.in-Ok.answer) at c.send_some.ensures in
     node_inside n c.self.invariant (Take c.args.line c.args.token) (without_front n.lines c.args.line) c.args.node c.index_mut.result.now c.take.new.self there c.in-Ok.ensures.kept (on_link c.args.link c.in-Ok.answer) M c.send_some.new.lines on
     (carries c.args.token c.requires.byte)
 
@@ -69,5 +71,6 @@ returns c =
     let there = slice_get_read n.nodes.items (length n.nodes.items) c.args.node c.index_mut.result.now refl below c.index_mut.ensures.value in
     let did = takes_ok _ _ c.args.link c.index_mut.result.now.live c.take.new.self.live c.in-Ok.answer c.in-Ok.ensures.takes in
     let M = node_takes (state_of n) c.args.line c.args.node c.args.link c.args.token c.index_mut.result.now.live c.take.new.self.live (on_link c.args.link c.in-Ok.answer) to front at did in
-    let on = rw (c.deref.ensures.value, c.pop.ensures.after, answer_on c.args.node c.args.link c.in-Ok.answer) at c.send_some.ensures in
+    let back : c.link_line-reply.result ≡ 4 * c.args.node + c.args.link = omega (arith, c.link_line-reply.ensures, c.from.ensures) in
+    let on = rw (back, c.deref.ensures.value, c.pop.ensures.after, answer_on c.args.node c.args.link c.in-Ok.answer) at c.send_some.ensures in
     rw (← c.self.view_is) (node_next n c.self.invariant (Take c.args.line c.args.token) (without_front n.lines c.args.line) c.args.node c.index_mut.result.now c.take.new.self there c.in-Ok.ensures.kept (on_link c.args.link c.in-Ok.answer) M c.send_some.new.lines on)

@@ -1,0 +1,21 @@
+//! The bytes of a device other than entries and groups: each record's writer beside its reader, over one set of places.
+#![tactic(auto)]
+
+mod end;
+mod front;
+mod head;
+mod line;
+mod number;
+mod place;
+mod port;
+mod room;
+mod written;
+
+pub use front::{
+    AREA_FRONT_BYTES, AreaFront, CutFront, FIELDS_BYTES, area_front, cut_front, put_fields,
+};
+pub use head::{Head, head_bytes, head_in, head_length};
+pub use line::{LineTokens, line_in};
+pub use place::{Places, area_start};
+pub use port::{PortRecord, port_bytes, port_in};
+pub use room::{cut_length, fits, image_length, images_length, journal_room, records_length};

@@ -1,0 +1,53 @@
+//! Where areas and the records of a cut stand.
+
+ghost use Rattle.std.specs.Prelude.{◌≡◌, ◌+◌, ◌^◌, ◌<◌};
+ghost use Rattle.tp_model.specs.Device.{area_start};
+ghost use Rattle.tp_model.specs.Opening.{groups_place, lines_place, nodes_place, ports_place};
+ghost use Rattle.tp_model.specs.declared.limits.TheConstants.{HEAD_BYTES};
+
+use crate::front::FIELDS_BYTES;
+use crate::head::head_length;
+use crate::room::{cut_length, images_length};
+use tp_model::limits::{AREA_HEAD_BYTES, HEAD_VERSION, LINE_BYTES};
+use tp_net::Topology;
+
+/// Where an area of `area` bytes begins: the first one, behind the head, or the second one.
+pub fn area_start(area: u64, second: bool) -> u64
+    requires { HEAD_BYTES + area < 2 ^ 64 }
+    ensures { result ≡ area_start area second }
+{
+    let first = head_length(HEAD_VERSION);
+    if second { first + area } else { first }
+}
+
+/// Where the first node's image, the first line's record, the first port's record and the first group's gate stand.
+#[derive(Clone, Copy, Debug, PartialEq, Eq)]
+pub struct Places {
+    pub nodes: u64,
+    pub lines: u64,
+    pub ports: u64,
+    pub groups: u64,
+}
+
+impl Places {
+    /// The places in an area whose content, which is all behind its gate, begins at `at`.
+    pub fn of(topology: &Topology, at: u64) -> Places
+        requires { at + 2 ^ 33 < 2 ^ 64 }
+        ensures nodes { result.nodes ≡ at + nodes_place }
+        ensures lines { result.lines ≡ at + lines_place topology.now }
+        ensures ports { result.ports ≡ at + ports_place topology.now }
+        ensures groups { result.groups ≡ at + groups_place topology.now }
+        ensures bound { result.ports < at + 2 ^ 32 }
+    {
+        let nodes = at + FIELDS_BYTES as u64;
+        let lines = nodes + images_length(topology);
+        let ports = lines + LINE_BYTES as u64 * topology.line_count() as u64;
+        let groups = at + (AREA_HEAD_BYTES - 1) as u64 + cut_length(topology);
+        Places {
+            nodes,
+            lines,
+            ports,
+            groups,
+        }
+    }
+}

@@ -1,0 +1,24 @@
+use Rattle.std.proofs.Common.{◌≡◌, ◌+◌, ◌-◌, ◌*◌, true, false, drop, refl, sym, ap, ◌∙◌, arith, rules}
+use Rattle.std.specs.Prelude.{◌&&◌}
+use Rattle.std.specs.List.{list_all}
+use Rattle.tp_model.specs.EndBytes.{in_end_at, ends_at, is_idle_in}
+use Rattle.tp_node.proofs.IdleLinks.{link_step, links_done}
+use Rattle.tp_node.proofs.idle.are_idle_ins.Goals as goal
+
+pub loop-link-init : goal.loop-link-init
+loop-link-init c = refl
+
+pub returns-then-not-is_idle_in : goal.returns-then-not-is_idle_in
+returns-then-not-is_idle_in c =
+    let no : is_idle_in (in_end_at (drop (108 + 16 * c.loop-link.link) c.args.image.now)) ≡ false = search rules in
+    sym (sym c.loop-link.invariant ∙ link_step is_idle_in in_end_at 108 c.loop-link.link c.args.image.now (omega arith)
+    ∙ ap (λ b. b && list_all is_idle_in (ends_at in_end_at (4 - (c.loop-link.link + 1)) (drop (108 + 16 * (c.loop-link.link + 1)) c.args.image.now))) no)
+
+pub loop-link-preserved : goal.loop-link-preserved
+loop-link-preserved c =
+    let yes : is_idle_in (in_end_at (drop (108 + 16 * c.loop-link.link) c.args.image.now)) ≡ true = search rules in
+    sym (sym c.loop-link.invariant ∙ link_step is_idle_in in_end_at 108 c.loop-link.link c.args.image.now (omega arith)
+    ∙ ap (λ b. b && list_all is_idle_in (ends_at in_end_at (4 - (c.loop-link.link + 1)) (drop (108 + 16 * (c.loop-link.link + 1)) c.args.image.now))) yes)
+
+pub returns : goal.returns
+returns c = sym (sym c.loop-link.invariant ∙ links_done is_idle_in in_end_at (4 - c.loop-link.link) (108 + 16 * c.loop-link.link) c.args.image.now (omega arith))

@@ -1,7 +1,0 @@
-use Rattle.std.proofs.Common.{◌≡◌, ◌+◌, ◌-◌, ◌*◌, drop}
-use Rattle.std.specs.List.{list_all}
-use Rattle.tp_model.specs.EndBytes.{in_end_at, ends_at, is_idle_in}
-use Rattle.tp_turn.proofs.image.are_idle_ins.Given as goal
-
-abbrev pub invariant-loop-link : goal.invariant-loop-link
-invariant-loop-link l = list_all is_idle_in (ends_at in_end_at (4 - l.link) (drop (108 + 16 * l.link) l.image)) ≡ list_all is_idle_in (ends_at in_end_at 4 (drop 108 l.image))

@@ -1,7 +1,0 @@
-use Rattle.std.proofs.Common.{◌≡◌, ◌+◌, ◌-◌, ◌*◌, drop}
-use Rattle.std.specs.List.{list_all}
-use Rattle.tp_model.specs.EndBytes.{out_end_at, ends_at, is_idle_out}
-use Rattle.tp_turn.proofs.image.are_idle_outs.Given as goal
-
-abbrev pub invariant-loop-link : goal.invariant-loop-link
-invariant-loop-link l = list_all is_idle_out (ends_at out_end_at (4 - l.link) (drop (44 + 16 * l.link) l.image)) ≡ list_all is_idle_out (ends_at out_end_at 4 (drop 44 l.image))
