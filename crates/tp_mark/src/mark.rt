@@ -73,7 +73,8 @@ impl Mark {
         ensures rises { pass.old.at ≤ result }
         ensures told { pass.old.least ≤ result }
     {
-        pass.seen = self.word.shared.load::<Loads>(&mut pass.place, 0);
+        let shown = self.word.shared.load::<Loads>(&mut pass.place, 0);
+        pass.seen = shown;
         pass.seen
     }
 

@@ -4,7 +4,7 @@ use mathlib.Core.Option.{some}
 use lib.ListN.{get_elem?}
 use Rattle.tp_ready.specs.declared.view.View.{View}
 
--- the pass that makes the numbers, and has made so many
+-- the pass that makes the numbers, and how many it has made
 abbrev pub maker : ℕ → View
 maker count = record { knows = true; makes = true; count = count; held = [] }
 

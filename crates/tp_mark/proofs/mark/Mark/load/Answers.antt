@@ -2,5 +2,5 @@ use Rattle.std.proofs.Common.{rules, arith}
 use Rattle.tp_mark.proofs.Steps.{loads}
 use Rattle.tp_mark.proofs.mark.Mark.load.Goals as goal
 
-pub load-pass-inside-requires : goal.load-pass-inside-requires
-load-pass-inside-requires c = (search rules, omega (arith, c.self.invariant), loads _ _ _)
+pub load-shown-requires : goal.load-shown-requires
+load-shown-requires c = (search rules, omega (arith, c.self.invariant), loads _ _ _)

@@ -1,0 +1,186 @@
+//! Two threads draw numbers from one ready queue.
+ghost use Rattle.std.specs.Prelude.{◌≡◌, ◌<◌, length, All, IfSome, None, Some};
+
+use std::process::Abort;
+use std::sync::Wait;
+use std::sync::atomic::{AtomicBool, Ordering};
+use std::test::Fail;
+use std::thread::{Threads, join, yield_now};
+use tp_ready::{Hand, ReadyQueue, Turn};
+
+const ROUNDS: u32 = 1000;
+
+// Takes a number and puts it back, over and over. Answers whether each was with nobody else, and how often the queue was empty.
+fn work<R: Wait>(
+    rt: &R,
+    queue: &ReadyQueue,
+    mut hand: Hand,
+    taken: &[AtomicBool],
+) -> (Hand, bool, u32)
+    requires { (hand ≡ Some queue.now) × (length taken.now ≡ queue.now.count) }
+    ensures { result.0 ≡ Some queue.now }
+{
+    let mut alone = true;
+    let mut made = 0;
+    for _ in 0..ROUNDS {
+        if let Some(turn) = queue.take(rt, &mut hand) {
+            let place = &taken[usize::from(turn.number())];
+            alone = alone && !place.swap(true, Ordering::SeqCst);
+            yield_now();
+            place.store(false, Ordering::SeqCst);
+            queue.put_back(rt, &mut hand, turn);
+            made += 1;
+        }
+    }
+    (hand, alone, made)
+}
+
+// The next number, which is there.
+fn taken<R: Wait + Abort>(rt: &R, queue: &ReadyQueue, hand: &mut Hand) -> Turn
+    requires { hand.old ≡ Some queue.now }
+    ensures hand { hand.new ≡ None }
+    ensures turn { (result.of ≡ queue.now) × (result.number < queue.now.count) }
+{
+    let Some(turn) = queue.take(rt, hand) else {
+        panic!(rt; "a number is there")
+    };
+    turn
+}
+
+// Whether the queue has no number.
+fn is_empty<R: Wait>(rt: &R, queue: &ReadyQueue, hand: &mut Hand) -> bool
+    requires { hand.old ≡ Some queue.now }
+    ensures { hand.new ≡ Some queue.now }
+{
+    let Some(turn) = queue.take(rt, hand) else {
+        return true;
+    };
+    queue.put_back(rt, hand, turn);
+    false
+}
+
+// Takes three numbers, finds the queue empty, and puts them back in another order: the second, the first and the third.
+fn all_in_order<R: Wait + Abort>(
+    rt: &R,
+    queue: &ReadyQueue,
+    first: &mut Hand,
+    second: &mut Hand,
+    third: &mut Hand,
+    spare: &mut Hand,
+) -> [u8; 3]
+    requires hands { (first.old ≡ Some queue.now) × (second.old ≡ Some queue.now) }
+    requires others { (third.old ≡ Some queue.now) × (spare.old ≡ Some queue.now) }
+    ensures hands { (first.new ≡ Some queue.now) × (second.new ≡ Some queue.now) }
+    ensures others { (third.new ≡ Some queue.now) × (spare.new ≡ Some queue.now) }
+{
+    let mut zero = taken(rt, queue, first);
+    let mut one = taken(rt, queue, second);
+    let two = taken(rt, queue, third);
+    let numbers = [zero.number(), one.number(), two.number()];
+    queue.apart(&mut zero, &mut one);
+    assert!(rt; is_empty(rt, queue, spare));
+    queue.put_back(rt, second, one);
+    queue.put_back(rt, first, zero);
+    queue.put_back(rt, third, two);
+    numbers
+}
+
+fn next_hand(queue: &ReadyQueue, hands: &mut Vec<Hand>) -> Option<Hand>
+    requires { All (λ hand. hand ≡ Some queue.now) hands.old.items }
+    ensures rest { All (λ hand. hand ≡ Some queue.now) hands.new.items }
+    ensures hand { IfSome result (λ hand. hand ≡ Some queue.now) }
+{
+    let _queue = queue;
+    hands.pop()
+}
+
+// Whether one hand takes these numbers, each put back before the next.
+fn come_in_order<R: Wait + Abort>(
+    rt: &R,
+    queue: &ReadyQueue,
+    hand: &mut Hand,
+    wanted: &[u8],
+) -> bool
+    requires { hand.old ≡ Some queue.now }
+{
+    let mut as_wanted = true;
+    for number in wanted {
+        let turn = taken(rt, queue, hand);
+        as_wanted = as_wanted && turn.number() == *number;
+        queue.put_back(rt, hand, turn);
+    }
+    as_wanted
+}
+
+// The numbers below 5 that one hand takes, five times in turn.
+fn all_come<R: Wait + Abort>(rt: &R, queue: &ReadyQueue, hand: &mut Hand) -> [bool; 5]
+    requires { (hand.old ≡ Some queue.now) × (queue.now.count ≡ 5) }
+{
+    let mut seen = [false; 5];
+    for _ in 0..5 {
+        let turn = taken(rt, queue, hand);
+        seen[usize::from(turn.number())] = true;
+        queue.put_back(rt, hand, turn);
+    }
+    seen
+}
+
+#[test]
+fn numbers_come_in_order(rt: HostRuntime) -> Result<(), Fail> {
+    let (queue, mut hands) = ReadyQueue::start(&rt, rt.alloc(), 2, 4)?;
+    let mut spare = next_hand(&queue, &mut hands).ok_or("a hand")?;
+    let mut third = next_hand(&queue, &mut hands).ok_or("a hand")?;
+    let mut second = next_hand(&queue, &mut hands).ok_or("a hand")?;
+    let mut first = next_hand(&queue, &mut hands).ok_or("a hand")?;
+    assert!(rt; hands.pop().is_none());
+    assert!(rt;
+        all_in_order(&rt, &queue, &mut first, &mut second, &mut third, &mut spare) == [0, 1, 2]
+    );
+    assert!(rt; come_in_order(&rt, &queue, &mut spare, &[1, 0, 2, 1, 0, 2]));
+    Ok(())
+}
+
+// What two threads leave that work with the queue, and whether each made all its rounds with numbers of its own.
+fn race<R: Threads + Wait + Sync>(
+    rt: &R,
+    queue: &ReadyQueue,
+    first: Hand,
+    second: Hand,
+    taken: &[AtomicBool],
+) -> (Hand, Hand, bool)
+    requires hands { (first ≡ Some queue.now) × (second ≡ Some queue.now) }
+    requires places { length taken.now ≡ queue.now.count }
+    ensures { (result.0 ≡ Some queue.now) × (result.1 ≡ Some queue.now) }
+{
+    let ((first, first_alone, first_made), (second, second_alone, second_made)) = join(
+        rt,
+        move || -> (Hand, bool, u32)
+            requires { (first ≡ Some queue.now) × (length taken.now ≡ queue.now.count) }
+            ensures { result.0 ≡ Some queue.entry.now }
+        { work(rt, queue, first, taken) },
+        move || -> (Hand, bool, u32)
+            requires { (second ≡ Some queue.now) × (length taken.now ≡ queue.now.count) }
+            ensures { result.0 ≡ Some queue.entry.now }
+        { work(rt, queue, second, taken) },
+    );
+    let alone = first_alone && second_alone && first_made == ROUNDS && second_made == ROUNDS;
+    (first, second, alone)
+}
+
+#[test]
+fn each_number_is_in_one_hand_at_a_time(rt: HostRuntime) -> Result<(), Fail> {
+    let (queue, mut hands) = ReadyQueue::start(&rt, rt.alloc(), 4, 2)?;
+    let second = next_hand(&queue, &mut hands).ok_or("a hand")?;
+    let first = next_hand(&queue, &mut hands).ok_or("a hand")?;
+    let busy: [AtomicBool; 5] = [
+        AtomicBool::new(false),
+        AtomicBool::new(false),
+        AtomicBool::new(false),
+        AtomicBool::new(false),
+        AtomicBool::new(false),
+    ];
+    let (mut first, _second, alone) = race(&rt, &queue, first, second, &busy);
+    assert!(rt; alone);
+    assert!(rt; all_come(&rt, &queue, &mut first) == [true; 5]);
+    Ok(())
+}
