@@ -14,12 +14,13 @@ const INPUTS: [Entry; 64] = [Entry::HostIn {
     byte: 0x78,
 }; 64];
 
-/// The bytes of an area; groups that fill it, each with how many entries it has and the place where it ends; the next number then;
+/// The bytes of an area; groups that fill it, each with how many entries it has and the place where it ends; the next number and the end then;
 /// and how many entries a group has that doesn't fit behind them.
 struct Filling<'a> {
     area: u64,
     groups: &'a [(usize, u64)],
     next: u64,
+    end: u64,
     refused: &'a [usize],
 }
 
@@ -31,24 +32,28 @@ const FILLINGS: &[Filling<'static>] = &[
         area: 16_384,
         groups: &[(64, 14_073), (64, 15_113), (64, 16_153)],
         next: 192,
+        end: 16_153,
         refused: &[46, 63, 64],
     },
     Filling {
         area: 16_384,
         groups: &[(64, 14_073), (64, 15_113), (64, 16_153), (45, 16_889)],
         next: 237,
+        end: 16_889,
         refused: &[1, 2, 64],
     },
     Filling {
         area: 16_393,
         groups: &[(64, 14_073), (64, 15_113), (64, 16_153)],
         next: 192,
+        end: 16_153,
         refused: &[46],
     },
     Filling {
         area: 16_394,
         groups: &[(64, 14_073), (64, 15_113), (64, 16_153), (46, 16_905)],
         next: 238,
+        end: 16_905,
         refused: &[1],
     },
 ];
@@ -121,19 +126,28 @@ fn is_replayed<R: AllocGlobal>(
     Ok(is_same(&held, &replayed(alloc, first, &entries)?))
 }
 
-/// Whether a store is full then, before and after the device is opened again.
+/// Whether a device of these bytes is as full once it is opened.
+fn stays_full<R: AllocGlobal + Abort>(
+    rt: &R,
+    bytes: &[u8],
+    filling: &Filling<'_>,
+) -> Result<bool, Fail> {
+    let alloc = rt.alloc();
+    let (opened, mut store) = open_store(alloc, disk_of(alloc, bytes)?)?;
+    let is_kept = opened.next() == filling.next && opened.end() == filling.end;
+    Ok(is_kept && refuses_all(rt, &mut store, filling.refused)?)
+}
+
+/// Whether a store is full once it has these groups, and the device stays so.
 fn fills<R: AllocGlobal + Abort>(rt: &R, filling: &Filling<'_>) -> Result<bool, Fail> {
     let alloc = rt.alloc();
     let first = fresh(alloc, filling.area)?;
     let (_, mut store) = open_store(alloc, disk_of(alloc, &first)?)?;
     let is_filled = fill(rt, &mut store, filling.groups)?;
     let is_full = refuses_all(rt, &mut store, filling.refused)?;
-    let (opened, mut store) = open_store(alloc, store.into_disk())?;
-    let end = filling.groups.last().map(|group| group.1);
-    let is_kept = opened.next() == filling.next && end == Some(opened.end());
-    let is_full_again = refuses_all(rt, &mut store, filling.refused)?;
-    let told = is_filled && is_full && is_kept && is_full_again;
-    Ok(told && is_replayed(rt, &first, store.disk.bytes(), filling.groups)?)
+    let bytes = store.into_disk().crash();
+    let stays = stays_full(rt, &bytes, filling)?;
+    Ok(is_filled && is_full && stays && is_replayed(rt, &first, &bytes, filling.groups)?)
 }
 
 #[test]

@@ -79,11 +79,17 @@ fn a_fresh_device_has_nothing_kept(rt: HostRuntime) -> Result<(), Fail> {
     Ok(())
 }
 
-/// What a book says: its nodes, the next number, how many bytes port 0 has accepted, and the room it has left.
-fn says(book: &Book) -> (usize, u64, u64, usize)
+/// What a book says: its nodes and ports, the next number, how many bytes port 0 has accepted, and the room it has left.
+fn says(book: &Book) -> (usize, usize, u64, u64, usize)
     requires { IsUsable book.now }
 {
-    (book.nodes(), book.next(), book.accepted(0), book.room(0))
+    (
+        book.nodes(),
+        book.ports(),
+        book.next(),
+        book.accepted(0),
+        book.room(0),
+    )
 }
 
 /// Five lines keep 480 bytes for a snapshot, and each entry takes at most 32: so 105 find room in 3,862, and no 106th.
@@ -91,14 +97,14 @@ fn says(book: &Book) -> (usize, u64, u64, usize)
 fn the_journal_of_a_device_fills(rt: HostRuntime) -> Result<(), Fail> {
     let alloc = rt.alloc();
     let mut book = book_of(alloc, fresh(alloc, AREA)?)?;
-    assert!(rt; says(&book) == (1, 0, 0, 4096));
+    assert!(rt; says(&book) == (1, 1, 0, 0, 4096));
     for number in 0..105u64 {
         let told = hand_in(&mut book, b"x") == Ok(number + 1);
         assert!(rt; told);
     }
     let told = hand_in(&mut book, b"x") == Err(Refusal::JournalFull)
         && hand_in(&mut book, b"") == Ok(105)
-        && says(&book) == (1, 105, 105, 4096 - 105);
+        && says(&book) == (1, 1, 105, 105, 4096 - 105);
     assert!(rt; told);
     Ok(())
 }
@@ -108,10 +114,14 @@ fn goes_on(book: &mut Book) -> bool
     requires { IsUsable book.old }
 {
     book.base() == 0
-        && says(book) == (1, 4, 0, 4096)
+        && says(book) == (1, 1, 4, 0, 4096)
         && book.out_base(0) == 0
         && book.outputs(0) == b"A".as_slice()
         && is_shown(book, 0, 0, b"A")
+        && is_shown(book, 1, 0, b"A")
+        && is_shown(book, 2, 0, b"A")
+        && is_shown(book, 3, 0, b"A")
+        && is_shown(book, 4, 0, b"A")
         && is_shown(book, 5, 0, b"A")
         && hand_in(book, b"x") == Ok(5)
 }

@@ -113,8 +113,10 @@ fn shows_the_rest(book: &Book, confirmed: u64) -> bool
     let rest = OUTPUTS.get(confirmed as usize..).unwrap_or(b"");
     book.outputs(0) == rest
         && book.shown_upto(0, 0) == 2
+        && book.shown_upto(0, 9) == 2
         && is_shown(book, 0, confirmed, rest)
-        && is_shown(book, 9, 2, b"")
+        && is_shown(book, 1, confirmed, rest)
+        && is_shown(book, 0, 2, b"")
 }
 
 /// Whether the book says so.
@@ -129,13 +131,16 @@ fn is_so(book: &Book, next: u64, accepted: u64, confirmed: u64) -> bool
         && shows_the_rest(book, confirmed)
 }
 
-/// Whether it has one port, without a wire, and no node.
+/// Whether it has one port, without a wire, no node, and shows its second output from there on.
 fn is_lone(book: &Book) -> bool
     requires { IsUsable book.now }
 {
     // A book has a line for each link and port, which `receiver` asks.
     book.known();
-    book.nodes() == 0 && book.ports() == 1 && book.receiver(0).is_none()
+    book.nodes() == 0
+        && book.ports() == 1
+        && book.receiver(0).is_none()
+        && is_shown(book, 0, 1, b"i")
 }
 
 fn play<R: AllocGlobal + Abort>(rt: &R, alloc: Global, story: &Story<'_>) -> Result<(), Fail> {
