@@ -6,7 +6,6 @@ use std::fs::{Files, Metadata, OpenFile, OpenOptions};
 use std::io;
 use std::io::{Read, Seek, SeekFrom, Write};
 use std::os::unix::fs::FileExt;
-use std::rt::Alloc;
 
 /// What becomes of the calls on a file.
 #[derive(Drop)]
