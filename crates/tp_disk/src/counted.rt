@@ -26,6 +26,20 @@ impl<F: RawDisk> Counted<F> {
             failed: Failures::new(),
         }
     }
+
+    /// The device below the count.
+    pub fn raw(&self) -> &F
+        ensures { result.now ≡ self.now.raw }
+    {
+        &self.raw
+    }
+
+    /// Gives the device below the count back.
+    pub fn into_raw(self) -> F
+        ensures { result ≡ self.raw }
+    {
+        self.raw
+    }
 }
 
 impl<F: RawDisk> Disk for Counted<F> {

@@ -3,8 +3,8 @@
 ghost use Rattle.std.specs.Prelude.{◌≡◌, ◌+◌, ◌≤◌, [], ◌∷◌, ◌++◌, true, false, length, take, drop, is_ok, IfOk, OnOk, OnErr};
 ghost use Rattle.tp_model.specs.Disk.{Write, Sync, Read, done};
 ghost use Rattle.tp_model.specs.DiskHistory.{Fails, Goes, unknown};
-ghost use Rattle.tp_disk.specs.File.{file_keeps, making, no_file};
-ghost use Rattle.tp_disk.specs.History.{Reads, Syncs, Writes};
+ghost use Rattle.tp_disk.specs.File.{file_keeps, making, no_file, placing};
+ghost use Rattle.tp_disk.specs.History.{Reads, Syncs};
 
 use crate::counted::Counted;
 use crate::disk::{DeviceFailed, Disk};
@@ -17,7 +17,9 @@ use std::os::unix::fs::FileExt;
 use std::rt::Files;
 
 /// A file that becomes a device of `size` bytes with the first call of it: it is emptied, gets its length, all bytes 00, and
-/// is synced. Until then it stays as it was. One that was made anew has its length already.
+/// is synced. Until then it stays as it was. One that was made anew has its length already. Bytes at the front are written with
+/// the first of them last, alone, behind a sync: so a stop on the way, also within a write, leaves no first byte of a head
+/// without the rest.
 #[derive(Drop)]
 pub struct NewFile<F: SystemFile + Drop> {
     file: F,
@@ -45,8 +47,8 @@ impl<F: SystemFile + Drop> NewFile<F> {
     }
 
     /// What the system said of the last call that failed.
-    pub fn failure(&self) -> Option<&io::Error> {
-        self.failure.as_ref()
+    pub fn into_failure(self) -> Option<io::Error> {
+        self.failure
     }
 
     /// Makes a device of the file where it isn't one yet.
@@ -62,6 +64,20 @@ impl<F: SystemFile + Drop> NewFile<F> {
         answer(self.file.sync(), &mut self.failure)?;
         self.is_made = true;
         Ok(())
+    }
+
+    /// Writes bytes; those at the front of the device but the first one, which is written alone once they are synced.
+    fn place(&mut self, at: u64, bytes: &[u8]) -> Result<(), DeviceFailed>
+        ensures size { self.new.size ≡ self.old.size }
+        ensures called { OnOk result (F.calls self.new.file ≡ F.calls self.old.file ++ placing at bytes.now) }
+    {
+        if at != 0 || bytes.is_empty() {
+            return answer(self.file.write_all(at, bytes), &mut self.failure);
+        }
+        let (first, rest) = bytes.split_at(1);
+        answer(self.file.write_all(1, rest), &mut self.failure)?;
+        answer(self.file.sync(), &mut self.failure)?;
+        answer(self.file.write_all(0, first), &mut self.failure)
     }
 }
 
@@ -95,10 +111,10 @@ impl<F: SystemFile + Drop> RawDisk for NewFile<F> {
         ensures goes { file_keeps → Goes unknown unknown }
         ensures after { file_keeps → OnOk result (unknown.now ≡ done (Write at bytes.now) unknown.now) }
         ensures failed { file_keeps → OnErr result (Fails (Write at bytes.now) unknown unknown) }
-        ensures called { OnOk result (F.calls self.new.file ≡ (F.calls self.old.file ++ making self.old.is_made self.old.size) ++ Writes at bytes.now true ∷ []) }
+        ensures called { OnOk result (F.calls self.new.file ≡ (F.calls self.old.file ++ making self.old.is_made self.old.size) ++ placing at bytes.now) }
     {
         self.make()?;
-        answer(self.file.write_all(at, bytes), &mut self.failure)
+        self.place(at, bytes)
     }
 
     #[tactic(auto, unfolding(crate::specs::File::file_keeps))]

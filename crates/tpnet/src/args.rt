@@ -2,9 +2,10 @@
 
 ghost use Rattle.std.specs.Prelude.{◌≡◌, ◌≤◌, true, IfOk, IfSome, string_bytes};
 ghost use Rattle.std.specs.Fmt.{decimal};
-ghost use Rattle.tpnet.specs.Args.{IsInRange, WasTyped, has_value, has_word, is_value, is_word, was_typed};
+ghost use Rattle.tpnet.specs.Args.{HasTyped, IsInRange, WasTyped, has_value, has_word, is_value, is_word, was_typed};
 
-use crate::help::{FORMAT_REFUSALS, OPENING_REFUSALS, TRY_REFUSALS};
+use crate::help::{CHECK_REFUSALS, FORMAT_REFUSALS, OPENING_REFUSALS, TRY_REFUSALS};
+use crate::view::View;
 use clap::{Arg, ArgAction, ArgMatches, Command};
 use std::alloc::{AllocError, AllocFailed, Global};
 use std::fmt;
@@ -22,6 +23,10 @@ pub enum Asked {
     Recover { device: String },
     /// Opens a device and says what it holds.
     Show { device: String },
+    /// Reads a topology and its images, and says how large an area has to be.
+    Check { topology: String, images: String },
+    /// Opens a device and shows a view of it.
+    View { device: String, view: View },
 }
 
 /// A device that is to be made: its file, the file of its topology, the folder of the images, and the bytes of an area.
@@ -50,6 +55,8 @@ pub enum ArgFault {
     Turns,
     /// The number of bytes of an area is no decimal in its range.
     Area,
+    /// The number of a node, a port or an entry is no decimal.
+    Number,
     /// A word is missing. `clap` says so itself, so this doesn't come.
     Missing,
     Memory,
@@ -66,6 +73,10 @@ impl fmt::Display for ArgFault {
             ArgFault::Area => write!(
                 f,
                 "tpnet: AREA takes a decimal from 0 to 1099511627776, without a sign or leading zeros\n"
+            ),
+            ArgFault::Number => write!(
+                f,
+                "tpnet: a number of a node, a port or an entry is a decimal, without a sign or leading zeros\n"
             ),
             ArgFault::Missing => write!(f, "tpnet: a word is missing; see tpnet --help\n"),
             ArgFault::Memory => write!(f, "tpnet: Memory\n"),
@@ -174,30 +185,86 @@ fn format_command<'a>(alloc: Global) -> Result<Command<'a>, AllocError> {
     ))
 }
 
+fn check_command<'a>(alloc: Global) -> Result<Command<'a>, AllocError> {
+    explained(
+        alloc,
+        "check",
+        "Reads a topology and its images as format does, writes nothing, and says how large an area has to be",
+        CHECK_REFUSALS,
+    )?
+    .arg(word(
+        alloc,
+        "TOPOLOGY",
+        "the text that names nodes, ports and wires",
+    ))?
+    .arg(word(
+        alloc,
+        "DIR",
+        "the folder with an image NAME.img for each node NAME",
+    ))
+}
+
+/// A command that opens a device.
+fn opening<'a>(alloc: Global, name: &'a str, about: &'a str) -> Result<Command<'a>, AllocError> {
+    explained(alloc, name, about, OPENING_REFUSALS)?.arg(word(alloc, "DEVICE", "the device's file"))
+}
+
+fn journal_command<'a>(alloc: Global) -> Result<Command<'a>, AllocError> {
+    let from = Arg::new(alloc, "from")
+        .long("from")
+        .action(ArgAction::Set)
+        .value_name("N")
+        .help("the first number that is shown");
+    opening(
+        alloc,
+        "journal",
+        "Prints each entry behind the cut in a line, with its number",
+    )?
+    .arg(from)
+}
+
+fn port_command<'a>(alloc: Global) -> Result<Command<'a>, AllocError> {
+    opening(
+        alloc,
+        "port",
+        "Prints a port's bytes as they are: the outputs that aren't confirmed, or the inputs that are pending",
+    )?
+    .arg(word(alloc, "P", "the port's number"))?
+    .arg(flag(alloc, "pending", "the inputs that no node has taken"))?
+    .arg(flag(
+        alloc,
+        "outputs",
+        "the outputs that aren't confirmed (this is the default)",
+    ))
+}
+
+/// The commands that open a device and write nothing.
+fn with_views<'a>(alloc: Global, command: Command<'a>) -> Result<Command<'a>, AllocError> {
+    let number = word(alloc, "I", "the node's number, as in tpnet show");
+    let again = word(alloc, "I", "the node's number, as in tpnet show");
+    let recover = "Opens a device, writes nothing, and prints the number of the next entry";
+    let show = "Opens a device, writes nothing, and prints what it holds";
+    let node = "Prints a node's registers, queues and link ends, addresses in hexadecimal";
+    let image = "Prints a node's image, as bytes";
+    command
+        .subcommand(opening(alloc, "recover", recover)?)?
+        .subcommand(opening(alloc, "show", show)?)?
+        .subcommand(opening(alloc, "node", node)?.arg(number)?)?
+        .subcommand(opening(alloc, "image", image)?.arg(again)?)?
+        .subcommand(journal_command(alloc)?)?
+        .subcommand(port_command(alloc)?)
+}
+
 /// The commands that there are so far.
 fn command<'a>(alloc: Global) -> Result<Command<'a>, AllocError> {
-    let recover = explained(
-        alloc,
-        "recover",
-        "Opens a device, writes nothing, and prints the number of the next entry",
-        OPENING_REFUSALS,
-    )?
-    .arg(word(alloc, "DEVICE", "the device's file"))?;
-    let show = explained(
-        alloc,
-        "show",
-        "Opens a device, writes nothing, and prints what it holds",
-        OPENING_REFUSALS,
-    )?
-    .arg(word(alloc, "DEVICE", "the device's file"))?;
-    Command::new(alloc, "tpnet")
+    let command = Command::new(alloc, "tpnet")
         .version(VERSION)
         .about("A network of transputers whose computations survive any crash")
         .subcommand_required(true)
         .subcommand(try_command(alloc)?)?
-        .subcommand(format_command(alloc)?)?
-        .subcommand(recover)?
-        .subcommand(show)
+        .subcommand(check_command(alloc)?)?
+        .subcommand(format_command(alloc)?)?;
+    with_views(alloc, command)
 }
 
 /// Whether a word is this one.
@@ -333,6 +400,57 @@ fn asked_format(alloc: Global, words: &[String], found: &ArgMatches) -> Result<A
     }))
 }
 
+/// The number of a node, a port or an entry.
+fn place_of(alloc: Global, words: &[String], found: &ArgMatches, id: &str) -> Result<u64, ArgFault>
+    ensures { IfOk result (λ number. was_typed words.now (decimal number) ≡ true) }
+{
+    match number_in(alloc, words, found, id, u64::MAX)? {
+        Some(number) => Ok(number),
+        None => Err(ArgFault::Number),
+    }
+}
+
+/// The first entry of a journal that is shown.
+fn first_of(alloc: Global, words: &[String], found: &ArgMatches) -> Result<View, ArgFault>
+    ensures { IfOk result (HasTyped words.now) }
+{
+    if found.get_str("from").is_some() {
+        Ok(View::Journal(place_of(alloc, words, found, "from")?))
+    } else {
+        Ok(View::Journal(0))
+    }
+}
+
+/// The bytes of a port that are shown.
+fn port_view(alloc: Global, words: &[String], found: &ArgMatches) -> Result<View, ArgFault>
+    ensures { IfOk result (HasTyped words.now) }
+{
+    let port = place_of(alloc, words, found, "P")?;
+    if found.get_flag("pending") {
+        Ok(View::Pending(port))
+    } else {
+        Ok(View::Outputs(port))
+    }
+}
+
+/// The view of a device that a command of that name shows.
+fn view_of(
+    alloc: Global,
+    words: &[String],
+    name: &str,
+    found: &ArgMatches,
+) -> Result<View, ArgFault>
+    ensures { IfOk result (HasTyped words.now) }
+{
+    match name {
+        "node" => Ok(View::Node(place_of(alloc, words, found, "I")?)),
+        "image" => Ok(View::Image(place_of(alloc, words, found, "I")?)),
+        "journal" => first_of(alloc, words, found),
+        "port" => port_view(alloc, words, found),
+        _ => Err(ArgFault::Missing),
+    }
+}
+
 /// What a command line asks for that names a command.
 fn asked_in(alloc: Global, words: &[String], matches: &ArgMatches) -> Result<Asked, ArgFault>
     ensures range { IfOk result IsInRange }
@@ -341,13 +459,21 @@ fn asked_in(alloc: Global, words: &[String], matches: &ArgMatches) -> Result<Ask
     match matches.subcommand() {
         Some(("try", found)) => asked_try(alloc, words, found),
         Some(("format", found)) => asked_format(alloc, words, found),
+        Some(("check", found)) => Ok(Asked::Check {
+            topology: text_of(alloc, words, found, "TOPOLOGY")?,
+            images: text_of(alloc, words, found, "DIR")?,
+        }),
         Some(("recover", found)) => Ok(Asked::Recover {
             device: text_of(alloc, words, found, "DEVICE")?,
         }),
         Some(("show", found)) => Ok(Asked::Show {
             device: text_of(alloc, words, found, "DEVICE")?,
         }),
-        _ => Err(ArgFault::Missing),
+        Some((name, found)) => Ok(Asked::View {
+            device: text_of(alloc, words, found, "DEVICE")?,
+            view: view_of(alloc, words, name, found)?,
+        }),
+        None => Err(ArgFault::Missing),
     }
 }
 

@@ -6,7 +6,6 @@ use std::fs::{Files, Metadata, OpenFile, OpenOptions};
 use std::io;
 use std::io::{Read, Seek, SeekFrom, Write};
 use std::os::unix::fs::FileExt;
-use std::rt::Alloc;
 
 /// What becomes of the calls on a file.
 #[derive(Drop)]
@@ -107,8 +106,12 @@ impl<'a, F: FileExt + Drop> FileExt for FaultyFile<'a, F> {
         self.file.read_at(&mut buf[..most], offset)
     }
 
+    /// A write that fails leaves half of its bytes.
     fn write_at(&self, buf: &[u8], offset: u64) -> io::Result<usize> {
-        self.pass()?;
+        if let Err(error) = self.pass() {
+            let _torn = self.file.write_at(&buf[..buf.len() / 2], offset);
+            return Err(error);
+        }
         let most = buf.len().min(self.faults.most);
         self.file.write_at(&buf[..most], offset)
     }

@@ -1,13 +1,16 @@
 //! The commands on files.
 
-ghost use Rattle.std.specs.Prelude.{◌≡◌, ◌≤◌};
+ghost use Rattle.std.specs.Prelude.{◌≡◌, ◌≤◌, true};
+ghost use Rattle.tp_model.specs.Topology.{is_topology};
 ghost use Rattle.tpnet.specs.declared.args.TheConstants.{MAX_AREA};
 
 use crate::args::NewDevice;
+use crate::checking::check_on;
 use crate::commands::{refuse, try_on};
 use crate::formatting::format_on;
 use crate::opening::{recover_on, show_on};
 use crate::refusal::Refusal;
+use crate::view::{View, view_on};
 use std::fs::{Files, OpenFile};
 use std::io::Write;
 use std::os::unix::fs::FileExt;
@@ -75,16 +78,15 @@ fn making_refusal(error: &io::Error) -> Refusal {
 fn new_disk<R: Files<File = F>, F: FileExt + OpenFile + Drop>(
     rt: &R,
     new: &NewDevice,
-) -> Result<NewDisk<F>, Refusal>
+) -> io::Result<NewDisk<F>>
     requires { new.now.area ≤ MAX_AREA }
 {
     let (path, size) = (new.device.as_str(), HEAD_BYTES as u64 + 2 * new.area);
-    let made = if new.only_new {
+    if new.only_new {
         NewDisk::create_new(rt, path, size)
     } else {
         NewDisk::create(rt, path, size)
-    };
-    made.map_err(|error| making_refusal(&error))
+    }
 }
 
 /// What is formatted: the topology, and the image of each node.
@@ -98,13 +100,46 @@ fn read_network<'a, R: Files + AllocGlobal>(
     Ok((named, images))
 }
 
+/// Formats the device of this network. What the system said of a call that failed is put into `system`.
+fn format_network<
+    R: Files<File = F> + AllocGlobal,
+    F: FileExt + OpenFile + Drop,
+    O: Write,
+    E: Write,
+>(
+    rt: &R,
+    new: &NewDevice,
+    topology: &Topology,
+    images: &[Vec<u8>],
+    system: &mut Option<io::Error>,
+    out: &mut O,
+    err: &mut E,
+) -> u8
+    requires area { new.now.area ≤ MAX_AREA }
+    requires valid { is_topology topology.now ≡ true }
+    ensures { result ≤ 1 }
+{
+    match new_disk(rt, new) {
+        Ok(mut disk) => {
+            let status = format_on(rt.alloc(), &mut disk, topology, images, new.area, out, err);
+            *system = disk.into_raw().into_failure();
+            status
+        }
+        Err(error) => {
+            let refusal = making_refusal(&error);
+            *system = Some(error);
+            refuse(err, refusal)
+        }
+    }
+}
+
 /// `tpnet format`, on files. A file that is there stays as it is until nothing is left to refuse.
 pub fn format_file<
     R: Files<File = F> + AllocGlobal,
     F: FileExt + OpenFile + Drop,
     O: Write,
     E: Write,
->(rt: &R, new: &NewDevice, out: &mut O, err: &mut E) -> u8
+>(rt: &R, new: &NewDevice, system: &mut Option<io::Error>, out: &mut O, err: &mut E) -> u8
     requires { new.now.area ≤ MAX_AREA }
     ensures { result ≤ 1 }
 {
@@ -117,16 +152,50 @@ pub fn format_file<
         Err(refusal) => return refuse(err, refusal),
     };
     let _rules = named.topology.pages();
-    match new_disk(rt, new) {
-        Ok(mut disk) => format_on(
-            rt.alloc(),
-            &mut disk,
-            &named.topology,
-            images.as_slice(),
-            new.area,
-            out,
-            err,
-        ),
+    format_network(
+        rt,
+        new,
+        &named.topology,
+        images.as_slice(),
+        system,
+        out,
+        err,
+    )
+}
+
+/// `tpnet check`, on files. Nothing is written.
+pub fn check_file<R: Files + AllocGlobal, O: Write, E: Write>(
+    rt: &R,
+    topology: &str,
+    folder: &str,
+    out: &mut O,
+    err: &mut E,
+) -> u8
+    ensures { result ≤ 1 }
+{
+    let text = match read_file(rt, topology) {
+        Ok(text) => text,
+        Err(refusal) => return refuse(err, refusal),
+    };
+    let (named, images) = match read_network(rt, text.as_slice(), folder) {
+        Ok(network) => network,
+        Err(refusal) => return refuse(err, refusal),
+    };
+    let _rules = named.topology.pages();
+    check_on(rt.alloc(), &named.topology, images.as_slice(), out, err)
+}
+
+/// `tpnet node`, `image`, `journal` and `port`, on a device's file, which stays as it is.
+pub fn view_file<
+    R: Files<File = F> + AllocGlobal,
+    F: FileExt + OpenFile + Drop,
+    O: Write,
+    E: Write,
+>(rt: &R, device: &str, view: View, out: &mut O, err: &mut E) -> u8
+    ensures { result ≤ 2 }
+{
+    match disk_to_read(rt, device) {
+        Ok(mut disk) => view_on(rt.alloc(), &mut disk, view, out, err),
         Err(refusal) => refuse(err, refusal),
     }
 }

@@ -7,6 +7,17 @@ pub const TRY_REFUSALS: &str = "Refusals (status 1):
   DeviceFailed  standard output can't be written
   Memory        there is no memory left: take an image with fewer pages";
 
+/// What `tpnet check` refuses.
+pub const CHECK_REFUSALS: &str = "Refusals (status 1):
+  ReadFailed    TOPOLOGY or an image can't be read: look at its path and its rights
+  Syntax L      line L of TOPOLOGY is malformed; at 0 a node or a port is missing
+  TwoWires      a link or port has two wires, or a wire leads from a link to itself
+  UnknownNode   a wire names what no line above declares
+  TooMany       there are more than 16 nodes or 8 ports
+  BadImage      an image is none, has other pages than its node, or a link of it is at work
+  DeviceFailed  standard output can't be written
+  Memory        there is no memory left";
+
 /// What `tpnet format` refuses.
 pub const FORMAT_REFUSALS: &str =
     "Refusals (status 1); a refused format leaves a file that is there as it was:
@@ -18,7 +29,7 @@ pub const FORMAT_REFUSALS: &str =
   DeviceExists  with --new: DEVICE is there already
   DeviceFailed  DEVICE can't be made or written, or standard output can't: look at rights and room
   BadImage      an image is none, has other pages than its node, or a link of it is at work
-  AreaFull      AREA is too small: take more
+  AreaFull      AREA is too small: tpnet check says how large it has to be
   Memory        there is no memory left";
 
 /// What a command refuses that opens a device.

@@ -2,7 +2,10 @@
 #![tactic(auto)]
 
 mod args;
+mod checking;
 mod commands;
+mod entries;
+mod explain;
 #[cfg(test)]
 mod faults;
 #[cfg(test)]
@@ -12,15 +15,18 @@ mod files;
 mod format_tests;
 mod formatting;
 mod help;
+mod image_rules;
 #[cfg(test)]
 mod limit_tests;
 mod opening;
 #[cfg(test)]
 mod opening_tests;
+mod places;
 mod program;
 #[cfg(test)]
 mod program_tests;
 mod refusal;
+mod registers;
 #[cfg(test)]
 mod scratch;
 mod shown;
@@ -28,6 +34,9 @@ mod shown;
 mod tests;
 #[cfg(test)]
 mod two_nodes_tests;
+mod view;
+#[cfg(test)]
+mod view_tests;
 
 use program::answer;
 use std::env;

@@ -3,29 +3,37 @@
 ghost use Rattle.std.specs.Prelude.{◌≡◌, ◌≤◌};
 ghost use Rattle.tpnet.specs.Args.{IsInRange};
 
-use crate::args::{Asked, read_args};
+use crate::args::{Asked, has_word, read_args};
 use crate::commands::print_help;
-use crate::files::{format_file, recover_file, show_file, try_file};
+use crate::explain::explain;
+use crate::files::{check_file, format_file, recover_file, show_file, try_file, view_file};
 use std::fs::{Files, OpenFile};
+use std::io;
 use std::io::Write;
 use std::os::unix::fs::FileExt;
 
-/// Does what was asked for. Answers the program's status: 0 where it was done, 1 where it was refused.
+/// Does what was asked for. Answers the program's status: 0 where it was done, 1 where it was refused, 2 where a node or port
+/// isn't there. What the system said of a call on a new device that failed is put into `system`.
 fn carry_out<R: Files<File = F> + AllocGlobal, F: FileExt + OpenFile + Drop, O: Write, E: Write>(
     rt: &R,
     asked: &Asked,
+    system: &mut Option<io::Error>,
     out: &mut O,
     err: &mut E,
 ) -> u8
     requires { IsInRange asked.now }
-    ensures { result ≤ 1 }
+    ensures { result ≤ 2 }
 {
     match asked {
         Asked::Help(text) => print_help(text.as_str(), out, err),
         Asked::Try { image, turns } => try_file(rt, image.as_str(), *turns, out, err),
-        Asked::Format(new) => format_file(rt, new, out, err),
+        Asked::Format(new) => format_file(rt, new, system, out, err),
         Asked::Recover { device } => recover_file(rt, device.as_str(), out, err),
         Asked::Show { device } => show_file(rt, device.as_str(), out, err),
+        Asked::Check { topology, images } => {
+            check_file(rt, topology.as_str(), images.as_str(), out, err)
+        }
+        Asked::View { device, view } => view_file(rt, device.as_str(), *view, out, err),
     }
 }
 
@@ -40,7 +48,14 @@ pub fn answer<R: Files<File = F> + AllocGlobal, F: FileExt + OpenFile + Drop, O:
     ensures { result ≤ 2 }
 {
     match read_args(rt.alloc(), words) {
-        Ok(asked) => carry_out(rt, &asked, out, err),
+        Ok(asked) => {
+            let mut system = None;
+            let status = carry_out(rt, &asked, &mut system, out, err);
+            if status == 1 && has_word(words, "--explain") {
+                explain(rt, &asked, system.as_ref(), err);
+            }
+            status
+        }
         Err(fault) => {
             let _ = write!(err, "{fault}");
             2

@@ -28,5 +28,8 @@ returns-clause-front g c keeps =
     let text = c.as_bytes.ensures.value ∙ c.in-Ok.ensures
     ∙ ap (λ front. shown_text front c.network.result.now) c.front_of.ensures
     ∙ ap (shown_text (front_of opened)) c.network.ensures in
-    inr (opened, c.in_ok-opened.ensures.is keeps,
-        subst (λ bytes. AppendsFront (g.O.Write.contents c.args.out.now) (g.O.Write.contents c.put.new.out) bytes) text c.put.ensures.front)
+    inr (
+      opened,
+      c.in_ok-opened.ensures.is keeps,
+      subst (λ bytes. AppendsFront (g.O.Write.contents c.args.out.now) (g.O.Write.contents c.put.new.out) bytes) text c.put.ensures.front,
+    )

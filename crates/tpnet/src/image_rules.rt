@@ -1,0 +1,134 @@
+//! Which rule of a node's image bytes break.
+
+use crate::registers::{byte_in, half_in, word_in};
+use std::alloc::{AllocError, Global};
+use std::fmt::Write;
+use tp_model::limits::{IMAGE_HEAD_BYTES, MAX_PAGES, MIN_PAGES, PAGE_BYTES, SLICE};
+use tp_node::{ImageFault, Node};
+
+/// A byte of an image's head and the most that it may be.
+const BYTES: &[(u8, u8, &str)] = &[
+    (1, 4, "the halt code, 0 to 4"),
+    (40, 1, "the Error flag, 0 or 1"),
+    (41, 2, "the state, 0 idle, 1 high or 2 low"),
+];
+
+/// The rule on lengths that an image of `pages` pages breaks, where the topology asks for so many.
+fn push_length(text: &mut String, image: &[u8], wanted: Option<u16>) -> Result<bool, AllocError> {
+    let length = image.len();
+    if length < IMAGE_HEAD_BYTES {
+        write!(
+            text,
+            "it has {length} bytes, fewer than the 172 of an image's head"
+        )?;
+        return Ok(true);
+    }
+    let (version, pages) = (byte_in(image, 0), half_in(image, 2));
+    if version != 1 {
+        write!(
+            text,
+            "byte 0 of its head, the version, must be 1 and is {version}"
+        )?;
+        return Ok(true);
+    }
+    if usize::from(pages) < MIN_PAGES || usize::from(pages) > MAX_PAGES {
+        write!(
+            text,
+            "bytes 2 and 3 of its head, the pages, must be 4 to 256 and are {pages}"
+        )?;
+        return Ok(true);
+    }
+    let full = IMAGE_HEAD_BYTES + PAGE_BYTES * usize::from(pages);
+    if length != full {
+        write!(
+            text,
+            "it must have {full} bytes for {pages} pages and has {length}"
+        )?;
+        return Ok(true);
+    }
+    match wanted {
+        Some(count) if count != pages => {
+            write!(text, "it has {pages} pages and the topology says {count}")?;
+            Ok(true)
+        }
+        _ => Ok(false),
+    }
+}
+
+/// The first byte of the head that is too great.
+fn push_byte(text: &mut String, image: &[u8]) -> Result<bool, AllocError> {
+    for row in BYTES {
+        let (at, most, what) = *row;
+        let byte = byte_in(image, usize::from(at));
+        if byte > most {
+            write!(text, "byte {at} of its head is {byte} and must be {what}")?;
+            return Ok(true);
+        }
+    }
+    let (workspace, slice) = (word_in(image, 8), half_in(image, 42));
+    if workspace % 4 != 0 {
+        write!(
+            text,
+            "bytes 8 to 11 of its head, Wptr, are {workspace:08X} and must have their two low bits 0"
+        )?;
+        return Ok(true);
+    }
+    if usize::from(slice) > SLICE {
+        write!(
+            text,
+            "bytes 42 and 43 of its head, the slice count, are {slice} and must be at most 1024"
+        )?;
+        return Ok(true);
+    }
+    Ok(false)
+}
+
+/// The first link end that is at work.
+fn push_busy(text: &mut String, image: &[u8]) -> Result<bool, AllocError> {
+    for end in 0..8u8 {
+        let at = 44 + 16 * end;
+        let (state, held) = (
+            byte_in(image, usize::from(at)),
+            byte_in(image, usize::from(at) + 1),
+        );
+        if state != 0 || held != 0 {
+            let (side, link) = if end < 4 {
+                ("output", end)
+            } else {
+                ("input", end - 4)
+            };
+            write!(
+                text,
+                "the {side} end of link {link}, byte {at} of its head, must be idle and hold no byte"
+            )?;
+            return Ok(true);
+        }
+    }
+    Ok(false)
+}
+
+/// Which rule an image breaks, in words, where it breaks one. On a device ends may be at work.
+pub(crate) fn broken_rule(
+    alloc: Global,
+    image: &[u8],
+    pages: Option<u16>,
+    must_be_idle: bool,
+) -> Result<Option<String>, AllocError> {
+    let mut text = String::new(alloc);
+    if push_length(&mut text, image, pages)? || push_byte(&mut text, image)? {
+        return Ok(Some(text));
+    }
+    if must_be_idle && push_busy(&mut text, image)? {
+        return Ok(Some(text));
+    }
+    match Node::from_image(alloc, image, 0) {
+        Err(ImageFault::BadImage) => {
+            write!(
+                &mut text,
+                "a link end in bytes 44 to 171 of its head breaks its rule"
+            )?;
+            Ok(Some(text))
+        }
+        _ => Ok(None),
+    }
+}

@@ -1,0 +1,156 @@
+//! What stands at a place of a device, in words.
+
+use std::alloc::AllocError;
+use std::fmt::Write;
+use tp_model::limits::{
+    AREA_HEAD_BYTES, BASE_BYTES, HEAD_BYTES, IMAGE_HEAD_BYTES, LINE_BYTES, MAX_NODES, MAX_PORTS,
+    PAGE_BYTES, PORT_BYTES,
+};
+
+/// What a device's head says of where its records stand.
+#[derive(Clone, Copy)]
+pub(crate) struct Layout {
+    pub(crate) area: u64,
+    nodes: u64,
+    ports: u64,
+    pages: [u16; MAX_NODES],
+}
+
+/// What stands at a place.
+#[derive(Clone, Copy, Debug, PartialEq, Eq)]
+pub(crate) enum Record {
+    Head,
+    Front,
+    Image { node: u64, pages: u16 },
+    Line(u64),
+    Port(u64),
+    Journal,
+}
+
+/// A record of a device, and where it begins.
+#[derive(Clone, Copy, Debug, PartialEq, Eq)]
+pub(crate) struct Place {
+    pub(crate) record: Record,
+    pub(crate) start: u64,
+}
+
+/// The layout that a head says.
+pub(crate) fn layout_of(head: &[u8; HEAD_BYTES]) -> Layout {
+    let mut pages = [0u16; MAX_NODES];
+    for (node, count) in pages.iter_mut().enumerate() {
+        *count = u16::from_le_bytes([head[24 + 2 * node], head[25 + 2 * node]]);
+    }
+    let mut area = [0u8; 8];
+    area.copy_from_slice(&head[16..24]);
+    Layout {
+        area: u64::from_le_bytes(area),
+        nodes: u64::from(head[8]).min(MAX_NODES as u64),
+        ports: u64::from(head[9]).min(MAX_PORTS as u64),
+        pages,
+    }
+}
+
+impl Layout {
+    /// Where the second area begins.
+    pub(crate) fn second(&self) -> u64 {
+        self.area.saturating_add(HEAD_BYTES as u64)
+    }
+
+    /// What stands where a damaged record begins.
+    pub(crate) fn place(&self, at: u64) -> Place {
+        let first = HEAD_BYTES as u64;
+        if at < first {
+            return Place {
+                record: Record::Head,
+                start: 0,
+            };
+        }
+        let start = if at >= self.second() {
+            self.second()
+        } else {
+            first
+        };
+        let images = start.saturating_add((AREA_HEAD_BYTES + BASE_BYTES) as u64);
+        if at < images {
+            return Place {
+                record: Record::Front,
+                start,
+            };
+        }
+        let mut next = images;
+        for (node, pages) in self.pages.iter().enumerate() {
+            if (node as u64) < self.nodes {
+                let end = next.saturating_add(
+                    (IMAGE_HEAD_BYTES + PAGE_BYTES * usize::from(*pages)) as u64,
+                );
+                if at < end {
+                    let record = Record::Image {
+                        node: node as u64,
+                        pages: *pages,
+                    };
+                    return Place {
+                        record,
+                        start: next,
+                    };
+                }
+                next = end;
+            }
+        }
+        self.behind_images(at, next)
+    }
+
+    /// The same behind the images, where the records of lines begin.
+    fn behind_images(&self, at: u64, lines: u64) -> Place {
+        let line = at.saturating_sub(lines) / LINE_BYTES as u64;
+        let count = self.nodes.saturating_mul(4).saturating_add(self.ports);
+        if line < count {
+            let start = lines.saturating_add(line.saturating_mul(LINE_BYTES as u64));
+            return Place {
+                record: Record::Line(line),
+                start,
+            };
+        }
+        let ports = lines.saturating_add(count.saturating_mul(LINE_BYTES as u64));
+        let port = at.saturating_sub(ports) / PORT_BYTES as u64;
+        if port < self.ports {
+            let start = ports.saturating_add(port.saturating_mul(PORT_BYTES as u64));
+            return Place {
+                record: Record::Port(port),
+                start,
+            };
+        }
+        Place {
+            record: Record::Journal,
+            start: at,
+        }
+    }
+
+    /// Appends what a record is.
+    pub(crate) fn push_record(&self, text: &mut String, record: Record) -> Result<(), AllocError> {
+        let links = self.nodes.saturating_mul(4);
+        match record {
+            Record::Head => write!(text, "the head of the device, its first 512 bytes"),
+            Record::Front => write!(
+                text,
+                "the front of an area: gate, generation, the cut's length and its base"
+            ),
+            Record::Image { node, pages } => write!(
+                text,
+                "the image of node {node}, of {pages} pages"
+            ),
+            Record::Line(line) if line < links => {
+                let (node, link) = (line / 4, line % 4);
+                write!(
+                    text,
+                    "the record of line {line}, which link {link} of node {node} sends"
+                )
+            }
+            Record::Line(line) => {
+                let port = line.saturating_sub(links);
+                write!(text, "the record of line {line}, which port {port} sends")
+            }
+            Record::Port(port) => write!(text, "the record of port {port}"),
+            Record::Journal => write!(text, "a group of journal entries, or an entry of one"),
+        }
+    }
+}
