@@ -35,7 +35,7 @@ use Rattle.tp_law_device.proofs.Holds.{areas_keep}
 
 module _ (M : Machine NodeState) (E : Ends NodeState) (bytes : List ℕ) (o : Opened) (is : opening M E bytes ≡ Ok o) (closed : other_is_open o bytes ≡ false)
     (generation base : ℕ) (s : Network NodeState) (groups : List (List (Entry × ℕ))) (now : Network NodeState)
-    (spells : Spells M E o.head.topology (other_content o bytes) generation base s groups now) (later : o.generation < generation) where
+    (spelt : SpeltArea M E o.head.topology (other_content o bytes) generation base s groups now) (later : o.generation < generation) where
   -- what it opens as
   abbrev pub other_opened : Opened
   other_opened = record {
@@ -52,8 +52,7 @@ module _ (M : Machine NodeState) (E : Ends NodeState) (bytes : List ℕ) (o : Op
   other_read : area_in M E o.head (not o.second) (other_content o bytes) ≡ Ok other_opened
   other_read =
       let topology = (head_parts bytes o.head (reads_of M E bytes o is).head).topology in
-      area_spelt M E o.head (not o.second) (has_shape o.head.topology topology) (other_content o bytes) generation base s groups now
-      (spelt_area M E o.head.topology (other_content o bytes) generation base s groups now spells)
+      area_spelt M E o.head (not o.second) (has_shape o.head.topology topology) (other_content o bytes) generation base s groups now spelt
 
   pub other_spelt : other_of M E (opening M E bytes) bytes ≡ Some (other_start o, held_of other_opened)
   unfolding other_of
@@ -109,8 +108,32 @@ all_done-sync (call ∷ calls) m = all_done-sync calls (done call m)
 
 -- ## The checkpoint
 
+-- as `SpellsCopy`, of a cut that is read back
+pub record ReadsCopy (w : World NodeState) (o : Opened) (pieces : List (ℕ × List ℕ)) (copy : Held NodeState) (generation : ℕ) : Type 0 where
+  pub opens : opening t414 t414_ends w.disk.bytes ≡ Ok o
+  pub closed : other_is_open o w.disk.bytes ≡ false
+  pub inside : AllByRecursion (λ piece. IsWithin (device_areas.spare w.disk.bytes) (piece.0, length piece.1)) pieces
+  pub groups : List (List (Entry × ℕ))
+  pub now : Network NodeState
+  pub spelt : SpeltArea t414 t414_ends o.head.topology (other_content o (all_done (put_calls pieces) w.disk).bytes) generation copy.base copy.network groups now
+  pub entries : map (λ e. e.0) (entries_in groups) ≡ copy.entries
+  pub later : o.generation < generation
+
+pub spells_reads : (w : World NodeState) (o : Opened) (pieces : List (ℕ × List ℕ)) (copy : Held NodeState) (generation : ℕ) → SpellsCopy w o pieces copy generation → ReadsCopy w o pieces copy generation
+unfolding verdict
+spells_reads w o pieces copy generation S = record {
+  opens = S.opens;
+  closed = S.closed;
+  inside = S.inside;
+  groups = S.groups;
+  now = S.now;
+  spelt = spelt_area t414 t414_ends o.head.topology (other_content o (all_done (put_calls pieces) w.disk).bytes) generation copy.base copy.network S.groups S.now S.spells;
+  entries = S.entries;
+  later = S.later;
+}
+
 module _ (w : World NodeState) (cut : WholeCut) (nodes : List NodeState) (o : Opened) (pieces : List (ℕ × List ℕ)) (generation : ℕ) (rests : w.at ≡ Resting) (has : HasCut w.net cut nodes)
-    (S : SpellsCopy w o pieces (copy_of w.net w.base cut nodes) generation) where
+    (S : ReadsCopy w o pieces (copy_of w.net w.base cut nodes) generation) where
   abbrev copy : Held NodeState
   copy = copy_of w.net w.base cut nodes
 
@@ -133,27 +156,23 @@ module _ (w : World NodeState) (cut : WholeCut) (nodes : List NodeState) (o : Op
   abbrev last : World NodeState
   last = record opened { net = trimmed w.net cut nodes; base = w.base + cut.size; at = Resting }
 
-  opens : opening t414 t414_ends w.disk.bytes ≡ Ok o
-  unfolding verdict
-  opens = S.opens
-
   kept : Keeps t414 t414_ends o bytes (device_areas.spare w.disk.bytes)
-  kept = puts_keep t414 t414_ends o w.disk (device_areas.spare w.disk.bytes) pieces (record { opens = opens; closed = S.closed; range = refl }) S.inside
+  kept = puts_keep t414 t414_ends o w.disk (device_areas.spare w.disk.bytes) pieces (record { opens = S.opens; closed = S.closed; range = refl }) S.inside
 
   abbrev next : Opened
-  next = other_opened t414 t414_ends bytes o kept.opens kept.closed generation copy.base copy.network S.groups S.now S.spells S.later
+  next = other_opened t414 t414_ends bytes o kept.opens kept.closed generation copy.base copy.network S.groups S.now S.spelt S.later
 
   holds : held_of next ≡ copy
   holds = let entries = S.entries in λ i. record { network = copy.network; entries = entries i; base = copy.base }
 
   other_is : device_areas.other bytes ≡ Some (other_start o, copy)
   other_is =
-      other_spelt t414 t414_ends bytes o kept.opens kept.closed generation copy.base copy.network S.groups S.now S.spells S.later
+      other_spelt t414 t414_ends bytes o kept.opens kept.closed generation copy.base copy.network S.groups S.now S.spelt S.later
       ∙ (λ i. Some (other_start o, holds i))
 
   to_tail : (events : List (Event NodeState)) × Run t414 device_areas copied events tailed
   to_tail =
-      let R = tail_run t414 device_areas (areas_keep t414 t414_ends) copied (held_of o) copy upto pieces refl (held_from (opening t414 t414_ends w.disk.bytes) o (held_of o) opens refl) S.inside in
+      let R = tail_run t414 device_areas (areas_keep t414 t414_ends) copied (held_of o) copy upto pieces refl (held_from (opening t414 t414_ends w.disk.bytes) o (held_of o) S.opens refl) S.inside in
       (R.0, subst (λ disk. Run t414 device_areas copied R.0 (record copied { disk = disk })) (all_done-sync (put_calls pieces) w.disk) R.1)
 
   abbrev gate_written : World NodeState
@@ -176,7 +195,7 @@ module _ (w : World NodeState) (cut : WholeCut) (nodes : List NodeState) (o : Op
     base = refl;
     journal = refl;
     opened = next;
-    reads = other_opens t414 t414_ends bytes o kept.opens kept.closed generation copy.base copy.network S.groups S.now S.spells S.later;
+    reads = other_opens t414 t414_ends bytes o kept.opens kept.closed generation copy.base copy.network S.groups S.now S.spelt S.later;
     holds = holds;
     second = refl;
     age = refl;

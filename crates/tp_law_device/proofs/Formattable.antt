@@ -25,7 +25,7 @@ use Rattle.tp_law_device.proofs.SpeltCuts.{ReadsBack, length-images, length-line
 use Rattle.tp_law_device.proofs.Formatted.{start_reads_back}
 
 -- the fields and the cut are as long as the place of the groups says
-length-front_bytes : (E : Ends NodeState) (t : Topology) (L : HasShape t) (generation base : ℕ) (s : Network NodeState) → ReadsBack E t base s → length (front_bytes t generation base s) ≡ groups_place t
+pub length-front_bytes : (E : Ends NodeState) (t : Topology) (L : HasShape t) (generation base : ℕ) (s : Network NodeState) → ReadsBack E t base s → length (front_bytes t generation base s) ≡ groups_place t
 unfolding front_bytes cut_bytes
 length-front_bytes E t L generation base s C =
     let images = flat_map image s.nodes in

@@ -5,6 +5,7 @@ pub mod Contents
 pub mod Cuts
 pub mod CutsAreSound
 pub mod Faults
+pub mod FirstCheckpoints
 pub mod Formattable
 pub mod Formatted
 pub mod FreshCuts
@@ -19,6 +20,7 @@ pub mod Opens
 pub mod ReadAreas
 pub mod ReadCuts
 pub mod ReadGroups
+pub mod Receipts
 pub mod Replays
 pub mod Spare
 pub mod SpeltAreas

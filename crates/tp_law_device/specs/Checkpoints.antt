@@ -1,19 +1,25 @@
 -- A checkpoint as a piece of a run: what it asks, and what it leads to.
-use Rattle.std.specs.Prelude.{◌≡◌, ◌<◌, ℕ, ◌+◌, false, not, List, map, length, Ok}
+use Rattle.std.specs.Prelude.{◌≡◌, ◌<◌, ℕ, ◌+◌, false, not, List, [], ◌∷◌, map, length, Some, None, Ok}
 use Rattle.std.specs.List.{AllByRecursion}
 use Rattle.tp_model.specs.declared.entry.Entry.{Entry}
+use Rattle.tp_model.specs.declared.wire.WireEnd.TheVariants.{Link, Port as AtPort}
 use Rattle.tp_model.specs.NodeState.{NodeState}
 use Rattle.tp_model.specs.Node.{t414, t414_ends}
 use Rattle.tp_model.specs.Network.{Network}
+use Rattle.tp_model.specs.Snapshot.{MarkedNetwork}
 use Rattle.tp_model.specs.WholeCut.{WholeCut, trimmed}
+use Rattle.tp_model.specs.Acts.{Act, Begin, Record, Close, acted}
+use Rattle.tp_model.specs.Topology.{Topology}
+use Rattle.tp_model.specs.Format.{fresh_port}
 use Rattle.tp_model.specs.Disk.{IsWithin}
 use Rattle.tp_model.specs.StoreCalls.{all_done, put_calls}
 use Rattle.tp_model.specs.Areas.{Held}
 use Rattle.tp_model.specs.DeviceAreas.{device_areas, other_is_open, other_content}
-use Rattle.tp_model.specs.Opening.{Opened, held_of, verdict}
+use Rattle.tp_model.specs.Opening.{Opened, held_of, network_of, verdict}
 use Rattle.tp_model.specs.Spelling.{Spells, entries_in}
 use Rattle.tp_model.specs.WriteOrder.{Resting}
-use Rattle.tp_model.specs.Runs.{World, Event, Run, copy_of}
+use Rattle.tp_model.specs.Runs.{World, Event, Run, HasCut, copy_of, fresh}
+use Rattle.tp_law_device.specs.FormattedWorld.{formatted_world}
 
 -- The world's device opens as `o`, whose other area is closed. The pieces lie behind that area's gate; once they are written,
 -- the area spells the copy, with a higher generation.
@@ -42,3 +48,34 @@ pub record Switches (w : World NodeState) (o : Opened) (cut : WholeCut) (nodes :
   pub holds : held_of opened ≡ copy_of w.net w.base cut nodes
   pub second : opened.second ≡ not o.second
   pub age : opened.generation ≡ generation
+
+-- From a device that was formatted, a run leads to a world with this network and book, and from there a checkpoint to the
+-- second area.
+pub record HasCheckpoint (start : Network NodeState) (bytes : List ℕ) (net : MarkedNetwork NodeState) (cut : WholeCut) (nodes : List NodeState) : Type 0 where
+  pub events : List (Event NodeState)
+  pub w : World NodeState
+  pub run : Run t414 device_areas (formatted_world start bytes) events w
+  pub book : w.net ≡ net
+  pub first : Opened
+  pub opens : verdict bytes ≡ Ok first
+  pub age : first.generation ≡ 1
+  pub switches : Switches w first cut nodes 2
+
+-- ## A snapshot of one node, whose link 0 is wired to port 0
+
+abbrev pub one_node : Topology
+one_node = record { pages = 4 ∷ []; ports = 1; wires = Some (AtPort 0) ∷ None ∷ None ∷ None ∷ Some (Link 0 0) ∷ [] }
+
+abbrev pub one_before : NodeState → Network NodeState
+one_before node = network_of one_node (node ∷ []) ([] ∷ [] ∷ [] ∷ [] ∷ [] ∷ []) (fresh_port ∷ [])
+
+-- it begins, the node records, and each line with a wire is closed
+abbrev pub one_snapshot : List Act
+one_snapshot = Begin ∷ Record 0 ∷ Close 0 ∷ Close 4 ∷ []
+
+pub record HasSnapshot (node : NodeState) : Type 0 where
+  pub net : MarkedNetwork NodeState
+  pub is : acted t414 (fresh (one_before node)) one_snapshot ≡ Some net
+  pub none : net.entries ≡ []
+  pub cut : WholeCut
+  pub has : HasCut net cut (node ∷ [])

@@ -2,7 +2,7 @@
 //! nothing; their contracts are the laws.
 #![tactic(auto)]
 
-ghost use Rattle.std.specs.Prelude.{◌≡◌, ◌≤◌, ◌<◌, ◌+◌, ◌*◌, ◌^◌, ℕ, true, false, List, [], Some, Ok, length, map, take};
+ghost use Rattle.std.specs.Prelude.{◌≡◌, ◌≤◌, ◌<◌, ◌+◌, ◌++◌, ◌*◌, ◌^◌, ℕ, true, false, List, [], Some, Ok, length, map, take, drop};
 ghost use Rattle.tp_model.specs.declared.entry.Entry.{Entry};
 ghost use Rattle.tp_model.specs.declared.limits.TheConstants.{AREA_HEAD_BYTES, HEAD_BYTES};
 ghost use Rattle.tp_model.specs.NodeState.{NodeState};
@@ -19,10 +19,10 @@ ghost use Rattle.tp_model.specs.Head.{head_bytes, head_of};
 ghost use Rattle.tp_model.specs.Format.{start_of};
 ghost use Rattle.tp_model.specs.Journal.{cut_length, entry_room, is_full, is_full_for_cut, is_roomy, reserve, room};
 ghost use Rattle.tp_model.specs.Group.{group_length};
-ghost use Rattle.tp_model.specs.Opening.{Opened, StandsFor, held_of, verdict};
+ghost use Rattle.tp_model.specs.Opening.{Opened, StandsFor, held_of, next_of, verdict};
 ghost use Rattle.tp_model.specs.OpensTo.{OpensTo, book_of};
 ghost use Rattle.tp_model.specs.Spelling.{IsGroup, Spells, Stands, entries_in, groups_bytes};
-ghost use Rattle.tp_law_device.specs.Checkpoints.{SpellsCopy, Switches};
+ghost use Rattle.tp_law_device.specs.Checkpoints.{HasCheckpoint, HasSnapshot, SpellsCopy, Switches};
 ghost use Rattle.tp_law_device.specs.FormattedWorld.{formatted_world, WasFormatted};
 ghost use Rattle.tp_model.specs.Sound.{Ends, Sound};
 ghost use Rattle.tp_model.specs.Snapshot.{MarkedNetwork};
@@ -32,7 +32,7 @@ ghost use Rattle.tp_model.specs.Disk.{MayBe};
 ghost use Rattle.tp_model.specs.Areas.{AreasHold, next_number};
 ghost use Rattle.tp_model.specs.DeviceAreas.{areas_of, device_areas, has_room, other_content, other_is_open, other_start};
 ghost use Rattle.tp_model.specs.WriteOrder.{Resting};
-ghost use Rattle.tp_model.specs.Runs.{World, Event, HasCut, Reopens, Step, Run, IsFormatted, Recovers, copy_of, reopened};
+ghost use Rattle.tp_model.specs.Runs.{World, Event, HasCut, Reopens, Step, Run, IsFormatted, Recovers, copy_of, fresh, is_trim, reopened};
 ghost use Rattle.tp_model.specs.Acknowledged.{IsAcknowledged, IsShown};
 
 /// What each write leaves on a device, whatever bytes stand there: opening reads nothing behind the other area's closed
@@ -180,7 +180,8 @@ pub fn groups_fit()
 /// A checkpoint is a piece of a run. Where the other area is closed, what it spells is what the device stands for once its gate is
 /// open; so from a world whose flusher rests and whose cut is whole, with pieces that make the other area spell the copy,
 /// a run copies cut and tail, writes them, syncs, opens the gate, syncs and trims the book: its last world's device opens as
-/// the other area, and holds the copy.
+/// the other area, and holds the copy. There is such a run for each device that was formatted and each whole cut that acts
+/// without an entry lead to, and on one node acts lead to one.
 pub fn checkpoints_switch()
     ensures other { (bytes : List ℕ) (o : Opened) → verdict bytes ≡ Ok o → other_is_open o bytes ≡ false
         → (generation base : ℕ) (s : Network NodeState) (groups : List (List (Entry × ℕ))) (now : Network NodeState)
@@ -188,4 +189,18 @@ pub fn checkpoints_switch()
         → device_areas.other bytes ≡ Some (other_start o, record { network = s; entries = map (λ e. e.0) (entries_in groups); base = base }) }
     ensures switches { (w : World NodeState) (cut : WholeCut) (nodes : List NodeState) (o : Opened) (pieces : List (ℕ × List ℕ)) (generation : ℕ)
         → w.at ≡ Resting → HasCut w.net cut nodes → SpellsCopy w o pieces (copy_of w.net w.base cut nodes) generation → Switches w o cut nodes generation }
+    ensures formatted { (t : Topology) (area : ℕ) (images : List (List ℕ)) (start : Network NodeState) (bytes : List ℕ) → WasFormatted t area images start bytes
+        → (acts : List Act) → AllByRecursion (λ act. is_trim act ≡ false) acts → (net : MarkedNetwork NodeState) → acted t414 (fresh start) acts ≡ Some net → net.entries ≡ []
+        → (cut : WholeCut) (nodes : List NodeState) → HasCut net cut nodes → HasCheckpoint start bytes net cut nodes }
+    ensures snapshot { (node : NodeState) → HasSnapshot node }
+{}
+
+/// What a receipt is acknowledged for is its entries: where the journal ended with them when it was made, the entries that opening
+/// replays after any crash from then on have just them at their numbers.
+pub fn receipts_cover_entries()
+    ensures { (start : Network NodeState) (before : List (Event NodeState)) (first made last : World NodeState)
+        → IsFormatted t414 device_areas start first → Run t414 device_areas first before made
+        → (earlier entries : List Entry) → made.journal ≡ earlier ++ entries → IsAcknowledged t414 device_areas (length made.journal) made last
+        → (bytes : List ℕ) → MayBe last.disk bytes → (o : OpensTo start last bytes)
+        → take (length entries) (drop (length earlier) (take (next_of o.opened) last.journal)) ≡ entries }
 {}

@@ -1,19 +1,23 @@
 -- Pieces of a run without an opening, one behind the other, and what crashes leave of the device on the way.
-use Rattle.std.proofs.Common.{◌≡◌, ℕ, ◌≤◌, ◌⊎◌, inl, inr, false, List, [], ◌∷◌, ◌++◌, length, take, drop, refl, sym, ap, subst, ◌∙◌, arith, append_assoc, append-nil, length-append}
+use Rattle.std.proofs.Common.{◌≡◌, ℕ, ◌≤◌, ◌⊎◌, inl, inr, false, List, [], ◌∷◌, ◌++◌, length, take, drop, refl, sym, ap, subst, ◌∙◌, arith, append_assoc, append-nil, length-append, Some}
 use Rattle.std.specs.Prelude.{map}
+use Rattle.std.specs.List.{AllByRecursion}
 use Rattle.std.proofs.lemmas.List.{take-append-le, drop-append-le}
 use Rattle.std.proofs.Math.Seq.{drop-length}
+use Rattle.tp_model.specs.declared.entry.Entry.{Entry}
 use Rattle.tp_model.specs.Network.{Machine, Network}
 use Rattle.tp_model.specs.Entries.{HasFourLinks}
 use Rattle.tp_model.specs.Markers.{NeverMarks}
 use Rattle.tp_model.specs.Order.{after}
+use Rattle.tp_model.specs.Snapshot.{MarkedNetwork}
+use Rattle.tp_model.specs.Acts.{Act, happens, acted}
 use Rattle.tp_model.specs.Disk.{Moment, MayBe}
 use Rattle.tp_model.specs.DiskHistory.{State, SomeMay, Since, moment, LeavesOnly}
 use Rattle.tp_model.specs.Areas.{Areas, AreasHold, next_number}
-use Rattle.tp_model.specs.Runs.{World, Event, Reads, Step, Run, IsFormatted}
+use Rattle.tp_model.specs.Runs.{World, Event, Acts, Reads, Step, Run, IsFormatted, grown, is_trim}
 use Rattle.tp_model.specs.Acknowledged.{is_reopening}
 use Rattle.tp_model.specs.Walks.{Leads, Chained, Walks, RecoversTo}
-use Rattle.tp_law_network.proofs.Partial.{all_append}
+use Rattle.tp_law_network.proofs.Partial.{all_append, bind_some}
 use Rattle.tp_law_runs.proofs.Runs.{run_recovers}
 use Rattle.tp_law_runs.proofs.Stay.{stays}
 use Rattle.tp_law_runs.proofs.Acknowledged.{run_goes_on}
@@ -69,6 +73,17 @@ module _ {Node : Type 0} (M : Machine Node) (A : Areas Node) where
   -- a piece that makes no device call
   pub still_walks : (w v : World Node) (state : State) → Leads M A w v → v.disk ≡ state.now → Walks M A w v state state
   still_walks w v state leads now = record { worlds = []; chain = leads; past = sym (append-nil state.past); now = now }
+
+  -- acts, none of them a trim
+  pub acts_run : (w : World Node) (acts : List Act) (net : MarkedNetwork Node) → AllByRecursion (λ act. is_trim act ≡ false) acts → acted M w.net acts ≡ Some net
+      → (journal : List Entry) × Run M A w (map Acts acts) (record w { net = net; journal = journal })
+  unfolding acted
+  acts_run w [] net none e = let same : w.net ≡ net = cc in (w.journal, ap (λ n. record w { net = n }) (sym same))
+  acts_run w (act ∷ acts) net none e =
+      let F = bind_some (happens M w.net act) (λ u. acted M u acts) net e in
+      let u : World Node = record w { net = F.0; journal = grown act w.journal } in
+      let rest = acts_run u acts net none.1 F.2 in
+      (rest.0, (u, (none.0, F.0, F.1, refl), rest.1))
 
   -- ## What crashes leave on the way
 

@@ -1,11 +1,25 @@
 use Rattle.tp_model.specs.Node.{t414, t414_ends}
+use Rattle.tp_model.specs.WholeCut.{whole}
+use Rattle.tp_model.specs.Snapshot.{Snapshot}
 use Rattle.tp_model.specs.Opening.{verdict}
-use Rattle.tp_law_device.proofs.Checkpoints.{other_spelt, checkpoint_switches}
+use Rattle.tp_model.specs.DeviceAreas.{other_content}
+use Rattle.tp_model.specs.Runs.{copy_of}
+use Rattle.tp_law_device.proofs.Stand.{spelt_area}
+use Rattle.tp_law_device.proofs.Checkpoints.{spells_reads, other_spelt, checkpoint_switches}
+use Rattle.tp_law_device.proofs.FirstCheckpoints.{first_checkpoint, one_snapshot}
 use Rattle.tp_law_device.proofs.checkpoints_switch.Goals as goal
 
 pub returns-clause-other : goal.returns-clause-other
 unfolding verdict
-returns-clause-other c = other_spelt t414 t414_ends
+returns-clause-other c = λ bytes o is closed generation base s groups now spells.
+    other_spelt t414 t414_ends bytes o is closed generation base s groups now (spelt_area t414 t414_ends o.head.topology (other_content o bytes) generation base s groups now spells)
 
 pub returns-clause-switches : goal.returns-clause-switches
-returns-clause-switches c = checkpoint_switches
+returns-clause-switches c = λ w cut nodes o pieces generation rests has S.
+    checkpoint_switches w cut nodes o pieces generation rests has (spells_reads w o pieces (copy_of w.net w.base cut nodes) generation S)
+
+pub returns-clause-formatted : goal.returns-clause-formatted
+returns-clause-formatted c = first_checkpoint
+
+pub returns-clause-snapshot : goal.returns-clause-snapshot
+returns-clause-snapshot c = one_snapshot
