@@ -1,12 +1,12 @@
 -- What a cut has that opening reads, each entry keeps.
-use Rattle.std.proofs.Common.{◌≡◌, ℕ, ◌+◌, ◌*◌, ◌≤◌, List, [], ◌∷◌, length, sym, ap, subst, ◌∙◌, arith, Some, slice_get}
+use Rattle.std.proofs.Common.{◌≡◌, ℕ, ◌+◌, ◌*◌, ◌≤◌, List, [], ◌∷◌, length, ap, subst, ◌∙◌, arith, Some}
 use Rattle.std.specs.Prelude.{true}
 use Rattle.std.specs.List.{AllByRecursion}
 use Rattle.tp_model.specs.declared.entry.Entry.{Entry}
 use Rattle.tp_model.specs.declared.limits.TheConstants.{MAX_NODES, MAX_PORTS}
 use Rattle.tp_model.specs.NodeState.{NodeState}
 use Rattle.tp_model.specs.Node.{t414, t414_ends}
-use Rattle.tp_model.specs.Network.{Port, Network, on_line}
+use Rattle.tp_model.specs.Network.{Network, on_line}
 use Rattle.tp_model.specs.Entries.{next}
 use Rattle.tp_model.specs.Sound.{Sound}
 use Rattle.tp_model.specs.Markers.{markers}
@@ -27,7 +27,7 @@ use Rattle.tp_law_device.proofs.Wires.{has_shape}
 use Rattle.tp_law_device.proofs.UnmarkedLines.{lines_unmarked}
 use Rattle.tp_law_device.proofs.CutsAreSound.{cut_nodes, cut_wires, cut_lines, cut_sound}
 use Rattle.tp_law_tail.proofs.Nodes.{nodes_next}
-use Rattle.tp_law_tail.proofs.Ports.{PortFits, PortsFit, port_fits, ports_next}
+use Rattle.tp_law_tail.proofs.Ports.{PortsFit, port_fits, ports_next}
 
 -- A network of this topology after so many entries: sound, with no Marker, as many nodes and lines as it had, nodes of bytes
 -- with their pages, and ports that fit.
