@@ -338,6 +338,14 @@ node_took node k token after N low e =
     let leaves = took_leaves node k token after (whole_of node N) low e in
     (of_bytes (length node.memory) after.0 leaves.whole, leaves.carried)
 
+-- its memory stays as long
+pub length-node_steps : (count : ℕ) (node : NodeState) (after : NodeState × List (ℕ × Token)) → IsNodeOfBytes node → steps t414 count node ≡ Some after → length after.0.memory ≡ length node.memory
+length-node_steps count node after N e = let leaves = steps_leave count node after (whole_of node N) e in leaves.whole.memory.long
+
+pub length-node_took : (node : NodeState) (k : ℕ) (token : Token) (after : NodeState × List (ℕ × Token)) → IsNodeOfBytes node → CarriesByte token → took node k token ≡ Some after
+    → length after.0.memory ≡ length node.memory
+length-node_took node k token after N low e = let leaves = took_leaves node k token after (whole_of node N) low e in leaves.whole.memory.long
+
 -- by what a token's type says
 pub carries : (token : Token) → ((byte : ℕ) → token ≡ Data byte → byte < 256) → CarriesByte token
 carries (Data byte) small = small byte refl

@@ -1,0 +1,97 @@
+-- The image of a node that recorded stays until the trim, and is that of the cut; its pieces are the image.
+use Rattle.std.proofs.Common.{◌≡◌, ◌≢◌, ℕ, zero, suc, ◌+◌, ◌*◌, ◌/◌, ◌%◌, ◌<◌, true, false, not, List, [], ◌∷◌, length, take, drop, get_or, refl, sym, ap, subst, ◌∙◌, arith, Option, Some, None, slice_get, length-take, length-drop, get_or-set_other}
+use Rattle.std.specs.Prelude.{is_some}
+use Rattle.std.specs.Option.{option_map}
+use Rattle.std.proofs.lemmas.Bool.{true≢false, cond_both}
+use Rattle.std.proofs.lemmas.List.{get_or-take, get_or-drop}
+use Rattle.tp_model.specs.declared.link.Token.{Token}
+use Rattle.tp_model.specs.Network.{Machine, sent}
+use Rattle.tp_model.specs.Entries.{process, takes}
+use Rattle.tp_model.specs.Snapshot.{Snapshot, MarkedNetwork, has_recorded, is_closed, collected, with_count, with_closed}
+use Rattle.tp_model.specs.WholeCut.{WholeCut, all_some}
+use Rattle.tp_model.specs.Acts.{Act, Begin, Record, Journal, Close, Trim, happens}
+use Rattle.tp_model.specs.NodeState.{NodeState}
+use Rattle.tp_model.specs.Image.{image, image_head}
+use Rattle.tp_model.specs.Runs.{is_trim, HasCut}
+use Rattle.tp_law_network.proofs.Partial.{map_some, slice_get-set_other}
+use Rattle.tp_law_cuts.proofs.Acts.{begin_parts, record_parts, close_parts, journal_parts}
+use Rattle.tp_model.specs.PiecesStand.{IsThere}
+use Rattle.tp_law_tail.proofs.Pieces.{there_append}
+
+-- node i has recorded, and that is its frozen image
+pub record IsFrozenAs {Node : Type 0} (w : MarkedNetwork Node) (i : ℕ) (node : Node) : Type 0 where
+  pub snap : Snapshot
+  pub runs : w.snapshot ≡ Some snap
+  pub recorded : has_recorded snap i ≡ true
+  pub is : slice_get w.frozen i ≡ Some (Some node)
+
+same_counts : (p : ℕ) (ms : List (ℕ × Token)) (snap : Snapshot) → (collected p ms snap).counts ≡ snap.counts
+same_counts p ms snap =
+    cond_both (has_recorded snap p) (record snap { lines = sent (λ l. not (is_closed snap l)) snap.lines ms }) (record snap { size = snap.size + 1 })
+    (λ after. after.counts ≡ snap.counts) (λ _. refl) (λ _. refl)
+
+pub frozen_as_stays : {Node : Type 0} (M : Machine Node) (w v : MarkedNetwork Node) (act : Act) (i : ℕ) (node : Node) → is_trim act ≡ false → happens M w act ≡ Some v → IsFrozenAs w i node → IsFrozenAs v i node
+unfolding happens
+frozen_as_stays M w v Begin i node t e F = absurd (let none = (begin_parts w v w.snapshot e).0 in let some = F.runs in cc)
+frozen_as_stays M w v (Record j) i node t e F =
+    let P = record_parts w v w.snapshot j e in
+    let alike : Some F.snap ≡ Some P.0 = sym F.runs ∙ P.1 in
+    let is : F.snap ≡ P.0 = cc in
+    let apart : i ≢ j = λ same. true≢false (sym F.recorded ∙ ap (λ s. has_recorded s i) is ∙ ap (has_recorded P.0) same ∙ P.3) in
+    subst (λ u. IsFrozenAs u i node) P.4 (record {
+      snap = with_count P.0 j _;
+      runs = refl;
+      recorded = ap is_some (get_or-set_other P.0.counts j i (Some _) (Some 0) apart) ∙ ap (λ s. has_recorded s i) (sym is) ∙ F.recorded;
+      is = slice_get-set_other w.frozen j i (slice_get w.live.nodes j) apart ∙ F.is;
+    })
+frozen_as_stays M w v (Journal entry) i node t e F =
+    let P = journal_parts w v M entry e in
+    subst (λ u. IsFrozenAs u i node) P.2 (record {
+      snap = collected (process w.start entry) (takes w.live entry) F.snap;
+      runs = ap (option_map (collected (process w.start entry) (takes w.live entry))) F.runs;
+      recorded = ap (λ counts. is_some (get_or counts i (Some 0))) (same_counts (process w.start entry) (takes w.live entry) F.snap) ∙ F.recorded;
+      is = F.is;
+    })
+frozen_as_stays M w v (Close line) i node t e F =
+    let P = close_parts w v w.snapshot line e in
+    let alike : Some F.snap ≡ Some P.0 = sym F.runs ∙ P.1 in
+    let is : F.snap ≡ P.0 = cc in
+    subst (λ u. IsFrozenAs u i node) P.4 (record { snap = with_closed P.0 line; runs = refl; recorded = ap (λ s. has_recorded s i) (sym is) ∙ F.recorded; is = F.is })
+frozen_as_stays M w v Trim i node t e F = absurd (true≢false t)
+
+all_some_at : {A : Type 0} (given : List (Option A)) (items : List A) (i : ℕ) (x : A) → all_some given ≡ Some items → slice_get given i ≡ Some (Some x) → slice_get items i ≡ Some x
+all_some_at [] items i x e at = cc
+all_some_at (None ∷ given) items i x e at = cc
+all_some_at (Some y ∷ given) items zero x e at =
+    let Q = map_some (λ ys. y ∷ ys) (all_some given) items e in
+    let same : y ≡ x = cc in
+    ap (λ ys. slice_get ys 0) (sym Q.2) ∙ ap Some same
+all_some_at (Some y ∷ given) items (suc i) x e at =
+    let Q = map_some (λ ys. y ∷ ys) (all_some given) items e in
+    ap (λ ys. slice_get ys (suc i)) (sym Q.2) ∙ all_some_at given Q.0 i x Q.1 at
+
+-- the nodes of a whole cut are those that were frozen
+pub cut_frozen : {Node : Type 0} (w : MarkedNetwork Node) (cut : WholeCut) (nodes : List Node) (i : ℕ) (node : Node) → HasCut w cut nodes → IsFrozenAs w i node → slice_get nodes i ≡ Some node
+cut_frozen w cut nodes i node has F = all_some_at w.frozen nodes i node has.images F.is
+
+-- ## An image in pieces
+
+pub image_there : (content : List ℕ) (at : ℕ) (node : NodeState) (pages : ℕ) → length (image_head node) ≡ 172 → length node.memory ≡ 1024 * pages → IsThere content at (image_head node)
+    → ((page : ℕ) → page < pages → IsThere content (at + 172 + 1024 * page) (take 1024 (drop (1024 * page) node.memory))) → IsThere content at (image node)
+unfolding image
+image_there content at node pages head long first each =
+    there_append content at (at + 172) (image_head node) node.memory (omega (arith, head)) first memory
+  where
+    memory : IsThere content (at + 172) node.memory
+    memory k low =
+        let page = k / 1024 in
+        let rest = k % 1024 in
+        let split : 1024 * page + rest ≡ k = omega arith in
+        let within : rest < 1024 = omega arith in
+        let there : page < pages = omega (arith, long, low, split, within) in
+        let size : rest < length (take 1024 (drop (1024 * page) node.memory)) = omega (arith, long, low, split, within, length-take 1024 (drop (1024 * page) node.memory), length-drop (1024 * page) node.memory) in
+        ap (λ place. get_or content place 0) (omega (arith, split))
+        ∙ each page there rest size
+        ∙ get_or-take 1024 (drop (1024 * page) node.memory) rest 0 within
+        ∙ get_or-drop (1024 * page) node.memory rest 0
+        ∙ ap (λ place. get_or node.memory place 0) split

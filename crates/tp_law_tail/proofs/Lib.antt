@@ -1,0 +1,17 @@
+pub mod Again
+pub mod CanPut
+pub mod Content
+pub mod Frozen
+pub mod Groups
+pub mod Held
+pub mod Kept
+pub mod Nodes
+pub mod Numbers
+pub mod Other
+pub mod Pieces
+pub mod Places
+pub mod Ports
+pub mod Ranges
+pub mod ReadNodes
+pub mod Switch
+pub mod TailRoom

@@ -1,0 +1,28 @@
+-- A copy can be put into the other area.
+use Rattle.std.specs.Prelude.{◌≡◌, ℕ, ◌+◌, ◌-◌, List, map, length, Some}
+use Rattle.tp_model.specs.declared.entry.Entry.{Entry}
+use Rattle.tp_model.specs.NodeState.{NodeState}
+use Rattle.tp_model.specs.Node.{t414, t414_ends}
+use Rattle.tp_model.specs.Network.{Network}
+use Rattle.tp_model.specs.Areas.{Held, gate_open}
+use Rattle.tp_model.specs.Disk.{written}
+use Rattle.tp_model.specs.Spelling.{entries_in, Spells}
+use Rattle.tp_model.specs.Opening.{Opened, held_of}
+use Rattle.tp_model.specs.DeviceAreas.{other_start, device_areas}
+
+-- the bytes with this content in the other area
+abbrev pub with_other : List ℕ → Opened → List ℕ → List ℕ
+with_other bytes o content = written bytes (other_start o + 1) content
+
+-- There is a content of the other area that spells the copy, of the next generation; once it is there the device still stands
+-- for what it did, and the other area is the copy, which is read once its gate is open.
+pub record CanPut (bytes : List ℕ) (o : Opened) (copy : Held NodeState) : Type 0 where
+  pub content : List ℕ
+  pub long : length content ≡ o.head.area - 1
+  pub groups : List (List (Entry × ℕ))
+  pub now : Network NodeState
+  pub spells : Spells t414 t414_ends o.head.topology content (o.generation + 1) copy.base copy.network groups now
+  pub entries : map (λ e. e.0) (entries_in groups) ≡ copy.entries
+  pub stays : device_areas.verdict (with_other bytes o content) ≡ Some (held_of o)
+  pub other : device_areas.other (with_other bytes o content) ≡ Some (other_start o, copy)
+  pub opens : device_areas.verdict (written (with_other bytes o content) (other_start o) gate_open) ≡ Some copy

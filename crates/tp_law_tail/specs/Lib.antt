@@ -1,0 +1,3 @@
+pub mod CanPut
+pub mod CutSpelt
+pub mod InGroups

@@ -1,0 +1,80 @@
+//! The copy of a whole cut with its tail can be put into a device's other area, and opens to exactly that copy. The functions
+//! do nothing; their contracts are the laws.
+#![tactic(auto)]
+
+ghost use Rattle.std.specs.List.{AllByRecursion};
+ghost use Rattle.std.specs.Prelude.{◌≡◌, ◌≤◌, ◌<◌, ◌+◌, ◌*◌, ℕ, false, true, List, Ok, Some, length, map};
+ghost use Rattle.tp_law_tail.specs.CanPut.{CanPut};
+ghost use Rattle.tp_law_tail.specs.CutSpelt.{CutSpelt};
+ghost use Rattle.tp_model.specs.Acts.{CutHolds};
+ghost use Rattle.tp_model.specs.Areas.{Held, gate_open};
+ghost use Rattle.tp_model.specs.CopySpelt.{CopySpelt};
+ghost use Rattle.tp_model.specs.CutTail.{tail_of};
+ghost use Rattle.tp_model.specs.Disk.{written};
+ghost use Rattle.tp_model.specs.DeviceAreas.{device_areas, other_content, other_is_open, other_start};
+ghost use Rattle.tp_model.specs.Entries.{process};
+ghost use Rattle.tp_model.specs.Journal.{entry_room, room};
+ghost use Rattle.tp_model.specs.KeptRun.{HasByte, KeptRun};
+ghost use Rattle.tp_model.specs.Network.{Network};
+ghost use Rattle.tp_model.specs.Node.{t414, t414_ends};
+ghost use Rattle.tp_model.specs.NodeState.{NodeState};
+ghost use Rattle.tp_model.specs.Numbers.{AreNumbered};
+ghost use Rattle.tp_model.specs.OpenedCopy.{opened_copy};
+ghost use Rattle.tp_model.specs.Opening.{Opened, verdict};
+ghost use Rattle.tp_model.specs.Order.{post};
+ghost use Rattle.tp_model.specs.PiecesStand.{IsSized, PiecesStand};
+ghost use Rattle.tp_model.specs.Runs.{Event, HasCut, IsFormatted, World, copy_of};
+ghost use Rattle.tp_model.specs.Snapshot.{MarkedNetwork};
+ghost use Rattle.tp_model.specs.Spelling.{Spells, entries_in};
+ghost use Rattle.tp_model.specs.Topology.{Topology, is_topology};
+ghost use Rattle.tp_model.specs.WholeCut.{WholeCut, all_some, count_in, network_in};
+ghost use Rattle.tp_model.specs.WriteOrder.{Resting};
+ghost use Rattle.tp_model.specs.declared.entry.Entry.{Entry};
+ghost use Rattle.tp_model.specs.declared.limits.TheConstants.{NUMBER_LIMIT};
+
+/// However the other area came to hold the pieces of a copy, each at its place and the tail in any groups of 1 to 64: that
+/// copy is what the area holds behind its closed gate. Once the gate is open, opening answers the copy: its base, its
+/// network, the entries of the tail with their numbers, and the other area as the one that is taken. The same of whatever
+/// spells a cut and groups there, of a higher generation.
+pub fn copies_open()
+    ensures stands { (bytes : List ℕ) (o : Opened) (copy : Held NodeState) (tail : List (Entry × ℕ)) (groups : List (List (Entry × ℕ)))
+        → verdict bytes ≡ Ok o → other_is_open o bytes ≡ false → o.generation + 1 < NUMBER_LIMIT
+        → (C : CopySpelt o.head.topology copy tail) → entries_in groups ≡ tail → AllByRecursion IsSized groups
+        → PiecesStand o.head.topology (other_content o bytes) (o.generation + 1) copy groups
+        → (device_areas.other bytes ≡ Some (other_start o, copy)) × (verdict (written bytes (other_start o) gate_open) ≡ Ok (opened_copy o copy groups C.now)) }
+    ensures spelt { (bytes : List ℕ) (o : Opened) (generation base : ℕ) (s : Network NodeState) (groups : List (List (Entry × ℕ))) (now : Network NodeState)
+        → verdict bytes ≡ Ok o → other_is_open o bytes ≡ false → o.generation < generation
+        → Spells t414 t414_ends o.head.topology (other_content o bytes) generation base s groups now
+        → device_areas.other bytes ≡ Some (other_start o, record { network = s; entries = map (λ e. e.0) (entries_in groups); base = base }) }
+{}
+
+/// A whole cut of a book whose kept cut has an image, with bytes in its nodes, has one too: as the cut of so many entries
+/// more as it has.
+pub fn cuts_are_spelt()
+    ensures { (t : Topology) (base : ℕ) (w : MarkedNetwork NodeState) (cut : WholeCut) (nodes : List NodeState) → is_topology t ≡ true → CutSpelt t base w.start
+        → AllByRecursion HasByte w.entries → CutHolds t414 w cut → all_some w.frozen ≡ Some nodes → base + length w.entries < NUMBER_LIMIT
+        → CutSpelt t (base + cut.size) (network_in w.start cut nodes) }
+{}
+
+/// In a run over a device that was formatted, with bytes and numbers of fixed size, whenever the flusher rests: the copy that
+/// it makes of a whole cut, with the entries outside that and their numbers, has a spelling. It is of the device's topology.
+pub fn copies_are_spelt()
+    ensures { (start : Network NodeState) (events : List (Event NodeState)) (first w : World NodeState) → IsFormatted t414 device_areas start first
+        → AllByRecursion (λ byte. byte < 256) first.disk.bytes → KeptRun first events w
+        → (o : Opened) (cut : WholeCut) (nodes : List NodeState) (kept : List (Entry × ℕ)) → w.at ≡ Resting
+        → AllByRecursion (λ byte. byte < 256) w.disk.bytes → HasCut w.net cut nodes → verdict w.disk.bytes ≡ Ok o
+        → map (λ e. e.0) kept ≡ w.net.entries → AreNumbered 0 w.base (map (λ e. e.1) kept)
+        → CopySpelt o.head.topology (copy_of w.net w.base cut nodes) (tail_of w.net.start cut kept) }
+{}
+
+/// At such a moment, where each entry of the tail finds room in a group of its own: there is a content of the other area that
+/// spells the copy; with it the device stands for what it did, and with that area's gate open for the copy.
+pub fn copies_can_be_put()
+    ensures { (start : Network NodeState) (events : List (Event NodeState)) (first w : World NodeState) → IsFormatted t414 device_areas start first
+        → AllByRecursion (λ byte. byte < 256) first.disk.bytes → KeptRun first events w
+        → (o : Opened) (cut : WholeCut) (nodes : List NodeState) (kept : List (Entry × ℕ)) → w.at ≡ Resting
+        → AllByRecursion (λ byte. byte < 256) w.disk.bytes → HasCut w.net cut nodes → verdict w.disk.bytes ≡ Ok o → other_is_open o w.disk.bytes ≡ false
+        → map (λ e. e.0) kept ≡ w.net.entries → AreNumbered 0 w.base (map (λ e. e.1) kept)
+        → o.generation + 1 < NUMBER_LIMIT → entry_room * length (post (process w.net.start) (count_in cut) w.net.entries) ≤ room o.head.topology o.head.area
+        → CanPut w.disk.bytes o (copy_of w.net w.base cut nodes) }
+{}
