@@ -1,3 +1,4 @@
+pub mod Changes
 pub mod Copies
 pub mod Paged
 pub mod Touches

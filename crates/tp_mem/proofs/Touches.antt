@@ -163,7 +163,7 @@ pub or_false : (a b c : Bool) → a ≡ false → b ≡ false → c ≡ false �
 or_false a b c none_a none_b none_c = ap (λ x. x || (b || c)) none_a ∙ ap (λ x. x || c) none_b ∙ none_c
 
 -- ---- from the first page on
-zero_plus : (n : ℕ) → 0 + n ≡ n
+pub zero_plus : (n : ℕ) → 0 + n ≡ n
 zero_plus n = omega arith
 
 pub parted-next : (n : ℕ) (pages : List Bool) (ranges : List (ℕ × ℕ))
