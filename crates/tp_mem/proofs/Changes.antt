@@ -1,6 +1,6 @@
 -- Writes leave the bytes of every page in which they write none.
 use Rattle.std.proofs.Common.{◌≡◌, ℕ, zero, suc, ◌+◌, ◌-◌, ◌*◌, ◌%◌, ◌<◌, ◌≤◌, ◌⊎◌, inl, inr, Bool, true, false, ◌&&◌, ◌||◌, cond, List, [], ◌∷◌, ◌++◌, length, Option, Some, None, get_or, take, drop, refl, sym, ap, subst, ◌∙◌, arith, ltb, eqb, min, append_assoc}
-use Rattle.std.proofs.lemmas.Bool.{cond_both, ltb-true, lt-ltb, and_parts, leb-true}
+use Rattle.std.proofs.lemmas.Bool.{cond_both, ltb-true, lt-ltb, and_parts, or_parts, leb-true}
 use Rattle.std.proofs.lemmas.List.{ext_get_or, get_or-take, get_or-drop, length-take, length-take-le, length-drop, length-append}
 use Rattle.std.proofs.lemmas.List.Folds.{list_any-append}
 use Rattle.std.specs.List.{list_any}
@@ -10,7 +10,6 @@ use Rattle.tp_model.specs.Memory.{offset, word_offset, set_byte, set_word, byte_
 use Rattle.tp_model.specs.SharedPages.{touches, word_ranges, block_ranges, byte_ranges}
 use Rattle.tp_mem.specs.Contents.{page_of}
 use Rattle.tp_mem.proofs.Copies.{page_of-take}
-use Rattle.tp_mem.proofs.Touches.{or_parts}
 use Rattle.tp_mem.proofs.Writes.{word_within, length-set_word, length-set_byte, length-moved}
 
 pub record KeepsPages (ranges : List (ℕ × ℕ)) (before after : List ℕ) : Type 0 where
@@ -94,11 +93,10 @@ pub KeepsPages-splice : (memory ws : List ℕ) (at : ℕ) → at + length ws ≤
 KeepsPages-splice memory ws at fits = record {
   long = length-splice memory ws at fits;
   page = λ p none. (
-    let after = take at memory ++ (ws ++ drop (at + length ws) memory) in
-    let apart = (or_parts (touches p (at, length ws)) false none).0 in
-    page_of-take after p ∙ same_page after memory p (length-splice memory ws at fits) (λ j low high. outside memory ws at j fits (side_within p at (length ws) j apart low high)) ∙ sym (page_of-take memory p));
+      let after = take at memory ++ (ws ++ drop (at + length ws) memory) in
+      let apart = (or_parts (touches p (at, length ws)) false none).0 in
+      page_of-take after p ∙ same_page after memory p (length-splice memory ws at fits) (λ j low high. outside memory ws at j fits (side_within p at (length ws) j apart low high)) ∙ sym (page_of-take memory p));
 }
-
 
 length-to_le_bytes : (word : ℕ) → length (to_le_bytes w32 word) ≡ 4
 length-to_le_bytes word = refl

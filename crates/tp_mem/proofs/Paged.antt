@@ -53,7 +53,7 @@ module _ (live : List ℕ) (shared : List Bool) (copies : List (Option ℕ)) (fr
   room_is page is_shared room = omega (arith, private_is (at_page page is_shared).0)
 
   module _ (page : ℕ) (is_shared : get_or shared page false ≡ true) (id : ℕ) (within : id < length frames) (free : frame frames id ≡ None) (old bytes : List ℕ) (long : length bytes ≡ 1024) (same : bytes ≡ page_of live page)
-    (taken filled : Frames) (takes : taken ≡ set frames id (copy_of old)) (fills : filled ≡ set taken id (copy_of bytes)) where
+      (taken filled : Frames) (takes : taken ≡ set frames id (copy_of old)) (fills : filled ≡ set taken id (copy_of bytes)) where
     after : filled ≡ set frames id (copy_of bytes)
     after = fills ∙ ap (λ fs. set fs id (copy_of bytes)) takes ∙ set-twice frames id (copy_of old) (copy_of bytes)
 

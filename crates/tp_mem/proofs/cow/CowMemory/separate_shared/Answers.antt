@@ -36,7 +36,7 @@ part_touched-requires-clause-room c =
     let private = private_is v.live.items v.shared.items v.copies.items v.pool v.is_frozen c.self.invariant (frozen_is v.is_frozen _ some) in
     let wanted = c.wanted.ensures ∙ ap (λ pages. wanted_from 0 pages ranges) c.deref.ensures.value in
     let room : private_in c.args.self.now.shared + wanted_from 0 c.args.self.now.shared ranges ≤ c.args.self.now.spare =
-      rw (← c.self.view_is) (omega (arith, private, wanted, c.free.ensures, c.if-wanted-free.false)) in
+    rw (← c.self.view_is) (omega (arith, private, wanted, c.free.ensures, c.if-wanted-free.false)) in
     let within : c.loop-page.page < length c.args.self.now.shared = omega (arith, ap (λ (m : Paged). length m.shared) c.self.view_is, c.self.inside.shared.ok.0) in
     subst (λ (m : Paged). private_in m.shared + want (get_or m.shared c.loop-page.page false) (list_any (touches c.loop-page.page) ranges) ≤ m.spare) (sym c.loop-page.invariant)
     (omega (arith, parted-room c.loop-page.page c.args.self.now.shared ranges within, room))
@@ -53,3 +53,12 @@ returns-clause-ok c =
     let ranges = c.args.first ∷ c.args.block ∷ word_ranges c.args.words.now in
     let past : length c.args.self.now.shared ≤ c.loop-page.page = omega (arith, ap (λ (m : Paged). length m.shared) c.self.view_is, c.self.inside.shared.ok.0) in
     c.loop-page.invariant ∙ ap (λ pages. record c.args.self.now { shared = pages }) (parted_to-all 0 c.loop-page.page c.args.self.now.shared ranges past)
+
+pub returns-clause-fits : goal.returns-clause-fits
+returns-clause-fits c =
+    let v = c.self.inside in
+    let ranges = c.args.first ∷ c.args.block ∷ word_ranges c.args.words.now in
+    let some = subst (λ (m : Paged). IsSome m.frozen) (sym c.self.view_is) c.requires.frozen in
+    let private = private_is v.live.items v.shared.items v.copies.items v.pool v.is_frozen c.self.invariant (frozen_is v.is_frozen _ some) in
+    let wanted = c.wanted.ensures ∙ ap (λ pages. wanted_from 0 pages ranges) c.deref.ensures.value in
+    rw (← c.self.view_is) (omega (arith, private, wanted, c.free.ensures, c.if-wanted-free.false))
