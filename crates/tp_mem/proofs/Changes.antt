@@ -4,10 +4,12 @@ use Rattle.std.proofs.lemmas.Bool.{cond_both, ltb-true, lt-ltb, and_parts, or_pa
 use Rattle.std.proofs.lemmas.List.{ext_get_or, get_or-take, get_or-drop, length-take, length-take-le, length-drop, length-append}
 use Rattle.std.proofs.lemmas.List.Folds.{list_any-append}
 use Rattle.std.specs.List.{list_any}
-use Rattle.std.specs.Prelude.{slice_range}
+use Rattle.std.specs.Prelude.{slice_range, option_and_then}
 use Rattle.std.specs.Int.{to_le_bytes, w32}
-use Rattle.tp_model.specs.Memory.{offset, word_offset, set_byte, set_word, byte_stored, stored, is_inside, moved, copied}
+use Rattle.tp_model.specs.Memory.{offset, word_offset, set_byte, set_word, byte_stored, stored, is_inside, moved, copied, changed}
 use Rattle.tp_model.specs.SharedPages.{touches, word_ranges, block_ranges, byte_ranges}
+use Rattle.tp_mem.specs.After.{changed_after}
+use Rattle.tp_mem.specs.Bytes.{byte_changed}
 use Rattle.tp_mem.specs.Contents.{page_of}
 use Rattle.tp_mem.proofs.Copies.{page_of-take}
 use Rattle.tp_mem.proofs.Writes.{word_within, length-set_word, length-set_byte, length-moved}
@@ -149,3 +151,39 @@ KeepsPages-copied memory to from count after =
     (elim_zero (eqb count 0) memory to from count
     (λ some. KeepsPages-moved memory (offset to) (offset from) count (leb-true _ _ (rw some at both.0)) (leb-true _ _ (rw some at both.1)))))
     (λ _ is. absurd (cc))
+
+-- words behind a first change
+KeepsPages-words : (first : Option (List ℕ)) (ranges : List (ℕ × ℕ)) (memory : List ℕ) (writes : List (ℕ × ℕ)) (after : List ℕ) → length memory % 4 ≡ 0 → ((between : List ℕ) → first ≡ Some between → KeepsPages ranges memory between)
+    → option_and_then (λ m. stored m writes) first ≡ Some after → KeepsPages (ranges ++ word_ranges writes) memory after
+KeepsPages-words None ranges memory writes after whole keeps is = absurd (cc)
+KeepsPages-words (Some between) ranges memory writes after whole keeps is =
+    let one = keeps between refl in
+    let whole_between : length between % 4 ≡ 0 = rw one.long whole in
+    KeepsPages-then ranges (word_ranges writes) memory between after one (KeepsPages-stored between writes after whole_between is)
+
+KeepsPages-byte_stored : (memory : List ℕ) (address byte : ℕ) (after : List ℕ) → byte_stored memory address byte ≡ Some after → KeepsPages (byte_ranges address) memory after
+KeepsPages-byte_stored memory address byte after =
+    cond_both (ltb (offset address) (length memory)) (Some (set_byte memory (offset address) byte)) None (λ o. o ≡ Some after → KeepsPages (byte_ranges address) memory after)
+    (λ inside is.
+    let here : set_byte memory (offset address) byte ≡ after = cc in
+    subst (λ m. KeepsPages (byte_ranges address) memory m) here (KeepsPages-set_byte memory (offset address) byte (ltb-true (offset address) (length memory) inside)))
+    (λ _ is. absurd (cc))
+
+pub KeepsPages-byte_changed : (memory : List ℕ) (address byte : ℕ) (writes : List (ℕ × ℕ)) (after : List ℕ) → length memory % 4 ≡ 0 → byte_changed memory address byte writes ≡ Some after → KeepsPages (byte_ranges address ++ word_ranges writes) memory after
+KeepsPages-byte_changed memory address byte writes after whole is = KeepsPages-words (byte_stored memory address byte) (byte_ranges address) memory writes after whole (KeepsPages-byte_stored memory address byte) is
+
+pub KeepsPages-changed : (memory : List ℕ) (to from count : ℕ) (writes : List (ℕ × ℕ)) (after : List ℕ) → length memory % 4 ≡ 0 → changed memory to from count writes ≡ Some after → KeepsPages (block_ranges to count ++ word_ranges writes) memory after
+KeepsPages-changed memory to from count writes after whole is = KeepsPages-words (copied memory to from count) (block_ranges to count) memory writes after whole (KeepsPages-copied memory to from count) is
+
+KeepsPages-behind : (first : Option (List ℕ)) (ranges : List (ℕ × ℕ)) (memory : List ℕ) (to from count : ℕ) (writes : List (ℕ × ℕ)) (after : List ℕ) → length memory % 4 ≡ 0 → ((between : List ℕ) → first ≡ Some between → KeepsPages ranges memory between)
+    → option_and_then (λ m. changed m to from count writes) first ≡ Some after → KeepsPages (ranges ++ (block_ranges to count ++ word_ranges writes)) memory after
+KeepsPages-behind None ranges memory to from count writes after whole keeps is = absurd (cc)
+KeepsPages-behind (Some between) ranges memory to from count writes after whole keeps is =
+    let one = keeps between refl in
+    let whole_between : length between % 4 ≡ 0 = rw one.long whole in
+    KeepsPages-then ranges (block_ranges to count ++ word_ranges writes) memory between after one (KeepsPages-changed between to from count writes after whole_between is)
+
+pub KeepsPages-changed_after : (memory : List ℕ) (first : ℕ × ℕ) (to from count : ℕ) (writes : List (ℕ × ℕ)) (after : List ℕ) → length memory % 4 ≡ 0 → changed_after memory first to from count writes ≡ Some after
+    → KeepsPages (word_ranges (first ∷ []) ++ (block_ranges to count ++ word_ranges writes)) memory after
+KeepsPages-changed_after memory first to from count writes after whole is =
+    KeepsPages-behind (stored memory (first ∷ [])) (word_ranges (first ∷ [])) memory to from count writes after whole (λ between here. KeepsPages-stored memory (first ∷ []) between whole here) is

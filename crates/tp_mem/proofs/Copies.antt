@@ -296,3 +296,20 @@ take_past zero [] past = refl
 take_past zero (byte ∷ bytes) past = absurd (omega arith)
 take_past (suc n) [] past = refl
 take_past (suc n) (byte ∷ bytes) past = ap (λ bs. byte ∷ bs) (take_past n bytes (omega arith))
+
+-- where no page has a copy, any frames do
+pub AreCopies-none : (frames : Frames) (copies : List (Option ℕ)) → copied_in copies ≡ 0 → AreCopies frames copies
+AreCopies-none frames [] none = tt
+AreCopies-none frames (None ∷ copies) none = AreCopies-none frames copies none
+AreCopies-none frames (Some id ∷ copies) none = absurd (omega arith)
+
+-- the live bytes may change in pages that have a copy
+pub frozen_from-written : (page : ℕ) (live after : List ℕ) (copies : List (Option ℕ)) (frames : Frames) → ((i : ℕ) → get_or (shared_of true copies) i false ≡ true → page_of after (page + i) ≡ page_of live (page + i))
+    → frozen_from page after copies frames ≡ frozen_from page live copies frames
+frozen_from-written page live after [] frames same = refl
+frozen_from-written page live after (None ∷ copies) frames same =
+    let here : page + 0 ≡ page = omega arith in
+    ap (λ bytes. bytes ++ frozen_from (page + 1) after copies frames) (ap (page_of after) (sym here) ∙ same 0 refl ∙ ap (page_of live) here)
+    ∙ ap (λ rest. page_of live page ++ rest) (frozen_from-written (page + 1) live after copies frames (λ i shared. let place : page + 1 + i ≡ page + suc i = omega arith in ap (page_of after) place ∙ same (suc i) shared ∙ ap (page_of live) (sym place)))
+frozen_from-written page live after (Some id ∷ copies) frames same =
+    ap (λ rest. bytes_of frames id ++ rest) (frozen_from-written (page + 1) live after copies frames (λ i shared. let place : page + 1 + i ≡ page + suc i = omega arith in ap (page_of after) place ∙ same (suc i) shared ∙ ap (page_of live) (sym place)))

@@ -3,3 +3,4 @@ pub mod Copies
 pub mod Paged
 pub mod Touches
 pub mod Writes
+pub mod Written

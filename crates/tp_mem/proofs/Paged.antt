@@ -1,5 +1,5 @@
 -- What is so of every memory that copies pages before it writes stays so.
-use Rattle.std.proofs.Common.{◌≡◌, ℕ, zero, suc, ◌+◌, ◌-◌, ◌*◌, ◌<◌, ◌≤◌, Bool, true, false, cond, List, [], ◌∷◌, length, Option, Some, None, get_or, set, replicate, refl, sym, ap, subst, ◌∙◌, arith, IsSome}
+use Rattle.std.proofs.Common.{◌≡◌, ℕ, zero, suc, ◌+◌, ◌-◌, ◌*◌, ◌<◌, ◌≤◌, Bool, true, false, cond, List, [], ◌∷◌, length, Option, Some, None, get_or, set, replicate, refl, sym, ap, subst, ◌∙◌, arith, IsSome, IsNone}
 use Rattle.std.proofs.lemmas.List.{length-set, length-replicate}
 use Rattle.tp_model.specs.Frames.{Held, Frames, frame, held_owners, owners_of, free_in}
 use Rattle.tp_model.specs.SharedPages.{private_in}
@@ -28,6 +28,10 @@ with_shared memory pages same = ap (λ ps. record memory { shared = ps }) (sym s
 pub frozen_is : (is_frozen : Bool) (bytes : List ℕ) → IsSome (cond is_frozen (Some bytes) None) → is_frozen ≡ true
 frozen_is true bytes some = refl
 frozen_is false bytes some = absurd (let no : false ≡ true = some in cc)
+
+pub not_frozen : (is_frozen : Bool) (bytes : List ℕ) → IsNone (cond is_frozen (Some bytes) None) → is_frozen ≡ false
+not_frozen true bytes none = absurd (let no : true ≡ false = none in cc)
+not_frozen false bytes none = refl
 
 pub is_frozen_some : (is_frozen : Bool) (bytes : List ℕ) → is_frozen ≡ true → IsSome (cond is_frozen (Some bytes) None)
 is_frozen_some true bytes frozen = refl

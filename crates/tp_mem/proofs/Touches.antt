@@ -196,3 +196,20 @@ wanted_from-untouched page (is_shared ∷ pages) ranges none =
     let rest = wanted_from-untouched (page + 1) pages ranges (λ i shared. let place : page + 1 + i ≡ page + suc i = omega arith in ap (λ p. list_any (touches p) ranges) place ∙ none (suc i) shared) in
     let not_here = want_none is_shared (list_any (touches page) ranges) (λ shared. ap (λ p. list_any (touches p) ranges) (sym here) ∙ none 0 shared) in
     omega (arith, rest, not_here)
+
+pub or_none : (b : Bool) → (b || false) ≡ b
+or_none true = refl
+or_none false = refl
+
+-- a page that stays shared
+and_true : (a b : Bool) → (a && not b) ≡ true → b ≡ false
+and_true true true so = absurd (cc)
+and_true true false so = refl
+and_true false b so = absurd (cc)
+
+pub shared_from-true : (page : ℕ) (pages : List Bool) (ranges : List (ℕ × ℕ)) (i : ℕ) → get_or (shared_from page pages ranges) i false ≡ true → list_any (touches (page + i)) ranges ≡ false
+shared_from-true page [] ranges i shared = absurd (cc)
+shared_from-true page (is_shared ∷ pages) ranges zero shared =
+    let here : page + 0 ≡ page = omega arith in ap (λ p. list_any (touches p) ranges) here ∙ and_true is_shared (list_any (touches page) ranges) shared
+shared_from-true page (is_shared ∷ pages) ranges (suc i) shared =
+    let place : page + suc i ≡ page + 1 + i = omega arith in ap (λ p. list_any (touches p) ranges) place ∙ shared_from-true (page + 1) pages ranges i shared
