@@ -72,25 +72,37 @@ AreCopies-without frames (Some here ∷ copies) zero id entry own at =
     let e : here ≡ id = cc in AreCopies-elsewhere frames id entry copies (subst (λ k. IsElsewhere k copies) e own.2) own.3
 AreCopies-without frames (None ∷ copies) (suc i) id entry own at = AreCopies-without frames copies i id entry own at
 AreCopies-without frames (Some here ∷ copies) (suc i) id entry own at =
-    let apart : ¬ (id ≡ here) = λ same. IsElsewhere-at here copies i id own.2 at (sym same) in
-    (owners-other frames id here entry apart ∙ own.0, ap length (bytes-other frames id here entry apart) ∙ own.1,
-    IsElsewhere-without here copies i own.2, AreCopies-without frames copies i id entry own.3 at)
+    let apart : ¬ (id ≡ here) = λ same. IsElsewhere-at here copies i id own.2 at (sym same) in (
+      owners-other frames id here entry apart ∙ own.0,
+      ap length (bytes-other frames id here entry apart) ∙ own.1,
+      IsElsewhere-without here copies i own.2,
+      AreCopies-without frames copies i id entry own.3 at,
+    )
 
 -- a copy more
 pub AreCopies-with : (frames : Frames) (copies : List (Option ℕ)) (i id : ℕ) (bytes : List ℕ) → id < length frames → length bytes ≡ 1024 → owners_of frames id ≡ 0 → i < length copies
     → AreCopies frames copies → AreCopies (set frames id (copy_of bytes)) (set copies i (Some id))
 AreCopies-with frames [] i id bytes within long fresh inside own = absurd (omega arith)
-AreCopies-with frames (None ∷ copies) zero id bytes within long fresh inside own =
-    (ap held_owners (get_or-set_same frames id (copy_of bytes) None within), ap (λ e. length (held_bytes e)) (get_or-set_same frames id (copy_of bytes) None within) ∙ long,
-    IsElsewhere-fresh frames id copies fresh own, AreCopies-elsewhere frames id (copy_of bytes) copies (IsElsewhere-fresh frames id copies fresh own) own)
-AreCopies-with frames (Some here ∷ copies) zero id bytes within long fresh inside own =
-    (ap held_owners (get_or-set_same frames id (copy_of bytes) None within), ap (λ e. length (held_bytes e)) (get_or-set_same frames id (copy_of bytes) None within) ∙ long,
-    IsElsewhere-fresh frames id copies fresh own.3, AreCopies-elsewhere frames id (copy_of bytes) copies (IsElsewhere-fresh frames id copies fresh own.3) own.3)
+AreCopies-with frames (None ∷ copies) zero id bytes within long fresh inside own = (
+  ap held_owners (get_or-set_same frames id (copy_of bytes) None within),
+  ap (λ e. length (held_bytes e)) (get_or-set_same frames id (copy_of bytes) None within) ∙ long,
+  IsElsewhere-fresh frames id copies fresh own,
+  AreCopies-elsewhere frames id (copy_of bytes) copies (IsElsewhere-fresh frames id copies fresh own) own,
+)
+AreCopies-with frames (Some here ∷ copies) zero id bytes within long fresh inside own = (
+  ap held_owners (get_or-set_same frames id (copy_of bytes) None within),
+  ap (λ e. length (held_bytes e)) (get_or-set_same frames id (copy_of bytes) None within) ∙ long,
+  IsElsewhere-fresh frames id copies fresh own.3,
+  AreCopies-elsewhere frames id (copy_of bytes) copies (IsElsewhere-fresh frames id copies fresh own.3) own.3,
+)
 AreCopies-with frames (None ∷ copies) (suc i) id bytes within long fresh inside own = AreCopies-with frames copies i id bytes within long fresh (omega arith) own
 AreCopies-with frames (Some here ∷ copies) (suc i) id bytes within long fresh inside own =
-    let apart : ¬ (id ≡ here) = λ same. (let one : owners_of frames id ≡ 1 = ap (λ k. owners_of frames k) same ∙ own.0 in absurd (omega arith)) in
-    (owners-other frames id here (copy_of bytes) apart ∙ own.0, ap length (bytes-other frames id here (copy_of bytes) apart) ∙ own.1,
-    IsElsewhere-with here copies i id (λ same. apart (sym same)) own.2, AreCopies-with frames copies i id bytes within long fresh (omega arith) own.3)
+    let apart : ¬ (id ≡ here) = λ same. (let one : owners_of frames id ≡ 1 = ap (λ k. owners_of frames k) same ∙ own.0 in absurd (omega arith)) in (
+      owners-other frames id here (copy_of bytes) apart ∙ own.0,
+      ap length (bytes-other frames id here (copy_of bytes) apart) ∙ own.1,
+      IsElsewhere-with here copies i id (λ same. apart (sym same)) own.2,
+      AreCopies-with frames copies i id bytes within long fresh (omega arith) own.3,
+    )
 
 pub copied_in-with : (copies : List (Option ℕ)) (i id : ℕ) → i < length copies → get_or copies i None ≡ None → copied_in (set copies i (Some id)) ≡ 1 + copied_in copies
 copied_in-with [] i id inside none = absurd (omega arith)
@@ -222,8 +234,12 @@ AreCopies-rest frames (Some id) copies own = own.3
 pub length-frozen_from : (page : ℕ) (live : List ℕ) (copies : List (Option ℕ)) (frames : Frames) → 1024 * page + 1024 * length copies ≤ length live → AreCopies frames copies → length (frozen_from page live copies frames) ≡ 1024 * length copies
 length-frozen_from page live [] frames inside own = refl
 length-frozen_from page live (copy ∷ copies) frames inside own =
-    omega (arith, length-append (frozen_bytes page live copy frames) (frozen_from (page + 1) live copies frames), length-frozen_bytes page live copy copies frames (omega arith) own,
-    length-frozen_from (page + 1) live copies frames (omega arith) (AreCopies-rest frames copy copies own))
+    omega (
+      arith,
+      length-append (frozen_bytes page live copy frames) (frozen_from (page + 1) live copies frames),
+      length-frozen_bytes page live copy copies frames (omega arith) own,
+      length-frozen_from (page + 1) live copies frames (omega arith) (AreCopies-rest frames copy copies own),
+    )
 
 -- where no page has a copy, they are the live bytes
 pub frozen_from-none : (page : ℕ) (live : List ℕ) (copies : List (Option ℕ)) (frames : Frames) → 1024 * page + 1024 * length copies ≡ length live → copied_in copies ≡ 0 → frozen_from page live copies frames ≡ drop (1024 * page) live
@@ -280,3 +296,20 @@ take_past zero [] past = refl
 take_past zero (byte ∷ bytes) past = absurd (omega arith)
 take_past (suc n) [] past = refl
 take_past (suc n) (byte ∷ bytes) past = ap (λ bs. byte ∷ bs) (take_past n bytes (omega arith))
+
+-- where no page has a copy, any frames do
+pub AreCopies-none : (frames : Frames) (copies : List (Option ℕ)) → copied_in copies ≡ 0 → AreCopies frames copies
+AreCopies-none frames [] none = tt
+AreCopies-none frames (None ∷ copies) none = AreCopies-none frames copies none
+AreCopies-none frames (Some id ∷ copies) none = absurd (omega arith)
+
+-- the live bytes may change in pages that have a copy
+pub frozen_from-written : (page : ℕ) (live after : List ℕ) (copies : List (Option ℕ)) (frames : Frames) → ((i : ℕ) → get_or (shared_of true copies) i false ≡ true → page_of after (page + i) ≡ page_of live (page + i))
+    → frozen_from page after copies frames ≡ frozen_from page live copies frames
+frozen_from-written page live after [] frames same = refl
+frozen_from-written page live after (None ∷ copies) frames same =
+    let here : page + 0 ≡ page = omega arith in
+    ap (λ bytes. bytes ++ frozen_from (page + 1) after copies frames) (ap (page_of after) (sym here) ∙ same 0 refl ∙ ap (page_of live) here)
+    ∙ ap (λ rest. page_of live page ++ rest) (frozen_from-written (page + 1) live after copies frames (λ i shared. let place : page + 1 + i ≡ page + suc i = omega arith in ap (page_of after) place ∙ same (suc i) shared ∙ ap (page_of live) (sym place)))
+frozen_from-written page live after (Some id ∷ copies) frames same =
+    ap (λ rest. bytes_of frames id ++ rest) (frozen_from-written (page + 1) live after copies frames (λ i shared. let place : page + 1 + i ≡ page + suc i = omega arith in ap (page_of after) place ∙ same (suc i) shared ∙ ap (page_of live) (sym place)))

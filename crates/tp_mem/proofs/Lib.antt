@@ -1,4 +1,6 @@
+pub mod Changes
 pub mod Copies
 pub mod Paged
 pub mod Touches
 pub mod Writes
+pub mod Written

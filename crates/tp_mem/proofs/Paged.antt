@@ -1,5 +1,5 @@
 -- What is so of every memory that copies pages before it writes stays so.
-use Rattle.std.proofs.Common.{◌≡◌, ℕ, zero, suc, ◌+◌, ◌-◌, ◌*◌, ◌<◌, ◌≤◌, Bool, true, false, cond, List, [], ◌∷◌, length, Option, Some, None, get_or, set, replicate, refl, sym, ap, subst, ◌∙◌, arith, IsSome}
+use Rattle.std.proofs.Common.{◌≡◌, ℕ, zero, suc, ◌+◌, ◌-◌, ◌*◌, ◌<◌, ◌≤◌, Bool, true, false, cond, List, [], ◌∷◌, length, Option, Some, None, get_or, set, replicate, refl, sym, ap, subst, ◌∙◌, arith, IsSome, IsNone}
 use Rattle.std.proofs.lemmas.List.{length-set, length-replicate}
 use Rattle.tp_model.specs.Frames.{Held, Frames, frame, held_owners, owners_of, free_in}
 use Rattle.tp_model.specs.SharedPages.{private_in}
@@ -29,6 +29,10 @@ pub frozen_is : (is_frozen : Bool) (bytes : List ℕ) → IsSome (cond is_frozen
 frozen_is true bytes some = refl
 frozen_is false bytes some = absurd (let no : false ≡ true = some in cc)
 
+pub not_frozen : (is_frozen : Bool) (bytes : List ℕ) → IsNone (cond is_frozen (Some bytes) None) → is_frozen ≡ false
+not_frozen true bytes none = absurd (let no : true ≡ false = none in cc)
+not_frozen false bytes none = refl
+
 pub is_frozen_some : (is_frozen : Bool) (bytes : List ℕ) → is_frozen ≡ true → IsSome (cond is_frozen (Some bytes) None)
 is_frozen_some true bytes frozen = refl
 is_frozen_some false bytes frozen = absurd (cc)
@@ -53,7 +57,7 @@ module _ (live : List ℕ) (shared : List Bool) (copies : List (Option ℕ)) (fr
   room_is page is_shared room = omega (arith, private_is (at_page page is_shared).0)
 
   module _ (page : ℕ) (is_shared : get_or shared page false ≡ true) (id : ℕ) (within : id < length frames) (free : frame frames id ≡ None) (old bytes : List ℕ) (long : length bytes ≡ 1024) (same : bytes ≡ page_of live page)
-    (taken filled : Frames) (takes : taken ≡ set frames id (copy_of old)) (fills : filled ≡ set taken id (copy_of bytes)) where
+      (taken filled : Frames) (takes : taken ≡ set frames id (copy_of old)) (fills : filled ≡ set taken id (copy_of bytes)) where
     after : filled ≡ set frames id (copy_of bytes)
     after = fills ∙ ap (λ fs. set fs id (copy_of bytes)) takes ∙ set-twice frames id (copy_of old) (copy_of bytes)
 

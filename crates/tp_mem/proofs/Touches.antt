@@ -1,7 +1,7 @@
 -- Which pages stay shared behind writes.
 use Rattle.std.proofs.Common.{◌≡◌, ℕ, zero, suc, ◌+◌, ◌-◌, ◌*◌, ◌/◌, ◌%◌, ◌<◌, ◌≤◌, Bool, true, false, not, ◌&&◌, ◌||◌, if◌then◌else◌, cond, List, [], ◌∷◌, length, get_or, set, map, drop, replicate, refl, sym, ap, subst, ◌∙◌, arith, ltb}
 use Rattle.std.proofs.lemmas.List.{set-get_or}
-use Rattle.std.proofs.lemmas.Bool.{ltb-true, and_parts}
+use Rattle.std.proofs.lemmas.Bool.{ltb-true, and_parts, or_parts}
 use Rattle.std.proofs.Math.Seq.{drop-cons}
 use Rattle.std.specs.List.{list_any}
 use Rattle.tp_model.specs.Memory.{word_offset}
@@ -149,10 +149,6 @@ word_untouched pages address page none shared = not_true (touches page (word_off
     let here : word_offset address / 1024 ≡ page = omega (arith, meets.begins, meets.ends) in
     let not_shared : get_or pages page false ≡ false = ap (λ p. get_or pages p false) (sym here) ∙ none in absurd (cc))
 
-or_parts : (a b : Bool) → (a || b) ≡ false → (a ≡ false) × (b ≡ false)
-or_parts true b none = absurd (cc)
-or_parts false b none = (refl, none)
-
 pub words_untouched : (pages : List Bool) (words : List (ℕ × ℕ)) (page : ℕ) → list_any (λ word. get_or pages (word_offset word.0 / 1024) false) words ≡ false → get_or pages page false ≡ true → list_any (touches page) (word_ranges words) ≡ false
 words_untouched pages [] page none shared = refl
 words_untouched pages (word ∷ words) page none shared =
@@ -163,7 +159,7 @@ pub or_false : (a b c : Bool) → a ≡ false → b ≡ false → c ≡ false �
 or_false a b c none_a none_b none_c = ap (λ x. x || (b || c)) none_a ∙ ap (λ x. x || c) none_b ∙ none_c
 
 -- ---- from the first page on
-zero_plus : (n : ℕ) → 0 + n ≡ n
+pub zero_plus : (n : ℕ) → 0 + n ≡ n
 zero_plus n = omega arith
 
 pub parted-next : (n : ℕ) (pages : List Bool) (ranges : List (ℕ × ℕ))
@@ -188,3 +184,32 @@ kept_page pages page is_touched none = ap (λ b. set pages page b) (and_not (get
 
 pub parted_page : (pages : List Bool) (page : ℕ) (is_touched : Bool) → is_touched ≡ true → set pages page false ≡ set pages page (get_or pages page false && not is_touched)
 parted_page pages page is_touched touched = ap (λ b. set pages page b) (sym (ap (λ t. get_or pages page false && not t) touched ∙ and_false (get_or pages page false)))
+
+want_none : (is_shared is_touched : Bool) → (is_shared ≡ true → is_touched ≡ false) → want is_shared is_touched ≡ 0
+want_none false is_touched none = refl
+want_none true is_touched none = ap (λ b. want true b) (none refl)
+
+pub wanted_from-untouched : (page : ℕ) (pages : List Bool) (ranges : List (ℕ × ℕ)) → ((i : ℕ) → get_or pages i false ≡ true → list_any (touches (page + i)) ranges ≡ false) → wanted_from page pages ranges ≡ 0
+wanted_from-untouched page [] ranges none = refl
+wanted_from-untouched page (is_shared ∷ pages) ranges none =
+    let here : page + 0 ≡ page = omega arith in
+    let rest = wanted_from-untouched (page + 1) pages ranges (λ i shared. let place : page + 1 + i ≡ page + suc i = omega arith in ap (λ p. list_any (touches p) ranges) place ∙ none (suc i) shared) in
+    let not_here = want_none is_shared (list_any (touches page) ranges) (λ shared. ap (λ p. list_any (touches p) ranges) (sym here) ∙ none 0 shared) in
+    omega (arith, rest, not_here)
+
+pub or_none : (b : Bool) → (b || false) ≡ b
+or_none true = refl
+or_none false = refl
+
+-- a page that stays shared
+and_true : (a b : Bool) → (a && not b) ≡ true → b ≡ false
+and_true true true so = absurd (cc)
+and_true true false so = refl
+and_true false b so = absurd (cc)
+
+pub shared_from-true : (page : ℕ) (pages : List Bool) (ranges : List (ℕ × ℕ)) (i : ℕ) → get_or (shared_from page pages ranges) i false ≡ true → list_any (touches (page + i)) ranges ≡ false
+shared_from-true page [] ranges i shared = absurd (cc)
+shared_from-true page (is_shared ∷ pages) ranges zero shared =
+    let here : page + 0 ≡ page = omega arith in ap (λ p. list_any (touches p) ranges) here ∙ and_true is_shared (list_any (touches page) ranges) shared
+shared_from-true page (is_shared ∷ pages) ranges (suc i) shared =
+    let place : page + suc i ≡ page + 1 + i = omega arith in ap (λ p. list_any (touches p) ranges) place ∙ shared_from-true (page + 1) pages ranges i shared

@@ -1,9 +1,10 @@
 -- Where a write to memory goes outside, it has no meaning; else it keeps the length. What holds of all memories stands in
 -- `tp_law_bytes`, and callers find it here too.
-use Rattle.std.proofs.Common.{Bool, ◌≡◌, ℕ, ◌+◌, ◌%◌, ◌<◌, ◌≤◌, true, false, ◌&&◌, cond, List, [], ◌∷◌, length, Option, Some, None, ltb, refl, ap, ◌∙◌, arith}
+use Rattle.std.proofs.Common.{Bool, ◌≡◌, ℕ, ◌+◌, ◌%◌, ◌<◌, ◌≤◌, true, false, ◌&&◌, cond, List, [], ◌∷◌, length, Option, Some, None, ◌||◌, ltb, leb, eqb, refl, ap, ◌∙◌, arith}
 use Rattle.std.specs.Prelude.{option_and_then, is_some}
 use Rattle.std.proofs.lemmas.Bool.{cond_both, ltb-true, lt-ltb}
-use Rattle.tp_model.specs.Memory.{word_offset, set_word, byte_stored, stored, copied, changed}
+use Rattle.tp_model.specs.Memory.{offset, word_offset, set_byte, set_word, byte_stored, stored, is_inside, moved, copied, changed}
+use Rattle.tp_mem.specs.After.{changed_after}
 use Rattle.tp_mem.specs.Bytes.{byte_changed}
 use Rattle.tp_mem.specs.Ranges.{are_inside}
 pub use Rattle.tp_law_bytes.proofs.Writes.{word_within, length-set_word, length-set_byte, length-stored, length-byte_stored, length-copied, length-then, length-changed, stored-append}
@@ -50,5 +51,36 @@ is_some-stored memory (write ∷ writes) whole =
     let same = length-set_word memory (word_offset write.0) write.1 (word_within write.0 (length memory) whole within) in
     let whole_after : length after % 4 ≡ 0 = rw same whole in
     is_some-stored after writes whole_after ∙ ap (λ n. are_inside n writes) same)
+
+-- a block and words that lie inside can be written
+pub is_some-changed : (memory : List ℕ) (to from count : ℕ) (writes : List (ℕ × ℕ)) → length memory % 4 ≡ 0 → is_inside memory to count ≡ true → is_inside memory from count ≡ true → are_inside (length memory) writes ≡ true
+    → is_some (changed memory to from count writes) ≡ true
+is_some-changed memory to from count writes whole inside_to inside_from inside =
+    let after = cond (eqb count 0) memory (moved memory (offset to) (offset from) count) in
+    let here : copied memory to from count ≡ Some after = rw (inside_to, inside_from) refl in
+    let long = length-copied memory to from count after here in
+    let whole_after : length after % 4 ≡ 0 = rw long whole in
+    ap (λ o. is_some (option_and_then (λ m. stored m writes) o)) here ∙ is_some-stored after writes whole_after ∙ ap (λ n. are_inside n writes) long ∙ inside
+
+pub is_some-byte_changed : (memory : List ℕ) (address byte : ℕ) (writes : List (ℕ × ℕ)) → length memory % 4 ≡ 0 → offset address < length memory → are_inside (length memory) writes ≡ true → is_some (byte_changed memory address byte writes) ≡ true
+is_some-byte_changed memory address byte writes whole within inside =
+    let after = set_byte memory (offset address) byte in
+    let here : byte_stored memory address byte ≡ Some after = rw (lt-ltb (offset address) (length memory) within) refl in
+    let long = length-byte_stored memory address byte after here in
+    let whole_after : length after % 4 ≡ 0 = rw long whole in
+    ap (λ o. is_some (option_and_then (λ m. stored m writes) o)) here ∙ is_some-stored after writes whole_after ∙ ap (λ n. are_inside n writes) long ∙ inside
+
+pub is_inside-long : (memory after : List ℕ) (address count : ℕ) → length after ≡ length memory → is_inside after address count ≡ is_inside memory address count
+is_inside-long memory after address count long = ap (λ n. (eqb count 0) || leb (offset address + count) n) long
+
+pub is_some-changed_after : (memory : List ℕ) (first : ℕ × ℕ) (to from count : ℕ) (writes : List (ℕ × ℕ)) → length memory % 4 ≡ 0 → word_offset first.0 < length memory → is_inside memory to count ≡ true → is_inside memory from count ≡ true
+    → are_inside (length memory) writes ≡ true → is_some (changed_after memory first to from count writes) ≡ true
+is_some-changed_after memory first to from count writes whole within inside_to inside_from inside =
+    let after = set_word memory (word_offset first.0) first.1 in
+    let here : stored memory (first ∷ []) ≡ Some after = rw (lt-ltb (word_offset first.0) (length memory) within) refl in
+    let long = length-set_word memory (word_offset first.0) first.1 (word_within first.0 (length memory) whole within) in
+    let whole_after : length after % 4 ≡ 0 = rw long whole in
+    ap (λ o. is_some (option_and_then (λ m. changed m to from count writes) o)) here
+    ∙ is_some-changed after to from count writes whole_after (is_inside-long memory after to count long ∙ inside_to) (is_inside-long memory after from count long ∙ inside_from) (ap (λ n. are_inside n writes) long ∙ inside)
 
 pub ruleset behind_a_word = (changed_outside, length-set_word, length-copied)

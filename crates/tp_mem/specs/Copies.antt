@@ -2,6 +2,7 @@
 -- live one, while it is shared, or a copy in a frame.
 use Rattle.std.specs.Prelude.{◌≡◌, ℕ, ◌+◌, ◌*◌, ◌≤◌, Bool, true, false, not, ◌&&◌, List, [], ◌∷◌, ◌++◌, length, set, Option, Some, None, is_some, if◌then◌else◌}
 use Rattle.tp_model.specs.Frames.{Frames, owners_of, bytes_of, free_in}
+use Rattle.tp_model.specs.SharedPages.{Kept}
 use Rattle.tp_model.specs.declared.limits.TheConstants.{PAGE_BYTES}
 use Rattle.tp_mem.specs.Contents.{page_of}
 
@@ -12,6 +13,10 @@ pub record Paged : Type 0 where
   pub frozen : Option (List ℕ)
   pub shared : List Bool
   pub spare : ℕ
+
+-- what is kept beside the live bytes
+abbrev pub kept_of : Paged → Kept
+kept_of memory = record { frozen = memory.frozen; shared = memory.shared; spare = memory.spare }
 
 -- the frozen bytes of a page
 abbrev pub frozen_bytes : ℕ → List ℕ → Option ℕ → Frames → List ℕ

@@ -31,9 +31,7 @@ fn touches(page: usize, range: Range) -> bool
     requires small { range.0 + range.1 < 2 ^ 33 }
     ensures { result ≡ touches page range }
 {
-    range.1 > 0
-        && range.0 < PAGE_BYTES * page + PAGE_BYTES
-        && PAGE_BYTES * page < range.0 + range.1
+    range.1 > 0 && range.0 < PAGE_BYTES * page + PAGE_BYTES && PAGE_BYTES * page < range.0 + range.1
 }
 
 /// Whether a word that is written lies in a page.

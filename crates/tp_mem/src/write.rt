@@ -2,7 +2,9 @@
 
 ghost use Rattle.std.specs.Prelude.{◌≡◌, ◌+◌, ◌%◌, ◌<◌, ◌≤◌, Some, length, slice_range, IsTrue};
 ghost use Rattle.std.specs.Int.{from_le_bytes, w32};
-ghost use Rattle.tp_model.specs.Memory.{set_byte, set_word, stored, is_inside, copied};
+ghost use Rattle.tp_model.specs.Memory.{offset, word_offset, set_byte, set_word, stored, is_inside, copied, changed};
+ghost use Rattle.tp_mem.specs.After.{changed_after};
+ghost use Rattle.tp_mem.specs.Bytes.{byte_changed};
 ghost use Rattle.tp_mem.specs.Ranges.{are_inside};
 
 use crate::address::{offset, word_offset};
@@ -56,4 +58,55 @@ pub(crate) fn move_block(live: &mut [u8], to: u32, from: u32, count: u32)
         let start = offset(from);
         live.copy_within(start..start + count as usize, offset(to));
     }
+}
+
+/// Puts a byte at an address, and then writes words, where all goes inside.
+pub(crate) fn put_byte_and_words(live: &mut [u8], address: u32, byte: u8, writes: &[(u32, u32)])
+    requires aligned { length live.old % 4 ≡ 0 }
+    requires byte { offset address < length live.old }
+    requires inside { IsTrue (are_inside (length live.old) writes.now) }
+    ensures { byte_changed live.old address byte writes.now ≡ Some live.new }
+{
+    put_byte(live, offset(address), byte);
+    put_words(live, writes);
+}
+
+/// Copies a block, and then writes words, where all goes inside.
+#[tactic(auto, using(crate::proofs::Writes::behind_a_word))]
+pub(crate) fn move_and_put_words(
+    live: &mut [u8],
+    to: u32,
+    from: u32,
+    count: u32,
+    writes: &[(u32, u32)],
+)
+    requires aligned { length live.old % 4 ≡ 0 }
+    requires to { IsTrue (is_inside live.old to count) }
+    requires from { IsTrue (is_inside live.old from count) }
+    requires inside { IsTrue (are_inside (length live.old) writes.now) }
+    ensures { changed live.old to from count writes.now ≡ Some live.new }
+{
+    move_block(live, to, from, count);
+    put_words(live, writes);
+}
+
+/// Writes a word, then copies a block, and then writes words, where all goes inside.
+#[tactic(auto, using(crate::proofs::Writes::behind_a_word))]
+pub(crate) fn put_and_move(
+    live: &mut [u8],
+    first: (u32, u32),
+    to: u32,
+    from: u32,
+    count: u32,
+    writes: &[(u32, u32)],
+)
+    requires aligned { length live.old % 4 ≡ 0 }
+    requires first { word_offset first.0 < length live.old }
+    requires to { IsTrue (is_inside live.old to count) }
+    requires from { IsTrue (is_inside live.old from count) }
+    requires inside { IsTrue (are_inside (length live.old) writes.now) }
+    ensures { changed_after live.old first to from count writes.now ≡ Some live.new }
+{
+    put_word(live, word_offset(first.0), first.1);
+    move_and_put_words(live, to, from, count, writes);
 }

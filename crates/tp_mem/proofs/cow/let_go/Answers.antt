@@ -14,10 +14,11 @@ pub loop-page-preserved : goal.loop-page-preserved
 loop-page-preserved c =
     let within : c.loop-page.page < length c.loop-page.copies = omega arith in
     let at = get_or_default _ _ None _ within ∙ sym c.take-copy.ensures.value in
-    rw (c.give_copy.ensures, c.take-copy.ensures.after)
-    (AreCopies-gone c.loop-page.pool c.loop-page.copies c.loop-page.page c.take-copy.result at c.loop-page.invariant.0,
-    free_in-gone c.loop-page.pool c.loop-page.copies c.loop-page.page c.take-copy.result at c.loop-page.invariant.0 ∙ c.loop-page.invariant.1,
-    copied_in-next c.loop-page.copies c.loop-page.page within c.loop-page.invariant.2)
+    rw (c.give_copy.ensures, c.take-copy.ensures.after) (
+      AreCopies-gone c.loop-page.pool c.loop-page.copies c.loop-page.page c.take-copy.result at c.loop-page.invariant.0,
+      free_in-gone c.loop-page.pool c.loop-page.copies c.loop-page.page c.take-copy.result at c.loop-page.invariant.0 ∙ c.loop-page.invariant.1,
+      copied_in-next c.loop-page.copies c.loop-page.page within c.loop-page.invariant.2,
+    )
 
 pub returns-clause-gone : goal.returns-clause-gone
 returns-clause-gone c =

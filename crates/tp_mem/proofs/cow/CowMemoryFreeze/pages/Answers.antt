@@ -1,0 +1,23 @@
+use Rattle.std.proofs.Common.{◌≡◌, ◌*◌, ℕ, List, length, sym, ap, subst, ◌∙◌, arith}
+use Rattle.std.specs.Prelude.{IfSome}
+use Rattle.tp_mem.specs.Copies.{Paged, frozen_of}
+use Rattle.tp_mem.proofs.Copies.{length-shared_of}
+use Rattle.tp_mem.proofs.Written.{length-frozen_of, IfSome-map}
+use Rattle.tp_mem.proofs.cow.CowMemoryFreeze.pages.Goals as goal
+
+pub returns-clause-value : goal.returns-clause-value
+returns-clause-value c =
+    let v = c.self.inside in let i = c.self.invariant in
+    omega (arith, c.len.ensures, v.shared.ok.0, ap length i.flags, length-shared_of v.is_frozen v.copies.items, i.whole, ap (λ (m : Paged). length m.live) c.self.view_is)
+
+pub returns-clause-bounded : goal.returns-clause-bounded
+returns-clause-bounded c =
+    let v = c.self.inside in let i = c.self.invariant in
+    omega (arith, c.len.ensures, v.shared.ok.0, ap length i.flags, length-shared_of v.is_frozen v.copies.items, i.few)
+
+pub returns-clause-frozen : goal.returns-clause-frozen
+returns-clause-frozen c =
+    let v = c.self.inside in let i = c.self.invariant in
+    let pages : length v.copies.items ≡ c.len.result = omega (arith, c.len.ensures, v.shared.ok.0, ap length i.flags, length-shared_of v.is_frozen v.copies.items) in
+    subst (λ (m : Paged). IfSome m.frozen (λ kept. length kept ≡ 1024 * c.len.result)) c.self.view_is
+    (IfSome-map {A = List ℕ} (frozen_of v.is_frozen v.live.items v.copies.items v.pool) (λ kept. length kept ≡ 1024 * length v.copies.items) (λ kept. length kept ≡ 1024 * c.len.result) (λ kept long. long ∙ ap (λ n. 1024 * n) pages) (length-frozen_of v.live.items v.shared.items v.copies.items v.pool v.is_frozen i))
