@@ -2,6 +2,7 @@
 
 ghost use Rattle.std.specs.Prelude.{◌≡◌, Ok, IsSome};
 ghost use Rattle.tp_model.specs.Step.{executed, instruction, idle, in_state, step_of, MakesStep};
+ghost use Rattle.tp_model.specs.SharedPages.{LacksFrames};
 ghost use Rattle.tp_proc.specs.Ends.{Does, MayRefuse};
 ghost use Rattle.tp_cpu.specs.Acts.{Acts, OnNoFrame, fault_of};
 
@@ -28,8 +29,8 @@ fn fault_of(fault: DecodeFault) -> Fault
 /// Does the instruction that was read. First it counts in the slice, and the instruction pointer moves past it.
 #[inline(always)]
 fn execute<M: Mem>(cpu: &mut Cpu, mem: &mut M, instr: Instr) -> Result<(), Undone>
-    ensures does { Does (executed (Ok instr)) (MayRefuse (M.may_refuse mem.old)) cpu.old (M.bytes mem.old) result cpu.new (M.bytes mem.new) }
-    ensures kept { M.frozen mem.new ≡ M.frozen mem.old }
+    ensures does { Does (executed (Ok instr)) (MayRefuse (LacksFrames (M.kept mem.old))) cpu.old (M.bytes mem.old) result cpu.new (M.bytes mem.new) }
+    ensures kept { (M.kept mem.new).frozen ≡ (M.kept mem.old).frozen }
 {
     let iptr = cpu.iptr;
     let slice = cpu.slice;
@@ -47,8 +48,8 @@ fn execute<M: Mem>(cpu: &mut Cpu, mem: &mut M, instr: Instr) -> Result<(), Undon
 /// Reads an instruction and does it.
 #[inline(always)]
 fn instruction<M: Mem>(cpu: &mut Cpu, mem: &mut M) -> Result<(), Undone>
-    ensures does { Does instruction (MayRefuse (M.may_refuse mem.old)) cpu.old (M.bytes mem.old) result cpu.new (M.bytes mem.new) }
-    ensures kept { M.frozen mem.new ≡ M.frozen mem.old }
+    ensures does { Does instruction (MayRefuse (LacksFrames (M.kept mem.old))) cpu.old (M.bytes mem.old) result cpu.new (M.bytes mem.new) }
+    ensures kept { (M.kept mem.new).frozen ≡ (M.kept mem.old).frozen }
 {
     match fetch(mem, cpu.iptr) {
         Ok(instr) => execute(cpu, mem, instr),
@@ -58,8 +59,8 @@ fn instruction<M: Mem>(cpu: &mut Cpu, mem: &mut M) -> Result<(), Undone>
 
 /// Finds work for an idle processor: the front high process, then the low process that was interrupted, then the front low one.
 fn idle<M: Mem>(cpu: &mut Cpu, mem: &mut M) -> Option<Result<(), Undone>>
-    ensures acts { Acts idle (MayRefuse (M.may_refuse mem.old)) cpu.old (M.bytes mem.old) result cpu.new (M.bytes mem.new) }
-    ensures kept { M.frozen mem.new ≡ M.frozen mem.old }
+    ensures acts { Acts idle (MayRefuse (LacksFrames (M.kept mem.old))) cpu.old (M.bytes mem.old) result cpu.new (M.bytes mem.new) }
+    ensures kept { (M.kept mem.new).frozen ≡ (M.kept mem.old).frozen }
 {
     if cpu.high.front != NOT_PROCESS {
         return Some(dispatch_high(cpu, mem));
@@ -75,8 +76,8 @@ fn idle<M: Mem>(cpu: &mut Cpu, mem: &mut M) -> Option<Result<(), Undone>>
 /// Does what the processor does in its state.
 #[inline(always)]
 fn act<M: Mem>(cpu: &mut Cpu, mem: &mut M) -> Option<Result<(), Undone>>
-    ensures acts { Acts (λ cpu. in_state cpu.state cpu) (MayRefuse (M.may_refuse mem.old)) cpu.old (M.bytes mem.old) result cpu.new (M.bytes mem.new) }
-    ensures kept { M.frozen mem.new ≡ M.frozen mem.old }
+    ensures acts { Acts (λ cpu. in_state cpu.state cpu) (MayRefuse (LacksFrames (M.kept mem.old))) cpu.old (M.bytes mem.old) result cpu.new (M.bytes mem.new) }
+    ensures kept { (M.kept mem.new).frozen ≡ (M.kept mem.old).frozen }
 {
     match cpu.state {
         State::Idle => idle(cpu, mem),
@@ -90,9 +91,9 @@ fn act<M: Mem>(cpu: &mut Cpu, mem: &mut M) -> Option<Result<(), Undone>>
 #[tactic(auto, unfolding(tp_model::specs::Step::step_of))]
 pub fn step<M: Mem>(cpu: &mut Cpu, mem: &mut M) -> StepEnd
     ensures makes { MakesStep (step_of cpu.old (M.bytes mem.old)) cpu.old (M.bytes mem.old) result cpu.new (M.bytes mem.new) }
-    ensures kept { M.frozen mem.new ≡ M.frozen mem.old }
-    ensures refusal { OnNoFrame result (MayRefuse (M.may_refuse mem.old)) }
-    ensures frozen { OnNoFrame result (IsSome (M.frozen mem.old)) }
+    ensures kept { (M.kept mem.new).frozen ≡ (M.kept mem.old).frozen }
+    ensures refusal { OnNoFrame result (MayRefuse (LacksFrames (M.kept mem.old))) }
+    ensures frozen { OnNoFrame result (IsSome (M.kept mem.old).frozen) }
 {
     if cpu.halt.is_some() {
         return StepEnd::Idle;

@@ -1,6 +1,6 @@
 -- The frames of counts and a region: what each is, and what a change of one makes of them.
-use Rattle.std.proofs.Common.{◌≡◌, ℕ, zero, suc, ◌+◌, ◌<◌, List, [], ◌∷◌, Option, Some, None, get_or, set, length, refl, sym, ap, ◌∙◌, arith}
-use Rattle.tp_model.specs.Frames.{Held, Frames, frame, owned, held_owners, held_bytes, owners_of, bytes_of, IsHeld, with_frame, free_in}
+use Rattle.std.proofs.Common.{◌≡◌, ℕ, zero, suc, ◌+◌, ◌<◌, List, [], ◌∷◌, Option, Some, None, get_or, set, length, refl, ap, ◌∙◌, arith}
+use Rattle.tp_model.specs.Frames.{Held, Frames, frame, owned, held_owners, held_bytes, owners_of, bytes_of, with_frame, free_in}
 use Rattle.tp_frames.specs.FreeList.{frames_of}
 
 pub length-frames_of : (counts : List ℕ) (region : List (List ℕ)) → length counts ≡ length region → length (frames_of counts region) ≡ length counts

@@ -1,5 +1,5 @@
 -- What is so of every pool stays so.
-use Rattle.std.proofs.Common.{◌≡◌, ℕ, zero, suc, ◌+◌, ◌-◌, ◌<◌, ◌≤◌, ◌^◌, List, [], ◌∷◌, Option, Some, None, get_or, set, length, replicate, refl, sym, ap, subst, ◌∙◌, arith}
+use Rattle.std.proofs.Common.{◌≡◌, ℕ, zero, suc, ◌+◌, ◌-◌, ◌<◌, ◌^◌, List, [], ◌∷◌, Option, None, get_or, set, length, replicate, refl, sym, ap, subst, ◌∙◌, arith}
 use Rattle.std.proofs.lemmas.List.{length-set, get_or-set_same, get_or-set_other, set-get_or, length-replicate, get_or-replicate}
 use Rattle.tp_model.specs.Frames.{Held, Frames, frame, owned, owners_of, bytes_of, IsHeld, with_frame, free_in}
 use Rattle.tp_frames.specs.FreeList.{frames_of, next_in, AreLinked, IsApart, IsChain, IsPool}
@@ -9,9 +9,10 @@ use Rattle.tp_frames.proofs.Frames.{length-frames_of, frame-frames_of, frames_of
 pub IsApart-held : (frames : Frames) (region : List (List ℕ)) (first : ℕ) (numbers : List ℕ) (i : ℕ) → vacancy (frame frames i) ≡ 0
     → IsChain frames region first numbers → IsApart i numbers
 IsApart-held frames region first [] i held chain = tt
-IsApart-held frames region first (number ∷ numbers) i held chain =
-    ((λ same. let vacant : vacancy (frame frames i) ≡ 1 = rw (ap (λ j. frame frames j) same ∙ chain.2) refl in absurd (omega arith)),
-    IsApart-held frames region (next_in (get_or region number [])) numbers i held chain.4)
+IsApart-held frames region first (number ∷ numbers) i held chain = (
+  (λ same. let vacant : vacancy (frame frames i) ≡ 1 = rw (ap (λ j. frame frames j) same ∙ chain.2) refl in absurd (omega arith)),
+  IsApart-held frames region (next_in (get_or region number [])) numbers i held chain.4,
+)
 
 -- the free list outlives a change elsewhere
 pub IsChain-set : (frames : Frames) (region : List (List ℕ)) (first : ℕ) (numbers : List ℕ) (i : ℕ) (entry : Option Held) (bytes : List ℕ) → IsApart i numbers
@@ -19,9 +20,13 @@ pub IsChain-set : (frames : Frames) (region : List (List ℕ)) (first : ℕ) (nu
 IsChain-set frames region first [] i entry bytes apart chain = tt
 IsChain-set frames region first (number ∷ numbers) i entry bytes apart chain =
     let other : ¬ (number ≡ i) = λ same. apart.0 (sym same) in
-    let next : next_in (get_or (set region i bytes) number []) ≡ next_in (get_or region number []) = ap next_in (get_or-set_other region i number bytes [] other) in
-    (chain.0, omega (arith, length-set frames i entry), get_or-set_other frames i number entry None other ∙ chain.2, chain.3,
-    rw next (IsChain-set frames region (next_in (get_or region number [])) numbers i entry bytes apart.1 chain.4))
+    let next : next_in (get_or (set region i bytes) number []) ≡ next_in (get_or region number []) = ap next_in (get_or-set_other region i number bytes [] other) in (
+      chain.0,
+      omega (arith, length-set frames i entry),
+      get_or-set_other frames i number entry None other ∙ chain.2,
+      chain.3,
+      rw next (IsChain-set frames region (next_in (get_or region number [])) numbers i entry bytes apart.1 chain.4),
+    )
 
 -- the free list of equal frames
 along : (frames after : Frames) (region : List (List ℕ)) (first : ℕ) (numbers : List ℕ) → after ≡ frames → IsChain frames region first numbers → IsChain after region first numbers
@@ -47,8 +52,12 @@ module _ (counts : List ℕ) (region : List (List ℕ)) (first free : ℕ) (pool
         matched = same_lengths i count bytes;
         small = omega (arith, length-set counts i count, pool.small);
         free_is = rw (frames_of-set counts region i count bytes pool.matched) (omega (arith, pool.free_is, free_in-set frames i (owned count bytes) (within i held), vacancy-owned count bytes some));
-        chain = (pool.chain.0, pool.chain.1, along (with_frame frames i count bytes) (frames_of (set counts i count) (set region i bytes)) (set region i bytes) first pool.chain.0 (frames_of-set counts region i count bytes pool.matched)
-          (IsChain-set frames region first pool.chain.0 i (owned count bytes) bytes (IsApart-held frames region first pool.chain.0 i vacant pool.chain.2) pool.chain.2));
+        chain = (
+          pool.chain.0,
+          pool.chain.1,
+          along (with_frame frames i count bytes) (frames_of (set counts i count) (set region i bytes)) (set region i bytes) first pool.chain.0 (frames_of-set counts region i count bytes pool.matched)
+              (IsChain-set frames region first pool.chain.0 i (owned count bytes) bytes (IsApart-held frames region first pool.chain.0 i vacant pool.chain.2) pool.chain.2),
+        );
       }
 
   pub IsPool-freed : (i : ℕ) (bytes : List ℕ) → 0 < get_or counts i 0 → next_in bytes ≡ first → IsPool (set counts i 0) (set region i bytes) i (free + 1)
@@ -61,9 +70,17 @@ module _ (counts : List ℕ) (region : List (List ℕ)) (first free : ℕ) (pool
         matched = same_lengths i 0 bytes;
         small = omega (arith, length-set counts i 0, pool.small);
         free_is = rw (frames_of-set counts region i 0 bytes pool.matched) (omega (arith, pool.free_is, free_in-set frames i None inside));
-        chain = (i ∷ pool.chain.0, omega (arith, pool.chain.1), along (with_frame frames i 0 bytes) (frames_of (set counts i 0) (set region i bytes)) (set region i bytes) i (i ∷ pool.chain.0) (frames_of-set counts region i 0 bytes pool.matched)
-          (refl, omega (arith, length-set frames i None), get_or-set_same frames i None None inside, apart,
-          rw here (IsChain-set frames region first pool.chain.0 i None bytes apart pool.chain.2)));
+        chain = (
+          i ∷ pool.chain.0,
+          omega (arith, pool.chain.1),
+          along (with_frame frames i 0 bytes) (frames_of (set counts i 0) (set region i bytes)) (set region i bytes) i (i ∷ pool.chain.0) (frames_of-set counts region i 0 bytes pool.matched) (
+            refl,
+            omega (arith, length-set frames i None),
+            get_or-set_same frames i None None inside,
+            apart,
+            rw here (IsChain-set frames region first pool.chain.0 i None bytes apart pool.chain.2),
+          ),
+        );
       }
 
   chain_first : (numbers : List ℕ) → length numbers ≡ free → 0 < free → IsChain frames region first numbers → (first < length counts) × (frame frames first ≡ None)
@@ -91,8 +108,12 @@ module _ (counts : List ℕ) (region : List (List ℕ)) (first free : ℕ) (pool
         matched = length-set counts first count ∙ pool.matched;
         small = omega (arith, length-set counts first count, pool.small);
         free_is = rw view (omega (arith, pool.free_is, free_in-set frames first (owned count bytes) (omega (arith, length-frames_of counts region pool.matched)), vacancy-owned count bytes taken));
-        chain = (rest.0, rest.1, rw view (rw (sym (ap (λ r. IsChain (with_frame frames first count bytes) r (next_in bytes) rest.0) kept))
-          (IsChain-set frames region (next_in bytes) rest.0 first (owned count bytes) bytes rest.2 rest.3)));
+        chain = (
+          rest.0,
+          rest.1,
+          rw view (rw (sym (ap (λ r. IsChain (with_frame frames first count bytes) r (next_in bytes) rest.0) kept))
+              (IsChain-set frames region (next_in bytes) rest.0 first (owned count bytes) bytes rest.2 rest.3)),
+        );
       }
 
   pub IsPool-counted : (i count : ℕ) → 0 < get_or counts i 0 → 0 < count → IsPool (set counts i count) region first free
@@ -166,9 +187,13 @@ fresh_chain : (n : ℕ) (region : List (List ℕ)) → length region ≡ n → A
 fresh_chain n region long linked at zero all = tt
 fresh_chain n region long linked at (suc zero) all =
     (refl, omega (arith, length-replicate {A = Option Held} n None), get_or-replicate n at None None (omega arith), tt, tt)
-fresh_chain n region long linked at (suc (suc k)) all =
-    (refl, omega (arith, length-replicate {A = Option Held} n None), get_or-replicate n at None None (omega arith), IsApart-numbers_from at (at + 1) (suc k) (omega arith),
-    rw (linked at (omega arith)) (fresh_chain n region long linked (at + 1) (suc k) (omega arith)))
+fresh_chain n region long linked at (suc (suc k)) all = (
+  refl,
+  omega (arith, length-replicate {A = Option Held} n None),
+  get_or-replicate n at None None (omega arith),
+  IsApart-numbers_from at (at + 1) (suc k) (omega arith),
+  rw (linked at (omega arith)) (fresh_chain n region long linked (at + 1) (suc k) (omega arith)),
+)
 
 pub IsPool-fresh : (n : ℕ) (region : List (List ℕ)) → n < 2 ^ 32 → length region ≡ n → AreLinked region → IsPool (replicate n 0) region 0 n
 IsPool-fresh n region small long linked =
@@ -189,4 +214,3 @@ written_count counts i count read within is = is ∙ get_or-set_same counts i co
 
 pub single_held : (frames : Frames) (number i : ℕ) → number ≡ i → owners_of frames i ≡ 1 → (owners_of frames number ≡ 1) × IsHeld frames number
 single_held frames number i same single = let here : owners_of frames number ≡ 1 = ap (λ k. owners_of frames k) same ∙ single in (here, omega arith)
-

@@ -1,5 +1,5 @@
 -- How a pool's frames lie in its region: the owners beside it, and the free list in the free frames.
-use Rattle.std.specs.Prelude.{◌≡◌, ◌+◌, ◌<◌, ◌^◌, ℕ, List, [], ◌∷◌, Option, Some, None, get_or, length}
+use Rattle.std.specs.Prelude.{◌≡◌, ◌+◌, ◌<◌, ◌^◌, ℕ, List, [], ◌∷◌, None, get_or, length}
 use Rattle.std.specs.Int.{from_le_bytes, w32}
 use Rattle.tp_model.specs.Frames.{Frames, frame, owned, free_in}
 

@@ -1,7 +1,6 @@
 //! The raw region: frames side by side in one block of the allocator.
 
 ghost use Rattle.std.specs.Prelude.{◌≡◌, ◌+◌, ◌<◌, ◌^◌, ℕ, [], length, get_or, set, IfOk};
-
 ghost use Rattle.tp_frames.specs.FreeList.{AreLinked};
 
 use crate::link;

@@ -1,5 +1,5 @@
 -- Writes leave the bytes of every page in which they write none.
-use Rattle.std.proofs.Common.{◌≡◌, ℕ, zero, suc, ◌+◌, ◌-◌, ◌*◌, ◌%◌, ◌<◌, ◌≤◌, ◌⊎◌, inl, inr, Bool, true, false, ◌&&◌, ◌||◌, cond, List, [], ◌∷◌, ◌++◌, length, Option, Some, None, get_or, take, drop, refl, sym, ap, subst, ◌∙◌, arith, ltb, eqb, min, append_assoc}
+use Rattle.std.proofs.Common.{◌≡◌, ℕ, zero, suc, ◌+◌, ◌-◌, ◌*◌, ◌%◌, ◌<◌, ◌≤◌, ◌⊎◌, inl, inr, Bool, true, false, ◌&&◌, cond, List, [], ◌∷◌, ◌++◌, length, Option, Some, None, get_or, take, drop, refl, sym, ap, subst, ◌∙◌, arith, ltb, eqb, min, append_assoc}
 use Rattle.std.proofs.lemmas.Bool.{cond_both, ltb-true, lt-ltb, and_parts, or_parts, leb-true}
 use Rattle.std.proofs.lemmas.List.{ext_get_or, get_or-take, get_or-drop, length-take, length-take-le, length-drop, length-append}
 use Rattle.std.proofs.lemmas.List.Folds.{list_any-append}
@@ -12,8 +12,7 @@ use Rattle.tp_mem.specs.After.{changed_after}
 use Rattle.tp_mem.specs.Bytes.{byte_changed}
 use Rattle.tp_mem.specs.Contents.{page_of}
 use Rattle.tp_mem.proofs.Copies.{page_of-take}
-use Rattle.tp_mem.proofs.Writes.{word_within, length-set_word, length-set_byte}
-use Rattle.tp_law_bytes.proofs.Writes.{length-moved}
+use Rattle.tp_mem.proofs.Writes.{word_within, length-set_word}
 
 pub record KeepsPages (ranges : List (ℕ × ℕ)) (before after : List ℕ) : Type 0 where
   pub long : length after ≡ length before

@@ -1,8 +1,8 @@
 -- Pages of the frozen bytes, and the frames that hold copies.
-use Rattle.std.proofs.Common.{◌≡◌, ℕ, zero, suc, ◌+◌, ◌-◌, ◌*◌, ◌<◌, ◌≤◌, Bool, true, false, List, [], ◌∷◌, ◌++◌, length, Option, Some, None, get_or, set, take, drop, replicate, refl, sym, ap, subst, ◌∙◌, arith, slice_range}
+use Rattle.std.proofs.Common.{◌≡◌, ℕ, zero, suc, ◌+◌, ◌-◌, ◌*◌, ◌<◌, ◌≤◌, Bool, true, false, List, [], ◌∷◌, ◌++◌, length, Option, Some, None, get_or, set, take, drop, replicate, refl, sym, ap, subst, ◌∙◌, arith}
 use Rattle.std.specs.Option.{ForSome}
-use Rattle.std.proofs.lemmas.List.{length-set, get_or-set_same, get_or-set_other, length-append, length-take-le, length-drop, take-append-drop, drop-drop}
-use Rattle.std.proofs.Math.Seq.{take-append_seam, take-append-add}
+use Rattle.std.proofs.lemmas.List.{get_or-set_same, get_or-set_other, length-append, length-take-le, length-drop, take-append-drop, drop-drop}
+use Rattle.std.proofs.Math.Seq.{take-append_seam}
 use Rattle.tp_model.specs.Frames.{Held, Frames, frame, held_owners, held_bytes, owners_of, bytes_of, free_in}
 use Rattle.tp_model.specs.SharedPages.{private_in}
 use Rattle.tp_mem.specs.Contents.{page_of}

@@ -1,5 +1,6 @@
 pub mod Changes
 pub mod Copies
+pub mod Kept
 pub mod Paged
 pub mod Touches
 pub mod Writes

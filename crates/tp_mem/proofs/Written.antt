@@ -1,14 +1,14 @@
 -- What a write leaves of a memory that copied the pages before.
-use Rattle.std.proofs.Common.{◌≡◌, ℕ, ◌+◌, ◌-◌, ◌*◌, ◌<◌, ◌≤◌, Bool, true, false, List, [], ◌∷◌, ◌++◌, length, Option, Some, None, Ok, Err, get_or, take, drop, refl, sym, ap, subst, ◌∙◌, arith, IsSome}
+use Rattle.std.proofs.Common.{◌≡◌, ℕ, ◌+◌, ◌-◌, ◌*◌, ◌<◌, Bool, true, false, List, ◌++◌, length, Option, Some, None, Ok, Err, get_or, take, drop, refl, sym, ap, ◌∙◌, arith, IsSome}
 use Rattle.std.proofs.Math.Seq.{take-append_seam}
 use Rattle.std.specs.Prelude.{is_some, IfSome}
 use Rattle.std.specs.List.{list_any}
 use Rattle.tp_model.specs.Frames.{Frames}
-use Rattle.tp_model.specs.SharedPages.{Kept, touches, shared_from, wanted_from, private_in, kept_behind, LacksFrames}
+use Rattle.tp_model.specs.SharedPages.{touches, shared_from, wanted_from, private_in, kept_behind, LacksFrames}
 use Rattle.tp_mem.specs.Contents.{page_of}
-use Rattle.tp_mem.specs.Copies.{Paged, kept_of, frozen_bytes, frozen_from, frozen_of, spare_in, shared_of, copied_in, AreCopies, IsPaged}
+use Rattle.tp_mem.specs.Copies.{Paged, kept_of, frozen_bytes, frozen_of, spare_in, IsPaged}
 use Rattle.tp_mem.specs.Stored.{IsStored}
-use Rattle.tp_mem.specs.declared.fault.WriteFault.TheVariants.{Outside, NoFrame}
+use Rattle.tp_mem.specs.declared.fault.WriteFault.TheVariants.{NoFrame}
 use Rattle.tp_mem.proofs.Changes.{KeepsPages}
 use Rattle.tp_mem.proofs.Copies.{frozen_from-written, page_of-frozen_from, length-frozen_from}
 use Rattle.tp_mem.proofs.Paged.{paged}

@@ -1,6 +1,6 @@
 -- How a memory is made up that copies a page before the first write to it: each page of the frozen bytes is either the
 -- live one, while it is shared, or a copy in a frame.
-use Rattle.std.specs.Prelude.{◌≡◌, ℕ, ◌+◌, ◌*◌, ◌≤◌, Bool, true, false, not, ◌&&◌, List, [], ◌∷◌, ◌++◌, length, set, Option, Some, None, is_some, if◌then◌else◌}
+use Rattle.std.specs.Prelude.{◌≡◌, ℕ, ◌+◌, ◌*◌, ◌≤◌, Bool, false, not, ◌&&◌, List, [], ◌∷◌, ◌++◌, length, set, Option, Some, None, is_some, if◌then◌else◌}
 use Rattle.tp_model.specs.Frames.{Frames, owners_of, bytes_of, free_in}
 use Rattle.tp_model.specs.SharedPages.{Kept}
 use Rattle.tp_model.specs.declared.limits.TheConstants.{PAGE_BYTES}

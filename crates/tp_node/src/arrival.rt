@@ -32,8 +32,8 @@ fn halt_outside(cpu: &mut Cpu)
 #[tactic(auto, using(crate::proofs::FirstStored::word_behind))]
 fn wake<M: Mem>(cpu: &mut Cpu, mem: &mut M, first: First, descriptor: u32) -> Result<(), NoFrame>
     requires { IsSome (first_stored first (M.bytes mem.old)) }
-    ensures hears { Hears (wake descriptor) (first_stored first (M.bytes mem.old)) (IsSome (M.frozen mem.old)) cpu.old (M.bytes mem.old) result cpu.new (M.bytes mem.new) }
-    ensures kept { M.frozen mem.new ≡ M.frozen mem.old }
+    ensures hears { Hears (wake descriptor) (first_stored first (M.bytes mem.old)) (IsSome (M.kept mem.old).frozen) cpu.old (M.bytes mem.old) result cpu.new (M.bytes mem.new) }
+    ensures kept { (M.kept mem.new).frozen ≡ (M.kept mem.old).frozen }
 {
     // Memory has whole words: its length says so.
     let _len = mem.len();
@@ -59,8 +59,8 @@ fn wake<M: Mem>(cpu: &mut Cpu, mem: &mut M, first: First, descriptor: u32) -> Re
 /// A partner has come for the alternative of a descriptor.
 #[tactic(auto, using(crate::proofs::FirstStored::word_behind))]
 fn signal<M: Mem>(cpu: &mut Cpu, mem: &mut M, descriptor: u32) -> Result<(), NoFrame>
-    ensures hears { Hears (tell (News.Alternative descriptor)) (Some (M.bytes mem.old)) (IsSome (M.frozen mem.old)) cpu.old (M.bytes mem.old) result cpu.new (M.bytes mem.new) }
-    ensures kept { M.frozen mem.new ≡ M.frozen mem.old }
+    ensures hears { Hears (tell (News.Alternative descriptor)) (Some (M.bytes mem.old)) (IsSome (M.kept mem.old).frozen) cpu.old (M.bytes mem.old) result cpu.new (M.bytes mem.new) }
+    ensures kept { (M.kept mem.new).frozen ≡ (M.kept mem.old).frozen }
 {
     let address = state_at(workspace(descriptor));
     let ready = First::Word {
@@ -87,8 +87,8 @@ pub(crate) fn tell<M: Mem>(
 ) -> Result<(), NoFrame>
     requires inside { IsSome (first_stored first (M.bytes mem.old)) }
     requires alone { GoesWith first news }
-    ensures hears { Hears (tell news) (first_stored first (M.bytes mem.old)) (IsSome (M.frozen mem.old)) cpu.old (M.bytes mem.old) result cpu.new (M.bytes mem.new) }
-    ensures kept { M.frozen mem.new ≡ M.frozen mem.old }
+    ensures hears { Hears (tell news) (first_stored first (M.bytes mem.old)) (IsSome (M.kept mem.old).frozen) cpu.old (M.bytes mem.old) result cpu.new (M.bytes mem.new) }
+    ensures kept { (M.kept mem.new).frozen ≡ (M.kept mem.old).frozen }
 {
     match news {
         News::Nobody => first.store(mem, &[]),

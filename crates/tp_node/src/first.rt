@@ -16,12 +16,13 @@ pub(crate) enum First {
 
 impl First {
     /// Puts it into memory, and then writes a word, if there is one.
+    #[tactic(auto, using(tp_mem::proofs::Kept::frozen_stays))]
     pub(crate) fn store<M: Mem>(self, mem: &mut M, behind: &[(u32, u32)]) -> Result<(), NoFrame>
         requires { IsSome (stored_behind self behind.now (M.bytes mem.old)) }
         ensures ok { OnOk result (stored_behind self behind.now (M.bytes mem.old) ≡ Some (M.bytes mem.new)) }
         ensures err { OnErr result (M.bytes mem.new ≡ M.bytes mem.old) }
-        ensures kept { M.frozen mem.new ≡ M.frozen mem.old }
-        ensures refusal { OnErr result (IsSome (M.frozen mem.old)) }
+        ensures kept { (M.kept mem.new).frozen ≡ (M.kept mem.old).frozen }
+        ensures refusal { OnErr result (IsSome (M.kept mem.old).frozen) }
     {
         let written = match self {
             First::Nothing => mem.write_words(behind),

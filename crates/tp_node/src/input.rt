@@ -5,6 +5,7 @@ ghost use Rattle.tp_model.specs.Memory.{stored};
 ghost use Rattle.tp_model.specs.LinkEnd.{in_started, in_enabled, in_disabled};
 ghost use Rattle.tp_model.specs.LinkStep.{message, with_byte, take_up, enabled, disabled, begin_input};
 ghost use Rattle.tp_model.specs.Processor.{descriptor_of};
+ghost use Rattle.tp_model.specs.SharedPages.{LacksFrames};
 ghost use Rattle.tp_proc.specs.Ends.{Writes, MayRefuse};
 ghost use Rattle.tp_node.specs.LinkEnds.{LinkEnds};
 
@@ -30,8 +31,8 @@ fn put<M: Mem>(
     byte: Option<u8>,
     writes: &[(u32, u32)],
 ) -> Result<(), Undone>
-    ensures written { Writes (option_and_then (λ m. stored m writes.now) (with_byte byte address (M.bytes mem.old))) (MayRefuse (M.may_refuse mem.old)) (M.bytes mem.old) result (M.bytes mem.new) }
-    ensures kept { M.frozen mem.new ≡ M.frozen mem.old }
+    ensures written { Writes (option_and_then (λ m. stored m writes.now) (with_byte byte address (M.bytes mem.old))) (MayRefuse (LacksFrames (M.kept mem.old))) (M.bytes mem.old) result (M.bytes mem.new) }
+    ensures kept { (M.kept mem.new).frozen ≡ (M.kept mem.old).frozen }
 {
     let Some(byte) = byte else {
         return store_all(mem, writes);
@@ -51,8 +52,8 @@ fn take_up<M: Mem>(
     pointer: u32,
     count: u32,
 ) -> Result<Option<Token>, Undone>
-    ensures does { LinkEnds (take_up (in_started (message pointer count cpu.old) engine.old) pointer count cpu.old (M.bytes mem.old)) (MayRefuse (M.may_refuse mem.old)) cpu.old (M.bytes mem.old) engine.old result cpu.new (M.bytes mem.new) engine.new }
-    ensures kept { M.frozen mem.new ≡ M.frozen mem.old }
+    ensures does { LinkEnds (take_up (in_started (message pointer count cpu.old) engine.old) pointer count cpu.old (M.bytes mem.old)) (MayRefuse (LacksFrames (M.kept mem.old))) cpu.old (M.bytes mem.old) engine.old result cpu.new (M.bytes mem.new) engine.new }
+    ensures kept { (M.kept mem.new).frozen ≡ (M.kept mem.old).frozen }
 {
     let message = Transfer {
         process: descriptor_of(cpu),
@@ -88,8 +89,8 @@ fn enable<M: Mem>(
     cpu: &mut Cpu,
     mem: &mut M,
 ) -> Result<Option<Token>, Undone>
-    ensures does { LinkEnds (enabled (in_enabled (descriptor_of cpu.old) engine.old) cpu.old (M.bytes mem.old)) (MayRefuse (M.may_refuse mem.old)) cpu.old (M.bytes mem.old) engine.old result cpu.new (M.bytes mem.new) engine.new }
-    ensures kept { M.frozen mem.new ≡ M.frozen mem.old }
+    ensures does { LinkEnds (enabled (in_enabled (descriptor_of cpu.old) engine.old) cpu.old (M.bytes mem.old)) (MayRefuse (LacksFrames (M.kept mem.old))) cpu.old (M.bytes mem.old) engine.old result cpu.new (M.bytes mem.new) engine.new }
+    ensures kept { (M.kept mem.new).frozen ≡ (M.kept mem.old).frozen }
 {
     let mut guarded = *engine;
     let Ok(is_held) = guarded.enable(descriptor_of(cpu)) else {
@@ -109,8 +110,8 @@ fn disable<M: Mem>(
     cpu: &mut Cpu,
     mem: &mut M,
 ) -> Result<Option<Token>, Undone>
-    ensures does { LinkEnds (disabled (in_disabled (descriptor_of cpu.old) engine.old) cpu.old (M.bytes mem.old)) (MayRefuse (M.may_refuse mem.old)) cpu.old (M.bytes mem.old) engine.old result cpu.new (M.bytes mem.new) engine.new }
-    ensures kept { M.frozen mem.new ≡ M.frozen mem.old }
+    ensures does { LinkEnds (disabled (in_disabled (descriptor_of cpu.old) engine.old) cpu.old (M.bytes mem.old)) (MayRefuse (LacksFrames (M.kept mem.old))) cpu.old (M.bytes mem.old) engine.old result cpu.new (M.bytes mem.new) engine.new }
+    ensures kept { (M.kept mem.new).frozen ≡ (M.kept mem.old).frozen }
 {
     let mut guarded = *engine;
     let Ok(is_held) = guarded.disable(descriptor_of(cpu)) else {
@@ -137,8 +138,8 @@ pub(crate) fn begin_input<M: Mem>(
     mem: &mut M,
     wish: Wish,
 ) -> Result<Option<Token>, Undone>
-    ensures does { LinkEnds (begin_input wish engine.old cpu.old (M.bytes mem.old)) (MayRefuse (M.may_refuse mem.old)) cpu.old (M.bytes mem.old) engine.old result cpu.new (M.bytes mem.new) engine.new }
-    ensures kept { M.frozen mem.new ≡ M.frozen mem.old }
+    ensures does { LinkEnds (begin_input wish engine.old cpu.old (M.bytes mem.old)) (MayRefuse (LacksFrames (M.kept mem.old))) cpu.old (M.bytes mem.old) engine.old result cpu.new (M.bytes mem.new) engine.new }
+    ensures kept { (M.kept mem.new).frozen ≡ (M.kept mem.old).frozen }
 {
     match wish {
         Wish::Message { count: 0, .. } => Ok(None),

@@ -4,6 +4,7 @@ ghost use Rattle.std.specs.Prelude.{◌≡◌, ℕ, List, [], ◌∷◌, Some, i
 ghost use Rattle.tp_model.specs.Memory.{byte_at};
 ghost use Rattle.tp_model.specs.LinkStep.{begin_output};
 ghost use Rattle.tp_proc.specs.After.{held, stored_after};
+ghost use Rattle.tp_model.specs.SharedPages.{LacksFrames};
 ghost use Rattle.tp_proc.specs.Ends.{Writes, MayRefuse};
 ghost use Rattle.tp_node.specs.LinkEnds.{LinkEnds};
 ghost use Rattle.tp_node.specs.OutputAfter.{output_after};
@@ -29,8 +30,8 @@ pub(crate) const LINK_BUSY: Undone = Undone::Faulty(Fault::LinkBusy);
 
 /// Stores a first word, if there is one.
 fn hold<M: Mem>(mem: &mut M, first: Option<(u32, u32)>) -> Result<(), Undone>
-    ensures written { Writes (held first (M.bytes mem.old)) (MayRefuse (M.may_refuse mem.old)) (M.bytes mem.old) result (M.bytes mem.new) }
-    ensures kept { M.frozen mem.new ≡ M.frozen mem.old }
+    ensures written { Writes (held first (M.bytes mem.old)) (MayRefuse (LacksFrames (M.kept mem.old))) (M.bytes mem.old) result (M.bytes mem.new) }
+    ensures kept { (M.kept mem.new).frozen ≡ (M.kept mem.old).frozen }
 {
     match first {
         None => Ok(()),
@@ -45,8 +46,8 @@ fn store_behind<M: Mem>(
     address: u32,
     word: u32,
 ) -> Result<(), Undone>
-    ensures written { Writes (stored_after first ((address, word) ∷ []) (M.bytes mem.old)) (MayRefuse (M.may_refuse mem.old)) (M.bytes mem.old) result (M.bytes mem.new) }
-    ensures kept { M.frozen mem.new ≡ M.frozen mem.old }
+    ensures written { Writes (stored_after first ((address, word) ∷ []) (M.bytes mem.old)) (MayRefuse (LacksFrames (M.kept mem.old))) (M.bytes mem.old) result (M.bytes mem.new) }
+    ensures kept { (M.kept mem.new).frozen ≡ (M.kept mem.old).frozen }
 {
     match first {
         None => store(mem, address, word),
@@ -73,8 +74,8 @@ fn output_after<M: Mem>(
     first: Option<(u32, u32)>,
     request: OutRequest,
 ) -> Result<Option<Token>, Undone>
-    ensures does { LinkEnds (output_after first request engine.old cpu.old (M.bytes mem.old)) (MayRefuse (M.may_refuse mem.old)) cpu.old (M.bytes mem.old) engine.old result cpu.new (M.bytes mem.new) engine.new }
-    ensures kept { M.frozen mem.new ≡ M.frozen mem.old }
+    ensures does { LinkEnds (output_after first request engine.old cpu.old (M.bytes mem.old)) (MayRefuse (LacksFrames (M.kept mem.old))) cpu.old (M.bytes mem.old) engine.old result cpu.new (M.bytes mem.new) engine.new }
+    ensures kept { (M.kept mem.new).frozen ≡ (M.kept mem.old).frozen }
 {
     let OutRequest { pointer, count, .. } = request;
     // Memory has whole words: its length says so.
@@ -115,8 +116,8 @@ pub(crate) fn begin_output<M: Mem>(
     mem: &mut M,
     request: OutRequest,
 ) -> Result<Option<Token>, Undone>
-    ensures does { LinkEnds (begin_output request engine.old cpu.old (M.bytes mem.old)) (MayRefuse (M.may_refuse mem.old)) cpu.old (M.bytes mem.old) engine.old result cpu.new (M.bytes mem.new) engine.new }
-    ensures kept { M.frozen mem.new ≡ M.frozen mem.old }
+    ensures does { LinkEnds (begin_output request engine.old cpu.old (M.bytes mem.old)) (MayRefuse (LacksFrames (M.kept mem.old))) cpu.old (M.bytes mem.old) engine.old result cpu.new (M.bytes mem.new) engine.new }
+    ensures kept { (M.kept mem.new).frozen ≡ (M.kept mem.old).frozen }
 {
     match request.word {
         None => output_after(engine, cpu, mem, None, request),

@@ -94,8 +94,8 @@ pub(crate) fn run<M: Mem>(
     requires { sent.old.items ≡ [] }
     ensures asked { result.max ≡ max }
     ensures steps { steps t414 result.count (state_with head.old (M.bytes mem.old)) ≡ Some (state_with head.new (M.bytes mem.new), sent.new.items) }
-    ensures why { IsWhy result.why max result.count (IsSome (M.frozen mem.old)) (state_with head.new (M.bytes mem.new)) }
-    ensures kept { M.frozen mem.new ≡ M.frozen mem.old }
+    ensures why { IsWhy result.why max result.count (IsSome (M.kept mem.old).frozen) (state_with head.new (M.bytes mem.new)) }
+    ensures kept { (M.kept mem.new).frozen ≡ (M.kept mem.old).frozen }
 {
     for count in 0..max {
         match make_step(head, mem) {

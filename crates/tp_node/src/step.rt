@@ -36,8 +36,8 @@ fn on_link(link: u8, token: Option<Token>) -> Option<(u8, Token)>
 
 /// Ends a step that asks something of an output end.
 fn output<M: Mem>(head: &mut Head, mem: &mut M, request: OutRequest) -> Made
-    ensures makes { Makes (asks_output request (state_with head.old (M.bytes mem.old))) (IsSome (M.frozen mem.old)) (state_with head.old (M.bytes mem.old)) result (state_with head.new (M.bytes mem.new)) }
-    ensures kept { M.frozen mem.new ≡ M.frozen mem.old }
+    ensures makes { Makes (asks_output request (state_with head.old (M.bytes mem.old))) (IsSome (M.kept mem.old).frozen) (state_with head.old (M.bytes mem.old)) result (state_with head.new (M.bytes mem.new)) }
+    ensures kept { (M.kept mem.new).frozen ≡ (M.kept mem.old).frozen }
 {
     let link = request.link as usize;
     if link >= 4 {
@@ -66,8 +66,8 @@ fn output<M: Mem>(head: &mut Head, mem: &mut M, request: OutRequest) -> Made
 
 /// Ends a step that asks something of an input end.
 fn input<M: Mem>(head: &mut Head, mem: &mut M, request: InRequest) -> Made
-    ensures makes { Makes (asks_input request (state_with head.old (M.bytes mem.old))) (IsSome (M.frozen mem.old)) (state_with head.old (M.bytes mem.old)) result (state_with head.new (M.bytes mem.new)) }
-    ensures kept { M.frozen mem.new ≡ M.frozen mem.old }
+    ensures makes { Makes (asks_input request (state_with head.old (M.bytes mem.old))) (IsSome (M.kept mem.old).frozen) (state_with head.old (M.bytes mem.old)) result (state_with head.new (M.bytes mem.new)) }
+    ensures kept { (M.kept mem.new).frozen ≡ (M.kept mem.old).frozen }
 {
     let link = request.link as usize;
     if link >= 4 {
@@ -98,8 +98,8 @@ fn input<M: Mem>(head: &mut Head, mem: &mut M, request: InRequest) -> Made
 #[inline]
 #[tactic(auto, unfolding(tp_model::specs::Node::node_step))]
 pub(crate) fn make_step<M: Mem>(head: &mut Head, mem: &mut M) -> Made
-    ensures makes { Makes (node_step (state_with head.old (M.bytes mem.old))) (IsSome (M.frozen mem.old)) (state_with head.old (M.bytes mem.old)) result (state_with head.new (M.bytes mem.new)) }
-    ensures kept { M.frozen mem.new ≡ M.frozen mem.old }
+    ensures makes { Makes (node_step (state_with head.old (M.bytes mem.old))) (IsSome (M.kept mem.old).frozen) (state_with head.old (M.bytes mem.old)) result (state_with head.new (M.bytes mem.new)) }
+    ensures kept { (M.kept mem.new).frozen ≡ (M.kept mem.old).frozen }
 {
     match step(&mut head.cpu, mem) {
         StepEnd::Done | StepEnd::Halted(_) => Made::Step(None),

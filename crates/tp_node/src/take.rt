@@ -44,8 +44,8 @@ pub(crate) fn take_data<M: Mem>(
 ) -> Result<Option<Token>, NoFrame>
     requires link { link < 4 }
     requires can { IsSome (took_token (state_with head.old (M.bytes mem.old)) link (Token.Data byte)) }
-    ensures takes { Takes (took_token (state_with head.old (M.bytes mem.old)) link (Token.Data byte)) (IsSome (M.frozen mem.old)) link (state_with head.old (M.bytes mem.old)) result (state_with head.new (M.bytes mem.new)) }
-    ensures kept { M.frozen mem.new ≡ M.frozen mem.old }
+    ensures takes { Takes (took_token (state_with head.old (M.bytes mem.old)) link (Token.Data byte)) (IsSome (M.kept mem.old).frozen) link (state_with head.old (M.bytes mem.old)) result (state_with head.new (M.bytes mem.new)) }
+    ensures kept { (M.kept mem.new).frozen ≡ (M.kept mem.old).frozen }
 {
     let mut engine = head.inputs[link];
     let arrival = engine.on_data(byte);
@@ -67,8 +67,8 @@ pub(crate) fn take_ack<M: Mem>(
 ) -> Result<Option<Token>, NoFrame>
     requires link { link < 4 }
     requires can { IsSome (took_token (state_with head.old (M.bytes mem.old)) link Token.Ack) }
-    ensures takes { Takes (took_token (state_with head.old (M.bytes mem.old)) link Token.Ack) (IsSome (M.frozen mem.old)) link (state_with head.old (M.bytes mem.old)) result (state_with head.new (M.bytes mem.new)) }
-    ensures kept { M.frozen mem.new ≡ M.frozen mem.old }
+    ensures takes { Takes (took_token (state_with head.old (M.bytes mem.old)) link Token.Ack) (IsSome (M.kept mem.old).frozen) link (state_with head.old (M.bytes mem.old)) result (state_with head.new (M.bytes mem.new)) }
+    ensures kept { (M.kept mem.new).frozen ≡ (M.kept mem.old).frozen }
 {
     let mut engine = head.outputs[link];
     let next = next_byte(engine, mem);

@@ -2,6 +2,7 @@
 
 ghost use Rattle.std.specs.Prelude.{◌≡◌, [], ◌∷◌};
 ghost use Rattle.tp_model.specs.Memory.{byte_at, word_at, stored, byte_stored, copied, changed};
+ghost use Rattle.tp_model.specs.SharedPages.{LacksFrames};
 ghost use Rattle.tp_proc.specs.Ends.{Finds, Writes, MayRefuse};
 
 use crate::undone::{BAD_ADDRESS, Undone};
@@ -20,9 +21,10 @@ pub fn load<M: Mem>(mem: &M, address: u32) -> Result<u32, Undone>
 
 /// Writes the word at `address`.
 #[inline(always)]
+#[tactic(auto, using(tp_mem::proofs::Kept::frozen_stays))]
 pub fn store<M: Mem>(mem: &mut M, address: u32, word: u32) -> Result<(), Undone>
-    ensures written { Writes (stored (M.bytes mem.old) ((address, word) ∷ [])) (MayRefuse (M.may_refuse mem.old)) (M.bytes mem.old) result (M.bytes mem.new) }
-    ensures kept { M.frozen mem.new ≡ M.frozen mem.old }
+    ensures written { Writes (stored (M.bytes mem.old) ((address, word) ∷ [])) (MayRefuse (LacksFrames (M.kept mem.old))) (M.bytes mem.old) result (M.bytes mem.new) }
+    ensures kept { (M.kept mem.new).frozen ≡ (M.kept mem.old).frozen }
 {
     match mem.write_word(address, word) {
         Ok(()) => Ok(()),
@@ -33,9 +35,10 @@ pub fn store<M: Mem>(mem: &mut M, address: u32, word: u32) -> Result<(), Undone>
 
 /// Writes words, one after another.
 #[inline(always)]
+#[tactic(auto, using(tp_mem::proofs::Kept::frozen_stays))]
 pub fn store_all<M: Mem>(mem: &mut M, writes: &[(u32, u32)]) -> Result<(), Undone>
-    ensures written { Writes (stored (M.bytes mem.old) writes.now) (MayRefuse (M.may_refuse mem.old)) (M.bytes mem.old) result (M.bytes mem.new) }
-    ensures kept { M.frozen mem.new ≡ M.frozen mem.old }
+    ensures written { Writes (stored (M.bytes mem.old) writes.now) (MayRefuse (LacksFrames (M.kept mem.old))) (M.bytes mem.old) result (M.bytes mem.new) }
+    ensures kept { (M.kept mem.new).frozen ≡ (M.kept mem.old).frozen }
 {
     match mem.write_words(writes) {
         Ok(()) => Ok(()),
@@ -46,6 +49,7 @@ pub fn store_all<M: Mem>(mem: &mut M, writes: &[(u32, u32)]) -> Result<(), Undon
 
 /// Copies `count` bytes, all read before the first is written, and then writes words.
 #[inline(always)]
+#[tactic(auto, using(tp_mem::proofs::Kept::frozen_stays))]
 pub fn change<M: Mem>(
     mem: &mut M,
     to: u32,
@@ -53,8 +57,8 @@ pub fn change<M: Mem>(
     count: u32,
     writes: &[(u32, u32)],
 ) -> Result<(), Undone>
-    ensures written { Writes (changed (M.bytes mem.old) to from count writes.now) (MayRefuse (M.may_refuse mem.old)) (M.bytes mem.old) result (M.bytes mem.new) }
-    ensures kept { M.frozen mem.new ≡ M.frozen mem.old }
+    ensures written { Writes (changed (M.bytes mem.old) to from count writes.now) (MayRefuse (LacksFrames (M.kept mem.old))) (M.bytes mem.old) result (M.bytes mem.new) }
+    ensures kept { (M.kept mem.new).frozen ≡ (M.kept mem.old).frozen }
 {
     match mem.change(to, from, count, writes) {
         Ok(()) => Ok(()),

@@ -4,6 +4,7 @@
 ghost use Rattle.std.specs.Prelude.{◌≡◌};
 ghost use Rattle.tp_model.specs.Memory.{word_offset};
 ghost use Rattle.tp_proc.specs.After.{word_after, stored_after, changed_after};
+ghost use Rattle.tp_model.specs.SharedPages.{LacksFrames};
 ghost use Rattle.tp_proc.specs.Ends.{Finds, Writes, MayRefuse};
 
 use crate::access::{change, load, store_all};
@@ -44,8 +45,8 @@ pub(crate) fn store_after<M: Mem>(
     first: Option<(u32, u32)>,
     writes: &[(u32, u32)],
 ) -> Result<(), Undone>
-    ensures written { Writes (stored_after first writes.now (M.bytes mem.old)) (MayRefuse (M.may_refuse mem.old)) (M.bytes mem.old) result (M.bytes mem.new) }
-    ensures kept { M.frozen mem.new ≡ M.frozen mem.old }
+    ensures written { Writes (stored_after first writes.now (M.bytes mem.old)) (MayRefuse (LacksFrames (M.kept mem.old))) (M.bytes mem.old) result (M.bytes mem.new) }
+    ensures kept { (M.kept mem.new).frozen ≡ (M.kept mem.old).frozen }
 {
     match first {
         None => store_all(mem, writes),
@@ -63,8 +64,8 @@ pub(crate) fn change_after<M: Mem>(
     count: u32,
     writes: &[(u32, u32)],
 ) -> Result<(), Undone>
-    ensures written { Writes (changed_after first to from count writes.now (M.bytes mem.old)) (MayRefuse (M.may_refuse mem.old)) (M.bytes mem.old) result (M.bytes mem.new) }
-    ensures kept { M.frozen mem.new ≡ M.frozen mem.old }
+    ensures written { Writes (changed_after first to from count writes.now (M.bytes mem.old)) (MayRefuse (LacksFrames (M.kept mem.old))) (M.bytes mem.old) result (M.bytes mem.new) }
+    ensures kept { (M.kept mem.new).frozen ≡ (M.kept mem.old).frozen }
 {
     match first {
         None => change(mem, to, from, count, writes),
@@ -72,6 +73,7 @@ pub(crate) fn change_after<M: Mem>(
     }
 }
 
+#[tactic(auto, using(tp_mem::proofs::Kept::frozen_stays))]
 fn change_behind<M: Mem>(
     mem: &mut M,
     first: (u32, u32),
@@ -80,8 +82,8 @@ fn change_behind<M: Mem>(
     count: u32,
     writes: &[(u32, u32)],
 ) -> Result<(), Undone>
-    ensures written { Writes (changed_after (Some first) to from count writes.now (M.bytes mem.old)) (MayRefuse (M.may_refuse mem.old)) (M.bytes mem.old) result (M.bytes mem.new) }
-    ensures kept { M.frozen mem.new ≡ M.frozen mem.old }
+    ensures written { Writes (changed_after (Some first) to from count writes.now (M.bytes mem.old)) (MayRefuse (LacksFrames (M.kept mem.old))) (M.bytes mem.old) result (M.bytes mem.new) }
+    ensures kept { (M.kept mem.new).frozen ≡ (M.kept mem.old).frozen }
 {
     match mem.change_after(first, to, from, count, writes) {
         Ok(()) => Ok(()),

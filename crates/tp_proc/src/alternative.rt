@@ -3,6 +3,7 @@
 ghost use Rattle.std.specs.Prelude.{◌≡◌};
 ghost use Rattle.tp_model.specs.Processor.{with_a, without_b};
 ghost use Rattle.tp_model.specs.Alternative.{is_alternative, signalled, passed_over, chosen, alt, enbs, altwt, choose, diss};
+ghost use Rattle.tp_model.specs.SharedPages.{LacksFrames};
 ghost use Rattle.tp_proc.specs.Ends.{Does, MayRefuse};
 
 use crate::access::{load, store, store_all};
@@ -44,8 +45,8 @@ pub(crate) fn signal(state: u32, descriptor: u32, cpu: &mut Cpu)
 /// Begins an alternative.
 #[inline]
 pub fn alt<M: Mem>(cpu: &mut Cpu, mem: &mut M) -> Result<(), Undone>
-    ensures does { Does alt (MayRefuse (M.may_refuse mem.old)) cpu.old (M.bytes mem.old) result cpu.new (M.bytes mem.new) }
-    ensures kept { M.frozen mem.new ≡ M.frozen mem.old }
+    ensures does { Does alt (MayRefuse (LacksFrames (M.kept mem.old))) cpu.old (M.bytes mem.old) result cpu.new (M.bytes mem.new) }
+    ensures kept { (M.kept mem.new).frozen ≡ (M.kept mem.old).frozen }
 {
     store(mem, state_at(cpu.wptr), ENABLING)
 }
@@ -53,8 +54,8 @@ pub fn alt<M: Mem>(cpu: &mut Cpu, mem: &mut M) -> Result<(), Undone>
 /// Enables a branch that waits for nobody, where its guard is true.
 #[inline]
 pub fn enbs<M: Mem>(cpu: &mut Cpu, mem: &mut M) -> Result<(), Undone>
-    ensures does { Does enbs (MayRefuse (M.may_refuse mem.old)) cpu.old (M.bytes mem.old) result cpu.new (M.bytes mem.new) }
-    ensures kept { M.frozen mem.new ≡ M.frozen mem.old }
+    ensures does { Does enbs (MayRefuse (LacksFrames (M.kept mem.old))) cpu.old (M.bytes mem.old) result cpu.new (M.bytes mem.new) }
+    ensures kept { (M.kept mem.new).frozen ≡ (M.kept mem.old).frozen }
 {
     if cpu.regs.a == 0 {
         return Ok(());
@@ -65,8 +66,8 @@ pub fn enbs<M: Mem>(cpu: &mut Cpu, mem: &mut M) -> Result<(), Undone>
 /// Waits for a partner where none has come. No branch is chosen yet.
 #[inline]
 pub fn altwt<M: Mem>(cpu: &mut Cpu, mem: &mut M) -> Result<(), Undone>
-    ensures does { Does altwt (MayRefuse (M.may_refuse mem.old)) cpu.old (M.bytes mem.old) result cpu.new (M.bytes mem.new) }
-    ensures kept { M.frozen mem.new ≡ M.frozen mem.old }
+    ensures does { Does altwt (MayRefuse (LacksFrames (M.kept mem.old))) cpu.old (M.bytes mem.old) result cpu.new (M.bytes mem.new) }
+    ensures kept { (M.kept mem.new).frozen ≡ (M.kept mem.old).frozen }
 {
     let wptr = cpu.wptr;
     let state = load(mem, state_at(wptr))?;
@@ -96,8 +97,8 @@ pub fn note_choice(word: u32, cpu: &mut Cpu)
 /// Chooses a branch that is ready, where none is chosen.
 #[inline]
 pub fn choose<M: Mem>(cpu: &mut Cpu, mem: &mut M) -> Result<(), Undone>
-    ensures does { Does choose (MayRefuse (M.may_refuse mem.old)) cpu.old (M.bytes mem.old) result cpu.new (M.bytes mem.new) }
-    ensures kept { M.frozen mem.new ≡ M.frozen mem.old }
+    ensures does { Does choose (MayRefuse (LacksFrames (M.kept mem.old))) cpu.old (M.bytes mem.old) result cpu.new (M.bytes mem.new) }
+    ensures kept { (M.kept mem.new).frozen ≡ (M.kept mem.old).frozen }
 {
     let word = load(mem, cpu.wptr)?;
     if word == NONE_CHOSEN {
@@ -126,8 +127,8 @@ pub fn drop_b(cpu: &mut Cpu)
 /// Disables a branch that waits for nobody.
 #[inline]
 pub fn diss<M: Mem>(cpu: &mut Cpu, mem: &mut M) -> Result<(), Undone>
-    ensures does { Does diss (MayRefuse (M.may_refuse mem.old)) cpu.old (M.bytes mem.old) result cpu.new (M.bytes mem.new) }
-    ensures kept { M.frozen mem.new ≡ M.frozen mem.old }
+    ensures does { Does diss (MayRefuse (LacksFrames (M.kept mem.old))) cpu.old (M.bytes mem.old) result cpu.new (M.bytes mem.new) }
+    ensures kept { (M.kept mem.new).frozen ≡ (M.kept mem.old).frozen }
 {
     if cpu.regs.b == 0 {
         drop_b(cpu);

@@ -4,6 +4,7 @@ ghost use Rattle.std.specs.Prelude.{◌≡◌, ◌++◌};
 ghost use Rattle.tp_model.specs.Alternative.{signal_writes};
 ghost use Rattle.tp_model.specs.Channel.{channel_at, wait_writes, waits_first, meets, waits_for_alternative, input, output, input_at, output_at, output_word_at, enable, enable_at, disable, disable_at};
 ghost use Rattle.tp_proc.specs.After.{after, stored_after};
+ghost use Rattle.tp_model.specs.SharedPages.{LacksFrames};
 ghost use Rattle.tp_proc.specs.Ends.{Does, Writes, MayRefuse};
 
 use crate::access::{load, store};
@@ -57,8 +58,8 @@ fn waits_first<M: Mem>(
     first: Option<(u32, u32)>,
     message: Message,
 ) -> Result<(), Undone>
-    ensures does { Does (after first (waits_first message.channel message.pointer message.count)) (MayRefuse (M.may_refuse mem.old)) cpu.old (M.bytes mem.old) result cpu.new (M.bytes mem.new) }
-    ensures kept { M.frozen mem.new ≡ M.frozen mem.old }
+    ensures does { Does (after first (waits_first message.channel message.pointer message.count)) (MayRefuse (LacksFrames (M.kept mem.old))) cpu.old (M.bytes mem.old) result cpu.new (M.bytes mem.new) }
+    ensures kept { (M.kept mem.new).frozen ≡ (M.kept mem.old).frozen }
 {
     // Memory has whole words: its length says so.
     let _len = mem.len();
@@ -88,8 +89,8 @@ fn meets<M: Mem>(
     channel: u32,
     partner: u32,
 ) -> Result<(), Undone>
-    ensures does { Does (after first (meets block.to block.from block.count channel partner)) (MayRefuse (M.may_refuse mem.old)) cpu.old (M.bytes mem.old) result cpu.new (M.bytes mem.new) }
-    ensures kept { M.frozen mem.new ≡ M.frozen mem.old }
+    ensures does { Does (after first (meets block.to block.from block.count channel partner)) (MayRefuse (LacksFrames (M.kept mem.old))) cpu.old (M.bytes mem.old) result cpu.new (M.bytes mem.new) }
+    ensures kept { (M.kept mem.new).frozen ≡ (M.kept mem.old).frozen }
 {
     let Block { to, from, count } = block;
     let empty = (channel, NOT_PROCESS);
@@ -111,8 +112,8 @@ fn write_signal<M: Mem>(
     state: u32,
     partner: u32,
 ) -> Result<(), Undone>
-    ensures written { Writes (stored_after first (signal_writes state partner cpu.now ++ wait_writes message.channel message.pointer cpu.now) (M.bytes mem.old)) (MayRefuse (M.may_refuse mem.old)) (M.bytes mem.old) result (M.bytes mem.new) }
-    ensures kept { M.frozen mem.new ≡ M.frozen mem.old }
+    ensures written { Writes (stored_after first (signal_writes state partner cpu.now ++ wait_writes message.channel message.pointer cpu.now) (M.bytes mem.old)) (MayRefuse (LacksFrames (M.kept mem.old))) (M.bytes mem.old) result (M.bytes mem.new) }
+    ensures kept { (M.kept mem.new).frozen ≡ (M.kept mem.old).frozen }
 {
     let ready = (state_at(workspace(partner)), READY);
     let own = (message.channel, descriptor_of(cpu));
@@ -140,8 +141,8 @@ fn waits_for_alternative<M: Mem>(
     state: u32,
     partner: u32,
 ) -> Result<(), Undone>
-    ensures does { Does (after first (waits_for_alternative state partner message.channel message.pointer message.count)) (MayRefuse (M.may_refuse mem.old)) cpu.old (M.bytes mem.old) result cpu.new (M.bytes mem.new) }
-    ensures kept { M.frozen mem.new ≡ M.frozen mem.old }
+    ensures does { Does (after first (waits_for_alternative state partner message.channel message.pointer message.count)) (MayRefuse (LacksFrames (M.kept mem.old))) cpu.old (M.bytes mem.old) result cpu.new (M.bytes mem.new) }
+    ensures kept { (M.kept mem.new).frozen ≡ (M.kept mem.old).frozen }
 {
     // Memory has whole words: its length says so.
     let _len = mem.len();
@@ -156,8 +157,8 @@ fn waits_for_alternative<M: Mem>(
 
 /// Inputs a message.
 fn input<M: Mem>(cpu: &mut Cpu, mem: &mut M, message: Message) -> Result<(), Undone>
-    ensures does { Does (input message.count message.channel message.pointer) (MayRefuse (M.may_refuse mem.old)) cpu.old (M.bytes mem.old) result cpu.new (M.bytes mem.new) }
-    ensures kept { M.frozen mem.new ≡ M.frozen mem.old }
+    ensures does { Does (input message.count message.channel message.pointer) (MayRefuse (LacksFrames (M.kept mem.old))) cpu.old (M.bytes mem.old) result cpu.new (M.bytes mem.new) }
+    ensures kept { (M.kept mem.new).frozen ≡ (M.kept mem.old).frozen }
 {
     let channel = message.channel;
     let partner = load(mem, channel)?;
@@ -180,8 +181,8 @@ fn output<M: Mem>(
     first: Option<(u32, u32)>,
     message: Message,
 ) -> Result<(), Undone>
-    ensures does { Does (after first (output message.count message.channel message.pointer)) (MayRefuse (M.may_refuse mem.old)) cpu.old (M.bytes mem.old) result cpu.new (M.bytes mem.new) }
-    ensures kept { M.frozen mem.new ≡ M.frozen mem.old }
+    ensures does { Does (after first (output message.count message.channel message.pointer)) (MayRefuse (LacksFrames (M.kept mem.old))) cpu.old (M.bytes mem.old) result cpu.new (M.bytes mem.new) }
+    ensures kept { (M.kept mem.new).frozen ≡ (M.kept mem.old).frozen }
 {
     let channel = message.channel;
     let partner = load_after(mem, first, channel)?;
@@ -202,8 +203,8 @@ fn output<M: Mem>(
 
 /// Does `in`: count A, channel B, pointer C.
 pub fn chan_in<M: Mem>(cpu: &mut Cpu, mem: &mut M) -> Result<(), Undone>
-    ensures does { Does (λ cpu. input_at (channel_at cpu.regs.b) cpu) (MayRefuse (M.may_refuse mem.old)) cpu.old (M.bytes mem.old) result cpu.new (M.bytes mem.new) }
-    ensures kept { M.frozen mem.new ≡ M.frozen mem.old }
+    ensures does { Does (λ cpu. input_at (channel_at cpu.regs.b) cpu) (MayRefuse (LacksFrames (M.kept mem.old))) cpu.old (M.bytes mem.old) result cpu.new (M.bytes mem.new) }
+    ensures kept { (M.kept mem.new).frozen ≡ (M.kept mem.old).frozen }
 {
     let Regs { a, b, c, .. } = cpu.regs;
     match channel_at(b) {
@@ -230,8 +231,8 @@ pub fn chan_in<M: Mem>(cpu: &mut Cpu, mem: &mut M) -> Result<(), Undone>
 
 /// Does `out`: count A, channel B, pointer C.
 pub fn chan_out<M: Mem>(cpu: &mut Cpu, mem: &mut M) -> Result<(), Undone>
-    ensures does { Does (λ cpu. output_at (channel_at cpu.regs.b) cpu) (MayRefuse (M.may_refuse mem.old)) cpu.old (M.bytes mem.old) result cpu.new (M.bytes mem.new) }
-    ensures kept { M.frozen mem.new ≡ M.frozen mem.old }
+    ensures does { Does (λ cpu. output_at (channel_at cpu.regs.b) cpu) (MayRefuse (LacksFrames (M.kept mem.old))) cpu.old (M.bytes mem.old) result cpu.new (M.bytes mem.new) }
+    ensures kept { (M.kept mem.new).frozen ≡ (M.kept mem.old).frozen }
 {
     let Regs { a, b, c, .. } = cpu.regs;
     match channel_at(b) {
@@ -258,8 +259,8 @@ pub fn chan_out<M: Mem>(cpu: &mut Cpu, mem: &mut M) -> Result<(), Undone>
 
 /// Does `outbyte` or `outword`: stores A at the workspace, and outputs `count` bytes of it, 1 or 4, on the channel B.
 pub fn chan_out_word<M: Mem>(cpu: &mut Cpu, mem: &mut M, count: u32) -> Result<(), Undone>
-    ensures does { Does (λ cpu. output_word_at (channel_at cpu.regs.b) count cpu) (MayRefuse (M.may_refuse mem.old)) cpu.old (M.bytes mem.old) result cpu.new (M.bytes mem.new) }
-    ensures kept { M.frozen mem.new ≡ M.frozen mem.old }
+    ensures does { Does (λ cpu. output_word_at (channel_at cpu.regs.b) count cpu) (MayRefuse (LacksFrames (M.kept mem.old))) cpu.old (M.bytes mem.old) result cpu.new (M.bytes mem.new) }
+    ensures kept { (M.kept mem.new).frozen ≡ (M.kept mem.old).frozen }
 {
     let Regs { a, b, .. } = cpu.regs;
     let wptr = cpu.wptr;
@@ -287,8 +288,8 @@ pub fn chan_out_word<M: Mem>(cpu: &mut Cpu, mem: &mut M, count: u32) -> Result<(
 
 /// Enables a branch that waits for an output on a word of memory.
 fn enable<M: Mem>(cpu: &mut Cpu, mem: &mut M) -> Result<(), Undone>
-    ensures does { Does enable (MayRefuse (M.may_refuse mem.old)) cpu.old (M.bytes mem.old) result cpu.new (M.bytes mem.new) }
-    ensures kept { M.frozen mem.new ≡ M.frozen mem.old }
+    ensures does { Does enable (MayRefuse (LacksFrames (M.kept mem.old))) cpu.old (M.bytes mem.old) result cpu.new (M.bytes mem.new) }
+    ensures kept { (M.kept mem.new).frozen ≡ (M.kept mem.old).frozen }
 {
     let channel = cpu.regs.b;
     let own = descriptor_of(cpu);
@@ -304,8 +305,8 @@ fn enable<M: Mem>(cpu: &mut Cpu, mem: &mut M) -> Result<(), Undone>
 
 /// Does `enbc`: guard A, channel B.
 pub fn alt_enable<M: Mem>(cpu: &mut Cpu, mem: &mut M) -> Result<(), Undone>
-    ensures does { Does (λ cpu. enable_at (channel_at cpu.regs.b) cpu) (MayRefuse (M.may_refuse mem.old)) cpu.old (M.bytes mem.old) result cpu.new (M.bytes mem.new) }
-    ensures kept { M.frozen mem.new ≡ M.frozen mem.old }
+    ensures does { Does (λ cpu. enable_at (channel_at cpu.regs.b) cpu) (MayRefuse (LacksFrames (M.kept mem.old))) cpu.old (M.bytes mem.old) result cpu.new (M.bytes mem.new) }
+    ensures kept { (M.kept mem.new).frozen ≡ (M.kept mem.old).frozen }
 {
     let Regs { a, b, .. } = cpu.regs;
     match channel_at(b) {
@@ -325,8 +326,8 @@ pub fn alt_enable<M: Mem>(cpu: &mut Cpu, mem: &mut M) -> Result<(), Undone>
 
 /// Disables a branch that waits for an output on a word of memory.
 fn disable<M: Mem>(cpu: &mut Cpu, mem: &mut M) -> Result<(), Undone>
-    ensures does { Does disable (MayRefuse (M.may_refuse mem.old)) cpu.old (M.bytes mem.old) result cpu.new (M.bytes mem.new) }
-    ensures kept { M.frozen mem.new ≡ M.frozen mem.old }
+    ensures does { Does disable (MayRefuse (LacksFrames (M.kept mem.old))) cpu.old (M.bytes mem.old) result cpu.new (M.bytes mem.new) }
+    ensures kept { (M.kept mem.new).frozen ≡ (M.kept mem.old).frozen }
 {
     let channel = cpu.regs.c;
     let partner = load(mem, channel)?;
@@ -344,8 +345,8 @@ fn disable<M: Mem>(cpu: &mut Cpu, mem: &mut M) -> Result<(), Undone>
 
 /// Does `disc`: offset A, guard B, channel C.
 pub fn alt_disable<M: Mem>(cpu: &mut Cpu, mem: &mut M) -> Result<(), Undone>
-    ensures does { Does (λ cpu. disable_at (channel_at cpu.regs.c) cpu) (MayRefuse (M.may_refuse mem.old)) cpu.old (M.bytes mem.old) result cpu.new (M.bytes mem.new) }
-    ensures kept { M.frozen mem.new ≡ M.frozen mem.old }
+    ensures does { Does (λ cpu. disable_at (channel_at cpu.regs.c) cpu) (MayRefuse (LacksFrames (M.kept mem.old))) cpu.old (M.bytes mem.old) result cpu.new (M.bytes mem.new) }
+    ensures kept { (M.kept mem.new).frozen ≡ (M.kept mem.old).frozen }
 {
     let Regs { b, c, .. } = cpu.regs;
     match channel_at(c) {

@@ -4,6 +4,7 @@ ghost use Rattle.std.specs.Prelude.{◌≡◌, [], ◌∷◌, option_to_list};
 ghost use Rattle.tp_model.specs.Processor.{emptied, started, dispatch_high, dispatch_low, stopped, stop, counted, past, must_slice, sliced, jump, interrupt, restore};
 ghost use Rattle.tp_model.specs.Step.{startp, runp, endp};
 ghost use Rattle.tp_proc.specs.Room.{makes_room};
+ghost use Rattle.tp_model.specs.SharedPages.{LacksFrames};
 ghost use Rattle.tp_proc.specs.Ends.{Does, MayRefuse};
 
 use crate::access::{load, store, store_all};
@@ -32,7 +33,7 @@ fn emptied(regs: Regs) -> Regs
 /// Starts the process of the workspace `front` in `state`, from where it had stopped.
 #[inline(always)]
 fn start<M: Mem>(cpu: &mut Cpu, mem: &M, front: u32, state: State) -> Result<(), Undone>
-    ensures { Does (started front state) (MayRefuse (M.may_refuse mem.now)) cpu.old (M.bytes mem.now) result cpu.new (M.bytes mem.now) }
+    ensures { Does (started front state) (MayRefuse (LacksFrames (M.kept mem.now))) cpu.old (M.bytes mem.now) result cpu.new (M.bytes mem.now) }
 {
     let iptr = load(mem, saved_at(front))?;
     cpu.iptr = iptr;
@@ -44,7 +45,7 @@ fn start<M: Mem>(cpu: &mut Cpu, mem: &M, front: u32, state: State) -> Result<(),
 
 /// Starts the process at the front of the high queue.
 pub fn dispatch_high<M: Mem>(cpu: &mut Cpu, mem: &M) -> Result<(), Undone>
-    ensures { Does dispatch_high (MayRefuse (M.may_refuse mem.now)) cpu.old (M.bytes mem.now) result cpu.new (M.bytes mem.now) }
+    ensures { Does dispatch_high (MayRefuse (LacksFrames (M.kept mem.now))) cpu.old (M.bytes mem.now) result cpu.new (M.bytes mem.now) }
 {
     let rest = rest_of_queue(cpu.high, mem)?;
     start(cpu, mem, cpu.high.front, State::High)?;
@@ -54,7 +55,7 @@ pub fn dispatch_high<M: Mem>(cpu: &mut Cpu, mem: &M) -> Result<(), Undone>
 
 /// Starts the process at the front of the low queue, with a new slice.
 pub fn dispatch_low<M: Mem>(cpu: &mut Cpu, mem: &M) -> Result<(), Undone>
-    ensures { Does dispatch_low (MayRefuse (M.may_refuse mem.now)) cpu.old (M.bytes mem.now) result cpu.new (M.bytes mem.now) }
+    ensures { Does dispatch_low (MayRefuse (LacksFrames (M.kept mem.now))) cpu.old (M.bytes mem.now) result cpu.new (M.bytes mem.now) }
 {
     let rest = rest_of_queue(cpu.low, mem)?;
     start(cpu, mem, cpu.low.front, State::Low)?;
@@ -76,8 +77,8 @@ pub fn end(cpu: &mut Cpu)
 
 /// Stops the process that runs, to go on at the instruction pointer later.
 pub fn stop<M: Mem>(cpu: &mut Cpu, mem: &mut M) -> Result<(), Undone>
-    ensures does { Does stop (MayRefuse (M.may_refuse mem.old)) cpu.old (M.bytes mem.old) result cpu.new (M.bytes mem.new) }
-    ensures kept { M.frozen mem.new ≡ M.frozen mem.old }
+    ensures does { Does stop (MayRefuse (LacksFrames (M.kept mem.old))) cpu.old (M.bytes mem.old) result cpu.new (M.bytes mem.new) }
+    ensures kept { (M.kept mem.new).frozen ≡ (M.kept mem.old).frozen }
 {
     store(mem, saved_at(cpu.wptr), cpu.iptr)?;
     end(cpu);
@@ -126,8 +127,8 @@ fn leave(cpu: &mut Cpu)
 
 /// Slices the low process that runs: it goes on at `to` later.
 pub fn slice<M: Mem>(cpu: &mut Cpu, mem: &mut M, to: u32) -> Result<(), Undone>
-    ensures does { Does (makes_room to []) (MayRefuse (M.may_refuse mem.old)) cpu.old (M.bytes mem.old) result cpu.new (M.bytes mem.new) }
-    ensures kept { M.frozen mem.new ≡ M.frozen mem.old }
+    ensures does { Does (makes_room to []) (MayRefuse (LacksFrames (M.kept mem.old))) cpu.old (M.bytes mem.old) result cpu.new (M.bytes mem.new) }
+    ensures kept { (M.kept mem.new).frozen ≡ (M.kept mem.old).frozen }
 {
     let saved = (saved_at(cpu.wptr), to);
     match link_write(cpu.wptr, cpu.low) {
@@ -141,8 +142,8 @@ pub fn slice<M: Mem>(cpu: &mut Cpu, mem: &mut M, to: u32) -> Result<(), Undone>
 /// Jumps to `to`. A low process whose slice is over is sliced there.
 #[inline(always)]
 pub fn jump<M: Mem>(cpu: &mut Cpu, mem: &mut M, to: u32) -> Result<(), Undone>
-    ensures does { Does (jump to []) (MayRefuse (M.may_refuse mem.old)) cpu.old (M.bytes mem.old) result cpu.new (M.bytes mem.new) }
-    ensures kept { M.frozen mem.new ≡ M.frozen mem.old }
+    ensures does { Does (jump to []) (MayRefuse (LacksFrames (M.kept mem.old))) cpu.old (M.bytes mem.old) result cpu.new (M.bytes mem.new) }
+    ensures kept { (M.kept mem.new).frozen ≡ (M.kept mem.old).frozen }
 {
     if must_slice(cpu) {
         return slice(cpu, mem, to);
@@ -159,8 +160,8 @@ fn slice_looping<M: Mem>(
     count: (u32, u32),
     index: (u32, u32),
 ) -> Result<(), Undone>
-    ensures does { Does (makes_room to (count ∷ index ∷ [])) (MayRefuse (M.may_refuse mem.old)) cpu.old (M.bytes mem.old) result cpu.new (M.bytes mem.new) }
-    ensures kept { M.frozen mem.new ≡ M.frozen mem.old }
+    ensures does { Does (makes_room to (count ∷ index ∷ [])) (MayRefuse (LacksFrames (M.kept mem.old))) cpu.old (M.bytes mem.old) result cpu.new (M.bytes mem.new) }
+    ensures kept { (M.kept mem.new).frozen ≡ (M.kept mem.old).frozen }
 {
     let saved = (saved_at(cpu.wptr), to);
     match link_write(cpu.wptr, cpu.low) {
@@ -180,8 +181,8 @@ pub fn jump_looping<M: Mem>(
     count: (u32, u32),
     index: (u32, u32),
 ) -> Result<(), Undone>
-    ensures does { Does (jump to (count ∷ index ∷ [])) (MayRefuse (M.may_refuse mem.old)) cpu.old (M.bytes mem.old) result cpu.new (M.bytes mem.new) }
-    ensures kept { M.frozen mem.new ≡ M.frozen mem.old }
+    ensures does { Does (jump to (count ∷ index ∷ [])) (MayRefuse (LacksFrames (M.kept mem.old))) cpu.old (M.bytes mem.old) result cpu.new (M.bytes mem.new) }
+    ensures kept { (M.kept mem.new).frozen ≡ (M.kept mem.old).frozen }
 {
     if must_slice(cpu) {
         return slice_looping(cpu, mem, to, count, index);
@@ -196,8 +197,8 @@ pub const KEPT_AT: u32 = 0x8000_002C;
 
 /// Keeps the low process that runs, so that a high one can start.
 pub fn interrupt<M: Mem>(cpu: &mut Cpu, mem: &mut M) -> Result<(), Undone>
-    ensures does { Does interrupt (MayRefuse (M.may_refuse mem.old)) cpu.old (M.bytes mem.old) result cpu.new (M.bytes mem.new) }
-    ensures kept { M.frozen mem.new ≡ M.frozen mem.old }
+    ensures does { Does interrupt (MayRefuse (LacksFrames (M.kept mem.old))) cpu.old (M.bytes mem.old) result cpu.new (M.bytes mem.new) }
+    ensures kept { (M.kept mem.new).frozen ≡ (M.kept mem.old).frozen }
 {
     let Regs { a, b, c, .. } = cpu.regs;
     store_all(
@@ -216,8 +217,8 @@ pub fn interrupt<M: Mem>(cpu: &mut Cpu, mem: &mut M) -> Result<(), Undone>
 
 /// Goes on with the interrupted low process of `descriptor`.
 pub fn restore<M: Mem>(cpu: &mut Cpu, mem: &mut M, descriptor: u32) -> Result<(), Undone>
-    ensures does { Does (restore descriptor) (MayRefuse (M.may_refuse mem.old)) cpu.old (M.bytes mem.old) result cpu.new (M.bytes mem.new) }
-    ensures kept { M.frozen mem.new ≡ M.frozen mem.old }
+    ensures does { Does (restore descriptor) (MayRefuse (LacksFrames (M.kept mem.old))) cpu.old (M.bytes mem.old) result cpu.new (M.bytes mem.new) }
+    ensures kept { (M.kept mem.new).frozen ≡ (M.kept mem.old).frozen }
 {
     let iptr = load(mem, KEPT_AT + 4)?;
     let a = load(mem, KEPT_AT + 8)?;
@@ -238,8 +239,8 @@ pub fn restore<M: Mem>(cpu: &mut Cpu, mem: &mut M, descriptor: u32) -> Result<()
 
 /// Does `startp`: queues a process with the workspace A that begins at N + B, at the priority of the one that runs. N is the next instruction.
 pub fn startp<M: Mem>(cpu: &mut Cpu, mem: &mut M) -> Result<(), Undone>
-    ensures does { Does startp (MayRefuse (M.may_refuse mem.old)) cpu.old (M.bytes mem.old) result cpu.new (M.bytes mem.new) }
-    ensures kept { M.frozen mem.new ≡ M.frozen mem.old }
+    ensures does { Does startp (MayRefuse (LacksFrames (M.kept mem.old))) cpu.old (M.bytes mem.old) result cpu.new (M.bytes mem.new) }
+    ensures kept { (M.kept mem.new).frozen ≡ (M.kept mem.old).frozen }
 {
     let Regs { a, b, .. } = cpu.regs;
     let process = workspace(a) + u32::from(is_low(cpu));
@@ -254,16 +255,16 @@ pub fn startp<M: Mem>(cpu: &mut Cpu, mem: &mut M) -> Result<(), Undone>
 
 /// Does `runp`: queues the process of the descriptor A.
 pub fn runp<M: Mem>(cpu: &mut Cpu, mem: &mut M) -> Result<(), Undone>
-    ensures does { Does runp (MayRefuse (M.may_refuse mem.old)) cpu.old (M.bytes mem.old) result cpu.new (M.bytes mem.new) }
-    ensures kept { M.frozen mem.new ≡ M.frozen mem.old }
+    ensures does { Does runp (MayRefuse (LacksFrames (M.kept mem.old))) cpu.old (M.bytes mem.old) result cpu.new (M.bytes mem.new) }
+    ensures kept { (M.kept mem.new).frozen ≡ (M.kept mem.old).frozen }
 {
     enqueue(cpu, mem, cpu.regs.a)
 }
 
 /// Does `endp`: counts down the word behind A. The last process goes on for all, and each other one ends.
 pub fn endp<M: Mem>(cpu: &mut Cpu, mem: &mut M) -> Result<(), Undone>
-    ensures does { Does endp (MayRefuse (M.may_refuse mem.old)) cpu.old (M.bytes mem.old) result cpu.new (M.bytes mem.new) }
-    ensures kept { M.frozen mem.new ≡ M.frozen mem.old }
+    ensures does { Does endp (MayRefuse (LacksFrames (M.kept mem.old))) cpu.old (M.bytes mem.old) result cpu.new (M.bytes mem.new) }
+    ensures kept { (M.kept mem.new).frozen ≡ (M.kept mem.old).frozen }
 {
     let a = cpu.regs.a;
     let count_at = a.wrapping_add(4);

@@ -40,3 +40,5 @@ mod runs;
 mod steps;
 #[cfg(test)]
 mod story;
+#[cfg(test)]
+mod twins;

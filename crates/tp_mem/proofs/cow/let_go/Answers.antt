@@ -1,6 +1,5 @@
-use Rattle.std.proofs.Common.{◌≡◌, ◌<◌, ◌≤◌, ℕ, Option, Some, None, length, get_or, sym, ap, ◌∙◌, arith}
+use Rattle.std.proofs.Common.{◌<◌, ◌≤◌, None, length, sym, ◌∙◌, arith}
 use Rattle.std.proofs.lemmas.List.{get_or_default}
-use Rattle.tp_mem.specs.Copies.{copied_in}
 use Rattle.tp_mem.proofs.Copies.{copy_single, AreCopies-gone, free_in-gone, copied_in-next, copied_in-past}
 use Rattle.tp_mem.proofs.cow.let_go.Goals as goal
 

@@ -1,4 +1,4 @@
-use Rattle.std.proofs.Common.{◌≡◌, Option, None, replicate, vec_len, vec_capacity}
+use Rattle.std.proofs.Common.{◌≡◌, None, replicate, vec_len, vec_capacity}
 use Rattle.tp_mem.proofs.cow.no_copies.Given as goal
 
 abbrev pub invariant-loop-page : goal.invariant-loop-page

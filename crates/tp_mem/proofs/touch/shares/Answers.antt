@@ -1,4 +1,4 @@
-use Rattle.std.proofs.Common.{◌≡◌, sym, ◌∙◌}
+use Rattle.std.proofs.Common.{sym, ◌∙◌}
 use Rattle.tp_mem.proofs.Touches.{words_untouched, or_false}
 use Rattle.tp_mem.proofs.touch.shares.Goals as goal
 

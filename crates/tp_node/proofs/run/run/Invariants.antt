@@ -15,4 +15,4 @@ pub record Runs (count : ℕ) (before now : NodeState) (sent : List (ℕ × Toke
 
 abbrev pub invariant-loop-count : goal.invariant-loop-count
 invariant-loop-count g l =
-    Runs l.count (state_with l.fn.head (g.M.Mem.bytes l.fn.mem)) (state_with l.head (g.M.Mem.bytes l.mem)) l.sent.items (g.M.Mem.frozen l.fn.mem) (g.M.Mem.frozen l.mem)
+    Runs l.count (state_with l.fn.head (g.M.Mem.bytes l.fn.mem)) (state_with l.head (g.M.Mem.bytes l.mem)) l.sent.items (g.M.Mem.kept l.fn.mem).frozen (g.M.Mem.kept l.mem).frozen

@@ -10,7 +10,7 @@ returns-clause-takes g c =
     let memory = g.M.Mem.bytes c.args.mem.now in
     let inside : c.args.link < length inputs = omega arith in
     data_taken (state_with c.args.head.now memory) c.args.link c.args.byte (get_or inputs c.args.link c.index-head-link.result) c.on_data-arrival.new.self c.on_data-arrival.result
-    (IsSome (g.M.Mem.frozen c.args.mem.now)) c.tell.new.cpu (g.M.Mem.bytes c.tell.new.mem)
+    (IsSome (g.M.Mem.kept c.args.mem.now).frozen) c.tell.new.cpu (g.M.Mem.bytes c.tell.new.mem)
     (slice_get-get_or inputs c.args.link c.index-head-link.result inside)
     c.on_data-arrival.ensures
     c.requires.can

@@ -1,4 +1,4 @@
-use Rattle.std.proofs.Common.{◌≡◌, ℕ, length, get_or, sym, ap, ◌∙◌, arith}
+use Rattle.std.proofs.Common.{sym, ◌∙◌}
 use Rattle.tp_frames.proofs.Pools.{held_same, region_here, bytes_here}
 use Rattle.tp_frames.proofs.pool.FramePool.bytes.Goals as goal
 

@@ -1,4 +1,4 @@
-use Rattle.std.proofs.Common.{◌≡◌, ℕ, length, get_or, sym, ap, ◌∙◌, arith}
+use Rattle.std.proofs.Common.{sym, ◌∙◌, arith}
 use Rattle.std.proofs.lemmas.List.{get_or_read_under}
 use Rattle.tp_frames.proofs.Pools.{held_same, counts_here, region_here, owners_here, held_here, counted_view, freed_view, IsPool-counted, IsPool-freed, free-small, written_count}
 use Rattle.tp_frames.proofs.pool.FramePool.give_back.Goals as goal

@@ -1,7 +1,6 @@
-use Rattle.std.proofs.Common.{◌≡◌, ℕ, length, get_or, sym, ◌∙◌, arith, rules}
+use Rattle.std.proofs.Common.{arith}
 use Rattle.std.proofs.lemmas.List.{get_or_read_under}
 use Rattle.std.proofs.lemmas.Bool.Decides.{nat_tests}
-use Rattle.tp_model.specs.Frames.{IsHeld, owners_of}
 use Rattle.tp_frames.proofs.Pools.{held_same, counts_here, owners_here}
 use Rattle.tp_frames.proofs.pool.FramePool.is_single.Goals as goal
 

@@ -1,4 +1,3 @@
-use Rattle.std.proofs.Common.{◌≡◌, ℕ, length, get_or, sym, ap, ◌∙◌, arith}
 use Rattle.tp_frames.proofs.Pools.{single_held, held_here, region_here, written_view, IsPool-written}
 use Rattle.tp_frames.proofs.pool.FramePool.put.Goals as goal
 

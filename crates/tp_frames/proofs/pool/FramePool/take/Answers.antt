@@ -1,4 +1,4 @@
-use Rattle.std.proofs.Common.{◌≡◌, ℕ, ◌<◌, length, get_or, sym, ap, ◌∙◌, arith}
+use Rattle.std.proofs.Common.{arith}
 use Rattle.tp_frames.proofs.Frames.{length-frames_of}
 use Rattle.tp_frames.proofs.Pools.{first_is_free, taken_view, IsPool-taken}
 use Rattle.tp_frames.proofs.pool.FramePool.take.Goals as goal
@@ -15,6 +15,8 @@ invariant_of-self c = rw (c.next-self-inside.ensures.value, c.get.ensures) (IsPo
 pub returns-clause-ok : goal.returns-clause-ok
 returns-clause-ok c =
     let here = first_is_free _ _ _ _ c.self.invariant (omega arith) in
-    rw (c.new.ensures, ← c.self.view_is)
-    (omega (arith, here.0, length-frames_of _ _ c.self.invariant.matched), here.1,
-    (_, c.next-self-inside.ensures.len, rw c.get.ensures (taken_view _ _ _ _ c.self.invariant 1)))
+    rw (c.new.ensures, ← c.self.view_is) (
+      omega (arith, here.0, length-frames_of _ _ c.self.invariant.matched),
+      here.1,
+      (_, c.next-self-inside.ensures.len, rw c.get.ensures (taken_view _ _ _ _ c.self.invariant 1)),
+    )

@@ -1,4 +1,4 @@
-use Rattle.std.proofs.Common.{◌≡◌, ◌<◌, ◌≤◌, ◌+◌, ◌*◌, ℕ, true, false, length, get_or, set, refl, sym, ap, subst, ◌∙◌}
+use Rattle.std.proofs.Common.{◌≡◌, ◌<◌, true, false, get_or, refl, sym, ap, subst, ◌∙◌}
 use Rattle.tp_model.specs.SharedPages.{private_in}
 use Rattle.tp_mem.specs.Copies.{Paged}
 use Rattle.tp_mem.proofs.Paged.{paged_same, page_inside, room_is, IsPaged-parted, frozen_of-parted, spare_in-parted}

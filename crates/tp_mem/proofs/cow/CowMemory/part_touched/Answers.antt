@@ -1,8 +1,6 @@
-use Rattle.std.proofs.Common.{◌≡◌, ◌<◌, ℕ, length, get_or, set, true, false, ap, sym, ◌∙◌, arith}
-use Rattle.std.proofs.lemmas.List.{get_or_default}
+use Rattle.std.proofs.Common.{length, ap, arith}
 use Rattle.tp_mem.specs.Copies.{Paged}
-use Rattle.tp_mem.proofs.Paged.{few_flags, with_shared}
-use Rattle.tp_mem.proofs.Touches.{kept_page, parted_page}
+use Rattle.tp_mem.proofs.Paged.{few_flags}
 use Rattle.tp_mem.proofs.cow.CowMemory.part_touched.Goals as goal
 
 pub is_touched-requires-clause-page : goal.is_touched-requires-clause-page

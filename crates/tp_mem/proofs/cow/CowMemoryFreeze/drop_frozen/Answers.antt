@@ -1,5 +1,5 @@
-use Rattle.std.proofs.Common.{◌≡◌, ℕ, Option, true, false, length, replicate, refl, sym, ap, subst, ◌∙◌, arith}
-use Rattle.tp_mem.specs.Copies.{Paged, IsPaged}
+use Rattle.std.proofs.Common.{◌≡◌, false, length, replicate, sym, ap, subst, ◌∙◌, arith}
+use Rattle.tp_mem.specs.Copies.{IsPaged}
 use Rattle.tp_mem.proofs.Copies.{shared_of-thawed, length-shared_of, AreCopies-none}
 use Rattle.tp_mem.proofs.Written.{items_again}
 use Rattle.tp_mem.proofs.cow.CowMemoryFreeze.drop_frozen.Goals as goal

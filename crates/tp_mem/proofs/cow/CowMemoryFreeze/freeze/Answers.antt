@@ -1,4 +1,4 @@
-use Rattle.std.proofs.Common.{◌≡◌, ℕ, Some, None, true, false, length, replicate, refl, sym, ap, subst, ◌∙◌, arith, IsNone}
+use Rattle.std.proofs.Common.{◌≡◌, Some, true, length, replicate, refl, sym, ap, subst, ◌∙◌, arith, IsNone}
 use Rattle.tp_mem.specs.Copies.{Paged}
 use Rattle.tp_mem.proofs.Copies.{shared_of-none, length-shared_of, frozen_from-none}
 use Rattle.tp_mem.proofs.Paged.{paged_same, not_frozen}

@@ -1,0 +1,164 @@
+//! The memory that copies before it writes beside its slow twin: the same commands give the same bytes.
+
+ghost use Rattle.std.specs.Prelude.{◌≤◌};
+
+use crate::desk::four_pages;
+use std::alloc::{AllocError, Global};
+use std::test::Fail;
+use tp_mem::{CowMemory, FlatMemory, Freeze, Mem, WriteFault};
+
+/// Two memories of four pages.
+#[derive(Drop)]
+struct Twins {
+    cow: CowMemory,
+    flat: FlatMemory,
+}
+
+fn make_twins(alloc: Global, spare: usize) -> Result<Twins, AllocError>
+    requires { spare ≤ 4 }
+{
+    let cow = CowMemory::new(alloc, 4, spare, &[0; 4096])?;
+    let flat = four_pages(alloc)?;
+    Ok(Twins { cow, flat })
+}
+
+/// Whether a write goes the same way, where a frame is not wanted.
+fn write(twins: &mut Twins, address: u32, word: u32) -> bool {
+    let first = if word % 2 == 0 {
+        twins.cow.write_word(address, word)
+    } else {
+        twins.cow.change(address, 0x8000_0010, word % 1500, &[])
+    };
+    if let Err(WriteFault::NoFrame) = first {
+        return twins.cow.is_frozen();
+    }
+    let second = if word % 2 == 0 {
+        twins.flat.write_word(address, word)
+    } else {
+        twins.flat.change(address, 0x8000_0010, word % 1500, &[])
+    };
+    first.is_ok() == second.is_ok()
+}
+
+/// Whether both are frozen alike, and a frozen page of both is the same.
+fn page(twins: &Twins, page: usize) -> bool {
+    let mut one = [1; 1024];
+    let mut other = [1; 1024];
+    if twins.cow.is_frozen() && page < twins.cow.pages() {
+        twins.cow.frozen_page(page, &mut one);
+    }
+    if twins.flat.is_frozen() && page < twins.flat.pages() {
+        twins.flat.frozen_page(page, &mut other);
+    }
+    twins.cow.is_frozen() == twins.flat.is_frozen() && one == other
+}
+
+fn freeze(twins: &mut Twins) {
+    if !twins.cow.is_frozen() {
+        twins.cow.freeze();
+    }
+    if !twins.flat.is_frozen() {
+        twins.flat.freeze();
+    }
+}
+
+fn thaw(twins: &mut Twins) {
+    twins.cow.drop_frozen();
+    twins.flat.drop_frozen();
+}
+
+/// Whether a command, by a number, goes the same way.
+fn command(twins: &mut Twins, number: u32) -> bool {
+    let address = 0x8000_0000 + (number >> 8) % 4200;
+    match number >> 27 {
+        0 => {
+            freeze(twins);
+            true
+        }
+        1 => {
+            thaw(twins);
+            true
+        }
+        2..=4 => page(twins, (number >> 8) as usize % 4),
+        5..=7 => {
+            let _told = twins.cow.make_private(address, number % 3000);
+            true
+        }
+        8..=15 => twins.cow.read_byte(address) == twins.flat.read_byte(address),
+        _ => write(twins, address, number),
+    }
+}
+
+/// Whether all words are the same.
+fn same_words(twins: &Twins) -> bool {
+    for place in 0..1024 {
+        let address = 0x8000_0000 + 4 * place;
+        if twins.cow.read_word(address) != twins.flat.read_word(address) {
+            return false;
+        }
+    }
+    true
+}
+
+/// Whether 2,000 commands all go the same way.
+fn agree(twins: &mut Twins) -> bool {
+    let mut number = 1u32;
+    for _ in 0..2000 {
+        number = number.wrapping_mul(1_664_525).wrapping_add(1_013_904_223);
+        if !command(twins, number) {
+            return false;
+        }
+    }
+    same_words(twins) && page(twins, 0) && page(twins, 1) && page(twins, 2) && page(twins, 3)
+}
+
+fn agree_all(alloc: Global) -> Result<bool, Fail> {
+    let mut none = make_twins(alloc, 0)?;
+    let mut one = make_twins(alloc, 1)?;
+    let mut all = make_twins(alloc, 4)?;
+    Ok(agree(&mut none) && agree(&mut one) && agree(&mut all))
+}
+
+#[test]
+fn two_memories_agree(rt: HostRuntime) -> Result<(), Fail> {
+    let told = agree_all(rt.alloc())?;
+    assert!(rt; told);
+    Ok(())
+}
+
+/// Whether a word is written, or a frame is wanted for it.
+fn writes(mem: &mut CowMemory, address: u32) -> Option<bool> {
+    match mem.write_word(address, 7) {
+        Ok(()) => Some(true),
+        Err(WriteFault::Outside) => None,
+        Err(WriteFault::NoFrame) => Some(false),
+    }
+}
+
+/// With one spare frame the second page that is written wants another; once the frozen bytes are gone it is written.
+fn is_one_spare(alloc: Global) -> Result<bool, Fail> {
+    let mut mem = CowMemory::new(alloc, 4, 1, &[0; 4096])?;
+    mem.freeze();
+    let first = writes(&mut mem, 0x8000_0000) == Some(true);
+    let second = writes(&mut mem, 0x8000_0400) == Some(false);
+    let again = writes(&mut mem, 0x8000_0004) == Some(true);
+    mem.drop_frozen();
+    let gone = writes(&mut mem, 0x8000_0400) == Some(true);
+    Ok(first && second && again && gone)
+}
+
+/// With none already the first one wants a frame.
+fn is_none_spare(alloc: Global) -> Result<bool, Fail> {
+    let mut mem = CowMemory::new(alloc, 4, 0, &[0; 4096])?;
+    mem.freeze();
+    Ok(writes(&mut mem, 0x8000_0000) == Some(false))
+}
+
+#[test]
+fn frames_are_wanted(rt: HostRuntime) -> Result<(), Fail> {
+    let one = is_one_spare(rt.alloc())?;
+    let none = is_none_spare(rt.alloc())?;
+    assert!(rt; one);
+    assert!(rt; none);
+    Ok(())
+}
