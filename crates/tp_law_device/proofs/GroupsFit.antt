@@ -60,7 +60,7 @@ rows_some bytes rows is =
     let both = and_parts (nat_le 1 n) (nat_le n MAX_GROUP) tests.0 in
     omega (arith, leb-true 1 n both.0, rows_counted bytes rows is)
 
-length-placed : (at : ℕ) (rows : List (List ℕ)) → length (placed at rows) ≡ length rows
+pub length-placed : (at : ℕ) (rows : List (List ℕ)) → length (placed at rows) ≡ length rows
 length-placed at [] = refl
 length-placed at (row ∷ rows) = ap suc (length-placed (at + 16) rows)
 
