@@ -1,5 +1,5 @@
 -- A whole cut stays until the trim, through any acts.
-use Rattle.std.proofs.Common.{◌≡◌, List, [], ◌∷◌, false, sym, subst, Some}
+use Rattle.std.proofs.Common.{◌≡◌, List, [], ◌∷◌, false, subst, Some}
 use Rattle.std.specs.List.{AllByRecursion}
 use Rattle.tp_model.specs.Network.{Machine}
 use Rattle.tp_model.specs.Entries.{HasFourLinks}

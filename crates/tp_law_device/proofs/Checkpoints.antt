@@ -1,6 +1,6 @@
 -- The other area is taken once its gate is open, where it spells what was copied; and so a checkpoint is a run.
-use Rattle.std.proofs.Common.{◌≡◌, ℕ, ◌+◌, ◌<◌, ◌≤◌, ◌⊎◌, inl, inr, Bool, true, false, not, cond, List, [], ◌∷◌, ◌++◌, length, get_or, refl, sym, ap, subst, ◌∙◌, arith, Option, Some, None, Ok}
-use Rattle.std.specs.Prelude.{map, nat_lt}
+use Rattle.std.proofs.Common.{◌≡◌, ℕ, ◌+◌, ◌<◌, ◌≤◌, false, not, cond, List, [], ◌∷◌, ◌++◌, length, get_or, refl, sym, ap, subst, ◌∙◌, arith, Some, None, Ok}
+use Rattle.std.specs.Prelude.{map}
 use Rattle.std.specs.List.{AllByRecursion}
 use Rattle.std.proofs.lemmas.Bool.{lt-ltb}
 use Rattle.tp_model.specs.declared.entry.Entry.{Entry}
@@ -9,13 +9,13 @@ use Rattle.tp_model.specs.Node.{t414, t414_ends}
 use Rattle.tp_model.specs.Network.{Machine, Network}
 use Rattle.tp_model.specs.Sound.{Ends}
 use Rattle.tp_model.specs.WholeCut.{WholeCut, trimmed}
-use Rattle.tp_model.specs.Disk.{Moment, MayBe, Call, Write, Sync, written, done, within, IsWithin}
-use Rattle.tp_model.specs.StoreCalls.{all_done, put_calls, tail_calls}
+use Rattle.tp_model.specs.Disk.{Moment, Call, Write, Sync, written, done, within, IsWithin}
+use Rattle.tp_model.specs.StoreCalls.{all_done, put_calls}
 use Rattle.tp_model.specs.Areas.{Held, gate_open}
-use Rattle.tp_model.specs.Device.{area_start, content_of, is_open}
-use Rattle.tp_model.specs.Spelling.{Spells, entries_in}
+use Rattle.tp_model.specs.Device.{is_open}
+use Rattle.tp_model.specs.Spelling.{entries_in}
 use Rattle.tp_model.specs.Opening.{Opened, held_of, area_in, opening, verdict}
-use Rattle.tp_model.specs.DeviceAreas.{areas_of, device_areas, other_start, other_is_open, other_content, spare_of, if_newer, other_of}
+use Rattle.tp_model.specs.DeviceAreas.{device_areas, other_start, other_is_open, other_content, spare_of, if_newer, other_of}
 use Rattle.tp_model.specs.WriteOrder.{Resting, Tail, Opening, Opened as AfterOpening, switching, switch_done}
 use Rattle.tp_model.specs.Runs.{World, Event, CopiesTail, Does, Trims, Run, HasCut, copy_of}
 use Rattle.tp_law_machine.proofs.Moments.{may_be_written, loose_may, length-written, get_or-written_outside, get_or-written_inside}
@@ -26,7 +26,7 @@ use Rattle.tp_law_device.proofs.Wires.{has_shape}
 use Rattle.tp_law_device.proofs.Heads.{head_parts}
 use Rattle.tp_law_device.proofs.SpeltAreas.{SpeltArea, area_spelt, end_of_groups}
 use Rattle.tp_law_device.proofs.Stand.{spelt_area}
-use Rattle.tp_law_device.proofs.Opens.{Reads, reads_of, held_in, held_from}
+use Rattle.tp_law_device.proofs.Opens.{reads_of, held_from}
 use Rattle.tp_law_device.proofs.Spare.{spare_fits, loose_keeps, loose_spare, loose_gate}
 use Rattle.tp_law_device.proofs.Switches.{other_within, gate_switches}
 use Rattle.tp_law_device.proofs.Holds.{areas_keep}

@@ -1,11 +1,10 @@
 -- The first checkpoint of a device that was formatted, without an entry yet.
-use Rattle.std.proofs.Common.{◌≡◌, ℕ, ◌+◌, ◌-◌, ◌*◌, ◌<◌, ◌≤◌, true, false, cond, List, [], ◌∷◌, ◌++◌, length, take, drop, refl, sym, ap, subst, ◌∙◌, arith, append_assoc, length-append, length-take, Some, Ok}
-use Rattle.std.specs.Prelude.{◌&&◌, nat_le, map}
+use Rattle.std.proofs.Common.{◌≡◌, ℕ, ◌+◌, ◌-◌, ◌*◌, ◌≤◌, true, false, cond, List, [], ◌∷◌, ◌++◌, length, take, drop, refl, sym, ap, subst, ◌∙◌, arith, append_assoc, length-append, length-take, Some, Ok}
+use Rattle.std.specs.Prelude.{nat_le, map}
 use Rattle.std.specs.List.{AllByRecursion}
 use Rattle.std.proofs.lemmas.Bool.{and_parts, leb-true}
 use Rattle.std.proofs.lemmas.List.{drop_at}
 use Rattle.std.proofs.Math.Seq.{take-append-add}
-use Rattle.tp_model.specs.declared.entry.Entry.{Entry}
 use Rattle.tp_model.specs.declared.limits.TheConstants.{GATE_CLOSED}
 use Rattle.tp_model.specs.NodeState.{NodeState}
 use Rattle.tp_model.specs.Node.{t414, t414_ends}
@@ -23,8 +22,7 @@ use Rattle.tp_model.specs.Device.{area_start, content_of, is_open}
 use Rattle.tp_model.specs.Spelling.{front_bytes, groups_bytes}
 use Rattle.tp_model.specs.Opening.{Opened, groups_place, opening, verdict}
 use Rattle.tp_model.specs.DeviceAreas.{device_areas, other_start, other_is_open, spare_of}
-use Rattle.tp_model.specs.WriteOrder.{Resting}
-use Rattle.tp_model.specs.Runs.{World, Acts, Run, HasCut, copy_of, fresh, is_trim}
+use Rattle.tp_model.specs.Runs.{World, Acts, HasCut, copy_of, fresh, is_trim}
 use Rattle.tp_law_machine.proofs.LinkLaws.{has_four_links, never_marks}
 use Rattle.tp_law_network.proofs.Partial.{bind_some}
 use Rattle.tp_law_cuts.proofs.Invariant.{Holds}

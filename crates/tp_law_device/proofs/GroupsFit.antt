@@ -1,16 +1,16 @@
 -- Groups end inside their area, as long as the journal isn't full.
-use Rattle.std.proofs.Common.{◌≡◌, ℕ, zero, suc, ◌+◌, ◌-◌, ◌*◌, ◌<◌, ◌≤◌, Bool, true, false, cond, List, [], ◌∷◌, ◌++◌, length, take, drop, refl, sym, ap, subst, ◌∙◌, arith, length-append, Option, Some, None, Ok}
-use Rattle.std.specs.Prelude.{◌==◌, ◌&&◌, ◌||◌, nat_le, nat_lt, bytes_eq}
+use Rattle.std.proofs.Common.{◌≡◌, ℕ, zero, suc, ◌+◌, ◌-◌, ◌*◌, ◌<◌, ◌≤◌, Bool, true, false, cond, List, [], ◌∷◌, length, take, drop, refl, sym, ap, ◌∙◌, arith, length-append, Option, Some, None, Ok}
+use Rattle.std.specs.Prelude.{◌==◌, ◌&&◌, nat_le, bytes_eq}
 use Rattle.std.specs.List.{AllByRecursion}
 use Rattle.std.specs.Option.{option_map}
-use Rattle.std.proofs.lemmas.Bool.{and_parts, leb-true, lt-ltb, ltb-false}
+use Rattle.std.proofs.lemmas.Bool.{and_parts, leb-true, lt-ltb}
 use Rattle.std.proofs.lemmas.List.{length_push}
 use Rattle.std.proofs.lemmas.Option.{cond_some as chosen}
 use Rattle.tp_model.specs.declared.entry.Entry.{Entry}
-use Rattle.tp_model.specs.declared.limits.TheConstants.{GATE_OPEN, AREA_HEAD_BYTES, MAX_GROUP, NUMBER_LIMIT}
+use Rattle.tp_model.specs.declared.limits.TheConstants.{GATE_OPEN, AREA_HEAD_BYTES, MAX_GROUP}
 use Rattle.tp_model.specs.NodeState.{NodeState}
 use Rattle.tp_model.specs.Node.{t414, t414_ends}
-use Rattle.tp_model.specs.Network.{Machine, Network}
+use Rattle.tp_model.specs.Network.{Machine}
 use Rattle.tp_model.specs.Entries.{next}
 use Rattle.tp_model.specs.Sound.{Ends}
 use Rattle.tp_model.specs.Topology.{Topology}
@@ -60,7 +60,7 @@ rows_some bytes rows is =
     let both = and_parts (nat_le 1 n) (nat_le n MAX_GROUP) tests.0 in
     omega (arith, leb-true 1 n both.0, rows_counted bytes rows is)
 
-length-placed : (at : ℕ) (rows : List (List ℕ)) → length (placed at rows) ≡ length rows
+pub length-placed : (at : ℕ) (rows : List (List ℕ)) → length (placed at rows) ≡ length rows
 length-placed at [] = refl
 length-placed at (row ∷ rows) = ap suc (length-placed (at + 16) rows)
 

@@ -1,5 +1,5 @@
 -- From what opening answers to the state that it stands for, whatever the bytes.
-use Rattle.std.proofs.Common.{◌≡◌, ℕ, ◌+◌, ◌≤◌, List, [], length, take, refl, sym, ap, subst, ◌∙◌, arith, Some, Ok, None}
+use Rattle.std.proofs.Common.{◌≡◌, ℕ, ◌+◌, ◌≤◌, List, take, refl, sym, ap, subst, ◌∙◌, arith, Some, Ok}
 use Rattle.std.specs.Prelude.{map}
 use Rattle.std.specs.List.{AllByRecursion}
 use Rattle.std.proofs.lemmas.List.{length-map}
@@ -13,11 +13,11 @@ use Rattle.tp_model.specs.Acts.{IsOpened}
 use Rattle.tp_model.specs.CutOrder.{HasOrder}
 use Rattle.tp_model.specs.Disk.{MayBe}
 use Rattle.tp_model.specs.Areas.{next_number}
-use Rattle.tp_model.specs.DeviceAreas.{areas_of, device_areas}
+use Rattle.tp_model.specs.DeviceAreas.{device_areas}
 use Rattle.tp_model.specs.Device.{area_start, content_of}
 use Rattle.tp_model.specs.Opening.{Opened, next_of, held_of, base_of, opening, verdict}
 use Rattle.tp_model.specs.OpensTo.{OpensTo, book_of}
-use Rattle.tp_model.specs.Runs.{World, Event, Run, fresh, IsFormatted, Recovers}
+use Rattle.tp_model.specs.Runs.{World, Event, Run, fresh, IsFormatted}
 use Rattle.tp_law_machine.proofs.LinkLaws.{has_four_links, never_marks, keeps_flight}
 use Rattle.tp_law_network.proofs.Sound.{sound_after}
 use Rattle.tp_law_cuts.proofs.Invariant.{Holds}

@@ -1,5 +1,5 @@
 -- What a port has counted is how many entries there were.
-use Rattle.std.proofs.Common.{◌≡◌, ◌≢◌, ℕ, ◌+◌, ◌-◌, ◌<◌, ◌≤◌, Bool, true, false, cond, inl, inr, List, [], ◌∷◌, ◌++◌, length, set, drop, refl, sym, ap, subst, ◌∙◌, arith, length-append, length-drop, Option, Some, None, slice_get, ne_eqb, eq-eqb}
+use Rattle.std.proofs.Common.{◌≡◌, ℕ, ◌+◌, ◌-◌, Bool, true, false, cond, inl, inr, List, [], ◌∷◌, length, set, refl, sym, ap, subst, ◌∙◌, arith, length-append, length-drop, Option, Some, None, slice_get, ne_eqb, eq-eqb}
 use Rattle.std.specs.Prelude.{◌==◌, ◌&&◌, nat_lt, nat_le}
 use Rattle.std.specs.Option.{option_map}
 use Rattle.std.specs.List.{count_by}
@@ -18,7 +18,7 @@ use Rattle.tp_model.specs.Entries.{HasFourLinks, process, port_took, acked, hand
 use Rattle.tp_model.specs.Order.{after}
 use Rattle.tp_model.specs.Counted.{accepted, came_out, is_input, is_at, is_output}
 use Rattle.tp_law_network.proofs.Partial.{cond_some as tested, slice_get-set_same, slice_get-set_other}
-use Rattle.tp_law_network.proofs.Local.{Step, step_of, step_shape, own_host, port_step}
+use Rattle.tp_law_network.proofs.Local.{step_of, step_shape, own_host, port_step}
 use Rattle.tp_law_network.proofs.Reorder.{first_possible}
 
 -- ## One port

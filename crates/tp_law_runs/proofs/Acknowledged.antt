@@ -2,7 +2,7 @@
 -- for good, and in what any crash leaves.
 use Rattle.std.proofs.Common.{◌≡◌, ℕ, ◌+◌, ◌<◌, ◌≤◌, false, List, [], ◌∷◌, ◌++◌, length, take, refl, sym, ap, subst, ◌∙◌, arith, append_assoc, append-nil}
 use Rattle.std.specs.List.{AllByRecursion}
-use Rattle.std.proofs.lemmas.List.{take-append-le}
+use Rattle.std.proofs.lemmas.List.{take-append-le, take-take}
 use Rattle.tp_model.specs.declared.entry.Entry.{Entry}
 use Rattle.tp_model.specs.Network.{Machine, Network}
 use Rattle.tp_model.specs.Entries.{HasFourLinks}
@@ -14,7 +14,7 @@ use Rattle.tp_model.specs.Runs.{World, Event, Acts, Copies, CopiesTail, Does, Br
 use Rattle.tp_model.specs.Acknowledged.{is_reopening, IsAcknowledged, IsShown}
 use Rattle.tp_law_runs.proofs.Invariant.{Inv}
 use Rattle.tp_law_runs.proofs.Runs.{reads_now, run_keeps, formatted_run}
-use Rattle.tp_law_runs.proofs.Stay.{take-take, run_stays}
+use Rattle.tp_law_runs.proofs.Stay.{run_stays}
 
 -- ## Without an opening the journal only grows
 

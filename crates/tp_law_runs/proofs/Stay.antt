@@ -1,6 +1,6 @@
 -- What the journal has below the mark stays: openings cut only what is above it.
-use Rattle.std.proofs.Common.{◌≡◌, ℕ, zero, suc, ◌≤◌, List, [], ◌∷◌, length, take, refl, sym, ap, subst, ◌∙◌, arith, length-append, le_refl}
-use Rattle.std.proofs.lemmas.List.{take-append-le}
+use Rattle.std.proofs.Common.{◌≡◌, ℕ, ◌≤◌, List, [], ◌∷◌, length, take, refl, sym, ap, subst, ◌∙◌, arith, length-append, le_refl}
+use Rattle.std.proofs.lemmas.List.{take-append-le, take-take}
 use Rattle.tp_model.specs.declared.entry.Entry.{Entry}
 use Rattle.tp_model.specs.Network.{Machine, Network}
 use Rattle.tp_model.specs.Entries.{HasFourLinks}
@@ -12,12 +12,6 @@ use Rattle.tp_law_runs.proofs.Moments.{may_stand}
 use Rattle.tp_law_runs.proofs.Prefix.{Stands}
 use Rattle.tp_law_runs.proofs.Invariant.{Inv}
 use Rattle.tp_law_runs.proofs.Runs.{reads_now, step_keeps, formatted_run}
-
-pub take-take : {X : Type 0} (m n : ℕ) (xs : List X) → m ≤ n → take m (take n xs) ≡ take m xs
-take-take zero n xs le = refl
-take-take (suc m) zero xs le = absurd (omega arith)
-take-take (suc m) (suc n) [] le = refl
-take-take (suc m) (suc n) (x ∷ xs) le = ap (λ ys. x ∷ ys) (take-take m n xs (omega arith))
 
 grown_stays : (act : Act) (journal : List Entry) (m : ℕ) → m ≤ length journal → take m (grown act journal) ≡ take m journal
 grown_stays Begin journal m le = refl

@@ -1,6 +1,4 @@
 use Rattle.tp_model.specs.Node.{t414, t414_ends}
-use Rattle.tp_model.specs.WholeCut.{whole}
-use Rattle.tp_model.specs.Snapshot.{Snapshot}
 use Rattle.tp_model.specs.Opening.{verdict}
 use Rattle.tp_model.specs.DeviceAreas.{other_content}
 use Rattle.tp_model.specs.Runs.{copy_of}
