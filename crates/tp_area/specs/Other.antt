@@ -1,5 +1,5 @@
 -- The area that isn't open, and what is done to it.
-use Rattle.std.specs.Prelude.{◌≡◌, ℕ, ◌+◌, false, not, if◌then◌else◌, List, [], ◌∷◌, length, Option, Some, None, Ok}
+use Rattle.std.specs.Prelude.{◌≡◌, ℕ, Bool, nat_lt, ◌+◌, false, not, if◌then◌else◌, List, [], ◌∷◌, length, Option, Some, None, Ok}
 use Rattle.tp_model.specs.Bytes.{u8_at}
 use Rattle.tp_model.specs.Device.{area_start, gate_of, is_open}
 use Rattle.tp_model.specs.Disk.{IsWithin}
@@ -10,6 +10,8 @@ use Rattle.tp_model.specs.Areas.{Held}
 use Rattle.tp_model.specs.DeviceAreas.{device_areas}
 use Rattle.tp_model.specs.Opening.{Opened, verdict}
 use Rattle.tp_area.specs.declared.place.Place.{Place}
+use Rattle.tp_area.specs.declared.fault.StoreFault.{StoreFault}
+use Rattle.tp_area.specs.declared.fault.StoreFault.TheVariants.{AreaFull, StoreBroken}
 use Rattle.tp_area.specs.Crashes.{OpensTo, RestsAs}
 
 -- where its gate stands
@@ -19,6 +21,10 @@ other_gate place = area_start place.area (not place.second)
 -- a gate, where it is open
 abbrev pub if_open : ℕ → List ℕ → Option ℕ
 if_open gate bytes = if is_open (u8_at bytes gate) then Some gate else None
+
+-- why nothing is put there whose end stands at this place of its content, before any call of the device
+abbrev pub put_refusal : Bool → Place → ℕ → Option StoreFault
+put_refusal broken place end = if broken then Some StoreBroken else if nat_lt end place.area then None else Some AreaFull
 
 abbrev pub OtherIsClosed : Place → State → Type 0
 OtherIsClosed place s = is_open (gate_of place.area (not place.second) s.now.bytes) ≡ false

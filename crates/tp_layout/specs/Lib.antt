@@ -2,3 +2,4 @@ pub mod Fronts
 pub mod Heads
 pub mod Lines
 pub mod Ports
+pub mod Pieces

@@ -16,6 +16,6 @@ pub use front::{
 };
 pub use head::{Head, head_bytes, head_in, head_length};
 pub use line::{LineTokens, line_in};
-pub use place::{Places, area_start};
+pub use place::{Places, area_start, piece_length, piece_place};
 pub use port::{PortRecord, port_bytes, port_in};
 pub use room::{cut_length, fits, image_length, images_length, journal_room, records_length};

@@ -1,14 +1,15 @@
 //! Where areas and the records of a cut stand.
 
-ghost use Rattle.std.specs.Prelude.{◌≡◌, ◌+◌, ◌^◌, ◌<◌};
+ghost use Rattle.std.specs.Prelude.{◌≡◌, ◌+◌, ◌^◌, ◌<◌, ◌≤◌, length};
 ghost use Rattle.tp_model.specs.Device.{area_start};
 ghost use Rattle.tp_model.specs.Opening.{groups_place, lines_place, nodes_place, ports_place};
-ghost use Rattle.tp_model.specs.declared.limits.TheConstants.{HEAD_BYTES};
+ghost use Rattle.tp_model.specs.declared.limits.TheConstants.{HEAD_BYTES, MAX_PAGES};
+ghost use Rattle.tp_layout.specs.Pieces.{piece_length, piece_place};
 
 use crate::front::FIELDS_BYTES;
 use crate::head::head_length;
-use crate::room::{cut_length, images_length};
-use tp_model::limits::{AREA_HEAD_BYTES, HEAD_VERSION, LINE_BYTES};
+use crate::room::{cut_length, images_bytes, images_length};
+use tp_model::limits::{AREA_HEAD_BYTES, HEAD_VERSION, IMAGE_HEAD_BYTES, LINE_BYTES, PAGE_BYTES};
 use tp_net::Topology;
 
 /// Where an area of `area` bytes begins: the first one, behind the head, or the second one.
@@ -18,6 +19,33 @@ pub fn area_start(area: u64, second: bool) -> u64
 {
     let first = head_length(HEAD_VERSION);
     if second { first + area } else { first }
+}
+
+/// Bytes of a piece of a node's image: of its head, which is piece 0, or of a page.
+pub fn piece_length(piece: usize) -> usize
+    ensures { result ≡ piece_length piece }
+{
+    if piece == 0 {
+        IMAGE_HEAD_BYTES
+    } else {
+        PAGE_BYTES
+    }
+}
+
+/// Where piece `piece` of the image of node `node` stands behind an area's gate: piece 0 is the image's head, pieces from 1 on
+/// are its pages.
+pub fn piece_place(topology: &Topology, node: usize, piece: usize) -> u64
+    requires node { node < length topology.now.pages }
+    requires piece { piece ≤ MAX_PAGES }
+    ensures value { result ≡ piece_place topology.now node piece }
+    ensures bound { result < 2 ^ 32 }
+{
+    let first = FIELDS_BYTES as u64 + images_bytes(&topology.pages()[..node]);
+    if piece == 0 {
+        first
+    } else {
+        first + (IMAGE_HEAD_BYTES + PAGE_BYTES * (piece - 1)) as u64
+    }
 }
 
 /// Where the first node's image, the first line's record, the first port's record and the first group's gate stand.
