@@ -3,7 +3,7 @@
 #![tactic(auto)]
 
 ghost use Rattle.std.specs.List.{AllByRecursion};
-ghost use Rattle.std.specs.Prelude.{◌≡◌, ◌≤◌, ◌<◌, ◌+◌, ◌*◌, ℕ, false, true, List, Ok, Some, length, map};
+ghost use Rattle.std.specs.Prelude.{◌≡◌, ◌≤◌, ◌<◌, ◌+◌, ◌-◌, ◌*◌, ◌++◌, ℕ, false, true, List, Ok, Some, length, map};
 ghost use Rattle.tp_law_tail.specs.CanPut.{CanPut};
 ghost use Rattle.tp_law_tail.specs.CutSpelt.{CutSpelt};
 ghost use Rattle.tp_model.specs.Acts.{CutHolds};
@@ -11,21 +11,21 @@ ghost use Rattle.tp_model.specs.Areas.{Held, gate_open};
 ghost use Rattle.tp_model.specs.CopySpelt.{CopySpelt};
 ghost use Rattle.tp_model.specs.CutTail.{tail_of};
 ghost use Rattle.tp_model.specs.Disk.{written};
-ghost use Rattle.tp_model.specs.DeviceAreas.{device_areas, other_content, other_is_open, other_start};
+ghost use Rattle.tp_model.specs.DeviceAreas.{device_areas, has_room, other_content, other_is_open, other_start};
 ghost use Rattle.tp_model.specs.Entries.{process};
-ghost use Rattle.tp_model.specs.Journal.{entry_room, room};
+ghost use Rattle.tp_model.specs.Journal.{entry_room, is_roomy, room};
 ghost use Rattle.tp_model.specs.KeptRun.{HasByte, KeptRun};
 ghost use Rattle.tp_model.specs.Network.{Network};
 ghost use Rattle.tp_model.specs.Node.{t414, t414_ends};
 ghost use Rattle.tp_model.specs.NodeState.{NodeState};
 ghost use Rattle.tp_model.specs.Numbers.{AreNumbered};
 ghost use Rattle.tp_model.specs.OpenedCopy.{opened_copy};
-ghost use Rattle.tp_model.specs.Opening.{Opened, verdict};
+ghost use Rattle.tp_model.specs.Opening.{Opened, groups_place, verdict};
 ghost use Rattle.tp_model.specs.Order.{post};
 ghost use Rattle.tp_model.specs.PiecesStand.{IsSized, PiecesStand};
 ghost use Rattle.tp_model.specs.Runs.{Event, HasCut, IsFormatted, World, copy_of};
 ghost use Rattle.tp_model.specs.Snapshot.{MarkedNetwork};
-ghost use Rattle.tp_model.specs.Spelling.{Spells, entries_in};
+ghost use Rattle.tp_model.specs.Spelling.{Spells, entries_in, groups_bytes};
 ghost use Rattle.tp_model.specs.Topology.{Topology, is_topology};
 ghost use Rattle.tp_model.specs.WholeCut.{WholeCut, all_some, count_in, network_in};
 ghost use Rattle.tp_model.specs.WriteOrder.{Resting};
@@ -59,8 +59,8 @@ pub fn cuts_are_spelt()
 /// In a run over a device that was formatted, with bytes and numbers of fixed size, whenever the flusher rests: the copy that
 /// it makes of a whole cut, with the entries outside that and their numbers, has a spelling. It is of the device's topology.
 pub fn copies_are_spelt()
-    ensures { (start : Network NodeState) (events : List (Event NodeState)) (first w : World NodeState) → IsFormatted t414 device_areas start first
-        → AllByRecursion (λ byte. byte < 256) first.disk.bytes → KeptRun first events w
+    ensures { (most : ℕ) (start : Network NodeState) (events : List (Event NodeState)) (first w : World NodeState) → IsFormatted t414 device_areas start first
+        → AllByRecursion (λ byte. byte < 256) first.disk.bytes → KeptRun most first events w
         → (o : Opened) (cut : WholeCut) (nodes : List NodeState) (kept : List (Entry × ℕ)) → w.at ≡ Resting
         → AllByRecursion (λ byte. byte < 256) w.disk.bytes → HasCut w.net cut nodes → verdict w.disk.bytes ≡ Ok o
         → map (λ e. e.0) kept ≡ w.net.entries → AreNumbered 0 w.base (map (λ e. e.1) kept)
@@ -70,11 +70,35 @@ pub fn copies_are_spelt()
 /// At such a moment, where each entry of the tail finds room in a group of its own: there is a content of the other area that
 /// spells the copy; with it the device stands for what it did, and with that area's gate open for the copy.
 pub fn copies_can_be_put()
-    ensures { (start : Network NodeState) (events : List (Event NodeState)) (first w : World NodeState) → IsFormatted t414 device_areas start first
-        → AllByRecursion (λ byte. byte < 256) first.disk.bytes → KeptRun first events w
+    ensures { (most : ℕ) (start : Network NodeState) (events : List (Event NodeState)) (first w : World NodeState) → IsFormatted t414 device_areas start first
+        → AllByRecursion (λ byte. byte < 256) first.disk.bytes → KeptRun most first events w
         → (o : Opened) (cut : WholeCut) (nodes : List NodeState) (kept : List (Entry × ℕ)) → w.at ≡ Resting
         → AllByRecursion (λ byte. byte < 256) w.disk.bytes → HasCut w.net cut nodes → verdict w.disk.bytes ≡ Ok o → other_is_open o w.disk.bytes ≡ false
         → map (λ e. e.0) kept ≡ w.net.entries → AreNumbered 0 w.base (map (λ e. e.1) kept)
         → o.generation + 1 < NUMBER_LIMIT → entry_room * length (post (process w.net.start) (count_in cut) w.net.entries) ≤ room o.head.topology o.head.area
         → CanPut w.disk.bytes o (copy_of w.net w.base cut nodes) }
+{}
+
+/// However the entries of a spelt copy's tail are divided into groups of 1 to 64, these end inside the content of an area, with
+/// the closed gate behind them, where each entry finds room in a group of its own. So does a next group behind those of the
+/// area that is taken, the next gate with it, whatever groups stand there.
+pub fn groups_stay_inside()
+    ensures put { (t : Topology) (area : ℕ) (copy : Held NodeState) (tail : List (Entry × ℕ)) (groups : List (List (Entry × ℕ))) → is_roomy t area ≡ true → CopySpelt t copy tail
+        → entries_in groups ≡ tail → AllByRecursion IsSized groups → entry_room * length tail ≤ room t area
+        → groups_place t + length (groups_bytes groups) + 1 ≤ area - 1 }
+    ensures added { (bytes : List ℕ) (o : Opened) (count : ℕ) → AllByRecursion (λ byte. byte < 256) bytes → verdict bytes ≡ Ok o → 1 ≤ count
+        → entry_room * (length o.kept + count) ≤ room o.head.topology o.head.area → has_room o count ≡ true }
+{}
+
+/// In a run over a device that was formatted, where each entry was made with room for it: the entries outside a whole cut find
+/// room, each in a group of its own, and whenever the flusher rests a group of the first entries of what it copied has room
+/// behind the groups that are there.
+pub fn entries_find_room()
+    ensures tails { (most : ℕ) (start : Network NodeState) (events : List (Event NodeState)) (first w : World NodeState) → IsFormatted t414 device_areas start first
+        → AllByRecursion (λ byte. byte < 256) first.disk.bytes → KeptRun most first events w
+        → (cut : WholeCut) (nodes : List NodeState) → HasCut w.net cut nodes → entry_room * length (post (process w.net.start) (count_in cut) w.net.entries) ≤ most }
+    ensures groups { (most : ℕ) (start : Network NodeState) (events : List (Event NodeState)) (first w : World NodeState) → IsFormatted t414 device_areas start first
+        → AllByRecursion (λ byte. byte < 256) first.disk.bytes → KeptRun most first events w
+        → (o : Opened) (es more : List Entry) → w.at ≡ Resting → AllByRecursion (λ byte. byte < 256) w.disk.bytes → verdict w.disk.bytes ≡ Ok o
+        → w.backlog ≡ es ++ more → 1 ≤ length es → most ≤ room o.head.topology o.head.area → has_room o (length es) ≡ true }
 {}
