@@ -135,7 +135,8 @@ module _ (t : Topology) (w : MarkedNetwork NodeState) (base : ℕ) (cut : WholeC
 
 -- ## The device
 
-same_topology : (t u : Topology) (base other : ℕ) (s : Network NodeState) → IsCut t414_ends t base s → IsCut t414_ends u other s → t ≡ u
+-- one network is the cut of one topology
+pub same_topology : (t u : Topology) (base other : ℕ) (s : Network NodeState) → IsCut t414_ends t base s → IsCut t414_ends u other s → t ≡ u
 same_topology t u base other s C D =
     let pages : t.pages ≡ u.pages = sym C.pages ∙ D.pages in
     let ports : t.ports ≡ u.ports = sym C.count ∙ D.count in
@@ -253,3 +254,7 @@ pub run_tail_spelt : (most : ℕ) (start : Network NodeState) (events : List (Ev
     → map (λ (e : Entry × ℕ). e.0) kept ≡ w.net.entries → AreNumbered 0 w.base (map (λ (e : Entry × ℕ). e.1) kept)
     → CopySpelt o.head.topology (copy_of w.net w.base cut nodes) (tail_of w.net.start cut kept)
 run_tail_spelt most start events first w F bytes run o cut nodes kept = tail_spelt most start w o cut nodes kept (formatted_kept most start events first w F bytes run)
+
+pub run_kept_spelt : (most : ℕ) (start : Network NodeState) (events : List (Event NodeState)) (first w : World NodeState) → IsFormatted t414 device_areas start first → AreBytes first.disk.bytes → KeptRun most first events w
+    → (o : Opened) → w.at ≡ Resting → AreBytes w.disk.bytes → opening t414 t414_ends w.disk.bytes ≡ Ok o → CutSpelt o.head.topology w.base w.net.start
+run_kept_spelt most start events first w F bytes run o rests are is = let R = at_rest most start w o (formatted_kept most start events first w F bytes run) rests are is in R.cut

@@ -43,7 +43,8 @@ begun_early N lines hosts size ports own host past p count is = elim (cases_lt p
   ]
 ]
 
-same_counts : (p : ℕ) (ms : List (ℕ × Token)) (snap : Snapshot) → (collected p ms snap).counts ≡ snap.counts
+-- collecting an entry leaves the counts
+pub same_counts : (p : ℕ) (ms : List (ℕ × Token)) (snap : Snapshot) → (collected p ms snap).counts ≡ snap.counts
 same_counts p ms snap =
     cond_both (has_recorded snap p) (record snap { lines = sent (λ l. not (is_closed snap l)) snap.lines ms }) (record snap { size = snap.size + 1 })
     (λ after. after.counts ≡ snap.counts) (λ _. refl) (λ _. refl)

@@ -3,16 +3,19 @@
 #![tactic(auto)]
 
 ghost use Rattle.std.specs.List.{AllByRecursion};
-ghost use Rattle.std.specs.Prelude.{◌≡◌, ◌≤◌, ◌<◌, ◌+◌, ◌-◌, ◌*◌, ◌++◌, ℕ, false, true, List, Ok, Some, length, map};
+ghost use Rattle.std.specs.Prelude.{◌≡◌, ◌≤◌, ◌<◌, ◌+◌, ◌-◌, ◌*◌, ◌++◌, ◌⊎◌, ℕ, Bool, false, true, List, Ok, Some, length, map, take, drop, slice_get};
 ghost use Rattle.tp_law_tail.specs.CanPut.{CanPut};
 ghost use Rattle.tp_law_tail.specs.CutSpelt.{CutSpelt};
-ghost use Rattle.tp_model.specs.Acts.{CutHolds};
+ghost use Rattle.tp_model.specs.Acts.{Act, CutHolds, happens};
 ghost use Rattle.tp_model.specs.Areas.{Held, gate_open};
 ghost use Rattle.tp_model.specs.CopySpelt.{CopySpelt};
 ghost use Rattle.tp_model.specs.CutTail.{tail_of};
+ghost use Rattle.tp_model.specs.Device.{area_start, content_of};
 ghost use Rattle.tp_model.specs.Disk.{written};
 ghost use Rattle.tp_model.specs.DeviceAreas.{device_areas, has_room, other_content, other_is_open, other_start};
 ghost use Rattle.tp_model.specs.Entries.{process};
+ghost use Rattle.tp_model.specs.FrozenAs.{IsFrozenAs};
+ghost use Rattle.tp_model.specs.Image.{image, image_head};
 ghost use Rattle.tp_model.specs.Journal.{entry_room, is_roomy, room};
 ghost use Rattle.tp_model.specs.KeptRun.{HasByte, KeptRun};
 ghost use Rattle.tp_model.specs.Network.{Network};
@@ -22,8 +25,8 @@ ghost use Rattle.tp_model.specs.Numbers.{AreNumbered};
 ghost use Rattle.tp_model.specs.OpenedCopy.{opened_copy};
 ghost use Rattle.tp_model.specs.Opening.{Opened, groups_place, verdict};
 ghost use Rattle.tp_model.specs.Order.{post};
-ghost use Rattle.tp_model.specs.PiecesStand.{IsSized, PiecesStand};
-ghost use Rattle.tp_model.specs.Runs.{Event, HasCut, IsFormatted, World, copy_of};
+ghost use Rattle.tp_model.specs.PiecesStand.{IsSized, IsThere, PiecesStand};
+ghost use Rattle.tp_model.specs.Runs.{Event, HasCut, IsFormatted, World, copy_of, is_trim};
 ghost use Rattle.tp_model.specs.Snapshot.{MarkedNetwork};
 ghost use Rattle.tp_model.specs.Spelling.{Spells, entries_in, groups_bytes};
 ghost use Rattle.tp_model.specs.Topology.{Topology, is_topology};
@@ -49,15 +52,18 @@ pub fn copies_open()
 {}
 
 /// A whole cut of a book whose kept cut has an image, with bytes in its nodes, has one too: as the cut of so many entries
-/// more as it has.
+/// more as it has. In a run over a device that was formatted, the kept cut has one whenever the flusher rests, and it is of the
+/// device's topology.
 pub fn cuts_are_spelt()
-    ensures { (t : Topology) (base : ℕ) (w : MarkedNetwork NodeState) (cut : WholeCut) (nodes : List NodeState) → is_topology t ≡ true → CutSpelt t base w.start
+    ensures cut { (t : Topology) (base : ℕ) (w : MarkedNetwork NodeState) (cut : WholeCut) (nodes : List NodeState) → is_topology t ≡ true → CutSpelt t base w.start
         → AllByRecursion HasByte w.entries → CutHolds t414 w cut → all_some w.frozen ≡ Some nodes → base + length w.entries < NUMBER_LIMIT
         → CutSpelt t (base + cut.size) (network_in w.start cut nodes) }
+    ensures kept { (most : ℕ) (start : Network NodeState) (events : List (Event NodeState)) (first w : World NodeState) → IsFormatted t414 device_areas start first
+        → AllByRecursion (λ byte. byte < 256) first.disk.bytes → KeptRun most first events w
+        → (o : Opened) → w.at ≡ Resting → AllByRecursion (λ byte. byte < 256) w.disk.bytes → verdict w.disk.bytes ≡ Ok o → CutSpelt o.head.topology w.base w.net.start }
 {}
 
-/// In a run over a device that was formatted, with bytes and numbers of fixed size, whenever the flusher rests: the copy that
-/// it makes of a whole cut, with the entries outside that and their numbers, has a spelling. It is of the device's topology.
+/// In a run over a device that was formatted, whenever the flusher rests: the copy that it makes of a whole cut, with the entries outside that and their numbers, has a spelling. It is of the device's topology.
 pub fn copies_are_spelt()
     ensures { (most : ℕ) (start : Network NodeState) (events : List (Event NodeState)) (first w : World NodeState) → IsFormatted t414 device_areas start first
         → AllByRecursion (λ byte. byte < 256) first.disk.bytes → KeptRun most first events w
@@ -101,4 +107,26 @@ pub fn entries_find_room()
         → AllByRecursion (λ byte. byte < 256) first.disk.bytes → KeptRun most first events w
         → (o : Opened) (es more : List Entry) → w.at ≡ Resting → AllByRecursion (λ byte. byte < 256) w.disk.bytes → verdict w.disk.bytes ≡ Ok o
         → w.backlog ≡ es ++ more → 1 ≤ length es → most ≤ room o.head.topology o.head.area → has_room o (length es) ≡ true }
+{}
+
+/// While a snapshot runs, the image of a node that has recorded stays as it was frozen, whatever act follows but the trim; in
+/// the cut, once that is whole, it is the node. So its pieces may be put into the other area before the cut is whole.
+pub fn frozen_images_stay()
+    ensures stays { (w v : MarkedNetwork NodeState) (act : Act) (i : ℕ) (node : NodeState) → is_trim act ≡ false → happens t414 w act ≡ Some v → IsFrozenAs w i node → IsFrozenAs v i node }
+    ensures cut { (w : MarkedNetwork NodeState) (cut : WholeCut) (nodes : List NodeState) (i : ℕ) (node : NodeState) → HasCut w cut nodes → IsFrozenAs w i node → slice_get nodes i ≡ Some node }
+{}
+
+/// Bytes that are written stand there, and stay there when others are written apart from them. What is written inside an area's
+/// content is written at its place in that, and what is written elsewhere leaves the content as it was. An image stands
+/// there once its head of 172 bytes and each of its pages of 1,024 does.
+pub fn pieces_stay()
+    ensures written { (content : List ℕ) (at : ℕ) (bytes : List ℕ) → at + length bytes ≤ length content → IsThere (written content at bytes) at bytes }
+    ensures apart { (content : List ℕ) (at : ℕ) (bytes : List ℕ) (place : ℕ) (more : List ℕ) → place + length more ≤ length content
+        → (at + length bytes ≤ place) ⊎ (place + length more ≤ at) → IsThere content at bytes → IsThere (written content place more) at bytes }
+    ensures inside { (area : ℕ) (second : Bool) (bytes : List ℕ) (at : ℕ) (piece : List ℕ) → area_start area second + area ≤ length bytes → at + length piece < area
+        → content_of area second (written bytes (area_start area second + 1 + at) piece) ≡ written (content_of area second bytes) at piece }
+    ensures elsewhere { (area : ℕ) (second : Bool) (bytes : List ℕ) (at : ℕ) (more : List ℕ) → 1 ≤ area → at + length more ≤ length bytes
+        → (at + length more ≤ area_start area second + 1) ⊎ (area_start area second + area ≤ at) → content_of area second (written bytes at more) ≡ content_of area second bytes }
+    ensures image { (content : List ℕ) (at : ℕ) (node : NodeState) (pages : ℕ) → length (image_head node) ≡ 172 → length node.memory ≡ 1024 * pages → IsThere content at (image_head node)
+        → ((page : ℕ) → page < pages → IsThere content (at + 172 + 1024 * page) (take 1024 (drop (1024 * page) node.memory))) → IsThere content at (image node) }
 {}
