@@ -52,7 +52,8 @@ use Rattle.tp_law_tail.proofs.Groups.{AreSpelt, parted_entries}
 use Rattle.tp_law_tail.proofs.Content.{AreaSpelling, can_be_spelt}
 use Rattle.tp_law_tail.proofs.Other.{held_then, other_spelt, content_written}
 use Rattle.tp_law_tail.proofs.Again.{cut_spelt}
-use Rattle.tp_law_tail.proofs.Held.{each_has_byte, opened_spelt, SpeltAt, formatted_spelt}
+use Rattle.tp_law_tail.proofs.Held.{each_has_byte, opened_spelt}
+use Rattle.tp_law_tail.proofs.KeptRuns.{KeptAt, formatted_kept}
 
 -- ## The entries of a tail
 
@@ -134,7 +135,8 @@ module _ (t : Topology) (w : MarkedNetwork NodeState) (base : ℕ) (cut : WholeC
 
 -- ## The device
 
-same_topology : (t u : Topology) (base other : ℕ) (s : Network NodeState) → IsCut t414_ends t base s → IsCut t414_ends u other s → t ≡ u
+-- one network is the cut of one topology
+pub same_topology : (t u : Topology) (base other : ℕ) (s : Network NodeState) → IsCut t414_ends t base s → IsCut t414_ends u other s → t ≡ u
 same_topology t u base other s C D =
     let pages : t.pages ≡ u.pages = sym C.pages ∙ D.pages in
     let ports : t.ports ≡ u.ports = sym C.count ∙ D.count in
@@ -198,8 +200,8 @@ pub record AtRest (w : World NodeState) (o : Opened) : Type 0 where
   pub roomy : is_roomy o.head.topology o.head.area ≡ true
   pub cut : CutSpelt o.head.topology w.base w.net.start
 
-pub at_rest : (start : Network NodeState) (w : World NodeState) (o : Opened) → SpeltAt start w → w.at ≡ Resting → AreBytes w.disk.bytes → opening t414 t414_ends w.disk.bytes ≡ Ok o → AtRest w o
-at_rest start w o S rests bytes is =
+pub at_rest : (most : ℕ) (start : Network NodeState) (w : World NodeState) (o : Opened) → KeptAt most start w → w.at ≡ Resting → AreBytes w.disk.bytes → opening t414 t414_ends w.disk.bytes ≡ Ok o → AtRest w o
+at_rest most start w o S rests bytes is =
     let G = S.spelt in
     let a : At t414 device_areas start w Resting = subst (At t414 device_areas start w) rests S.inv.at in
     let reads = a.1.reads in
@@ -215,40 +217,44 @@ at_rest start w o S rests bytes is =
     }
 
 -- the copy that the flusher makes of a whole cut has a spelling
-pub tail_spelt : (start : Network NodeState) (w : World NodeState) (o : Opened) (cut : WholeCut) (nodes : List NodeState) (kept : List (Entry × ℕ)) → SpeltAt start w → w.at ≡ Resting → AreBytes w.disk.bytes
+pub tail_spelt : (most : ℕ) (start : Network NodeState) (w : World NodeState) (o : Opened) (cut : WholeCut) (nodes : List NodeState) (kept : List (Entry × ℕ)) → KeptAt most start w → w.at ≡ Resting → AreBytes w.disk.bytes
     → HasCut w.net cut nodes → opening t414 t414_ends w.disk.bytes ≡ Ok o
     → map (λ (e : Entry × ℕ). e.0) kept ≡ w.net.entries → AreNumbered 0 w.base (map (λ (e : Entry × ℕ). e.1) kept)
     → CopySpelt o.head.topology (copy_of w.net w.base cut nodes) (tail_of w.net.start cut kept)
-tail_spelt start w o cut nodes kept S rests bytes has is entries numbers =
+tail_spelt most start w o cut nodes kept S rests bytes has is entries numbers =
     let G = S.spelt in
-    let R = at_rest start w o S rests bytes is in
+    let R = at_rest most start w o S rests bytes is in
     copy_spelt o.head.topology w.net w.base cut nodes kept R.topology S.inv.net has R.cut G.entries entries numbers G.few
 
-pub tail_put : (start : Network NodeState) (w : World NodeState) (o : Opened) (cut : WholeCut) (nodes : List NodeState) (kept : List (Entry × ℕ)) → SpeltAt start w → w.at ≡ Resting → AreBytes w.disk.bytes
+pub tail_put : (most : ℕ) (start : Network NodeState) (w : World NodeState) (o : Opened) (cut : WholeCut) (nodes : List NodeState) (kept : List (Entry × ℕ)) → KeptAt most start w → w.at ≡ Resting → AreBytes w.disk.bytes
     → HasCut w.net cut nodes → opening t414 t414_ends w.disk.bytes ≡ Ok o → other_is_open o w.disk.bytes ≡ false
     → map (λ (e : Entry × ℕ). e.0) kept ≡ w.net.entries → AreNumbered 0 w.base (map (λ (e : Entry × ℕ). e.1) kept)
     → o.generation + 1 < NUMBER_LIMIT → 32 * length (post (process w.net.start) (count_in cut) w.net.entries) ≤ room o.head.topology o.head.area
     → CanPut w.disk.bytes o (copy_of w.net w.base cut nodes)
-tail_put start w o cut nodes kept S rests bytes has is closed entries numbers young small =
+tail_put most start w o cut nodes kept S rests bytes has is closed entries numbers young small =
     let G = S.spelt in
-    let R = at_rest start w o S rests bytes is in
+    let R = at_rest most start w o S rests bytes is in
     let C = R.cut in
     let A = copy_spelling o.head.topology w.net w.base cut nodes kept R.topology S.inv.net has C G.entries entries numbers G.few o.head.area (o.generation + 1) R.roomy young small in
     let copy = copy_of w.net w.base cut nodes in
     let held = copy_is o.head.topology w.net w.base cut nodes kept R.topology S.inv.net has C G.entries entries numbers G.few in
     put_opens w.disk.bytes o copy A.content (in_groups (tail_of w.net.start cut kept)) (plain_network w.net.live) is closed A.long A.spells (ap (λ (h : Held NodeState). h.entries) held)
 
-pub run_tail_put : (start : Network NodeState) (events : List (Event NodeState)) (first w : World NodeState) → IsFormatted t414 device_areas start first → AreBytes first.disk.bytes → KeptRun first events w
+pub run_tail_put : (most : ℕ) (start : Network NodeState) (events : List (Event NodeState)) (first w : World NodeState) → IsFormatted t414 device_areas start first → AreBytes first.disk.bytes → KeptRun most first events w
     → (o : Opened) (cut : WholeCut) (nodes : List NodeState) (kept : List (Entry × ℕ)) → w.at ≡ Resting → AreBytes w.disk.bytes
     → HasCut w.net cut nodes → opening t414 t414_ends w.disk.bytes ≡ Ok o → other_is_open o w.disk.bytes ≡ false
     → map (λ (e : Entry × ℕ). e.0) kept ≡ w.net.entries → AreNumbered 0 w.base (map (λ (e : Entry × ℕ). e.1) kept)
     → o.generation + 1 < NUMBER_LIMIT → 32 * length (post (process w.net.start) (count_in cut) w.net.entries) ≤ room o.head.topology o.head.area
     → CanPut w.disk.bytes o (copy_of w.net w.base cut nodes)
-run_tail_put start events first w F bytes run o cut nodes kept = tail_put start w o cut nodes kept (formatted_spelt start events first w F bytes run)
+run_tail_put most start events first w F bytes run o cut nodes kept = tail_put most start w o cut nodes kept (formatted_kept most start events first w F bytes run)
 
-pub run_tail_spelt : (start : Network NodeState) (events : List (Event NodeState)) (first w : World NodeState) → IsFormatted t414 device_areas start first → AreBytes first.disk.bytes → KeptRun first events w
+pub run_tail_spelt : (most : ℕ) (start : Network NodeState) (events : List (Event NodeState)) (first w : World NodeState) → IsFormatted t414 device_areas start first → AreBytes first.disk.bytes → KeptRun most first events w
     → (o : Opened) (cut : WholeCut) (nodes : List NodeState) (kept : List (Entry × ℕ)) → w.at ≡ Resting → AreBytes w.disk.bytes
     → HasCut w.net cut nodes → opening t414 t414_ends w.disk.bytes ≡ Ok o
     → map (λ (e : Entry × ℕ). e.0) kept ≡ w.net.entries → AreNumbered 0 w.base (map (λ (e : Entry × ℕ). e.1) kept)
     → CopySpelt o.head.topology (copy_of w.net w.base cut nodes) (tail_of w.net.start cut kept)
-run_tail_spelt start events first w F bytes run o cut nodes kept = tail_spelt start w o cut nodes kept (formatted_spelt start events first w F bytes run)
+run_tail_spelt most start events first w F bytes run o cut nodes kept = tail_spelt most start w o cut nodes kept (formatted_kept most start events first w F bytes run)
+
+pub run_kept_spelt : (most : ℕ) (start : Network NodeState) (events : List (Event NodeState)) (first w : World NodeState) → IsFormatted t414 device_areas start first → AreBytes first.disk.bytes → KeptRun most first events w
+    → (o : Opened) → w.at ≡ Resting → AreBytes w.disk.bytes → opening t414 t414_ends w.disk.bytes ≡ Ok o → CutSpelt o.head.topology w.base w.net.start
+run_kept_spelt most start events first w F bytes run o rests are is = let R = at_rest most start w o (formatted_kept most start events first w F bytes run) rests are is in R.cut

@@ -1,13 +1,12 @@
 -- The image of a node that recorded stays until the trim, and is that of the cut; its pieces are the image.
-use Rattle.std.proofs.Common.{◌≡◌, ◌≢◌, ℕ, zero, suc, ◌+◌, ◌*◌, ◌/◌, ◌%◌, ◌<◌, true, false, not, List, [], ◌∷◌, length, take, drop, get_or, refl, sym, ap, subst, ◌∙◌, arith, Option, Some, None, slice_get, length-take, length-drop, get_or-set_other}
+use Rattle.std.proofs.Common.{◌≡◌, ◌≢◌, ℕ, zero, suc, ◌+◌, ◌*◌, ◌/◌, ◌%◌, ◌<◌, false, List, [], ◌∷◌, length, take, drop, get_or, refl, sym, ap, subst, ◌∙◌, arith, Option, Some, None, slice_get, length-take, length-drop, get_or-set_other}
 use Rattle.std.specs.Prelude.{is_some}
 use Rattle.std.specs.Option.{option_map}
-use Rattle.std.proofs.lemmas.Bool.{true≢false, cond_both}
+use Rattle.std.proofs.lemmas.Bool.{true≢false}
 use Rattle.std.proofs.lemmas.List.{get_or-take, get_or-drop}
-use Rattle.tp_model.specs.declared.link.Token.{Token}
-use Rattle.tp_model.specs.Network.{Machine, sent}
+use Rattle.tp_model.specs.Network.{Machine}
 use Rattle.tp_model.specs.Entries.{process, takes}
-use Rattle.tp_model.specs.Snapshot.{Snapshot, MarkedNetwork, has_recorded, is_closed, collected, with_count, with_closed}
+use Rattle.tp_model.specs.Snapshot.{MarkedNetwork, has_recorded, collected, with_count, with_closed}
 use Rattle.tp_model.specs.WholeCut.{WholeCut, all_some}
 use Rattle.tp_model.specs.Acts.{Act, Begin, Record, Journal, Close, Trim, happens}
 use Rattle.tp_model.specs.NodeState.{NodeState}
@@ -16,19 +15,9 @@ use Rattle.tp_model.specs.Runs.{is_trim, HasCut}
 use Rattle.tp_law_network.proofs.Partial.{map_some, slice_get-set_other}
 use Rattle.tp_law_cuts.proofs.Acts.{begin_parts, record_parts, close_parts, journal_parts}
 use Rattle.tp_model.specs.PiecesStand.{IsThere}
+use Rattle.tp_model.specs.FrozenAs.{IsFrozenAs}
+use Rattle.tp_law_tail.proofs.TailRoom.{same_counts}
 use Rattle.tp_law_tail.proofs.Pieces.{there_append}
-
--- node i has recorded, and that is its frozen image
-pub record IsFrozenAs {Node : Type 0} (w : MarkedNetwork Node) (i : ℕ) (node : Node) : Type 0 where
-  pub snap : Snapshot
-  pub runs : w.snapshot ≡ Some snap
-  pub recorded : has_recorded snap i ≡ true
-  pub is : slice_get w.frozen i ≡ Some (Some node)
-
-same_counts : (p : ℕ) (ms : List (ℕ × Token)) (snap : Snapshot) → (collected p ms snap).counts ≡ snap.counts
-same_counts p ms snap =
-    cond_both (has_recorded snap p) (record snap { lines = sent (λ l. not (is_closed snap l)) snap.lines ms }) (record snap { size = snap.size + 1 })
-    (λ after. after.counts ≡ snap.counts) (λ _. refl) (λ _. refl)
 
 pub frozen_as_stays : {Node : Type 0} (M : Machine Node) (w v : MarkedNetwork Node) (act : Act) (i : ℕ) (node : Node) → is_trim act ≡ false → happens M w act ≡ Some v → IsFrozenAs w i node → IsFrozenAs v i node
 unfolding happens

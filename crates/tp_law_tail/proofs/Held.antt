@@ -24,7 +24,7 @@ use Rattle.tp_model.specs.Device.{area_start, content_of}
 use Rattle.tp_model.specs.Spelling.{entries_in, IsGroup, Stands}
 use Rattle.tp_model.specs.Opening.{Opened, held_of, opening}
 use Rattle.tp_model.specs.DeviceAreas.{device_areas}
-use Rattle.tp_model.specs.Runs.{World, Event, Acts, Copies, CopiesTail, Does, Breaks, Trims, Raises, Reads as ReadsMark, Reopens, grown, HasCut, Step, fresh, IsFormatted}
+use Rattle.tp_model.specs.Runs.{World, Event, Acts, Copies, CopiesTail, Does, Breaks, Trims, Raises, Reads as ReadsMark, Reopens, grown, HasCut, Step, fresh}
 use Rattle.tp_law_machine.specs.NodeOfBytes.{IsNodeOfBytes}
 use Rattle.tp_law_machine.proofs.LinkLaws.{has_four_links, never_marks}
 use Rattle.tp_law_machine.proofs.Numbers.{AreBytes, are_bytes-take, are_bytes-drop}
@@ -36,13 +36,11 @@ use Rattle.tp_law_cuts.proofs.Whole.{whole_holds}
 use Rattle.tp_law_cuts.proofs.Stays.{start_stays, entries_grow}
 use Rattle.tp_law_cuts.proofs.Happens.{happens_holds}
 use Rattle.tp_law_runs.proofs.Invariant.{Inv}
-use Rattle.tp_law_runs.proofs.Runs.{step_keeps, formatted_holds}
 use Rattle.tp_law_device.proofs.AreaReads.{area_parts}
 use Rattle.tp_law_device.proofs.ReadAreas.{opens_stand}
 use Rattle.tp_law_device.proofs.Opens.{reads_of, found_in}
-use Rattle.tp_law_device.proofs.Holds.{areas_keep}
 use Rattle.tp_law_tail.proofs.ReadNodes.{read_of_bytes}
-use Rattle.tp_model.specs.KeptRun.{HasByte, ActKeeps, IsKept, KeptRun}
+use Rattle.tp_model.specs.KeptRun.{HasByte, ActKeeps, IsKept}
 use Rattle.tp_law_tail.specs.CutSpelt.{CutSpelt}
 use Rattle.tp_law_tail.proofs.Kept.{cut_keeps, keeps_after}
 use Rattle.tp_law_tail.proofs.Again.{cut_spelt}
@@ -167,42 +165,17 @@ trim_keeps w base cut nodes G H has =
 
 -- ## Each event
 
-step_spelt : (start : Network NodeState) → IsOpened t414 (fresh start) → (w v : World NodeState) (event : Event NodeState) → Inv t414 device_areas start w → HeldSpelt (held_by w)
-    → IsKept w event → Step t414 device_areas w event v → HeldSpelt (held_by v)
-step_spelt start opened w v (Acts act) I G keeps s =
+pub step_spelt : (most : ℕ) (start : Network NodeState) → IsOpened t414 (fresh start) → (w v : World NodeState) (event : Event NodeState) → Inv t414 device_areas start w → HeldSpelt (held_by w)
+    → IsKept most w event → Step t414 device_areas w event v → HeldSpelt (held_by v)
+step_spelt most start opened w v (Acts act) I G keeps s =
     let K = happens_holds t414 has_four_links never_marks w.net s.1 act I.net s.2 in
     subst (λ u. HeldSpelt (held_by u)) (sym s.3)
-    (act_keeps w.net s.1 w.base act G I.net K (start_stays t414 w.net s.1 act s.0 s.2) (entries_grow t414 w.net s.1 act s.0 s.2) keeps)
-step_spelt start opened w v Copies I G keeps s = subst (λ u. HeldSpelt (held_by u)) (sym s.1) G
-step_spelt start opened w v (CopiesTail cut nodes) I G keeps s = subst (λ u. HeldSpelt (held_by u)) (sym s.2) G
-step_spelt start opened w v (Does call to) I G keeps s = subst (λ u. HeldSpelt (held_by u)) (sym s.1) G
-step_spelt start opened w v (Breaks call to bytes) I G keeps s = subst (λ u. HeldSpelt (held_by u)) (sym s.2) G
-step_spelt start opened w v (Trims copy upto cut nodes) I G keeps s = subst (λ u. HeldSpelt (held_by u)) (sym s.2) (trim_keeps w.net w.base cut nodes G I.net s.1)
-step_spelt start opened w v Raises I G keeps s = subst (λ u. HeldSpelt (held_by u)) (sym s) G
-step_spelt start opened w v ReadsMark I G keeps s = subst (λ u. HeldSpelt (held_by u)) (sym s) G
-step_spelt start opened w v (Reopens bytes h now) I G keeps s = let L = s.0 in subst (λ u. HeldSpelt (held_by u)) (sym s.1) (held_read bytes h keeps L.reads)
-
-pub record SpeltAt (start : Network NodeState) (w : World NodeState) : Type 0 where
-  pub inv : Inv t414 device_areas start w
-  pub spelt : HeldSpelt (held_by w)
-
-pub run_spelt : (start : Network NodeState) → IsOpened t414 (fresh start) → (events : List (Event NodeState)) (w v : World NodeState) → SpeltAt start w → KeptRun w events v → SpeltAt start v
-run_spelt start opened [] w v S run = subst (SpeltAt start) (sym run) S
-run_spelt start opened (event ∷ events) w v S run =
-    run_spelt start opened events run.0 v (record {
-      inv = step_keeps t414 has_four_links never_marks device_areas (areas_keep t414 t414_ends) start opened w run.0 event S.inv run.1;
-      spelt = step_spelt start opened w run.0 event S.inv S.spelt run.2 run.1;
-    }) run.3
-
--- from a formatted device on
-pub formatted_spelt : (start : Network NodeState) (events : List (Event NodeState)) (first last : World NodeState) → IsFormatted t414 device_areas start first → AreBytes first.disk.bytes → KeptRun first events last
-    → SpeltAt start last
-formatted_spelt start events first last F bytes run =
-    let G : HeldSpelt (record { network = start; entries = []; base = 0 }) = held_read first.disk.bytes (record { network = start; entries = []; base = 0 }) bytes F.reads in
-    let net = F.net in
-    let none = F.none in
-    let base = none.0 in
-    run_spelt start F.opened events first last (record {
-      inv = formatted_holds t414 has_four_links never_marks device_areas (areas_keep t414 t414_ends) start F.opened first F;
-      spelt = subst HeldSpelt (λ i. record { network = (sym net i).start; entries = (sym net i).entries; base = sym base i }) G;
-    }) run
+    (act_keeps w.net s.1 w.base act G I.net K (start_stays t414 w.net s.1 act s.0 s.2) (entries_grow t414 w.net s.1 act s.0 s.2) keeps.0)
+step_spelt most start opened w v Copies I G keeps s = subst (λ u. HeldSpelt (held_by u)) (sym s.1) G
+step_spelt most start opened w v (CopiesTail cut nodes) I G keeps s = subst (λ u. HeldSpelt (held_by u)) (sym s.2) G
+step_spelt most start opened w v (Does call to) I G keeps s = subst (λ u. HeldSpelt (held_by u)) (sym s.1) G
+step_spelt most start opened w v (Breaks call to bytes) I G keeps s = subst (λ u. HeldSpelt (held_by u)) (sym s.2) G
+step_spelt most start opened w v (Trims copy upto cut nodes) I G keeps s = subst (λ u. HeldSpelt (held_by u)) (sym s.2) (trim_keeps w.net w.base cut nodes G I.net s.1)
+step_spelt most start opened w v Raises I G keeps s = subst (λ u. HeldSpelt (held_by u)) (sym s) G
+step_spelt most start opened w v ReadsMark I G keeps s = subst (λ u. HeldSpelt (held_by u)) (sym s) G
+step_spelt most start opened w v (Reopens bytes h now) I G keeps s = let L = s.0 in subst (λ u. HeldSpelt (held_by u)) (sym s.1) (held_read bytes h keeps L.reads)

@@ -4,7 +4,9 @@ pub mod Content
 pub mod Frozen
 pub mod Groups
 pub mod Held
+pub mod Inside
 pub mod Kept
+pub mod KeptRuns
 pub mod Nodes
 pub mod Numbers
 pub mod Other
@@ -13,5 +15,6 @@ pub mod Places
 pub mod Ports
 pub mod Ranges
 pub mod ReadNodes
+pub mod RunRoom
 pub mod Switch
 pub mod TailRoom

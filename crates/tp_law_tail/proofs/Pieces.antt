@@ -67,7 +67,7 @@ there_images content at (n ∷ ns) (p ∷ ps) back are each =
 
 -- ## The content
 
-groups_are : (groups : List (List (Entry × ℕ))) → AllByRecursion IsSized groups → AllByRecursion (λ (e : Entry × ℕ). IsSpelt e.0 e.1) (entries_in groups) → AllByRecursion IsGroup groups
+pub groups_are : (groups : List (List (Entry × ℕ))) → AllByRecursion IsSized groups → AllByRecursion (λ (e : Entry × ℕ). IsSpelt e.0 e.1) (entries_in groups) → AllByRecursion IsGroup groups
 groups_are [] sized spelt = tt
 groups_are (group ∷ groups) sized spelt =
     let split = all_split group (entries_in groups) spelt in

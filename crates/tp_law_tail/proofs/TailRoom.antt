@@ -43,7 +43,8 @@ begun_early N lines hosts size ports own host past p count is = elim (cases_lt p
   ]
 ]
 
-same_counts : (p : ℕ) (ms : List (ℕ × Token)) (snap : Snapshot) → (collected p ms snap).counts ≡ snap.counts
+-- collecting an entry leaves the counts
+pub same_counts : (p : ℕ) (ms : List (ℕ × Token)) (snap : Snapshot) → (collected p ms snap).counts ≡ snap.counts
 same_counts p ms snap =
     cond_both (has_recorded snap p) (record snap { lines = sent (λ l. not (is_closed snap l)) snap.lines ms }) (record snap { size = snap.size + 1 })
     (λ after. after.counts ≡ snap.counts) (λ _. refl) (λ _. refl)
@@ -64,10 +65,10 @@ recorded_early counts i own new early p count is = elim (cases_eq p i) [
 ]
 
 module _ {Node : Type 0} (M : Machine Node) (four : HasFourLinks M) (most : ℕ) where
-  pub fits_stays : (w v : MarkedNetwork Node) (act : Act) → is_trim act ≡ false → Holds M w → happens M w act ≡ Some v → FindsRoom most w act → HasTailRoom most w → HasTailRoom most v
+  pub tail_room_stays : (w v : MarkedNetwork Node) (act : Act) → is_trim act ≡ false → Holds M w → happens M w act ≡ Some v → FindsRoom most w act → HasTailRoom most w → HasTailRoom most v
   unfolding happens
-  fits_stays w v Begin t H e found (inl few) = let P = begin_parts w v w.snapshot e in subst (HasTailRoom most) P.1 (inl few)
-  fits_stays w v Begin t H e found (inr early) =
+  tail_room_stays w v Begin t H e found (inl few) = let P = begin_parts w v w.snapshot e in subst (HasTailRoom most) P.1 (inl few)
+  tail_room_stays w v Begin t H e found (inr early) =
       let P = begin_parts w v w.snapshot e in
       let shape = after_shape M four w.start (plain_network w.live) w.entries H.base.now in
       let N = length w.live.nodes in
@@ -78,37 +79,37 @@ module _ {Node : Type 0} (M : Machine Node) (four : HasFourLinks M) (most : ℕ)
             begun_early N (length w.live.lines) (made (process w.start) N w.entries) (length w.entries) w.live.ports (λ q. made (process w.start) q w.entries) refl
             (λ q past. made_past M four w.start (plain_network w.live) w.entries H.base.now q (omega (arith, past, shape.nodes))) p count (ap (λ s. count_of s p) same ∙ counted);
       }))
-  fits_stays w v (Record i) t H e found (inl few) = let P = record_parts w v w.snapshot i e in subst (HasTailRoom most) P.4 (inl few)
-  fits_stays w v (Record i) t H e found (inr all) =
+  tail_room_stays w v (Record i) t H e found (inl few) = let P = record_parts w v w.snapshot i e in subst (HasTailRoom most) P.4 (inl few)
+  tail_room_stays w v (Record i) t H e found (inr all) =
       let P = record_parts w v w.snapshot i e in
       subst (HasTailRoom most) P.4 (inr (record {
         early = λ snap is p count counted.
             let same : with_count P.0 i (made (process w.start) i w.entries) ≡ snap = cc in
             recorded_early P.0.counts i (λ q. made (process w.start) q w.entries) P.3 (all.early P.0 P.1) p count (ap (λ s. count_of s p) same ∙ counted);
       }))
-  fits_stays w v (Journal entry) t H e found fits = let P = journal_parts w v M entry e in subst (HasTailRoom most) P.2 (inl (omega (arith, found, length-append w.entries (entry ∷ []))))
-  fits_stays w v (Close line) t H e found (inl few) = let P = close_parts w v w.snapshot line e in subst (HasTailRoom most) P.4 (inl few)
-  fits_stays w v (Close line) t H e found (inr all) =
+  tail_room_stays w v (Journal entry) t H e found fits = let P = journal_parts w v M entry e in subst (HasTailRoom most) P.2 (inl (omega (arith, found, length-append w.entries (entry ∷ []))))
+  tail_room_stays w v (Close line) t H e found (inl few) = let P = close_parts w v w.snapshot line e in subst (HasTailRoom most) P.4 (inl few)
+  tail_room_stays w v (Close line) t H e found (inr all) =
       let P = close_parts w v w.snapshot line e in
       subst (HasTailRoom most) P.4 (inr (record {
         early = λ snap is p count counted.
             let same : record P.0 { closed = set P.0.closed line true } ≡ snap = cc in
             all.early P.0 P.1 p count (ap (λ s. count_of s p) same ∙ counted);
       }))
-  fits_stays w v Trim t H e found fits = absurd (true≢false t)
+  tail_room_stays w v Trim t H e found fits = absurd (true≢false t)
 
   -- the entries outside a whole cut find room
-  pub fits_tail : (w : MarkedNetwork Node) (cut : WholeCut) → whole w ≡ Some cut → HasTailRoom most w → 32 * length (post (process w.start) (count_in cut) w.entries) ≤ most
-  fits_tail w cut is (inl few) = omega (arith, few, length-pre-post (process w.start) (count_in cut) w.entries)
-  fits_tail w cut is (inr all) =
+  pub tail_room : (w : MarkedNetwork Node) (cut : WholeCut) → whole w ≡ Some cut → HasTailRoom most w → 32 * length (post (process w.start) (count_in cut) w.entries) ≤ most
+  tail_room w cut is (inl few) = omega (arith, few, length-pre-post (process w.start) (count_in cut) w.entries)
+  tail_room w cut is (inr all) =
       let C = whole_counts w cut is in
       let none : post (process w.start) (count_in cut) w.entries ≡ [] =
       post_all (process w.start) (count_in cut) w.entries (λ p. all.early C.snap C.runs p (get_or cut.counts p 0) (all_counts C.snap.counts cut.counts C.recorded p)) in
       omega (arith, ap length none)
 
-  pub fits_trim : (w : MarkedNetwork Node) (cut : WholeCut) (nodes : List Node) → whole w ≡ Some cut → HasTailRoom most w → HasTailRoom most (trimmed w cut nodes)
-  fits_trim w cut nodes is fits = inl (fits_tail w cut is fits)
+  pub tail_room_trim : (w : MarkedNetwork Node) (cut : WholeCut) (nodes : List Node) → whole w ≡ Some cut → HasTailRoom most w → HasTailRoom most (trimmed w cut nodes)
+  tail_room_trim w cut nodes is fits = inl (tail_room w cut is fits)
 
   -- a book that was opened, however many entries it has
-  pub fits_opened : (w : MarkedNetwork Node) → w.snapshot ≡ None → HasTailRoom most w
-  fits_opened w idle = inr (record { early = λ snap is. absurd (let both = sym idle ∙ is in cc) })
+  pub tail_room_opened : (w : MarkedNetwork Node) → w.snapshot ≡ None → HasTailRoom most w
+  tail_room_opened w idle = inr (record { early = λ snap is. absurd (let both = sym idle ∙ is in cc) })

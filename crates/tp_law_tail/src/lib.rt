@@ -3,29 +3,32 @@
 #![tactic(auto)]
 
 ghost use Rattle.std.specs.List.{AllByRecursion};
-ghost use Rattle.std.specs.Prelude.{◌≡◌, ◌≤◌, ◌<◌, ◌+◌, ◌*◌, ℕ, false, true, List, Ok, Some, length, map};
+ghost use Rattle.std.specs.Prelude.{◌≡◌, ◌≤◌, ◌<◌, ◌+◌, ◌-◌, ◌*◌, ◌++◌, ◌⊎◌, ℕ, Bool, false, true, List, Ok, Some, length, map, take, drop, slice_get};
 ghost use Rattle.tp_law_tail.specs.CanPut.{CanPut};
 ghost use Rattle.tp_law_tail.specs.CutSpelt.{CutSpelt};
-ghost use Rattle.tp_model.specs.Acts.{CutHolds};
+ghost use Rattle.tp_model.specs.Acts.{Act, CutHolds, happens};
 ghost use Rattle.tp_model.specs.Areas.{Held, gate_open};
 ghost use Rattle.tp_model.specs.CopySpelt.{CopySpelt};
 ghost use Rattle.tp_model.specs.CutTail.{tail_of};
+ghost use Rattle.tp_model.specs.Device.{area_start, content_of};
 ghost use Rattle.tp_model.specs.Disk.{written};
-ghost use Rattle.tp_model.specs.DeviceAreas.{device_areas, other_content, other_is_open, other_start};
+ghost use Rattle.tp_model.specs.DeviceAreas.{device_areas, has_room, other_content, other_is_open, other_start};
 ghost use Rattle.tp_model.specs.Entries.{process};
-ghost use Rattle.tp_model.specs.Journal.{entry_room, room};
+ghost use Rattle.tp_model.specs.FrozenAs.{IsFrozenAs};
+ghost use Rattle.tp_model.specs.Image.{image, image_head};
+ghost use Rattle.tp_model.specs.Journal.{entry_room, is_roomy, room};
 ghost use Rattle.tp_model.specs.KeptRun.{HasByte, KeptRun};
 ghost use Rattle.tp_model.specs.Network.{Network};
 ghost use Rattle.tp_model.specs.Node.{t414, t414_ends};
 ghost use Rattle.tp_model.specs.NodeState.{NodeState};
 ghost use Rattle.tp_model.specs.Numbers.{AreNumbered};
 ghost use Rattle.tp_model.specs.OpenedCopy.{opened_copy};
-ghost use Rattle.tp_model.specs.Opening.{Opened, verdict};
+ghost use Rattle.tp_model.specs.Opening.{Opened, groups_place, verdict};
 ghost use Rattle.tp_model.specs.Order.{post};
-ghost use Rattle.tp_model.specs.PiecesStand.{IsSized, PiecesStand};
-ghost use Rattle.tp_model.specs.Runs.{Event, HasCut, IsFormatted, World, copy_of};
+ghost use Rattle.tp_model.specs.PiecesStand.{IsSized, IsThere, PiecesStand};
+ghost use Rattle.tp_model.specs.Runs.{Event, HasCut, IsFormatted, World, copy_of, is_trim};
 ghost use Rattle.tp_model.specs.Snapshot.{MarkedNetwork};
-ghost use Rattle.tp_model.specs.Spelling.{Spells, entries_in};
+ghost use Rattle.tp_model.specs.Spelling.{Spells, entries_in, groups_bytes};
 ghost use Rattle.tp_model.specs.Topology.{Topology, is_topology};
 ghost use Rattle.tp_model.specs.WholeCut.{WholeCut, all_some, count_in, network_in};
 ghost use Rattle.tp_model.specs.WriteOrder.{Resting};
@@ -49,18 +52,21 @@ pub fn copies_open()
 {}
 
 /// A whole cut of a book whose kept cut has an image, with bytes in its nodes, has one too: as the cut of so many entries
-/// more as it has.
+/// more as it has. In a run over a device that was formatted, the kept cut has one whenever the flusher rests, and it is of the
+/// device's topology.
 pub fn cuts_are_spelt()
-    ensures { (t : Topology) (base : ℕ) (w : MarkedNetwork NodeState) (cut : WholeCut) (nodes : List NodeState) → is_topology t ≡ true → CutSpelt t base w.start
+    ensures cut { (t : Topology) (base : ℕ) (w : MarkedNetwork NodeState) (cut : WholeCut) (nodes : List NodeState) → is_topology t ≡ true → CutSpelt t base w.start
         → AllByRecursion HasByte w.entries → CutHolds t414 w cut → all_some w.frozen ≡ Some nodes → base + length w.entries < NUMBER_LIMIT
         → CutSpelt t (base + cut.size) (network_in w.start cut nodes) }
+    ensures kept { (most : ℕ) (start : Network NodeState) (events : List (Event NodeState)) (first w : World NodeState) → IsFormatted t414 device_areas start first
+        → AllByRecursion (λ byte. byte < 256) first.disk.bytes → KeptRun most first events w
+        → (o : Opened) → w.at ≡ Resting → AllByRecursion (λ byte. byte < 256) w.disk.bytes → verdict w.disk.bytes ≡ Ok o → CutSpelt o.head.topology w.base w.net.start }
 {}
 
-/// In a run over a device that was formatted, with bytes and numbers of fixed size, whenever the flusher rests: the copy that
-/// it makes of a whole cut, with the entries outside that and their numbers, has a spelling. It is of the device's topology.
+/// In a run over a device that was formatted, whenever the flusher rests: the copy that it makes of a whole cut, with the entries outside that and their numbers, has a spelling. It is of the device's topology.
 pub fn copies_are_spelt()
-    ensures { (start : Network NodeState) (events : List (Event NodeState)) (first w : World NodeState) → IsFormatted t414 device_areas start first
-        → AllByRecursion (λ byte. byte < 256) first.disk.bytes → KeptRun first events w
+    ensures { (most : ℕ) (start : Network NodeState) (events : List (Event NodeState)) (first w : World NodeState) → IsFormatted t414 device_areas start first
+        → AllByRecursion (λ byte. byte < 256) first.disk.bytes → KeptRun most first events w
         → (o : Opened) (cut : WholeCut) (nodes : List NodeState) (kept : List (Entry × ℕ)) → w.at ≡ Resting
         → AllByRecursion (λ byte. byte < 256) w.disk.bytes → HasCut w.net cut nodes → verdict w.disk.bytes ≡ Ok o
         → map (λ e. e.0) kept ≡ w.net.entries → AreNumbered 0 w.base (map (λ e. e.1) kept)
@@ -70,11 +76,57 @@ pub fn copies_are_spelt()
 /// At such a moment, where each entry of the tail finds room in a group of its own: there is a content of the other area that
 /// spells the copy; with it the device stands for what it did, and with that area's gate open for the copy.
 pub fn copies_can_be_put()
-    ensures { (start : Network NodeState) (events : List (Event NodeState)) (first w : World NodeState) → IsFormatted t414 device_areas start first
-        → AllByRecursion (λ byte. byte < 256) first.disk.bytes → KeptRun first events w
+    ensures { (most : ℕ) (start : Network NodeState) (events : List (Event NodeState)) (first w : World NodeState) → IsFormatted t414 device_areas start first
+        → AllByRecursion (λ byte. byte < 256) first.disk.bytes → KeptRun most first events w
         → (o : Opened) (cut : WholeCut) (nodes : List NodeState) (kept : List (Entry × ℕ)) → w.at ≡ Resting
         → AllByRecursion (λ byte. byte < 256) w.disk.bytes → HasCut w.net cut nodes → verdict w.disk.bytes ≡ Ok o → other_is_open o w.disk.bytes ≡ false
         → map (λ e. e.0) kept ≡ w.net.entries → AreNumbered 0 w.base (map (λ e. e.1) kept)
         → o.generation + 1 < NUMBER_LIMIT → entry_room * length (post (process w.net.start) (count_in cut) w.net.entries) ≤ room o.head.topology o.head.area
         → CanPut w.disk.bytes o (copy_of w.net w.base cut nodes) }
+{}
+
+/// However the entries of a spelt copy's tail are divided into groups of 1 to 64, these end inside the content of an area, with
+/// the closed gate behind them, where each entry finds room in a group of its own. So does a next group behind those of the
+/// area that is taken, the next gate with it, whatever groups stand there.
+pub fn groups_stay_inside()
+    ensures put { (t : Topology) (area : ℕ) (copy : Held NodeState) (tail : List (Entry × ℕ)) (groups : List (List (Entry × ℕ))) → is_roomy t area ≡ true → CopySpelt t copy tail
+        → entries_in groups ≡ tail → AllByRecursion IsSized groups → entry_room * length tail ≤ room t area
+        → groups_place t + length (groups_bytes groups) + 1 ≤ area - 1 }
+    ensures added { (bytes : List ℕ) (o : Opened) (count : ℕ) → AllByRecursion (λ byte. byte < 256) bytes → verdict bytes ≡ Ok o → 1 ≤ count
+        → entry_room * (length o.kept + count) ≤ room o.head.topology o.head.area → has_room o count ≡ true }
+{}
+
+/// In a run over a device that was formatted, where each entry was made with room for it: the entries outside a whole cut find
+/// room, each in a group of its own, and whenever the flusher rests a group of the first entries of what it copied has room
+/// behind the groups that are there.
+pub fn entries_find_room()
+    ensures tails { (most : ℕ) (start : Network NodeState) (events : List (Event NodeState)) (first w : World NodeState) → IsFormatted t414 device_areas start first
+        → AllByRecursion (λ byte. byte < 256) first.disk.bytes → KeptRun most first events w
+        → (cut : WholeCut) (nodes : List NodeState) → HasCut w.net cut nodes → entry_room * length (post (process w.net.start) (count_in cut) w.net.entries) ≤ most }
+    ensures groups { (most : ℕ) (start : Network NodeState) (events : List (Event NodeState)) (first w : World NodeState) → IsFormatted t414 device_areas start first
+        → AllByRecursion (λ byte. byte < 256) first.disk.bytes → KeptRun most first events w
+        → (o : Opened) (es more : List Entry) → w.at ≡ Resting → AllByRecursion (λ byte. byte < 256) w.disk.bytes → verdict w.disk.bytes ≡ Ok o
+        → w.backlog ≡ es ++ more → 1 ≤ length es → most ≤ room o.head.topology o.head.area → has_room o (length es) ≡ true }
+{}
+
+/// While a snapshot runs, the image of a node that has recorded stays as it was frozen, whatever act follows but the trim; in
+/// the cut, once that is whole, it is the node. So its pieces may be put into the other area before the cut is whole.
+pub fn frozen_images_stay()
+    ensures stays { (w v : MarkedNetwork NodeState) (act : Act) (i : ℕ) (node : NodeState) → is_trim act ≡ false → happens t414 w act ≡ Some v → IsFrozenAs w i node → IsFrozenAs v i node }
+    ensures cut { (w : MarkedNetwork NodeState) (cut : WholeCut) (nodes : List NodeState) (i : ℕ) (node : NodeState) → HasCut w cut nodes → IsFrozenAs w i node → slice_get nodes i ≡ Some node }
+{}
+
+/// Bytes that are written stand there, and stay there when others are written apart from them. What is written inside an area's
+/// content is written at its place in that, and what is written elsewhere leaves the content as it was. An image stands
+/// there once its head of 172 bytes and each of its pages of 1,024 does.
+pub fn pieces_stay()
+    ensures written { (content : List ℕ) (at : ℕ) (bytes : List ℕ) → at + length bytes ≤ length content → IsThere (written content at bytes) at bytes }
+    ensures apart { (content : List ℕ) (at : ℕ) (bytes : List ℕ) (place : ℕ) (more : List ℕ) → place + length more ≤ length content
+        → (at + length bytes ≤ place) ⊎ (place + length more ≤ at) → IsThere content at bytes → IsThere (written content place more) at bytes }
+    ensures inside { (area : ℕ) (second : Bool) (bytes : List ℕ) (at : ℕ) (piece : List ℕ) → area_start area second + area ≤ length bytes → at + length piece < area
+        → content_of area second (written bytes (area_start area second + 1 + at) piece) ≡ written (content_of area second bytes) at piece }
+    ensures elsewhere { (area : ℕ) (second : Bool) (bytes : List ℕ) (at : ℕ) (more : List ℕ) → 1 ≤ area → at + length more ≤ length bytes
+        → (at + length more ≤ area_start area second + 1) ⊎ (area_start area second + area ≤ at) → content_of area second (written bytes at more) ≡ content_of area second bytes }
+    ensures image { (content : List ℕ) (at : ℕ) (node : NodeState) (pages : ℕ) → length (image_head node) ≡ 172 → length node.memory ≡ 1024 * pages → IsThere content at (image_head node)
+        → ((page : ℕ) → page < pages → IsThere content (at + 172 + 1024 * page) (take 1024 (drop (1024 * page) node.memory))) → IsThere content at (image node) }
 {}
