@@ -16,14 +16,15 @@ use Rattle.tp_model.specs.Halves.{BookState, without, with_entry}
 use Rattle.tp_law_network.proofs.Partial.{cond_some}
 use Rattle.tp_book.specs.declared.note.Numbered.{Numbered}
 use Rattle.tp_port.specs.declared.port.HostPort.{HostPort}
-use Rattle.tp_book.specs.declared.book.Book.TheInside.{Inside}
+use Rattle.tp_book.specs.declared.journal.Journal.TheInside.{Inside}
 use Rattle.tp_book.specs.Kept.{Keeps}
 use Rattle.tp_port.specs.Counted.{IsCounted, AreCounted}
 use Rattle.tp_port.specs.Ports.{PortValue}
 use Rattle.tp_port.specs.Ports.{fresh_port}
 use Rattle.tp_book.specs.Book.{agreed, next_number}
-use Rattle.tp_book.specs.Inside.{state_of, value_of, in_hand, IsBook}
+use Rattle.tp_book.specs.Inside.{state_of, value_of, in_hand, IsJournal}
 use Rattle.tp_book.specs.Calls.{marks_of}
+use Rattle.tp_book.specs.Bare.{bare}
 use Rattle.tp_book.specs.Host.{port_in, confirmed_port, with_confirmed, after_confirm}
 use Rattle.tp_book.proofs.Commit.{Change, agreed_after}
 use Rattle.tp_book.proofs.Changes.{own_host_agreed}
@@ -41,7 +42,7 @@ confirmed_is upto port after e =
     sym (ap (λ r. r.0) both)
 
 -- a port lets confirmed outputs go
-confirm_change : (b : BookState NodeState) → Keeps b → (p upto : ℕ) (port after : Port) → slice_get b.ports p ≡ Some port → confirmed upto port ≡ Some (after, [])
+pub confirm_change : (b : BookState NodeState) → Keeps b → (p upto : ℕ) (port after : Port) → slice_get b.ports p ≡ Some port → confirmed upto port ≡ Some (after, [])
     → Change b (Confirm p upto) (set b.ports p after) (agreed b) []
 unfolding taken takes process does put
 confirm_change b K p upto port after at did = record {
@@ -58,7 +59,7 @@ confirm_change b K p upto port after at did = record {
 pub port_found : (b : Inside) (p : ℕ) (was : PortValue) → slice_get b.ports.items p ≡ Some was → port_in (value_of b) p ≡ was.port
 port_found b p was at = get_or_from_slice_get (state_of b).ports p was.port fresh_port.port (slice_get-map (λ q. q.port) b.ports.items p ∙ ap (option_map (λ q. q.port)) at)
 
-module _ (b : Inside) (B : IsBook b) (p upto : ℕ) (was after : PortValue) (at : slice_get b.ports.items p ≡ Some was) (did : confirmed upto was.port ≡ Some (after.port, []))
+module _ (b : Inside) (B : IsJournal b) (p upto : ℕ) (was after : PortValue) (at : slice_get b.ports.items p ≡ Some was) (did : confirmed upto was.port ≡ Some (after.port, []))
     (marks : after.marks ≡ drop (upto - was.port.out_base) was.marks) (past : was.port.out_base < upto) (held : upto ≤ was.port.out_base + length was.port.outputs)
     (ports : Vec HostPort Global) (put_in : ports.items ≡ set b.ports.items p after)
     (entries : Vec Numbered Global) (items : entries.items ≡ b.entries.items ++ record { number = b.base + vec_len b.entries; entry = Confirm p upto } ∷ []) where
@@ -89,7 +90,7 @@ module _ (b : Inside) (B : IsBook b) (p upto : ℕ) (was after : PortValue) (at 
       (record { inputs = omega (arith, old.inputs); outputs = omega (arith, old.outputs, length-drop (upto - was.port.out_base) was.port.outputs) })
 
   pub confirm_fields : vec_len entries ≡ vec_len b.entries + 1 → vec_len entries + b.reserved + in_hand b.ready ≤ vec_capacity entries → b.base + vec_len entries + b.reserved + in_hand b.ready < NUMBER_LIMIT
-      → IsBook fields
+      → IsJournal fields
   confirm_fields len space numbers =
       fields_after b B (Confirm p upto) ports _ [] made entries b.lines items on b.runs b.reserved b.ready len refl (ap length put_in ∙ length-set b.ports.items p after) B.reserved space numbers
       (subst (AreCounted (b.base + vec_len entries)) (sym these_ports)
@@ -100,7 +101,7 @@ module _ (b : Inside) (B : IsBook b) (p upto : ℕ) (was after : PortValue) (at 
       (rising_drop (upto - was.port.out_base) 0 (b.base + vec_len entries) was.marks
       (rising_to 0 (b.base + vec_len b.entries) (b.base + vec_len entries) was.marks (B.rising p was.marks (slice_get-map (λ q. q.marks) b.ports.items p ∙ ap (option_map (λ q. q.marks)) at)) (omega (arith, len)))) (omega (arith, len))))
 
-  pub confirm_value : value_of fields ≡ after_confirm (value_of b) p upto
+  pub confirm_value : value_of fields ≡ bare (after_confirm (value_of b) p upto)
   confirm_value =
       let found : port_in (value_of b) p ≡ was.port = port_found b p was at in
       let old : marks_of (value_of b) p ≡ was.marks =
@@ -113,4 +114,4 @@ module _ (b : Inside) (B : IsBook b) (p upto : ℕ) (was after : PortValue) (at 
       (these_ports ∙ ap (set (state_of b).ports p) (confirmed_is upto was.port after.port did))
       ∙ ap (λ given. record (value_of b) { state = with_entry (state_of b) (Confirm p upto) (set (state_of b).ports p (confirmed_port was.port upto)) []; numbers = map (λ n. n.number) b.entries.items ++ next_number (value_of b) ∷ []; marks = given }) marks_are
       ∙ ap (λ port. record (value_of b) { state = with_entry (state_of b) (Confirm p upto) (set (state_of b).ports p (confirmed_port port upto)) []; numbers = map (λ n. n.number) b.entries.items ++ next_number (value_of b) ∷ []; marks = set (value_of b).marks p (drop (upto - port.out_base) (marks_of (value_of b) p)) }) (sym found)
-      ∙ sym (ap (λ test. cond test (value_of b) (with_confirmed (value_of b) p upto)) (lt-leb upto (port_in (value_of b) p).out_base (subst (λ port. port.out_base < upto) (sym found) past)))
+      ∙ sym (ap (λ test. bare (cond test (value_of b) (with_confirmed (value_of b) p upto))) (lt-leb upto (port_in (value_of b) p).out_base (subst (λ port. port.out_base < upto) (sym found) past)))

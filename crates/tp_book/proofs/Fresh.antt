@@ -15,11 +15,12 @@ use Rattle.tp_model.specs.Markers.{plain, markers, plain_network}
 use Rattle.tp_book.specs.Book.{agreed}
 use Rattle.tp_book.specs.Kept.{Keeps}
 use Rattle.tp_port.specs.Counted.{IsCounted}
-use Rattle.tp_book.specs.declared.book.Book.TheInside.{Inside}
+use Rattle.tp_book.specs.declared.journal.Journal.TheInside.{Inside}
 use Rattle.tp_book.specs.declared.parts.NetParts.{NetParts}
 use Rattle.tp_book.specs.Parts.{network_of}
 use Rattle.tp_port.specs.Parts.{port_of}
-use Rattle.tp_book.specs.Inside.{state_of, value_of, IsBook}
+use Rattle.tp_book.specs.Inside.{state_of, value_of, IsJournal}
+use Rattle.tp_book.specs.Bare.{bare}
 use Rattle.tp_book.specs.Start.{IsFresh, IsNetwork, first_book}
 use Rattle.tp_port.specs.Ports.{fresh_port}
 use Rattle.tp_book.specs.Kept.{IsRising}
@@ -28,7 +29,7 @@ pub map-replicate : {A B : Type 0} (f : A → B) (n : ℕ) (x : A) → map f (re
 map-replicate f zero x = refl
 map-replicate f (suc n) x = ap (λ ys. f x ∷ ys) (map-replicate f n x)
 
-on_empty : (n x : ℕ) → on_line (replicate n []) x ≡ []
+pub on_empty : (n x : ℕ) → on_line (replicate n []) x ≡ []
 on_empty zero x = refl
 on_empty (suc n) zero = refl
 on_empty (suc n) (suc x) = on_empty n x
@@ -97,7 +98,7 @@ module _ (b : Inside) (parts : NetParts) (start : b.start.network ≡ network_of
       ∙ ap (λ given. record (state_of fields) { start = s; entries = []; ports = given }) these_ports
       ∙ ap (λ given. record (state_of fields) { start = s; entries = []; ports = s.ports; lines = given }) these_lines
 
-  pub first_fields : IsBook fields
+  pub first_fields : IsJournal fields
   first_fields = record {
     keeps = subst Keeps (sym first_state) (first_kept s F);
     shaped = record {
@@ -116,7 +117,7 @@ module _ (b : Inside) (parts : NetParts) (start : b.start.network ≡ network_of
     rising = λ p ns at. fresh_rising (0 + vec_len b.entries) (vec_len parts.ports) p ns (ap (λ given. slice_get given p) (sym (ap (map (λ q. q.marks)) ports ∙ map-replicate (λ q. q.marks) (vec_len parts.ports) fresh_port)) ∙ at);
   }
 
-  pub first_value : value_of fields ≡ first_book s b.room
+  pub first_value : value_of fields ≡ bare (first_book s b.room)
   first_value =
       ap (λ given. record (value_of fields) { state = given }) first_state
       ∙ ap (λ given. record (value_of fields) { state = (first_book s None).state; numbers = map (λ n. n.number) given }) entries

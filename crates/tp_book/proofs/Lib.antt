@@ -13,3 +13,10 @@ pub mod HandedIn
 pub mod Confirming
 pub mod Rising
 pub mod ShownOutputs
+pub mod Entered
+pub mod Stood
+pub mod Committed
+pub mod Hosted
+pub mod Tallied
+pub mod Remarked
+pub mod MarkedLines

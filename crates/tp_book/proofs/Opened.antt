@@ -24,13 +24,14 @@ use Rattle.tp_law_network.proofs.Room.{length-kinds, on_line-plain}
 use Rattle.tp_law_machine.proofs.LinkLaws.{has_four_links}
 use Rattle.tp_port.specs.declared.parts.PortParts.{PortParts}
 use Rattle.tp_book.specs.declared.state.NetState.{NetState}
-use Rattle.tp_book.specs.declared.book.Book.TheInside.{Inside}
+use Rattle.tp_book.specs.declared.journal.Journal.TheInside.{Inside}
 use Rattle.tp_book.specs.Book.{agreed, nodes_in}
 use Rattle.tp_book.specs.Kept.{Keeps}
 use Rattle.tp_port.specs.Counted.{AreCounted}
 use Rattle.tp_port.specs.Parts.{port_of}
 use Rattle.tp_port.specs.Ports.{opened_port}
-use Rattle.tp_book.specs.Inside.{state_of, value_of, IsBook}
+use Rattle.tp_book.specs.Inside.{state_of, value_of, IsJournal}
+use Rattle.tp_book.specs.Bare.{bare}
 use Rattle.tp_book.specs.Opened.{cut_of, now_of, kept_of, numbers_of, IsOpened, opened_book}
 use Rattle.tp_book.proofs.Fresh.{none_reserved}
 use Rattle.tp_book.specs.Kept.{IsRising}
@@ -39,7 +40,7 @@ use Rattle.std.proofs.Common.{slice_get, zero, suc}
 use Rattle.tp_model.specs.Network.{Port}
 
 -- without Markers there is none
-markers-plain : (ts : List Token) → markers (plain ts) ≡ 0
+pub markers-plain : (ts : List Token) → markers (plain ts) ≡ 0
 markers-plain [] = refl
 markers-plain (t ∷ ts) = elim (cases_Bool (is_marker t)) [
   | inl y ↦ rw y (markers-plain ts)
@@ -130,7 +131,7 @@ module _ (b : Inside) (s : NetState) (O : IsOpened s) (cut : b.start.network ≡
   leads : after t414 (state_of b).start (state_of b).entries ≡ Some (now_of s)
   leads = ap (λ given. after t414 given (state_of b).entries) starts ∙ ap (after t414 (cut_of s)) these_entries ∙ O.history
 
-  pub opened_fields : IsBook fields
+  pub opened_fields : IsJournal fields
   opened_fields = record {
     keeps = opened_kept (state_of fields) (now_of s) leads these_ports lines O.unmarked O.sound;
     shaped = record {
@@ -150,7 +151,7 @@ module _ (b : Inside) (s : NetState) (O : IsOpened s) (cut : b.start.network ≡
     rising = λ p ns at. opened_rising (b.base + vec_len b.entries) (now_of s).ports p ns (ap (λ given. slice_get given p) (sym these_marks) ∙ at);
   }
 
-  pub opened_value : value_of fields ≡ opened_book s b.room
+  pub opened_value : value_of fields ≡ bare (opened_book s b.room)
   opened_value =
       ap (λ given. record (value_of fields) { state = record (state_of fields) { start = given } }) starts
       ∙ ap (λ given. record (value_of fields) { state = record (state_of fields) { start = cut_of s; entries = given } }) these_entries
@@ -158,5 +159,5 @@ module _ (b : Inside) (s : NetState) (O : IsOpened s) (cut : b.start.network ≡
       ∙ ap (λ given. record (value_of fields) { state = record (opened_book s b.room).state { lines = given } }) lines
       ∙ ap (λ given. record (value_of fields) { state = (opened_book s b.room).state; numbers = map (λ n. n.number) given }) entries
       ∙ ap (λ given. record (value_of fields) { state = (opened_book s b.room).state; numbers = numbers_of s; base = given }) base
-      ∙ ap (λ given. record (opened_book s b.room) { runs = given; marks = map (λ p. p.marks) b.ports.items }) (runs ∙ ap (λ n. replicate n false) node_count)
-      ∙ ap (λ given. record (opened_book s b.room) { marks = given }) these_marks
+      ∙ ap (λ given. bare (record (opened_book s b.room) { runs = given; marks = map (λ p. p.marks) b.ports.items })) (runs ∙ ap (λ n. replicate n false) node_count)
+      ∙ ap (λ given. bare (record (opened_book s b.room) { marks = given })) these_marks

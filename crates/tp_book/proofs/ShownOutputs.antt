@@ -4,8 +4,8 @@ use Rattle.std.specs.Prelude.{vec_len, nat_le}
 use Rattle.std.proofs.lemmas.List.Sums.{count_by-le-length}
 use Rattle.std.specs.Option.{option_map}
 use Rattle.std.proofs.lemmas.Option.{slice_get-map, get_or_from_slice_get}
-use Rattle.tp_book.specs.declared.book.Book.TheInside.{Inside}
-use Rattle.tp_book.specs.Inside.{value_of, IsBook}
+use Rattle.tp_book.specs.declared.journal.Journal.TheInside.{Inside}
+use Rattle.tp_book.specs.Inside.{value_of, IsJournal}
 use Rattle.tp_port.specs.Ports.{PortValue}
 use Rattle.tp_book.specs.Calls.{marks_of}
 use Rattle.tp_book.specs.Host.{port_in, shown_upto_of, ShowsUpto}
@@ -13,7 +13,7 @@ use Rattle.tp_book.proofs.HostTaken.{port_counts}
 use Rattle.tp_book.proofs.Confirming.{port_found}
 use Rattle.tp_book.proofs.Rising.{within_first, within_last}
 
-module _ (b : Inside) (B : IsBook b) (p : ℕ) (was : PortValue) (at : slice_get b.ports.items p ≡ Some was) (len : length was.marks ≡ length was.port.outputs) where
+module _ (b : Inside) (B : IsJournal b) (p : ℕ) (was : PortValue) (at : slice_get b.ports.items p ≡ Some was) (len : length was.marks ≡ length was.port.outputs) where
   marks_at : slice_get (value_of b).marks p ≡ Some was.marks
   marks_at = slice_get-map (λ q. q.marks) b.ports.items p ∙ ap (option_map (λ q. q.marks)) at
 

@@ -51,6 +51,7 @@ after_input b p bytes =
     record b {
       state = with_input b.state (4 * node_count b + p) p (port_in b p) bytes;
       numbers = b.numbers ++ range_with_len (next_number b) (length bytes);
+      history = b.history ++ map (HostIn p) bytes;
     }
 
 -- why so many bytes can't be handed in, where there are some

@@ -1,10 +1,16 @@
 pub mod Parts
 pub mod Book
 pub mod Kept
+pub mod Bare
+pub mod Owned
 pub mod Inside
+pub mod Joined
+pub mod Whole
 pub mod Calls
 pub mod Start
 pub mod Refusals
 pub mod Opened
 pub mod Host
 pub mod Inputs
+pub mod Acts
+pub mod Marked

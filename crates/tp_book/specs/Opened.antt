@@ -1,5 +1,5 @@
 -- A book of an opened device.
-use Rattle.std.specs.Prelude.{◌≡◌, ◌<◌, ◌≤◌, ℕ, ◌+◌, false, List, All, length, map, replicate, vec_len, Option, Some, None}
+use Rattle.std.specs.Prelude.{[], ◌≡◌, ◌<◌, ◌≤◌, ℕ, ◌+◌, false, List, All, length, map, replicate, vec_len, Option, Some, None}
 use Rattle.tp_model.specs.declared.entry.Entry.{Entry}
 use Rattle.tp_model.specs.declared.limits.TheConstants.{MAX_HELD, NUMBER_LIMIT}
 use Rattle.tp_model.specs.NodeState.{NodeState}
@@ -46,6 +46,7 @@ pub record IsOpened (s : NetState) : Type 0 where
   pub counted : AreCounted s.next (now_of s).ports
   pub pending : All (λ port. vec_len port.pending ≤ MAX_HELD) s.net.ports.items
   pub outputs : All (λ port. vec_len port.outputs ≤ MAX_HELD) s.net.ports.items
+  pub origin : Sound t414_ends (cut_of s)
   pub images : map (λ image. node_of image.items) s.net.images.items ≡ map (λ node. Some node) (now_of s).nodes
 
 -- The book of an opened device, on which groups may fill so many bytes: nothing is reserved, and what the ports hold is shown
@@ -60,4 +61,8 @@ opened_book s room = record {
   broken = false;
   room = room;
   marks = map (λ port. (opened_port port).marks) (now_of s).ports;
+  frozen = [];
+  history = [];
+  generation = s.generation;
+  floor = vec_len s.kept;
 }

@@ -31,4 +31,8 @@ first_book s room = record {
   broken = false;
   room = room;
   marks = replicate (length s.ports) [];
+  frozen = [];
+  history = [];
+  generation = 1;
+  floor = 0;
 }

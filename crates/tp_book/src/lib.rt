@@ -2,12 +2,17 @@
 #![tactic(auto)]
 
 mod book;
+mod commits;
 mod confirm;
+mod count;
 mod cut;
 mod full;
 mod host;
+mod hosts;
 mod input;
+mod journal;
 mod law;
+mod marking;
 mod note;
 mod open;
 mod parts;
@@ -15,6 +20,7 @@ mod receipt;
 mod refusal;
 mod run;
 mod shown;
+mod snapshot;
 mod state;
 mod take;
 

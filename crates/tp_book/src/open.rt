@@ -1,20 +1,25 @@
 //! Books of opened devices.
 
 ghost use Rattle.std.specs.Prelude.{◌≡◌, IfOk};
+ghost use Rattle.tp_book.specs.Bare.{bare};
 ghost use Rattle.tp_book.specs.Opened.{IsOpened, opened_book};
 
-use crate::book::Book;
+use crate::journal::Journal;
 use crate::state::NetState;
 use std::alloc::{AllocError, Global};
 use tp_port::{lines_with, ports_with};
 
-impl Book {
+impl Journal {
     /// The book of an opened device, on which groups may fill so many bytes; nothing is reserved or made ready.
-    pub fn open(alloc: Global, state: &NetState, room: Option<u64>) -> Result<Book, AllocError>
+    pub(crate) fn open(
+        alloc: Global,
+        state: &NetState,
+        room: Option<u64>,
+    ) -> Result<Journal, AllocError>
         requires { IsOpened state.now }
-        ensures { IfOk result (λ book. book ≡ opened_book state.now room) }
+        ensures { IfOk result (λ journal. journal ≡ bare (opened_book state.now room)) }
     {
-        Ok(Book {
+        Ok(Journal {
             start: state.cut.again(),
             wires: Vec::from_slice(alloc, &state.net.wires)?,
             lines: lines_with(alloc, &state.net.lines)?,

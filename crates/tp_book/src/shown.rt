@@ -3,7 +3,7 @@
 ghost use Rattle.std.specs.Prelude.{◌≡◌, ◌<◌, ◌≤◌, ◌+◌, ◌^◌, length, count_by, nat_le};
 ghost use Rattle.tp_book.specs.Host.{port_in, shown_of, shown_upto_of, shown_from, ShowsUpto};
 
-use crate::book::Book;
+use crate::journal::Journal;
 
 /// How many of these marks another mark is no less than.
 fn count_within(marks: &[u64], mark: u64) -> usize
@@ -19,7 +19,7 @@ fn count_within(marks: &[u64], mark: u64) -> usize
     count
 }
 
-impl Book {
+impl Journal {
     /// How many of a port's outputs a mark shows.
     fn shown_count(&self, port: u8, mark: u64) -> usize
         requires { port < length self.now.state.ports }
@@ -33,7 +33,7 @@ impl Book {
 
     /// Up to which position a mark shows a port's outputs: an output is shown once the mark is above the number of the entry
     /// by which the port took it.
-    pub fn shown_upto(&self, port: u8, mark: u64) -> u64
+    pub(crate) fn shown_upto(&self, port: u8, mark: u64) -> u64
         requires { port < length self.now.state.ports }
         ensures value { result ≡ shown_upto_of self.now port mark }
         ensures exactly { ShowsUpto self.now port mark result }
@@ -42,7 +42,7 @@ impl Book {
     }
 
     /// The outputs of a port from a position on that a mark shows.
-    pub fn shown(&self, port: u8, mark: u64, from: u64) -> &[u8]
+    pub(crate) fn shown(&self, port: u8, mark: u64, from: u64) -> &[u8]
         requires there { port < length self.now.state.ports }
         requires base { (port_in self.now port).out_base ≤ from }
         requires shown { from ≤ shown_upto_of self.now port mark }

@@ -21,6 +21,7 @@ use Rattle.tp_model.specs.EntryBytes.{entry_bytes, is_in_range, is_spelt, number
 use Rattle.tp_model.specs.Markers.{markers, plain}
 use Rattle.tp_model.specs.Numbers.{AreNumbered}
 use Rattle.tp_model.specs.Order.{after}
+use Rattle.tp_model.specs.Sound.{Sound}
 use Rattle.tp_model.specs.Topology.{Topology, is_topology}
 use Rattle.tp_model.specs.CutImage.{or_damaged}
 use Rattle.tp_model.specs.Replay.{Replay, with_entry, is_number, after_row, after_rows, replay_from}
@@ -146,5 +147,6 @@ replayed_opened t base s rows r o topology C bytes is cut now kept base_is next_
       counted = subst (λ x. AreCounted o.next x.ports) (sym now) (subst (λ n. AreCounted n r.now.ports) (sym next_is) R.counted);
       pending = λ k d below. let part = parts_held o.net.ports.items held k d below in omega (arith, part.pending, (get_or o.net.ports.items k d).pending.ok.0);
       outputs = λ k d below. let part = parts_held o.net.ports.items held k d below in omega (arith, part.outputs, (get_or o.net.ports.items k d).outputs.ok.0);
+      origin = subst (λ x. Sound t414_ends x) (sym cut) (cut_flat t base s topology C bytes).sound;
       images = images;
     }

@@ -70,6 +70,7 @@ lone_opened s is cut kept base next pending outputs = record {
   counted = subst (λ n. AreCounted n (now_of s).ports) (sym next) (subst (λ net. AreCounted 2 net.ports) (sym is) lone_counted);
   pending = pending;
   outputs = outputs;
+  origin = subst (Sound t414_ends) (sym cut) lone_sound;
   images = subst (λ nodes. map (λ image. node_of image.items) s.net.images.items ≡ map (λ node. Some node) nodes) (sym (ap (λ net. net.nodes) is))
       (no_images s.net.images.items (ap (λ net. net.nodes) is));
 }

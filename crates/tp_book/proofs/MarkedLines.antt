@@ -1,0 +1,51 @@
+-- A journal's fields, where Markers are sent or taken.
+use Rattle.std.proofs.Common.{◌≡◌, ℕ, ◌+◌, ◌*◌, ◌<◌, ◌≤◌, true, List, [], length, map, set, drop, refl, sym, ap, subst, ◌∙◌, arith, length-set}
+use Rattle.std.specs.Prelude.{vec_len}
+use Rattle.std.proofs.lemmas.List.{length-map}
+use Rattle.tp_model.specs.declared.link.Token.{Token}
+use Rattle.tp_model.specs.declared.link.Token.TheVariants.{Marker}
+use Rattle.tp_model.specs.Network.{has_wire, is_first, on_line, sent}
+use Rattle.tp_model.specs.Markers.{markers, plain}
+use Rattle.tp_model.specs.Snapshot.{host_markers, node_markers}
+use Rattle.tp_law_network.proofs.Lines.{length_sent}
+use Rattle.tp_law_cuts.proofs.Marks.{AreMarkers, sent_markers, taken_marker}
+use Rattle.tp_law_cuts.proofs.Sending.{host_markers_all, node_markers_all}
+use Rattle.tp_port.specs.Room.{HasRoom}
+use Rattle.tp_port.proofs.Sending.{room_before}
+use Rattle.tp_book.specs.declared.journal.Journal.TheInside.{Inside}
+use Rattle.tp_book.specs.Inside.{state_of, IsJournal}
+use Rattle.tp_book.proofs.Commit.{line_small}
+use Rattle.tp_book.proofs.Remarked.{remarked}
+
+module _ (b : Inside) (B : IsJournal b) where
+  pub other_lines : (lines : List (List Token)) → map plain lines ≡ map plain b.lines → ((line : ℕ) → markers (on_line lines line) ≤ 1) → length lines ≡ length b.lines → IsJournal (record b { lines = lines })
+  other_lines lines same few len = record {
+    keeps = remarked (state_of b) B.keeps lines same few;
+    shaped = record { count = B.shaped.count; wires = B.shaped.wires; lines = len ∙ B.shaped.lines; few_nodes = B.shaped.few_nodes; few_ports = B.shaped.few_ports };
+    wires = B.wires;
+    reserved = B.reserved;
+    space = B.space;
+    numbers = B.numbers;
+    counted = B.counted;
+    numbered = B.numbered;
+    rising = B.rising;
+  }
+
+  module _ (ms : List (ℕ × Token)) (all : AreMarkers ms) (few : (line : ℕ) → markers (on_line (sent (has_wire b.start.network.wires) b.lines ms) line) ≤ 1) where
+    same : map plain (sent (has_wire b.start.network.wires) b.lines ms) ≡ map plain b.lines
+    same = sent_markers (has_wire b.start.network.wires) b.lines ms all
+
+    pub markers_room : HasRoom (has_wire b.wires.items) b.lines ms
+    markers_room = subst (λ wires. HasRoom (has_wire wires) b.lines ms) (sym B.wires)
+        (room_before (has_wire b.start.network.wires) b.lines ms (λ l y. omega (arith, length-map b.lines plain, B.keeps.sound.there l y))
+        (line_small (record (state_of b) { lines = sent (has_wire b.start.network.wires) b.lines ms }) (remarked (state_of b) B.keeps (sent (has_wire b.start.network.wires) b.lines ms) same few)))
+
+    pub markers_fields : (lines : List (List Token)) → lines ≡ sent (has_wire b.wires.items) b.lines ms → IsJournal (record b { lines = lines })
+    markers_fields lines is =
+        let on = is ∙ ap (λ wires. sent (has_wire wires) b.lines ms) B.wires in
+        subst (λ given. IsJournal (record b { lines = given })) (sym on)
+        (other_lines (sent (has_wire b.start.network.wires) b.lines ms) same few (length_sent (has_wire b.start.network.wires) b.lines ms))
+
+  pub taken_fields : (line : ℕ) → is_first (on_line b.lines line) Marker ≡ true → ((l : ℕ) → markers (on_line (set b.lines line (drop 1 (on_line b.lines line))) l) ≤ 1)
+      → IsJournal (record b { lines = set b.lines line (drop 1 (on_line b.lines line)) })
+  taken_fields line front few = other_lines _ (taken_marker b.lines line front) few (length-set b.lines line (drop 1 (on_line b.lines line)))

@@ -1,0 +1,199 @@
+-- Markers that are sent and taken leave what every book keeps.
+use Rattle.std.proofs.Common.{◌≡◌, ℕ, ◌+◌, ◌<◌, ◌≤◌, Bool, true, false, cond, List, [], ◌∷◌, ◌++◌, length, map, set, get_or, replicate, zero, suc, drop, refl, sym, ap, subst, ◌∙◌, arith, length-set, Option, Some, None, slice_get}
+use Rattle.std.specs.Prelude.{is_some, not}
+use Rattle.std.specs.Option.{option_map}
+use Rattle.std.proofs.lemmas.List.{length-map}
+use Rattle.tp_model.specs.declared.link.Token.{Token}
+use Rattle.tp_model.specs.declared.link.Token.TheVariants.{Marker}
+use Rattle.tp_model.specs.NodeState.{NodeState}
+use Rattle.tp_model.specs.Node.{t414, t414_ends}
+use Rattle.tp_model.specs.Network.{Network, has_wire, process_at, receiver, on_line, is_first, sent}
+use Rattle.tp_model.specs.Entries.{process}
+use Rattle.tp_model.specs.Order.{after, made}
+use Rattle.tp_model.specs.Sound.{Sound}
+use Rattle.tp_model.specs.Markers.{markers, plain, plain_network}
+use Rattle.tp_model.specs.Snapshot.{Snapshot, MarkedNetwork, has_recorded, is_closed, first_snapshot, with_count, with_closed, host_markers, node_markers}
+use Rattle.tp_model.specs.Halves.{BookState, live, marked, with_begin, with_record, with_close}
+use Rattle.tp_model.specs.Acts.{Act, Begin, Record, Close, happens}
+use Rattle.tp_law_machine.proofs.LinkLaws.{has_four_links, never_marks}
+use Rattle.tp_law_cuts.proofs.Invariant.{Holds}
+use Rattle.tp_law_cuts.proofs.Room.{few_markers}
+use Rattle.tp_law_cuts.proofs.Happens.{happens_holds}
+use Rattle.tp_law_cuts.proofs.Halves.{begin_joins, record_joins, close_joins}
+use Rattle.tp_snap.specs.Counted.{SnapshotsValue}
+use Rattle.tp_snap.specs.Needs.{has_recorded_in, is_asked}
+use Rattle.tp_book.specs.Book.{BookValue, agreed, world_of}
+use Rattle.tp_book.specs.Kept.{Keeps, IsShaped}
+use Rattle.tp_book.specs.Joined.{joined, AreMade, HostRecorded, FitsRoom, Stands}
+use Rattle.std.proofs.Common.{inl, inr, get_or-set_same, get_or-set_other}
+use Rattle.std.proofs.lemmas.Bool.{cases_eq, cases_lt}
+use Rattle.std.proofs.lemmas.List.{get_or_past}
+use Rattle.tp_book.specs.Marked.{with_lines, after_begin, after_record, after_close, taker_of}
+use Rattle.tp_book.proofs.Commit.{length-agreed}
+use Rattle.tp_book.proofs.Entered.{keeps_joined}
+
+-- Other lines with the same tokens, Markers left out, and with no two Markers on one.
+pub remarked : (b : BookState NodeState) → Keeps b → (lines : List (List Token)) → map plain lines ≡ map plain b.lines → ((line : ℕ) → markers (on_line lines line) ≤ 1) → Keeps (record b { lines = lines })
+unfolding agreed
+remarked b K lines same few = record {
+  history = K.history ∙ ap (λ given. Some (record (live b (agreed b)) { lines = given })) (sym same);
+  sound = subst (λ given. Sound t414_ends (record (live b (agreed b)) { lines = given })) (sym same) K.sound;
+  marked = few;
+}
+
+-- ## A snapshot begins
+
+host_counted : (n h : ℕ) → is_some (get_or (replicate n None ++ Some h ∷ []) n (Some 0)) ≡ true
+host_counted zero h = refl
+host_counted (suc n) h = host_counted n h
+
+module _ (j : BookValue) (s : SnapshotsValue) (g : ℕ) (B : Stands j s g) (K : Keeps j.state) where
+  abbrev st : BookState NodeState
+  st = (joined j s g).state
+
+  as_many : length (agreed st) ≡ length st.start.nodes
+  as_many = length-agreed st (keeps_joined j s g K)
+
+  module _ (idle : s.snapshot ≡ None) where
+    pub begin_act : happens t414 (world_of (joined j s g)) Begin ≡ Some (world_of (after_begin (joined j s g)))
+    unfolding agreed
+    begin_act = begin_joins t414 st (agreed st) s.frozen as_many idle ∙ ap (λ n. Some (marked (with_begin st) (agreed st) (replicate n None))) as_many
+
+    pub begin_holds : Holds t414 (world_of (after_begin (joined j s g)))
+    begin_holds = happens_holds t414 has_four_links never_marks (world_of (joined j s g)) (world_of (after_begin (joined j s g))) Begin B.holds begin_act
+
+    pub begin_few : (line : ℕ) → markers (on_line (sent (has_wire j.state.start.wires) j.state.lines (host_markers (length j.state.start.nodes) (length j.state.ports))) line) ≤ 1
+    begin_few = few_markers t414 (world_of (after_begin (joined j s g))) begin_holds
+
+  module _ (node : ℕ) (snap : Snapshot) (runs : s.snapshot ≡ Some snap) (below : node < length j.state.start.nodes) (new : has_recorded snap node ≡ false) where
+    record_is : after_record (joined j s g) node ≡ record (joined j s g) { state = with_record st snap node; frozen = set s.frozen node (slice_get (agreed st) node) }
+    record_is = ap (λ given. record (after_record (joined j s g) node) { state = record (after_record (joined j s g) node).state { snapshot = option_map (λ x. with_count x node (made (process st.start) node st.entries)) given } }) runs
+
+    pub record_act : happens t414 (world_of (joined j s g)) (Record node) ≡ Some (world_of (after_record (joined j s g) node))
+    unfolding agreed
+    record_act =
+        record_joins t414 st (agreed st) s.frozen as_many snap node runs (omega (arith, below, as_many)) new
+        ∙ ap (λ (b : BookValue). Some (world_of b)) (sym record_is)
+
+    pub record_holds : Holds t414 (world_of (after_record (joined j s g) node))
+    record_holds = happens_holds t414 has_four_links never_marks (world_of (joined j s g)) (world_of (after_record (joined j s g) node)) (Record node) B.holds record_act
+
+    pub record_few : (line : ℕ) → markers (on_line (sent (has_wire j.state.start.wires) j.state.lines (node_markers node)) line) ≤ 1
+    record_few = few_markers t414 (world_of (after_record (joined j s g) node)) record_holds
+
+  module _ (line : ℕ) (snap : Snapshot) (runs : s.snapshot ≡ Some snap) (front : is_first (on_line j.state.lines line) Marker ≡ true)
+      (has : has_recorded snap (taker_of (joined j s g) line) ≡ true) where
+    close_is : after_close (joined j s g) line ≡ record (joined j s g) { state = with_close st snap line }
+    close_is = ap (λ given. record (after_close (joined j s g) line) { state = record (after_close (joined j s g) line).state { snapshot = option_map (λ x. with_closed x line) given } }) runs
+
+    pub close_act : happens t414 (world_of (joined j s g)) (Close line) ≡ Some (world_of (after_close (joined j s g) line))
+    unfolding agreed
+    close_act = close_joins t414 st (agreed st) s.frozen as_many snap line runs front has ∙ ap (λ (b : BookValue). Some (world_of b)) (sym close_is)
+
+    pub close_holds : Holds t414 (world_of (after_close (joined j s g) line))
+    close_holds = happens_holds t414 has_four_links never_marks (world_of (joined j s g)) (world_of (after_close (joined j s g) line)) (Close line) B.holds close_act
+
+    pub close_few : (l : ℕ) → markers (on_line (set j.state.lines line (drop 1 (on_line j.state.lines line))) l) ≤ 1
+    close_few = few_markers t414 (world_of (after_close (joined j s g) line)) close_holds
+
+-- ## The snapshot that runs
+
+pub none_of : (given : Option Snapshot) → is_some given ≡ false → given ≡ None
+none_of None e = refl
+none_of (Some snap) e = cc
+
+pub running_in : (given : Option Snapshot) (p : ℕ) → has_recorded_in given p ≡ true → (snap : Snapshot) × (given ≡ Some snap) × (has_recorded snap p ≡ true)
+running_in None p e = cc
+running_in (Some snap) p e = (snap, refl, e)
+
+pub asked_in : (given : Option Snapshot) (p : ℕ) → is_asked given p ≡ true → (snap : Snapshot) × (given ≡ Some snap) × (has_recorded snap p ≡ false)
+asked_in None p e = cc
+asked_in (Some snap) p e = (snap, refl, not_true (has_recorded snap p) e)
+  where
+    not_true : (b : Bool) → not b ≡ true → b ≡ false
+    not_true true h = cc
+    not_true false h = refl
+
+-- who has recorded stays so
+closed_host : (given : Option Snapshot) (line host : ℕ) → HostRecorded given host → HostRecorded (option_map (λ x. with_closed x line) given) host
+closed_host None line host H snap e = cc
+closed_host (Some old) line host H snap e = let is : with_closed old line ≡ snap = cc in ap (λ x. has_recorded x host) (sym is) ∙ H old refl
+
+counted_host : (given : Option Snapshot) (node count host : ℕ) → HostRecorded given host → HostRecorded (option_map (λ x. with_count x node count) given) host
+counted_host None node count host H snap e = cc
+counted_host (Some old) node count host H snap e =
+    let is : with_count old node count ≡ snap = cc in
+    ap (λ x. has_recorded x host) (sym is) ∙ still old.counts host (H old refl)
+  where
+    still : (counts : List (Option ℕ)) (p : ℕ) → is_some (get_or counts p (Some 0)) ≡ true → is_some (get_or (set counts node (Some count)) p (Some 0)) ≡ true
+    still counts p h = elim (cases_eq p node) [
+      | inl same ↦ elim (cases_lt node (length counts)) [
+        | inl below ↦ ap (λ q. is_some (get_or (set counts node (Some count)) q (Some 0))) same ∙ ap is_some (get_or-set_same counts node (Some count) (Some 0) below)
+        | inr past ↦ ap (λ x. is_some x) (get_or_past (set counts node (Some count)) p (Some 0) (omega (arith, past, same, length-set counts node (Some count))))
+      ]
+      | inr other ↦ ap is_some (get_or-set_other counts node p (Some count) (Some 0) other) ∙ h
+    ]
+
+module _ (j : BookValue) (s : SnapshotsValue) (g : ℕ) (B : Stands j s g) (K : Keeps j.state) where
+  pub closed_stands : (line : ℕ) (snap : Snapshot) → s.snapshot ≡ Some snap → is_first (on_line j.state.lines line) Marker ≡ true → has_recorded snap (taker_of (joined j s g) line) ≡ true
+      → Stands (with_lines j (set j.state.lines line (drop 1 (on_line j.state.lines line)))) (record s { snapshot = option_map (λ x. with_closed x line) s.snapshot }) g
+  closed_stands line snap runs front has = record {
+    holds = close_holds j s g B K line snap runs front has;
+    origin = B.origin;
+    counted = B.counted;
+    host = closed_host s.snapshot line (length j.state.start.nodes) B.host;
+    fits = B.fits;
+  }
+
+  -- the host recorded
+  module _ (shaped : IsShaped j.state (length j.runs)) (idle : s.snapshot ≡ None) where
+    abbrev j_begun : BookValue
+    j_begun = with_lines j (sent (has_wire j.state.start.wires) j.state.lines (host_markers (length j.state.start.nodes) (length j.state.ports)))
+
+    abbrev begun_by : ℕ → ℕ → SnapshotsValue
+    begun_by n h = record s { snapshot = Some (first_snapshot n (length j.state.lines) h j.state.ports (length j.state.entries)); frozen = replicate n None }
+
+    own : get_or s.made (length j.runs) 0 ≡ made (process j.state.start) (length j.state.start.nodes) j.state.entries
+    own = B.counted.each (length j.runs) (omega (arith, shaped.count, B.counted.count)) ∙ ap (λ n. made (process j.state.start) n j.state.entries) (sym shaped.count)
+
+    pub begun_value : joined j_begun (begun_by (length j.runs) (get_or s.made (length j.runs) 0)) g ≡ after_begin (joined j s g)
+    begun_value =
+        ap (λ h. joined j_begun (begun_by (length j.runs) h) g) own
+        ∙ ap (λ n. joined j_begun (begun_by n (made (process j.state.start) (length j.state.start.nodes) j.state.entries)) g) (sym shaped.count)
+
+    pub begun_stands : Stands j_begun (begun_by (length j.runs) (get_or s.made (length j.runs) 0)) g
+    begun_stands = record {
+      holds = subst (λ b. Holds t414 (world_of b)) (sym begun_value) (begin_holds j s g B K idle);
+      origin = B.origin;
+      counted = B.counted;
+      host = λ snap runs.
+          let is : first_snapshot (length j.runs) (length j.state.lines) (get_or s.made (length j.runs) 0) j.state.ports (length j.state.entries) ≡ snap = cc in
+          ap (λ x. has_recorded x (length j.state.start.nodes)) (sym is)
+          ∙ ap (λ n. is_some (get_or (replicate (length j.runs) None ++ Some (get_or s.made (length j.runs) 0) ∷ []) n (Some 0))) shaped.count
+          ∙ host_counted (length j.runs) (get_or s.made (length j.runs) 0);
+      fits = B.fits;
+    }
+
+  -- a node recorded
+  module _ (node : ℕ) (snap : Snapshot) (runs : s.snapshot ≡ Some snap) (below : node < length j.state.start.nodes) (new : has_recorded snap node ≡ false)
+      (image : Option NodeState) (image_is : image ≡ slice_get (agreed j.state) node) where
+    abbrev j_recorded : BookValue
+    j_recorded = with_lines j (sent (has_wire j.state.start.wires) j.state.lines (node_markers node))
+
+    abbrev recorded_by : ℕ → Option NodeState → SnapshotsValue
+    recorded_by h given = record s { snapshot = option_map (λ x. with_count x node h) s.snapshot; frozen = set s.frozen node given }
+
+    pub recorded_value : joined j_recorded (recorded_by (get_or s.made node 0) image) g ≡ after_record (joined j s g) node
+    unfolding agreed
+    recorded_value =
+        ap (λ h. joined j_recorded (recorded_by h image) g) (B.counted.each node (omega (arith, below, B.counted.count)))
+        ∙ ap (λ given. joined j_recorded (recorded_by (made (process j.state.start) node j.state.entries) given) g) image_is
+
+    pub recorded_stands : Stands j_recorded (recorded_by (get_or s.made node 0) image) g
+    recorded_stands = record {
+      holds = subst (λ b. Holds t414 (world_of b)) (sym recorded_value) (record_holds j s g B K node snap runs below new);
+      origin = B.origin;
+      counted = B.counted;
+      host = counted_host s.snapshot node (get_or s.made node 0) (length j.state.start.nodes) B.host;
+      fits = B.fits;
+    }

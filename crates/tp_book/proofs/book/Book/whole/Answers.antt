@@ -1,0 +1,24 @@
+use Rattle.std.proofs.Common.{length, ap, ◌∙◌}
+use Rattle.tp_model.specs.Node.{t414}
+use Rattle.tp_model.specs.WholeCut.{whole, whole_of}
+use Rattle.tp_law_machine.proofs.LinkLaws.{has_four_links}
+use Rattle.tp_law_cuts.proofs.Whole.{whole_holds, whole_only, whole_there}
+use Rattle.tp_book.specs.Book.{world_of}
+use Rattle.tp_book.specs.Whole.{book_of}
+use Rattle.tp_book.proofs.book.Book.whole.Goals as goal
+
+pub returns-clause-value : goal.returns-clause-value
+unfolding whole
+returns-clause-value c =
+    rw (← c.self.view_is)
+    (c.whole.ensures ∙ ap (λ n. whole_of c.wires.result.now n c.self.inside.snapshots.snapshot) c.wires.ensures.len
+    ∙ ap (λ wires. whole_of wires (length c.self.inside.journal.state.lines) c.self.inside.snapshots.snapshot) c.wires.ensures.value)
+
+pub returns-clause-holds : goal.returns-clause-holds
+returns-clause-holds c = rw (← c.self.view_is) (whole_holds t414 has_four_links (world_of (book_of c.self.inside)) c.self.invariant.holds)
+
+pub returns-clause-only : goal.returns-clause-only
+returns-clause-only c = rw (← c.self.view_is) (whole_only t414 (world_of (book_of c.self.inside)) c.self.invariant.holds)
+
+pub returns-clause-there : goal.returns-clause-there
+returns-clause-there c = rw (← c.self.view_is) (whole_there t414 (world_of (book_of c.self.inside)) c.self.invariant.holds)

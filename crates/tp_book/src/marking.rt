@@ -1,0 +1,98 @@
+//! Markers on a journal's lines.
+
+ghost use Rattle.std.specs.Prelude.{◌≡◌, ◌≤◌, ◌<◌, ℕ, IfOk, OnErr, Some, None, true, drop, get_or, length, replicate, set, slice_get};
+ghost use Rattle.tp_model.specs.Markers.{markers};
+ghost use Rattle.tp_model.specs.Network.{has_wire, is_first, on_line, sent};
+ghost use Rattle.tp_model.specs.Snapshot.{first_snapshot, host_markers, node_markers};
+ghost use Rattle.tp_model.specs.declared.link.Token.TheVariants.{Marker};
+ghost use Rattle.tp_book.specs.Book.{agreed, node_count};
+ghost use Rattle.tp_book.specs.Marked.{with_lines};
+
+use crate::journal::Journal;
+use std::alloc::{AllocError, Global};
+use tp_model::{Token, WireEnd};
+use tp_snap::{Image, Snapshots, mark_node, mark_ports};
+
+impl Journal {
+    /// Whether the store is broken.
+    pub(crate) fn is_broken(&self) -> bool
+        ensures { result ≡ self.now.broken }
+    {
+        self.broken
+    }
+
+    /// The receiver of each line.
+    pub(crate) fn wires(&self) -> &[Option<WireEnd>]
+        ensures value { result.now ≡ self.now.state.start.wires }
+        ensures len { length result.now ≡ length self.now.state.lines }
+    {
+        self.wires.as_slice()
+    }
+
+    /// The token in front of a line.
+    pub(crate) fn front(&self, line: u16) -> Option<Token>
+        requires { line < length self.now.state.lines }
+        ensures { result ≡ slice_get (on_line self.now.state.lines line) 0 }
+    {
+        self.lines.front(line as usize)
+    }
+
+    /// The agreed image of a node. It has no bytes.
+    pub(crate) fn image_of(&self, node: u8) -> Image
+        ensures { result.image ≡ slice_get (agreed self.now.state) node }
+    {
+        let both = (self, node);
+        Image::of(&both)
+    }
+
+    /// A snapshot begins, in which the host records the ports as they are.
+    pub(crate) fn begin_in(
+        &self,
+        alloc: Global,
+        snapshots: &mut Snapshots,
+    ) -> Result<(), AllocError>
+        requires { node_count self.now < length snapshots.old.made }
+        ensures ok { IfOk result (λ done. snapshots.new ≡ record snapshots.old { snapshot = Some (first_snapshot (node_count self.now) (length self.now.state.lines) (get_or snapshots.old.made (node_count self.now) 0) self.now.state.ports (length self.now.state.entries)); frozen = replicate (node_count self.now) None }) }
+        ensures err { OnErr result (snapshots.new ≡ snapshots.old) }
+    {
+        snapshots.begin(
+            alloc,
+            &self.ports,
+            self.runs.len(),
+            self.lines.count(),
+            self.entries.len(),
+        )
+    }
+
+    /// A Marker goes onto each port's wired line.
+    pub(crate) fn mark_ports(&mut self)
+        requires { (line : ℕ) → markers (on_line (sent (has_wire self.old.state.start.wires) self.old.state.lines (host_markers (length self.old.state.start.nodes) (length self.old.state.ports))) line) ≤ 1 }
+        ensures { self.new ≡ with_lines self.old (sent (has_wire self.old.state.start.wires) self.old.state.lines (host_markers (length self.old.state.start.nodes) (length self.old.state.ports))) }
+    {
+        mark_ports(
+            &self.wires,
+            &mut self.lines,
+            self.runs.len(),
+            self.ports.len() as u8,
+        );
+    }
+
+    /// A Marker goes onto each of a node's wired lines.
+    pub(crate) fn mark_node(&mut self, node: u8)
+        requires there { node < length self.old.state.start.nodes }
+        requires few { (line : ℕ) → markers (on_line (sent (has_wire self.old.state.start.wires) self.old.state.lines (node_markers node)) line) ≤ 1 }
+        ensures { self.new ≡ with_lines self.old (sent (has_wire self.old.state.start.wires) self.old.state.lines (node_markers node)) }
+    {
+        mark_node(&self.wires, &mut self.lines, node);
+    }
+
+    /// The Marker in front of a line is taken off.
+    pub(crate) fn drop_marker(&mut self, line: u16)
+        requires there { line < length self.old.state.lines }
+        requires front { is_first (on_line self.old.state.lines line) Marker ≡ true }
+        requires few { (l : ℕ) → markers (on_line (set self.old.state.lines line (drop 1 (on_line self.old.state.lines line))) l) ≤ 1 }
+        ensures { self.new ≡ with_lines self.old (set self.old.state.lines line (drop 1 (on_line self.old.state.lines line))) }
+    {
+        let _marker = self.lines.pop(line as usize);
+    }
+}

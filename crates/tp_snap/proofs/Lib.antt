@@ -1,0 +1,3 @@
+pub mod Counts
+pub mod Collected
+pub mod Sent

@@ -1,0 +1,4 @@
+pub mod Seen
+pub mod Counted
+pub mod Running
+pub mod Needs
