@@ -51,8 +51,8 @@ pub fn copies_open()
         → device_areas.other bytes ≡ Some (other_start o, record { network = s; entries = map (λ e. e.0) (entries_in groups); base = base }) }
 {}
 
-/// A whole cut of a book whose kept cut has an image, with bytes in its nodes, has one too: as the cut of so many entries
-/// more as it has. In a run over a device that was formatted, the kept cut has one whenever the flusher rests, and it is of the
+/// A whole cut of a book whose kept cut has an image, with bytes in its nodes, has one too, with its own entries added to the
+/// base. In a run over a device that was formatted, the kept cut has one whenever the flusher rests, and it is of the
 /// device's topology.
 pub fn cuts_are_spelt()
     ensures cut { (t : Topology) (base : ℕ) (w : MarkedNetwork NodeState) (cut : WholeCut) (nodes : List NodeState) → is_topology t ≡ true → CutSpelt t base w.start
@@ -85,7 +85,7 @@ pub fn copies_can_be_put()
         → CanPut w.disk.bytes o (copy_of w.net w.base cut nodes) }
 {}
 
-/// However the entries of a spelt copy's tail are divided into groups of 1 to 64, these end inside the content of an area, with
+/// However the entries of a spelt copy's tail are divided into groups of 1 to 64, they end inside the content of an area, with
 /// the closed gate behind them, where each entry finds room in a group of its own. So does a next group behind those of the
 /// area that is taken, the next gate with it, whatever groups stand there.
 pub fn groups_stay_inside()
