@@ -1,8 +1,8 @@
 -- The image of a node that recorded stays until the trim, and is that of the cut; its pieces are the image.
-use Rattle.std.proofs.Common.{◌≡◌, ◌≢◌, ℕ, zero, suc, ◌+◌, ◌*◌, ◌/◌, ◌%◌, ◌<◌, false, List, [], ◌∷◌, length, take, drop, get_or, refl, sym, ap, subst, ◌∙◌, arith, Option, Some, None, slice_get, length-take, length-drop, get_or-set_other}
-use Rattle.std.specs.Prelude.{is_some}
+use Rattle.std.proofs.Common.{◌≡◌, ◌≢◌, ℕ, zero, suc, ◌+◌, ◌*◌, ◌/◌, ◌%◌, ◌<◌, false, List, [], ◌∷◌, length, take, drop, get_or, refl, sym, ap, subst, ◌∙◌, arith, Option, Some, None, slice_get, length-take, length-drop, length-append, get_or-set_other}
+use Rattle.std.specs.Prelude.{nat_le, ◌==◌, ◌&&◌, is_some}
 use Rattle.std.specs.Option.{option_map}
-use Rattle.std.proofs.lemmas.Bool.{true≢false}
+use Rattle.std.proofs.lemmas.Bool.{and_parts, eqb-true, true≢false}
 use Rattle.std.proofs.lemmas.List.{get_or-take, get_or-drop}
 use Rattle.tp_model.specs.Network.{Machine}
 use Rattle.tp_model.specs.Entries.{process, takes}
@@ -10,7 +10,11 @@ use Rattle.tp_model.specs.Snapshot.{MarkedNetwork, has_recorded, collected, with
 use Rattle.tp_model.specs.WholeCut.{WholeCut, all_some}
 use Rattle.tp_model.specs.Acts.{Act, Begin, Record, Journal, Close, Trim, happens}
 use Rattle.tp_model.specs.NodeState.{NodeState}
-use Rattle.tp_model.specs.Image.{image, image_head}
+use Rattle.tp_model.specs.declared.limits.TheConstants.{IMAGE_HEAD_BYTES, PAGE_BYTES, MIN_PAGES, MAX_PAGES}
+use Rattle.tp_model.specs.Image.{IsNode, image, image_head, page_count}
+use Rattle.tp_law_machine.proofs.Imaged.{rules_of}
+use Rattle.tp_law_machine.proofs.Images.{node_of-image}
+use Rattle.tp_law_device.proofs.SpeltCuts.{image_size}
 use Rattle.tp_model.specs.Runs.{is_trim, HasCut}
 use Rattle.tp_law_network.proofs.Partial.{map_some, slice_get-set_other}
 use Rattle.tp_law_cuts.proofs.Acts.{begin_parts, record_parts, close_parts, journal_parts}
@@ -65,7 +69,7 @@ cut_frozen w cut nodes i node has F = all_some_at w.frozen nodes i node has.imag
 
 -- ## An image in pieces
 
-pub image_there : (content : List ℕ) (at : ℕ) (node : NodeState) (pages : ℕ) → length (image_head node) ≡ 172 → length node.memory ≡ 1024 * pages → IsThere content at (image_head node)
+image_there : (content : List ℕ) (at : ℕ) (node : NodeState) (pages : ℕ) → length (image_head node) ≡ 172 → length node.memory ≡ 1024 * pages → IsThere content at (image_head node)
     → ((page : ℕ) → page < pages → IsThere content (at + 172 + 1024 * page) (take 1024 (drop (1024 * page) node.memory))) → IsThere content at (image node)
 unfolding image
 image_there content at node pages head long first each =
@@ -84,3 +88,14 @@ image_there content at node pages head long first each =
         ∙ get_or-take 1024 (drop (1024 * page) node.memory) rest 0 within
         ∙ get_or-drop (1024 * page) node.memory rest 0
         ∙ ap (λ place. get_or node.memory place 0) split
+
+-- of a node that has an image, each of its pages there
+pub image_in_pieces : (content : List ℕ) (at : ℕ) (node : NodeState) → IsNode node → IsThere content at (image_head node)
+    → ((page : ℕ) → page < page_count node.memory → IsThere content (at + IMAGE_HEAD_BYTES + PAGE_BYTES * page) (take PAGE_BYTES (drop (PAGE_BYTES * page) node.memory))) → IsThere content at (image node)
+unfolding image
+image_in_pieces content at node N first each =
+    let R = rules_of node N.keeps in
+    let pages = page_count node.memory in
+    let long : length node.memory ≡ PAGE_BYTES * pages = eqb-true (length node.memory) (PAGE_BYTES * pages) (and_parts (length node.memory == PAGE_BYTES * pages) (nat_le MIN_PAGES pages && nat_le pages MAX_PAGES) R.memory).0 in
+    let whole = image_size (image node) node (node_of-image node N) in
+    image_there content at node pages (omega (arith, long, whole, length-append (image_head node) node.memory)) long first each

@@ -15,7 +15,7 @@ ghost use Rattle.tp_model.specs.Disk.{written};
 ghost use Rattle.tp_model.specs.DeviceAreas.{device_areas, has_room, other_content, other_is_open, other_start};
 ghost use Rattle.tp_model.specs.Entries.{process};
 ghost use Rattle.tp_model.specs.FrozenAs.{IsFrozenAs};
-ghost use Rattle.tp_model.specs.Image.{image, image_head};
+ghost use Rattle.tp_model.specs.Image.{IsNode, image, image_head, page_count};
 ghost use Rattle.tp_model.specs.Journal.{entry_room, is_roomy, room};
 ghost use Rattle.tp_model.specs.KeptRun.{HasByte, KeptRun};
 ghost use Rattle.tp_model.specs.Network.{Network};
@@ -33,7 +33,7 @@ ghost use Rattle.tp_model.specs.Topology.{Topology, is_topology};
 ghost use Rattle.tp_model.specs.WholeCut.{WholeCut, all_some, count_in, network_in};
 ghost use Rattle.tp_model.specs.WriteOrder.{Resting};
 ghost use Rattle.tp_model.specs.declared.entry.Entry.{Entry};
-ghost use Rattle.tp_model.specs.declared.limits.TheConstants.{NUMBER_LIMIT};
+ghost use Rattle.tp_model.specs.declared.limits.TheConstants.{IMAGE_HEAD_BYTES, NUMBER_LIMIT, PAGE_BYTES};
 
 /// However the other area came to hold the pieces of a copy, each at its place and the tail in any groups of 1 to 64: that
 /// copy is what the area holds behind its closed gate. Once the gate is open, opening answers the copy: its base, its
@@ -51,8 +51,8 @@ pub fn copies_open()
         → device_areas.other bytes ≡ Some (other_start o, record { network = s; entries = map (λ e. e.0) (entries_in groups); base = base }) }
 {}
 
-/// A whole cut of a book whose kept cut has an image, with bytes in its nodes, has one too: as the cut of so many entries
-/// more as it has. In a run over a device that was formatted, the kept cut has one whenever the flusher rests, and it is of the
+/// A whole cut of a book whose kept cut has an image, with bytes in its nodes, has one too, with its own entries added to the
+/// base. In a run over a device that was formatted, the kept cut has one whenever the flusher rests, and it is of the
 /// device's topology.
 pub fn cuts_are_spelt()
     ensures cut { (t : Topology) (base : ℕ) (w : MarkedNetwork NodeState) (cut : WholeCut) (nodes : List NodeState) → is_topology t ≡ true → CutSpelt t base w.start
@@ -85,7 +85,7 @@ pub fn copies_can_be_put()
         → CanPut w.disk.bytes o (copy_of w.net w.base cut nodes) }
 {}
 
-/// However the entries of a spelt copy's tail are divided into groups of 1 to 64, these end inside the content of an area, with
+/// However the entries of a spelt copy's tail are divided into groups of 1 to 64, they end inside the content of an area, with
 /// the closed gate behind them, where each entry finds room in a group of its own. So does a next group behind those of the
 /// area that is taken, the next gate with it, whatever groups stand there.
 pub fn groups_stay_inside()
@@ -117,8 +117,8 @@ pub fn frozen_images_stay()
 {}
 
 /// Bytes that are written stand there, and stay there when others are written apart from them. What is written inside an area's
-/// content is written at its place in that, and what is written elsewhere leaves the content as it was. An image stands
-/// there once its head of 172 bytes and each of its pages of 1,024 does.
+/// content is written at its place in that, and what is written elsewhere leaves the content as it was. The image
+/// of a node stands there once its head and each of its pages does.
 pub fn pieces_stay()
     ensures written { (content : List ℕ) (at : ℕ) (bytes : List ℕ) → at + length bytes ≤ length content → IsThere (written content at bytes) at bytes }
     ensures apart { (content : List ℕ) (at : ℕ) (bytes : List ℕ) (place : ℕ) (more : List ℕ) → place + length more ≤ length content
@@ -127,6 +127,7 @@ pub fn pieces_stay()
         → content_of area second (written bytes (area_start area second + 1 + at) piece) ≡ written (content_of area second bytes) at piece }
     ensures elsewhere { (area : ℕ) (second : Bool) (bytes : List ℕ) (at : ℕ) (more : List ℕ) → 1 ≤ area → at + length more ≤ length bytes
         → (at + length more ≤ area_start area second + 1) ⊎ (area_start area second + area ≤ at) → content_of area second (written bytes at more) ≡ content_of area second bytes }
-    ensures image { (content : List ℕ) (at : ℕ) (node : NodeState) (pages : ℕ) → length (image_head node) ≡ 172 → length node.memory ≡ 1024 * pages → IsThere content at (image_head node)
-        → ((page : ℕ) → page < pages → IsThere content (at + 172 + 1024 * page) (take 1024 (drop (1024 * page) node.memory))) → IsThere content at (image node) }
+    ensures image { (content : List ℕ) (at : ℕ) (node : NodeState) → IsNode node → IsThere content at (image_head node)
+        → ((page : ℕ) → page < page_count node.memory → IsThere content (at + IMAGE_HEAD_BYTES + PAGE_BYTES * page) (take PAGE_BYTES (drop (PAGE_BYTES * page) node.memory)))
+        → IsThere content at (image node) }
 {}

@@ -1,6 +1,6 @@
 use Rattle.tp_law_tail.proofs.Pieces.{there_written, there_kept}
 use Rattle.tp_law_tail.proofs.Places.{content_put, content_elsewhere}
-use Rattle.tp_law_tail.proofs.Frozen.{image_there}
+use Rattle.tp_law_tail.proofs.Frozen.{image_in_pieces}
 use Rattle.tp_law_tail.proofs.pieces_stay.Goals as goal
 
 pub returns-clause-written : goal.returns-clause-written
@@ -16,4 +16,4 @@ pub returns-clause-elsewhere : goal.returns-clause-elsewhere
 returns-clause-elsewhere c = content_elsewhere
 
 pub returns-clause-image : goal.returns-clause-image
-returns-clause-image c = image_there
+returns-clause-image c = image_in_pieces
