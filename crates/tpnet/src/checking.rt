@@ -8,11 +8,10 @@ use crate::refusal::Refusal;
 use std::alloc::{AllocError, Global};
 use std::fmt::Write as Push;
 use std::io::Write;
-use tp_area::{FormatFault, format, images_length};
+use tp_area::{FormatFault, format};
 use tp_disk::MemDisk;
-use tp_model::limits::{
-    AREA_HEAD_BYTES, BASE_BYTES, ENTRY_BYTES, GROUP_HEAD_BYTES, LINE_BYTES, PORT_BYTES, RESERVED,
-};
+use tp_layout::cut_length;
+use tp_model::limits::{AREA_HEAD_BYTES, ENTRY_BYTES, GROUP_HEAD_BYTES, RESERVED};
 use tp_net::Topology;
 
 /// The most bytes that an entry takes.
@@ -21,14 +20,10 @@ const ENTRY_ROOM: u64 = (GROUP_HEAD_BYTES + ENTRY_BYTES) as u64;
 /// The least area of a network, which has room for one entry.
 pub(crate) fn least_area(topology: &Topology) -> u64
     requires { is_topology topology.now ≡ true }
-    ensures { result < 2 ^ 32 }
+    ensures { result < 2 ^ 33 }
 {
-    let ports = topology.port_count() as u64;
-    let lines = 4 * topology.pages().len() as u64 + ports;
-    let records = LINE_BYTES as u64 * lines + PORT_BYTES as u64 * ports;
-    let cut = BASE_BYTES as u64 + images_length(topology.pages()) + records;
-    let kept = RESERVED as u64 * ENTRY_ROOM * lines;
-    AREA_HEAD_BYTES as u64 + cut + 1 + kept + ENTRY_ROOM
+    let kept = RESERVED as u64 * ENTRY_ROOM * topology.line_count() as u64;
+    AREA_HEAD_BYTES as u64 + cut_length(topology) + 1 + kept + ENTRY_ROOM
 }
 
 /// Whether a device may be formatted with the images: it is tried on one that has no bytes.
