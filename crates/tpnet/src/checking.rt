@@ -23,11 +23,12 @@ pub(crate) fn least_area(topology: &Topology) -> u64
     requires { is_topology topology.now ≡ true }
     ensures { result < 2 ^ 32 }
 {
+    let pages = topology.pages();
     let ports = topology.port_count() as u64;
-    let lines = 4 * topology.pages().len() as u64 + ports;
+    let lines = 4 * pages.len() as u64 + ports;
     let records = LINE_BYTES as u64 * lines + PORT_BYTES as u64 * ports;
-    let cut = BASE_BYTES as u64 + images_length(topology.pages()) + records;
     let kept = RESERVED as u64 * ENTRY_ROOM * lines;
+    let cut = BASE_BYTES as u64 + images_length(pages) + records;
     AREA_HEAD_BYTES as u64 + cut + 1 + kept + ENTRY_ROOM
 }
 
