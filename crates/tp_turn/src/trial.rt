@@ -113,10 +113,13 @@ pub fn try_turns(alloc: Global, image: &[u8], turns: u32, quantum: u16) -> Resul
         return Err(TryFault::Memory);
     };
     match lone_turns(&mut book, &mut node, &net.wires, turns, quantum) {
-        Ok(()) => match tried_in(alloc, &book) {
-            Ok(tried) => Ok(tried),
-            Err(_) => Err(TryFault::Memory),
-        },
+        Ok(()) => {
+            book.known();
+            match tried_in(alloc, &book) {
+                Ok(tried) => Ok(tried),
+                Err(_) => Err(TryFault::Memory),
+            }
+        }
         Err(Refusal::Memory) => Err(TryFault::Memory),
         Err(_) => unreachable!(),
     }

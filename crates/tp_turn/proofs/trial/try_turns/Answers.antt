@@ -1,5 +1,8 @@
-use Rattle.std.proofs.Common.{None, sym, ap, subst, ◌∙◌, arith}
+use Rattle.std.proofs.Common.{None, length, sym, ap, subst, ◌∙◌, arith}
 use Rattle.std.specs.Prelude.{Ok}
+use Rattle.tp_model.specs.NodeState.{NodeState}
+use Rattle.tp_model.specs.Network.{Network}
+use Rattle.tp_book.specs.Book.{BookValue}
 use Rattle.tp_book.specs.Parts.{network_of}
 use Rattle.tp_book.specs.Start.{first_book}
 use Rattle.tp_law_machine.proofs.Numbers.{are_bytes}
@@ -13,6 +16,11 @@ start-requires-clause-fresh c = lone_begins c.args.image.now c.in_ok-node.node.l
 pub lone_turns-requires-clause-agrees : goal.lone_turns-requires-clause-agrees
 lone_turns-requires-clause-agrees c =
     lone_agrees c.args.image.now c.in_ok-node.node c.in-Ok-start.book (are_bytes c.args.image.now (λ i. let fit = c.type_inv.image i in omega arith)) c.in_ok-node.ensures.0 c.in_ok-node.ensures.1 (c.in-Ok-start.ensures ∙ ap (λ s. first_book s None) c.in-Ok.ensures)
+
+pub tried_in-requires : goal.tried_in-requires
+tried_in-requires c =
+    let start = c.in-Ok-lone_turns.ensures.turned.grew.start ∙ ap (λ (b : BookValue). b.state.start) c.in-Ok-start.ensures ∙ c.in-Ok.ensures in
+    omega (arith, c.known.ensures.shaped.wires, c.known.ensures.shaped.count, ap (λ (s : Network NodeState). length s.wires) start, ap (λ (s : Network NodeState). length s.nodes) start)
 
 pub returns-in-Ok-tried_in : goal.returns-in-Ok-tried_in
 returns-in-Ok-tried_in c =
