@@ -86,6 +86,7 @@ const DAMAGED: &[(usize, &[u8], &str)] = &[
     (0, &[0x55], "tpnet: NotFormatted\n"),
     (7, &[9], "tpnet: BadVersion\n"),
     (10, &[1], "tpnet: Damaged 0\n"),
+    (57, &[0x80], "tpnet: Damaged 0\n"),
     (512, &[0], "tpnet: NoOpenArea\n"),
     (
         16_896,
@@ -95,6 +96,8 @@ const DAMAGED: &[(usize, &[u8], &str)] = &[
     (521, &[0xDD], "tpnet: Damaged 512\n"),
     (533, &[2], "tpnet: Damaged 533\n"),
     (4_801, &[3], "tpnet: Damaged 4801\n"),
+    (4_805, &[1, 2], "tpnet: Damaged 4805\n"),
+    (4_821, &[1], "tpnet: Damaged 4821\n"),
     (4_837, &[1], "tpnet: Damaged 4817\n"),
     (4_840, &[0x11], "tpnet: Damaged 4821\n"),
     (13_033, &[0xA5], "tpnet: Damaged 13033\n"),
@@ -105,7 +108,9 @@ const DAMAGED_GROUP: &[(usize, &[u8], &str)] = &[
     (13_035, &[0], "tpnet: Damaged 13033\n"),
     (13_041, &[1], "tpnet: Damaged 13033\n"),
     (13_051, &[2], "tpnet: Damaged 13065\n"),
+    (13_051, &[4], "tpnet: Damaged 13049\n"),
     (13_069, &[0x42], "tpnet: Damaged 13065\n"),
+    (13_105, &[4], "tpnet: Damaged 13097\n"),
     (13_113, &[0xA5], "tpnet: Damaged 13113\n"),
 ];
 
