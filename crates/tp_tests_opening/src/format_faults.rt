@@ -34,7 +34,7 @@ fn formatted(alloc: Global, call: u64, fault: PlannedFault) -> Result<(bool, Vec
 }
 
 /// What such a device says.
-const NONE: Result<u64, Unopened> = Err(Unopened::PlannedFault(OpenFault::NotFormatted));
+const NONE: Result<u64, Unopened> = Err(Unopened::Fault(OpenFault::NotFormatted));
 
 /// Whether a format that a fault stops isn't done, and the device isn't formatted, also where the front of each area is `byte`.
 fn is_none(alloc: Global, call: u64, fault: PlannedFault, byte: u8) -> Result<bool, Fail> {
@@ -67,9 +67,9 @@ fn a_format_that_stops_before_its_head(rt: HostRuntime) -> Result<(), Fail> {
 /// two zeros and the version follow. From the page count on it is a head, at first of a network whose wire isn't written.
 fn says(written: usize) -> Result<u64, Unopened> {
     match written {
-        0..5 => Err(Unopened::PlannedFault(OpenFault::NotFormatted)),
-        5..8 => Err(Unopened::PlannedFault(OpenFault::BadVersion)),
-        8..PAGES => Err(Unopened::PlannedFault(OpenFault::Damaged(0))),
+        0..5 => Err(Unopened::Fault(OpenFault::NotFormatted)),
+        5..8 => Err(Unopened::Fault(OpenFault::BadVersion)),
+        8..PAGES => Err(Unopened::Fault(OpenFault::Damaged(0))),
         _ => Ok(0),
     }
 }
