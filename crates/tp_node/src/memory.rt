@@ -9,7 +9,7 @@ use tp_model::limits::PAGE_BYTES;
 /// The kind of memory.
 pub(crate) type Memory = FlatMemory;
 
-/// A memory of so many pages with these bytes, and so many spare frames beside them.
+/// Makes a memory of `pages` pages that holds `bytes`, with `_spare` frames for copies.
 pub(crate) fn reserve(
     alloc: Global,
     pages: usize,

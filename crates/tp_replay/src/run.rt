@@ -15,7 +15,7 @@ use tp_net::link_line;
 use tp_port::send_all;
 
 impl FlatNetwork {
-    /// A node makes so many steps. Where it can't, it has made as many as it can.
+    /// Has `node` make `count` steps. Where it can't, it has made as many as it can.
     pub(crate) fn run(&mut self, node: u8, count: u16) -> Result<(), NotPossible>
         ensures applies { Applies (next t414 self.old (Run node count)) result self.new }
         ensures err { OnErr result (Leaves self.old (Run node count) self.new) }
@@ -38,7 +38,7 @@ impl FlatNetwork {
     }
 }
 
-/// A run may have so many steps.
+/// Whether a run may have `count` steps.
 fn is_count(count: u16) -> bool
     ensures value { result ≡ (nat_lt 0 count && nat_le count MAX_STEPS) }
     ensures some { IsTrue result → 0 < count }

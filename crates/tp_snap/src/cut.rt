@@ -32,7 +32,7 @@ impl Model for Cut {
 }
 
 impl Cut {
-    /// A cut with these ports, of `processes` processes and `lines` lines, on which nothing stands.
+    /// Makes a cut with `ports`, of `processes` processes and `lines` lines, on which nothing stands.
     pub(crate) fn new(
         alloc: Global,
         processes: usize,

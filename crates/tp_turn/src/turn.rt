@@ -67,7 +67,7 @@ pub(crate) fn lone_turn(
     }
 }
 
-/// So many turns of node 0 and the host in turns. As long as numbers are left, only memory may be wanting.
+/// Makes `turns` turns, of node 0 and the host in turns. As long as numbers are left, only memory may be wanting.
 pub(crate) fn lone_turns(
     book: &mut Book,
     node: &mut Node,
