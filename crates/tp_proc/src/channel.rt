@@ -16,7 +16,7 @@ use crate::process::end;
 use crate::queues::{NOT_PROCESS, queue, queue_write};
 use crate::undone::{BAD_ADDRESS, Undone};
 use crate::workspaces::{descriptor_of, saved_at, state_at, workspace};
-use tp_mem::Mem;
+use tp_mem::{FIRST_ADDRESS, Mem};
 use tp_model::{ChannelWord, Cpu, InRequest, OutRequest, Regs, Wish};
 
 /// Says what the address of a channel names: an output link, an input link or a word of memory.
@@ -24,7 +24,7 @@ use tp_model::{ChannelWord, Cpu, InRequest, OutRequest, Regs, Wish};
 pub fn channel_at(address: u32) -> ChannelWord
     ensures { result ≡ channel_at address }
 {
-    let at = (address / 4 * 4).wrapping_sub(0x8000_0000);
+    let at = (address / 4 * 4).wrapping_sub(FIRST_ADDRESS);
     if at < 16 {
         ChannelWord::Output((at / 4) as u8)
     } else if at < 32 {
