@@ -1,7 +1,7 @@
 use Rattle.std.proofs.Common.{ap, ◌∙◌}
 use Rattle.tp_model.specs.TopologyText.{node_named}
 use Rattle.tp_net.proofs.Kept.{position-keys}
-use Rattle.tp_net.proofs.said.Said.node_named.Goals as goal
+use Rattle.tp_net.proofs.declarations.Declarations.node_named.Goals as goal
 
 pub returns-clause-value : goal.returns-clause-value
 returns-clause-value c =

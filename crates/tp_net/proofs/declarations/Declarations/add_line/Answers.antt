@@ -2,7 +2,7 @@ use Rattle.std.proofs.Common.{sym, ap, ◌∙◌, subst, inr}
 use Rattle.tp_model.specs.TopologyText.{after_words}
 use Rattle.tp_net.specs.Steps.{IsStep}
 use Rattle.tp_net.proofs.Reading.{after_line-skipped, after_line-spaced, after_line-words}
-use Rattle.tp_net.proofs.said.Said.add_line.Goals as goal
+use Rattle.tp_net.proofs.declarations.Declarations.add_line.Goals as goal
 
 pub returns-then-is_skipped : goal.returns-then-is_skipped
 returns-then-is_skipped c = after_line-skipped c.args.self.now c.args.number c.args.line.now (sym c.is_skipped.ensures ∙ c.if-is_skipped.true)

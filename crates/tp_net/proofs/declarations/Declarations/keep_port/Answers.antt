@@ -1,6 +1,6 @@
 use Rattle.tp_net.proofs.Kept.{port_kept}
 use Rattle.tp_net.specs.Steps.{nodes_in}
-use Rattle.tp_net.proofs.said.Said.keep_port.Goals as goal
+use Rattle.tp_net.proofs.declarations.Declarations.keep_port.Goals as goal
 
 pub returns-clause-ok : goal.returns-clause-ok
 returns-clause-ok c =

@@ -1,6 +1,6 @@
 use Rattle.tp_net.proofs.Kept.{node_kept}
 use Rattle.tp_net.specs.Steps.{names_in}
-use Rattle.tp_net.proofs.said.Said.keep_node.Goals as goal
+use Rattle.tp_net.proofs.declarations.Declarations.keep_node.Goals as goal
 
 pub returns-clause-ok : goal.returns-clause-ok
 returns-clause-ok c =

@@ -1,7 +1,7 @@
 use Rattle.std.proofs.Common.{ap, arith}
 use Rattle.tp_model.specs.TopologyText.{Said}
 use Rattle.tp_net.proofs.Reading.{receivers_more}
-use Rattle.tp_net.proofs.said.Said.receivers.Goals as goal
+use Rattle.tp_net.proofs.declarations.Declarations.receivers.Goals as goal
 
 pub loop-line-preserved : goal.loop-line-preserved
 loop-line-preserved c = record {

@@ -6,7 +6,7 @@ use Rattle.std.proofs.lemmas.Iterator.Consumers.{YieldsList-from_copied, YieldsL
 use Rattle.std.proofs.lemmas.Result.{IfOk-weaker}
 use Rattle.tp_model.specs.TopologyText.{Said}
 use Rattle.tp_net.proofs.Kept.{names_kept}
-use Rattle.tp_net.proofs.said.Said.names.Goals as goal
+use Rattle.tp_net.proofs.declarations.Declarations.names.Goals as goal
 
 pub returns : goal.returns
 returns c =

@@ -1,4 +1,4 @@
-//! What the lines of a topology's text have said.
+//! What the lines of a topology's text have declared.
 
 ghost use Rattle.std.specs.Prelude.{◌≡◌, ◌<◌, ◌≤◌, ◌+◌, ◌*◌, [], ◌∷◌, ◌++◌, false, true, IfSome, IfErr, IfOk, OnOk, length, map};
 ghost use Rattle.std.specs.Option.{option_map};
@@ -16,16 +16,16 @@ use std::marker::Model;
 use tp_model::limits::{MAX_NODES, MAX_PORTS};
 use tp_model::{NetFault, WireEnd};
 
-/// What has been said: each node with its pages, and each port, by their names and in the order in which they were
-/// declared; and each wire's ends.
+/// What has been declared: each node with its pages, and each port, by their names and in their order; and each wire's
+/// ends.
 #[derive(Drop)]
-pub(crate) struct Said<'a> {
+pub(crate) struct Declarations<'a> {
     nodes: IndexMap<&'a str, u16>,
     ports: IndexSet<&'a str>,
     wires: Vec<(WireEnd, WireEnd)>,
 }
 
-impl<'a> Model for Said<'a> {
+impl<'a> Model for Declarations<'a> {
     ghost use Rattle.std.specs.Prelude.{◌≤◌, length};
     ghost use Rattle.tp_model.specs.TopologyText.{Said as Words};
     ghost use Rattle.tp_net.specs.Steps.{names_in, nodes_in};
@@ -33,16 +33,16 @@ impl<'a> Model for Said<'a> {
 
     ghost Value = { Words };
 
-    ghost view = { λ said. record { nodes = nodes_in said.nodes; ports = names_in said.ports; wires = said.wires.items } };
+    ghost view = { λ names. record { nodes = nodes_in names.nodes; ports = names_in names.ports; wires = names.wires.items } };
 
-    ghost invariant = { λ said. (length said.nodes.entries ≤ MAX_NODES) × (length said.ports.keys ≤ MAX_PORTS) };
+    ghost invariant = { λ names. (length names.nodes.entries ≤ MAX_NODES) × (length names.ports.keys ≤ MAX_PORTS) };
 }
 
-impl<'a> Said<'a> {
-    pub(crate) fn new(alloc: Global) -> Said<'a>
+impl<'a> Declarations<'a> {
+    pub(crate) fn new(alloc: Global) -> Declarations<'a>
         ensures { result ≡ nothing_said }
     {
-        Said {
+        Declarations {
             nodes: IndexMap::new(alloc),
             ports: IndexSet::new(alloc),
             wires: Vec::new(alloc),
@@ -277,7 +277,7 @@ impl<'a> Said<'a> {
         ends
     }
 
-    /// The topology that was said.
+    /// The topology that was declared.
     pub(crate) fn finish(&self) -> Result<Topology, NetFault>
         requires { IfOk (finished self.now) (λ t. is_topology t ≡ true) }
         ensures { IsRead (finished self.now) result }

@@ -2,7 +2,7 @@ use Rattle.std.proofs.Common.{sym, ap, ◌∙◌}
 use Rattle.std.specs.Prelude.{bytes_eq}
 use Rattle.tp_model.specs.TopologyText.{port_named}
 use Rattle.tp_net.proofs.Kept.{position-map}
-use Rattle.tp_net.proofs.said.Said.port_named.Goals as goal
+use Rattle.tp_net.proofs.declarations.Declarations.port_named.Goals as goal
 
 pub returns-clause-value : goal.returns-clause-value
 returns-clause-value c =

@@ -4,8 +4,8 @@ use Rattle.std.proofs.lemmas.Iterator.Consumers.{YieldsList-from_copied, YieldsL
 use Rattle.std.proofs.lemmas.List.{length-map, map-id}
 use Rattle.std.proofs.lemmas.Simd.{map-map}
 use Rattle.tp_model.specs.TopologyText.{Said}
-use Rattle.tp_net.proofs.said.Said.pages.Goals as goal
-use Rattle.tp_net.proofs.said.Said.pages.Goals.{After-into_iter-count-iterator}
+use Rattle.tp_net.proofs.declarations.Declarations.pages.Goals as goal
+use Rattle.tp_net.proofs.declarations.Declarations.pages.Goals.{After-into_iter-count-iterator}
 
 -- what the map's values are
 values_are : (c : After-into_iter-count-iterator) → c.values.result ≡ map (λ node. node.1) c.args.self.now.nodes

@@ -2,7 +2,7 @@ use Rattle.std.proofs.Common.{◌≡◌, length, map}
 use Rattle.std.specs.List.{range_with_len}
 use Rattle.tp_model.specs.Topology.{end_of}
 use Rattle.tp_model.specs.TopologyText.{other_end}
-use Rattle.tp_net.proofs.said.Said.receivers.Given as goal
+use Rattle.tp_net.proofs.declarations.Declarations.receivers.Given as goal
 
 abbrev pub invariant-loop-line : goal.invariant-loop-line
 invariant-loop-line l = record {
