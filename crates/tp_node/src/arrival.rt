@@ -10,14 +10,7 @@ use crate::fault::NoFrame;
 use crate::first::First;
 use tp_mem::Mem;
 use tp_model::{Cpu, Fault, News};
-use tp_proc::{queue, queue_write, state_at, workspace};
-
-/// The states of an alternative: its branches are being enabled; it waits; a partner has come.
-const ENABLING: u32 = 0x8000_0001;
-
-const WAITING: u32 = 0x8000_0002;
-
-pub(crate) const READY: u32 = 0x8000_0003;
+use tp_proc::{ENABLING, READY, WAITING, queue, queue_write, state_at, workspace};
 
 /// A node that runs halts, since a process lies outside memory.
 fn halt_outside(cpu: &mut Cpu)

@@ -14,15 +14,9 @@ use tp_link::InEngine;
 use tp_mem::{Mem, WriteFault};
 use tp_model::{Cpu, Token, Transfer, Wish};
 use tp_proc::{
-    BAD_ADDRESS, Undone, descriptor_of, drop_b, end, load, note_choice, pass_over, saved_at,
-    state_at, store, store_all,
+    BAD_ADDRESS, NONE_CHOSEN, READY, Undone, descriptor_of, drop_b, end, load, note_choice,
+    pass_over, saved_at, state_at, store, store_all,
 };
-
-/// The state of an alternative for which a partner has come.
-const READY: u32 = 0x8000_0003;
-
-/// What stands at the workspace while no branch is chosen.
-const NONE_CHOSEN: u32 = 0xFFFF_FFFF;
 
 /// Puts a byte at an address, if there is one, and then writes words.
 fn put<M: Mem>(

@@ -7,7 +7,7 @@ ghost use Rattle.tp_node.specs.RunEnd.{IsWhy};
 ghost use Rattle.tp_node.specs.StateWith.{state_with};
 
 use crate::head::Head;
-use crate::step::{Made, make_step};
+use crate::step::{StepOutcome, make_step};
 use arrayvec::ArrayVec;
 use std::marker::Model;
 use tp_mem::Mem;
@@ -99,12 +99,12 @@ pub(crate) fn run<M: Mem>(
 {
     for count in 0..max {
         match make_step(head, mem) {
-            Made::Step(token) => push(sent, token),
-            Made::Idle => {
+            StepOutcome::Step(token) => push(sent, token),
+            StepOutcome::Idle => {
                 let why = why_none(head.cpu.halt);
                 return Ran { max, count, why };
             }
-            Made::NoFrame => {
+            StepOutcome::NoFrame => {
                 let why = Why::NoFrame;
                 return Ran { max, count, why };
             }

@@ -4,7 +4,7 @@ use Rattle.tp_model.specs.NodeState.{NodeState}
 use Rattle.tp_model.specs.Network.{steps}
 use Rattle.tp_model.specs.Node.{node_step, t414}
 use Rattle.tp_model.specs.declared.link.Token.{Token}
-use Rattle.tp_node.specs.declared.step.Made.TheVariants.{Step}
+use Rattle.tp_node.specs.declared.step.StepOutcome.TheVariants.{Step}
 use Rattle.tp_node.specs.Makes.{Makes}
 use Rattle.tp_node.specs.StateWith.{state_with}
 use Rattle.tp_node.proofs.OneMore.{one_more}
