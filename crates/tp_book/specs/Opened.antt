@@ -49,7 +49,7 @@ pub record IsOpened (s : NetState) : Type 0 where
   pub origin : Sound t414_ends (cut_of s)
   pub images : map (λ image. node_of image.items) s.net.images.items ≡ map (λ node. Some node) (now_of s).nodes
 
--- The book of an opened device, on which groups may fill so many bytes: nothing is reserved, and what the ports hold is shown
+-- The book of an opened device, whose groups may fill `room` bytes: nothing is reserved, and what the ports hold is shown
 -- by every mark.
 abbrev pub opened_book : NetState → Option ℕ → BookValue
 opened_book s room = record {

@@ -1,4 +1,4 @@
--- Why a call is refused. Where several reasons hold, the first one of these is answered: nothing to take, a snapshot that
+-- Why a call is refused. Where several reasons hold, the first one is answered, in this order: nothing to take, a snapshot that
 -- runs, a broken store, a full port, a full journal. Memory is answered only where none of them holds.
 use Rattle.std.specs.Prelude.{◌≡◌, ℕ, Bool, false, nat_le, if◌then◌else◌, List, [], ◌∷◌, length, get_or, Option, Some, None, is_none, Result, Ok, Err, slice_get}
 use Rattle.tp_model.specs.declared.link.Token.{Token}
@@ -17,7 +17,7 @@ abbrev pub else_if : Option Refusal → Bool → Refusal → Option Refusal
 else_if (Some reason) holds other = Some reason
 else_if None holds other = if holds then Some other else None
 
--- the journal is full for so many more entries
+-- the journal is full for `more` entries
 abbrev pub is_journal_full : BookValue → ℕ → Bool
 is_journal_full b more = is_full b.room (length b.state.lines) (length b.state.entries) (reserved b) (next_number b) more
 
