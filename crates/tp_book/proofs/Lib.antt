@@ -20,3 +20,8 @@ pub mod Hosted
 pub mod Tallied
 pub mod Remarked
 pub mod MarkedLines
+pub mod Told
+pub mod Outside
+pub mod GoingOn
+pub mod Trimmed
+pub mod Tails

@@ -14,3 +14,5 @@ pub mod Host
 pub mod Inputs
 pub mod Acts
 pub mod Marked
+pub mod Trimmed
+pub mod Copies

@@ -33,7 +33,7 @@ numbers_of s = map (λ n. n.number) s.kept.items
 
 -- What opening leaves: the kept entries lead from the kept cut's network to the one that is there, which is sound and has no
 -- Markers under way; each node's image spells it; each port holds what it has room for, and has counted no more than there are
--- entries.
+-- entries; the number of the next entry and the generation are in their ranges.
 pub record IsOpened (s : NetState) : Type 0 where
   pub history : after t414 (cut_of s) (kept_of s) ≡ Some (now_of s)
   pub sound : Sound t414_ends (now_of s)
@@ -43,6 +43,7 @@ pub record IsOpened (s : NetState) : Type 0 where
   pub numbered : AreNumbered 0 s.base (numbers_of s)
   pub next : s.next ≡ s.base + vec_len s.kept
   pub few : s.next < NUMBER_LIMIT
+  pub age : s.generation < NUMBER_LIMIT
   pub counted : AreCounted s.next (now_of s).ports
   pub pending : All (λ port. vec_len port.pending ≤ MAX_HELD) s.net.ports.items
   pub outputs : All (λ port. vec_len port.outputs ≤ MAX_HELD) s.net.ports.items

@@ -78,6 +78,13 @@ impl Cut {
         self.size
     }
 
+    /// How many entries of each process it holds, for itself.
+    pub fn into_counts(self) -> Vec<u64>
+        ensures { result.items ≡ self.counts }
+    {
+        self.counts
+    }
+
     /// It holds `count` entries of `process`.
     pub(crate) fn put_count(&mut self, process: usize, count: u64)
         requires { process < length self.old.counts }
