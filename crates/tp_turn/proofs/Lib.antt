@@ -1,5 +1,6 @@
 pub mod Possible
 pub mod Leads
+pub mod RefusedSo
 pub mod Grown
 pub mod Ran
 pub mod HostTook
