@@ -75,7 +75,7 @@ module _ (b r new : BookValue) (line number link : ℕ) (before now : NodeState)
   take_done = record {
     entries = Take line (front_of b line) ∷ [];
     grew = subst (Grew (Take line (front_of b line) ∷ []) b) (sym is_after)
-        (record { start = refl; entries_are = refl; base = refl; runs = refl; ready = sym idle; broken = refl; room = refl });
+        (record { start = refl; entries_are = refl; base = refl; runs = refl; ready = sym idle; broken = refl; room = refl; history = refl; generation = refl; floor = refl });
     did = record { tokens = front_of b line ∷ []; many = refl; are = refl; leads = after_one t414 (network_of b) (Take line (front_of b line)) ∙ leads };
   }
 

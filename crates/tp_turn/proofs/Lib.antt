@@ -6,4 +6,10 @@ pub mod Ran
 pub mod HostTook
 pub mod Turned
 pub mod Lone
+pub mod Adding
+pub mod Fronted
+pub mod Recording
+pub mod Hosting
+pub mod Lining
+pub mod Staging
 pub mod Formatted

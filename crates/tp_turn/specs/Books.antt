@@ -23,6 +23,9 @@ pub record Grew (entries : List Entry) (old new : BookValue) : Type 0 where
   pub ready : new.ready ≡ old.ready
   pub broken : new.broken ≡ old.broken
   pub room : new.room ≡ old.room
+  pub history : new.history ≡ old.history ++ entries
+  pub generation : new.generation ≡ old.generation
+  pub floor : new.floor ≡ old.floor
 
 -- An act was done and journalled.
 pub record Did (act : Network NodeState → List Entry → Network NodeState → Type 0) (old new : BookValue) : Type 0 where

@@ -1,4 +1,4 @@
--- What a turn does. Each act is seen as the network before it, its entries in order, and the network after it.
+-- What a turn does. A part of a turn is seen as the state before it, what it makes in order, and the state after it.
 use Rattle.std.specs.Prelude.{◌≡◌, ◌<◌, ◌≤◌, ◌⊎◌, ℕ, zero, suc, ◌+◌, ◌*◌, ◌%◌, ◌==◌, Bool, true, false, if◌then◌else◌, List, [], ◌∷◌, ◌++◌, map, length, get_or, Option, Some, None, slice_get}
 use Rattle.tp_model.specs.declared.link.Token.{Token}
 use Rattle.tp_model.specs.declared.link.Token.TheVariants.{Marker}
@@ -13,21 +13,21 @@ use Rattle.tp_model.specs.Order.{after}
 use Rattle.tp_book.specs.Refusals.{takeable_of, is_full_for}
 use Rattle.tp_turn.specs.declared.take.TheConstants.{TAKES}
 
--- ## Acts in order
+-- ## Parts in order
 
--- one act and then another
-pub record Then (one other : Network NodeState → List Entry → Network NodeState → Type 0) (s : Network NodeState) (entries : List Entry) (t : Network NodeState) : Type 0 where
-  pub between : Network NodeState
-  pub first : List Entry
-  pub second : List Entry
-  pub are : entries ≡ first ++ second
+-- one part and then another
+pub record Then {S E : Type 0} (one other : S → List E → S → Type 0) (s : S) (done : List E) (t : S) : Type 0 where
+  pub between : S
+  pub first : List E
+  pub second : List E
+  pub are : done ≡ first ++ second
   pub one_did : one s first between
   pub other_did : other between second t
 
--- a number of acts in order, the first of them number 0
-unfoldable pub InOrder : (ℕ → Network NodeState → List Entry → Network NodeState → Type 0) → ℕ → Network NodeState → List Entry → Network NodeState → Type 0
-InOrder act zero s entries t = (entries ≡ []) × (t ≡ s)
-InOrder act (suc count) s entries t = Then (InOrder act count) (act count) s entries t
+-- a number of parts in order, the first of them number 0
+unfoldable pub InOrder : {S E : Type 0} → (ℕ → S → List E → S → Type 0) → ℕ → S → List E → S → Type 0
+InOrder part zero s done t = (done ≡ []) × (t ≡ s)
+InOrder part (suc count) s done t = Then (InOrder part count) (part count) s done t
 
 -- ## Takes
 

@@ -66,7 +66,7 @@ pub(crate) fn host_take_port(
 }
 
 /// The host's turn: each of its ports takes what came to it, in their order.
-pub fn host_turn(
+pub(crate) fn plain_host_turn(
     book: &mut Book,
     wires: &[Option<WireEnd>],
     nodes: u8,

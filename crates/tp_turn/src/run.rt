@@ -11,7 +11,7 @@ use tp_model::limits::MAX_STEPS;
 use tp_node::Node;
 
 /// Runs a node for `quantum` steps, or until it has none.
-pub fn run_quantum(
+pub(crate) fn run_quantum(
     book: &mut Book,
     node: &mut Node,
     number: u8,

@@ -93,7 +93,7 @@ pub(crate) fn take_link(
 }
 
 /// A node takes what came in on its links, in their order.
-pub fn take_links(
+pub(crate) fn take_links(
     book: &mut Book,
     node: &mut Node,
     wires: &[Option<WireEnd>],

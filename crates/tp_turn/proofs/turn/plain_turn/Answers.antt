@@ -1,5 +1,5 @@
 use Rattle.tp_turn.proofs.Turned.{node_turn_stopped}
-use Rattle.tp_turn.proofs.turn.node_turn.Goals as goal
+use Rattle.tp_turn.proofs.turn.plain_turn.Goals as goal
 
 pub returns-clause-turned : goal.returns-clause-turned
 returns-clause-turned c =

@@ -4,7 +4,7 @@ use Rattle.tp_book.proofs.Commit.{length-agreed}
 use Rattle.tp_turn.specs.Turns.{InOrder, TookIn, IsHostTurn}
 use Rattle.tp_turn.specs.Books.{DidOrStopped, Did}
 use Rattle.tp_turn.proofs.Grown.{order_none, order_more, order_stopped}
-use Rattle.tp_turn.proofs.host.host_turn.Goals as goal
+use Rattle.tp_turn.proofs.host.plain_host_turn.Goals as goal
 
 pub loop-port-init : goal.loop-port-init
 loop-port-init c = record { took = order_none (λ port. TookIn (4 * c.args.nodes + port)) c.args.book.now; same = refl }
