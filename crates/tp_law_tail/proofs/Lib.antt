@@ -17,4 +17,5 @@ pub mod Ranges
 pub mod ReadNodes
 pub mod RunRoom
 pub mod Switch
+pub mod Switching
 pub mod TailRoom

@@ -4,6 +4,7 @@
 
 ghost use Rattle.std.specs.List.{AllByRecursion};
 ghost use Rattle.std.specs.Prelude.{◌≡◌, ◌≤◌, ◌<◌, ◌+◌, ◌-◌, ◌*◌, ◌++◌, ◌⊎◌, ℕ, Bool, false, true, List, Ok, Some, length, map, take, drop, slice_get};
+ghost use Rattle.tp_law_device.specs.Checkpoints.{Switches};
 ghost use Rattle.tp_law_tail.specs.CanPut.{CanPut};
 ghost use Rattle.tp_law_tail.specs.CutSpelt.{CutSpelt};
 ghost use Rattle.tp_model.specs.Acts.{Act, CutHolds, happens};
@@ -130,4 +131,16 @@ pub fn pieces_stay()
     ensures image { (content : List ℕ) (at : ℕ) (node : NodeState) → IsNode node → IsThere content at (image_head node)
         → ((page : ℕ) → page < page_count node.memory → IsThere content (at + IMAGE_HEAD_BYTES + PAGE_BYTES * page) (take PAGE_BYTES (drop (PAGE_BYTES * page) node.memory)))
         → IsThere content at (image node) }
+{}
+
+/// Each whole cut of a run can be switched to, whatever checkpoints, crashes and openings came before, and whether the other area
+/// is closed or still open. Where entries are made with room for them, and a generation is left: whenever the flusher rests, a
+/// run closes the other area if it is open, copies cut and tail, writes them there, syncs, opens the gate, syncs and trims the
+/// book. Its last world's device opens as the other area, of the next generation, and holds the cut and each entry outside it.
+pub fn cuts_can_be_switched_to()
+    ensures { (most : ℕ) (start : Network NodeState) (events : List (Event NodeState)) (first w : World NodeState) → IsFormatted t414 device_areas start first
+        → AllByRecursion (λ byte. byte < 256) first.disk.bytes → KeptRun most first events w
+        → (o : Opened) (cut : WholeCut) (nodes : List NodeState) → w.at ≡ Resting → AllByRecursion (λ byte. byte < 256) w.disk.bytes → HasCut w.net cut nodes
+        → verdict w.disk.bytes ≡ Ok o → o.generation + 1 < NUMBER_LIMIT → most ≤ room o.head.topology o.head.area
+        → Switches w o cut nodes (o.generation + 1) }
 {}
