@@ -1,5 +1,5 @@
 -- Whenever the flusher rests, a run switches to a cut that is whole.
-use Rattle.std.proofs.Common.{◌≡◌, ℕ, ◌+◌, ◌-◌, ◌<◌, ◌≤◌, true, false, not, cond, inl, inr, List, [], ◌∷◌, ◌++◌, length, map, take, drop, get_or, refl, sym, ap, subst, ◌∙◌, arith, le_refl, Some, None, Ok}
+use Rattle.std.proofs.Common.{◌≡◌, ℕ, ◌+◌, ◌-◌, ◌<◌, ◌≤◌, true, false, cond, inl, inr, List, [], ◌∷◌, ◌++◌, length, map, take, drop, get_or, refl, sym, ap, subst, ◌∙◌, arith, le_refl, Some, None, Ok}
 use Rattle.std.proofs.lemmas.Bool.{cases_Bool}
 use Rattle.tp_model.specs.declared.entry.Entry.{Entry}
 use Rattle.tp_model.specs.declared.limits.TheConstants.{NUMBER_LIMIT, GATE_CLOSED}
@@ -13,7 +13,7 @@ use Rattle.tp_model.specs.Areas.{gate_closed}
 use Rattle.tp_model.specs.Device.{is_open}
 use Rattle.tp_model.specs.Numbers.{AreNumbered}
 use Rattle.tp_model.specs.Opening.{Opened, opening}
-use Rattle.tp_model.specs.DeviceAreas.{device_areas, numbered, other_start, other_is_open, other_content, spare_of, open_other_of}
+use Rattle.tp_model.specs.DeviceAreas.{device_areas, numbered, other_start, other_is_open, spare_of, open_other_of}
 use Rattle.tp_model.specs.WriteOrder.{Allows, Resting, Cleared, clearing, clear_done, reached, left}
 use Rattle.tp_model.specs.Runs.{World, Event, Does, HasCut, IsFormatted, Run, copy_of}
 use Rattle.tp_model.specs.KeptRun.{KeptRun}
@@ -21,7 +21,7 @@ use Rattle.tp_law_machine.proofs.Moments.{length-written, get_or-written_outside
 use Rattle.tp_law_machine.proofs.Numbers.{AreBytes, are_bytes-append, are_bytes-take, are_bytes-drop}
 use Rattle.tp_law_runs.proofs.Walks.{run_then}
 use Rattle.tp_law_device.specs.Checkpoints.{Switches}
-use Rattle.tp_law_device.proofs.Checkpoints.{ReadsCopy, checkpoint_switches}
+use Rattle.tp_law_device.proofs.Checkpoints.{checkpoint_switches}
 use Rattle.tp_law_device.proofs.Opens.{reads_of}
 use Rattle.tp_law_device.proofs.SpeltAreas.{SpeltArea}
 use Rattle.tp_law_device.proofs.Stand.{spelt_area}
