@@ -1,6 +1,7 @@
 //! The journal's book.
 #![tactic(auto)]
 
+mod begins;
 mod book;
 mod commits;
 mod confirm;
@@ -24,6 +25,7 @@ mod snapshot;
 mod state;
 mod take;
 
+pub use begins::opened_books_begin;
 pub use book::Book;
 pub use cut::CutNetwork;
 pub use note::{Note, Numbered};
