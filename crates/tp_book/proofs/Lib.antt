@@ -9,6 +9,7 @@ pub mod PortEnds
 pub mod HostTaken
 pub mod TakeRefused
 pub mod Opened
+pub mod OpenedWorld
 pub mod HandedIn
 pub mod Confirming
 pub mod Rising

@@ -2,6 +2,7 @@
 #![tactic(auto)]
 
 mod backlog;
+mod begins;
 mod book;
 mod commits;
 mod confirm;
@@ -29,6 +30,7 @@ mod take;
 mod trim;
 
 pub use backlog::Copied;
+pub use begins::opened_books_begin;
 pub use book::Book;
 pub use cut::CutNetwork;
 pub use note::{Note, Numbered};
