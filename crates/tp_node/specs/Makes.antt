@@ -1,6 +1,7 @@
 -- What a call answers and leaves that makes a step of a node.
 use Rattle.std.specs.Prelude.{◌≡◌, ℕ, List, Option, Some, None, option_to_list}
 use Rattle.tp_model.specs.NodeState.{NodeState}
+use Rattle.tp_model.specs.SharedPages.{Kept, kept_behind}
 use Rattle.tp_model.specs.declared.link.Token.{Token}
 use Rattle.tp_node.specs.declared.step.StepOutcome.{StepOutcome}
 use Rattle.tp_node.specs.declared.step.StepOutcome.TheVariants.{Step, Idle, NoFrame}
@@ -14,3 +15,9 @@ Makes (Some after) cause before Idle now = ⊥
 Makes None cause before Idle now = now ≡ before
 Makes None cause before (Step token) now = ⊥
 Makes None cause before NoFrame now = ⊥
+
+-- what such a call leaves beside the live bytes
+abbrev pub kept_made : StepOutcome → Kept → List (ℕ × ℕ) → Kept
+kept_made (Step token) kept ranges = kept_behind kept ranges
+kept_made Idle kept ranges = kept
+kept_made NoFrame kept ranges = kept

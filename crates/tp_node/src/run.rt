@@ -1,8 +1,10 @@
 //! Runs of a node.
 
-ghost use Rattle.std.specs.Prelude.{◌≡◌, ◌≤◌, ◌+◌, [], ◌++◌, Some, IsSome, is_some, if◌then◌else◌, length, option_to_list};
+ghost use Rattle.std.specs.Prelude.{◌≡◌, ◌≤◌, ◌+◌, [], ◌++◌, Some, is_some, if◌then◌else◌, length, option_to_list};
 ghost use Rattle.tp_model.specs.Network.{steps};
 ghost use Rattle.tp_model.specs.Node.{t414};
+ghost use Rattle.tp_model.specs.NodeWrites.{node_ranges, kept_behind_steps};
+ghost use Rattle.tp_model.specs.SharedPages.{LacksFrames};
 ghost use Rattle.tp_node.specs.RunEnd.{IsWhy};
 ghost use Rattle.tp_node.specs.StateWith.{state_with};
 
@@ -94,8 +96,9 @@ pub(crate) fn run<M: Mem>(
     requires { sent.old.items ≡ [] }
     ensures asked { result.max ≡ max }
     ensures steps { steps t414 result.count (state_with head.old (M.bytes mem.old)) ≡ Some (state_with head.new (M.bytes mem.new), sent.new.items) }
-    ensures why { IsWhy result.why max result.count (IsSome (M.kept mem.old).frozen) (state_with head.new (M.bytes mem.new)) }
-    ensures kept { (M.kept mem.new).frozen ≡ (M.kept mem.old).frozen }
+    ensures why { IsWhy result.why max result.count (LacksFrames (M.kept mem.new) (node_ranges (state_with head.new (M.bytes mem.new)))) (state_with head.new (M.bytes mem.new)) }
+    ensures kept { M.kept mem.new ≡ kept_behind_steps result.count (state_with head.old (M.bytes mem.old)) (M.kept mem.old) }
+    ensures frozen { (M.kept mem.new).frozen ≡ (M.kept mem.old).frozen }
 {
     for count in 0..max {
         match make_step(head, mem) {

@@ -1,8 +1,10 @@
 //! One step of a node.
 
-ghost use Rattle.std.specs.Prelude.{◌≡◌, IsSome, option_to_list};
+ghost use Rattle.std.specs.Prelude.{◌≡◌, option_to_list};
 ghost use Rattle.tp_model.specs.Node.{on_link, asks_output, asks_input, node_step};
-ghost use Rattle.tp_node.specs.Makes.{Makes};
+ghost use Rattle.tp_model.specs.NodeWrites.{asks_output_ranges, asks_input_ranges, node_ranges};
+ghost use Rattle.tp_model.specs.SharedPages.{LacksFrames};
+ghost use Rattle.tp_node.specs.Makes.{Makes, kept_made};
 ghost use Rattle.tp_node.specs.StateWith.{state_with};
 
 use crate::head::Head;
@@ -36,8 +38,8 @@ fn on_link(link: u8, token: Option<Token>) -> Option<(u8, Token)>
 
 /// Ends a step that asks something of an output end.
 fn output<M: Mem>(head: &mut Head, mem: &mut M, request: OutRequest) -> StepOutcome
-    ensures makes { Makes (asks_output request (state_with head.old (M.bytes mem.old))) (IsSome (M.kept mem.old).frozen) (state_with head.old (M.bytes mem.old)) result (state_with head.new (M.bytes mem.new)) }
-    ensures kept { (M.kept mem.new).frozen ≡ (M.kept mem.old).frozen }
+    ensures makes { Makes (asks_output request (state_with head.old (M.bytes mem.old))) (LacksFrames (M.kept mem.old) (asks_output_ranges request (state_with head.old (M.bytes mem.old)))) (state_with head.old (M.bytes mem.old)) result (state_with head.new (M.bytes mem.new)) }
+    ensures kept { M.kept mem.new ≡ kept_made result (M.kept mem.old) (asks_output_ranges request (state_with head.old (M.bytes mem.old))) }
 {
     let link = request.link as usize;
     if link >= 4 {
@@ -66,8 +68,8 @@ fn output<M: Mem>(head: &mut Head, mem: &mut M, request: OutRequest) -> StepOutc
 
 /// Ends a step that asks something of an input end.
 fn input<M: Mem>(head: &mut Head, mem: &mut M, request: InRequest) -> StepOutcome
-    ensures makes { Makes (asks_input request (state_with head.old (M.bytes mem.old))) (IsSome (M.kept mem.old).frozen) (state_with head.old (M.bytes mem.old)) result (state_with head.new (M.bytes mem.new)) }
-    ensures kept { (M.kept mem.new).frozen ≡ (M.kept mem.old).frozen }
+    ensures makes { Makes (asks_input request (state_with head.old (M.bytes mem.old))) (LacksFrames (M.kept mem.old) (asks_input_ranges request (state_with head.old (M.bytes mem.old)))) (state_with head.old (M.bytes mem.old)) result (state_with head.new (M.bytes mem.new)) }
+    ensures kept { M.kept mem.new ≡ kept_made result (M.kept mem.old) (asks_input_ranges request (state_with head.old (M.bytes mem.old))) }
 {
     let link = request.link as usize;
     if link >= 4 {
@@ -96,10 +98,10 @@ fn input<M: Mem>(head: &mut Head, mem: &mut M, request: InRequest) -> StepOutcom
 
 /// Makes a step, if there is one.
 #[inline]
-#[tactic(auto, unfolding(tp_model::specs::Node::node_step))]
+#[tactic(auto, unfolding(tp_model::specs::Node::node_step, tp_model::specs::NodeWrites::node_ranges, tp_model::specs::StepWrites::step_ranges))]
 pub(crate) fn make_step<M: Mem>(head: &mut Head, mem: &mut M) -> StepOutcome
-    ensures makes { Makes (node_step (state_with head.old (M.bytes mem.old))) (IsSome (M.kept mem.old).frozen) (state_with head.old (M.bytes mem.old)) result (state_with head.new (M.bytes mem.new)) }
-    ensures kept { (M.kept mem.new).frozen ≡ (M.kept mem.old).frozen }
+    ensures makes { Makes (node_step (state_with head.old (M.bytes mem.old))) (LacksFrames (M.kept mem.old) (node_ranges (state_with head.old (M.bytes mem.old)))) (state_with head.old (M.bytes mem.old)) result (state_with head.new (M.bytes mem.new)) }
+    ensures kept { M.kept mem.new ≡ kept_made result (M.kept mem.old) (node_ranges (state_with head.old (M.bytes mem.old))) }
 {
     match step(&mut head.cpu, mem) {
         StepEnd::Done | StepEnd::Halted(_) => StepOutcome::Step(None),
