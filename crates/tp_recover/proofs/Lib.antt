@@ -14,3 +14,4 @@ pub mod Room
 pub mod CutsAreFlat
 pub mod HeldPorts
 pub mod ReplayedCuts
+pub mod Ages

@@ -127,8 +127,8 @@ parts_held parts held k d below =
 -- A state of these parts is what opening leaves: the cut, the network that the replay led to, and the entries with their numbers.
 pub replayed_opened : (t : Topology) (base : ℕ) (s : Network NodeState) (rows : List (ℕ × List ℕ)) (r : Replay NodeState) (o : NetState) → is_topology t ≡ true → IsCut t414_ends t base s
     → AllByRecursion IsNodeOfBytes s.nodes → after_rows t414 (replay_from s base) rows ≡ Ok r → cut_of o ≡ s → now_of o ≡ r.now → map numbered o.kept.items ≡ r.kept → o.base ≡ base → o.next ≡ r.next
-    → map (λ image. node_of image.items) o.net.images.items ≡ map (λ node. Some node) (now_of o).nodes → IsOpened o
-replayed_opened t base s rows r o topology C bytes is cut now kept base_is next_is images =
+    → o.generation < NUMBER_LIMIT → map (λ image. node_of image.items) o.net.images.items ≡ map (λ node. Some node) (now_of o).nodes → IsOpened o
+replayed_opened t base s rows r o topology C bytes is cut now kept base_is next_is age images =
     let R = replayed_holds t base s rows r topology C bytes is in
     let history : IsHistory t414 s base r = history_of t414 s base r rows is in
     let entries : map (λ n. n.entry) o.kept.items ≡ map (λ (e : Entry × ℕ). e.0) r.kept = sym (map-map (λ (e : Entry × ℕ). e.0) numbered o.kept.items) ∙ ap (map (λ (e : Entry × ℕ). e.0)) kept in
@@ -144,6 +144,7 @@ replayed_opened t base s rows r o topology C bytes is cut now kept base_is next_
       numbered = subst (λ least. AreNumbered 0 least (map (λ n. n.number) o.kept.items)) (sym base_is) (subst (AreNumbered 0 base) (sym numbers) history.numbered);
       next = omega (arith, next_is, history.next, base_is, ap length kept, length-map o.kept.items numbered, o.kept.ok.0);
       few = omega (arith, next_is, R.few);
+      age = age;
       counted = subst (λ x. AreCounted o.next x.ports) (sym now) (subst (λ n. AreCounted n r.now.ports) (sym next_is) R.counted);
       pending = λ k d below. let part = parts_held o.net.ports.items held k d below in omega (arith, part.pending, (get_or o.net.ports.items k d).pending.ok.0);
       outputs = λ k d below. let part = parts_held o.net.ports.items held k d below in omega (arith, part.outputs, (get_or o.net.ports.items k d).outputs.ok.0);

@@ -1,7 +1,7 @@
 -- What an opened device's fields stand for, and what they keep.
 use Rattle.std.specs.Prelude.{◌+◌, ◌<◌, ◌≤◌}
 use Rattle.std.specs.List.{AllByRecursion}
-use Rattle.tp_model.specs.declared.limits.TheConstants.{AREA_HEAD_BYTES}
+use Rattle.tp_model.specs.declared.limits.TheConstants.{AREA_HEAD_BYTES, NUMBER_LIMIT}
 use Rattle.tp_model.specs.Device.{area_start}
 use Rattle.tp_model.specs.Node.{t414_ends}
 use Rattle.tp_model.specs.Opening.{Opened}
@@ -24,11 +24,12 @@ opened_of o = record {
 }
 
 -- What is true of whatever was opened, also on a device that doesn't keep the model: the cut is one of the head's topology,
--- its nodes were read of bytes, entries lead from it to what was replayed, and the closed gate behind them stands within the
--- open area, behind its head.
+-- its nodes were read of bytes, its generation is one, entries lead from it to what was replayed, and the closed gate behind them
+-- stands within the open area, behind its head.
 pub record IsInside (o : Inside) : Type 0 where
   pub cut : IsCut t414_ends o.head.topology o.base o.cut.network
   pub nodes : AllByRecursion IsNodeOfBytes o.cut.network.nodes
+  pub age : o.generation < NUMBER_LIMIT
   pub leads : LeadsTo (replay_from o.cut.network o.base) o.replay
   pub behind : area_start o.head.area o.second + AREA_HEAD_BYTES ≤ o.end
   pub inside : o.end < area_start o.head.area o.second + o.head.area

@@ -1,7 +1,8 @@
 -- What is read of an area before its groups, and what is opened with them.
-use Rattle.std.specs.Prelude.{◌≡◌, ℕ, ◌+◌, Bool, List, drop, Result, Ok}
+use Rattle.std.specs.Prelude.{◌≡◌, ◌<◌, ℕ, ◌+◌, Bool, List, drop, Result, Ok}
 use Rattle.std.specs.List.{AllByRecursion}
 use Rattle.tp_model.specs.declared.opening.OpenFault.{OpenFault}
+use Rattle.tp_model.specs.declared.limits.TheConstants.{NUMBER_LIMIT}
 use Rattle.tp_model.specs.Device.{area_start}
 use Rattle.tp_model.specs.Head.{Head}
 use Rattle.tp_model.specs.Network.{Network}
@@ -35,11 +36,12 @@ read_in head second content = do
   cut ← cut_in t414_ends head.topology (area_start head.area second + 1) content
   Ok (read_as front cut)
 
--- Nothing is replayed so far, and the cut is one of that head's topology, whose nodes were read of bytes.
+-- Nothing is replayed so far, the cut is one of that head's topology, whose nodes were read of bytes, and the generation is one.
 pub record IsStart (head : Head) (start : Start) : Type 0 where
   pub replay : start.replay ≡ replay_from start.cut.network start.front.base
   pub cut : IsCut t414_ends head.topology start.front.base start.cut.network
   pub nodes : AllByRecursion IsNodeOfBytes start.cut.network.nodes
+  pub age : start.front.generation < NUMBER_LIMIT
 
 -- what is read of the groups of an area
 abbrev pub groups_of : Head → Bool → List ℕ → Listing

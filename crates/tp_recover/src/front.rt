@@ -20,6 +20,7 @@ pub fn read_front<D: Disk>(disk: &mut D, head: &Head, second: bool) -> Result<Cu
     ensures kept { D.keeps → IsKept result (D.state disk.old).now (D.state disk.new).now }
     ensures leaves { D.keeps → LeavesNothingNew (D.state disk.old) (D.state disk.new) }
     ensures few { IfOk result (λ front. front.base < NUMBER_LIMIT) }
+    ensures age { IfOk result (λ front. front.generation < NUMBER_LIMIT) }
     ensures is { D.keeps → Answers (λ front. front) (front_given head.now.topology (area_start head.now.area second) (content_of head.now.area second (D.state disk.old).now.bytes)) result }
 {
     let wanted = cut_length(head.topology());

@@ -55,10 +55,10 @@ no_images [] none = refl
 no_images (image ∷ images) none = cc
 
 -- a device leaves it, with a cut of two entries and none behind it
-pub lone_opened : (s : NetState) → network_of s.net ≡ lone_network → cut_of s ≡ lone_network → s.kept.items ≡ [] → s.base ≡ 2 → s.next ≡ 2
+pub lone_opened : (s : NetState) → network_of s.net ≡ lone_network → cut_of s ≡ lone_network → s.kept.items ≡ [] → s.base ≡ 2 → s.next ≡ 2 → s.generation ≡ 1
     → All (λ port. vec_len port.pending ≤ MAX_HELD) s.net.ports.items → All (λ port. vec_len port.outputs ≤ MAX_HELD) s.net.ports.items → IsOpened s
 unfolding after
-lone_opened s is cut kept base next pending outputs = record {
+lone_opened s is cut kept base next generation pending outputs = record {
   history = ap (λ es. after t414 (cut_of s) (map (λ n. n.entry) es)) kept ∙ ap Some (cut ∙ sym is);
   sound = subst (Sound t414_ends) (sym is) lone_sound;
   shaped = subst IsNetwork (sym is) (record { wires = refl; few_nodes = omega arith; few_ports = omega arith });
@@ -67,6 +67,7 @@ lone_opened s is cut kept base next pending outputs = record {
   numbered = subst (λ ns. AreNumbered 0 s.base (map (λ n. n.number) ns)) (sym kept) tt;
   next = omega (arith, base, next, s.kept.ok.0, ap length kept);
   few = omega (arith, next);
+  age = omega (arith, generation);
   counted = subst (λ n. AreCounted n (now_of s).ports) (sym next) (subst (λ net. AreCounted 2 net.ports) (sym is) lone_counted);
   pending = pending;
   outputs = outputs;

@@ -2,6 +2,7 @@ use Rattle.std.proofs.Common.{◌≡◌, ◌∙◌, sym, ap, arith}
 use Rattle.tp_model.specs.Device.{area_start, content_of}
 use Rattle.tp_model.specs.Journal.{cut_length}
 use Rattle.tp_layout.specs.Fronts.{front_given}
+use Rattle.tp_recover.proofs.Ages.{front_age}
 use Rattle.tp_recover.proofs.Areas.{front_given-read}
 use Rattle.tp_recover.proofs.Passing.{found_is}
 use Rattle.tp_recover.proofs.Room.{area_room}
@@ -28,3 +29,9 @@ returns-in-Ok-clause-is g c k = is_front g (goal.at.returns-in-Ok-clause-is g c)
 
 pub returns-in-Err-clause-is : goal.returns-in-Err-clause-is
 returns-in-Err-clause-is g c k = is_front g (goal.at.returns-in-Err-clause-is g c).After-cut_front k ∙ c.in-Err.is
+
+pub returns-in-Ok-clause-age : goal.returns-in-Ok-clause-age
+returns-in-Ok-clause-age g c =
+    let t = c.args.head.now.topology in
+    let wanted : c.cut_length-wanted.result ≡ cut_length t = c.cut_length-wanted.ensures.value ∙ ap cut_length c.topology.ensures.value in
+    front_age t c.area_start-start.result _ _ (sym (c.cut_front.ensures.is t wanted) ∙ c.in-Ok.is)

@@ -12,7 +12,7 @@ returns-clause-opened c =
     let o = c.self.inside in
     let leads = c.self.invariant.leads in
     replayed_opened o.head.topology o.base o.cut.network leads.0 o.replay _ c.topology-topology.ensures.valid c.self.invariant.cut c.self.invariant.nodes leads.1
-    refl (c.in_ok-net.ensures.again ∙ c.into_parts-network.ensures.network) c.into_parts-network.ensures.kept refl c.into_parts-network.ensures.next
+    refl (c.in_ok-net.ensures.again ∙ c.into_parts-network.ensures.network) c.into_parts-network.ensures.kept refl c.into_parts-network.ensures.next c.self.invariant.age
     (c.in_ok-net.ensures.spelt ∙ ap (λ (s : Network NodeState). map (λ node. Some node) s.nodes) (sym c.in_ok-net.ensures.again))
 
 pub returns-clause-next : goal.returns-clause-next
