@@ -6,7 +6,7 @@ use Rattle.tp_model.specs.declared.limits.TheConstants.{MAX_STEPS}
 use Rattle.tp_replay.specs.Inside.{state_of}
 use Rattle.tp_replay.proofs.Applied.{refused, applied, node_count, node_at}
 use Rattle.tp_replay.proofs.Impossible.{run_nowhere, run_uncounted, run_short}
-use Rattle.tp_node.proofs.Answered.{why_most, why_fewer}
+use Rattle.tp_node.proofs.Answered.{why_most, why_fewer, lacking_frozen}
 use Rattle.tp_replay.proofs.Ran.{ran_known, ran_room, ran_next, ran_inside, ran_short, ran_leaves}
 use Rattle.tp_replay.proofs.network.FlatNetwork.run.Goals as goal
 use Rattle.tp_replay.proofs.network.FlatNetwork.run.Goals.{then-count, else-count}
@@ -69,7 +69,7 @@ returns-clause-applies c =
           rw (w.result-is, ← c.self.view_is) (applied _ _ (rw all at next))
       | else-count w ↦
           let fewer : c.run-ran.result.count < c.args.count = omega (arith, c.count.ensures, w.if-count.false, why_most c.run-ran.result.why c.args.count c.run-ran.result.count _ c.run-ran.new.self.live c.run-ran.ensures.why) in
-          let none = why_fewer c.run-ran.result.why c.args.count c.run-ran.result.count _ c.run-ran.new.self.live c.run-ran.ensures.why (λ frozen. true≢false (sym frozen ∙ ap is_some (c.self.invariant.thawed c.args.node c.index_mut.result.now there))) fewer in
+          let none = why_fewer c.run-ran.result.why c.args.count c.run-ran.result.count _ c.run-ran.new.self.live c.run-ran.ensures.why (λ lacks. true≢false (sym (lacking_frozen c.run-ran.new.self _ lacks) ∙ ap is_some (c.run-ran.ensures.kept ∙ c.self.invariant.thawed c.args.node c.index_mut.result.now there))) fewer in
           rw (w.result-is, ← c.self.view_is) (refused _ _ _ (run_short (state_of n) c.args.node c.args.count c.index_mut.result.now.live (node_at n c.self.invariant c.args.node c.index_mut.result.now below c.index_mut.ensures.value) (ran_short n c.self.invariant c.args.node c.index_mut.result.now c.run-ran.new.self there c.run-ran.ensures.kept c.run-ran.result.count c.run-ran.new.out.items c.run-ran.ensures.steps most c.args.count none fewer)))
     ]
 
