@@ -9,7 +9,7 @@ use tp_model::limits::PAGE_BYTES;
 /// The kind of memory.
 pub(crate) type Memory = CowMemory;
 
-/// A memory of so many pages with these bytes, and so many spare frames beside them, no more than it has pages.
+/// A memory of `pages` pages with `bytes`, and `spare` spare frames beside them, but no more than it has pages.
 pub(crate) fn reserve(
     alloc: Global,
     pages: usize,
