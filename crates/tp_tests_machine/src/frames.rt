@@ -9,7 +9,7 @@ use tp_node::{Node, Why};
 /// ldc 4, stl 0, ldc 5, stl 128, and a number that is no operation: the first word lies in page 0, the other in page 1.
 const PROGRAM: &[u8] = &[0x44, 0xD0, 0x45, 0x28, 0xD0, 0x22, 0xF2];
 
-/// The node of that program, frozen, with so many spare frames.
+/// The node of that program, frozen, with `spare` spare frames.
 fn frozen(alloc: Global, spare: usize) -> Result<Node, Fail> {
     let mut image = Image::new(alloc)?;
     image.put_all(&[Fact::Bytes(START, PROGRAM)]);
