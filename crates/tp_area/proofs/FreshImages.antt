@@ -1,15 +1,12 @@
 -- Images that a device may be formatted with.
-use Rattle.std.proofs.Common.{◌≡◌, ℕ, suc, ◌+◌, ◌-◌, ◌*◌, ◌<◌, ◌≤◌, ◌≢◌, Bool, true, false, cond, List, [], ◌∷◌, length, take, drop, get_or, refl, sym, ap, subst, ◌∙◌, arith, length-drop, Option, Some, None, Ok, Err}
+use Rattle.std.proofs.Common.{◌≡◌, ℕ, ◌+◌, ◌*◌, ◌<◌, ◌≤◌, ◌≢◌, Bool, true, false, cond, List, [], ◌∷◌, length, take, drop, get_or, refl, sym, ap, subst, ◌∙◌, arith, length-drop, Option, Some, None, Ok, Err}
 use Rattle.std.specs.Prelude.{◌&&◌, ◌==◌, nat_le, is_some, bytes_eq}
 use Rattle.std.specs.List.{list_all}
 use Rattle.std.proofs.lemmas.Bool.{and_parts, leb-true, eqb-true, ne_eqb, eq-eqb, true≢false}
 use Rattle.std.proofs.lemmas.Option.{cond_some}
-use Rattle.std.proofs.lemmas.List.{get_or-take, take_rest, drop_all, drop_more}
+use Rattle.std.proofs.lemmas.List.{drop_all, drop_more}
 use Rattle.tp_model.specs.NodeState.{NodeState}
 use Rattle.tp_model.specs.Network.{◌>>=◌}
-use Rattle.tp_model.specs.declared.link.Transfer.{Transfer}
-use Rattle.tp_model.specs.declared.link.OutEnd.TheVariants.{Idle as OutIdle, Waits}
-use Rattle.tp_model.specs.declared.link.InEnd.TheVariants.{Idle as InIdle, Inputs, Enabled}
 use Rattle.tp_model.specs.EndBytes.{out_end_at, in_end_at, ends_at, is_idle_out, is_idle_in}
 use Rattle.tp_model.specs.Image.{page_count, is_memory, is_node, node_at, node_of, image_head, has_idle_links}
 use Rattle.tp_model.specs.CutImage.{only_if}

@@ -12,3 +12,10 @@ pub mod FreshImages
 pub mod FormatBytes
 pub mod FormatCalls
 pub mod OtherArea
+pub mod TailCalls
+pub mod TailParts
+pub mod TailGroups
+pub mod Filling
+pub mod FilledPlace
+pub mod Switching
+pub mod Roomy

@@ -61,17 +61,17 @@ pub record InOther (place : Place) (at count : ℕ) : Type 0 where
   pub from : other_gate place ≤ at
   pub upto : at + count ≤ other_gate place + place.area
 
-own_gate_same : (area : ℕ) (second : Bool) (at count : ℕ) (old new : List ℕ) → 1 ≤ area → area_start area (not second) ≤ at → at + count ≤ area_start area (not second) + area
+pub own_gate_same : (area : ℕ) (second : Bool) (at count : ℕ) (old new : List ℕ) → 1 ≤ area → area_start area (not second) ≤ at → at + count ≤ area_start area (not second) + area
     → SameOutside at count old new → gate_of area second new ≡ gate_of area second old
 own_gate_same area false at count old new some low high same = same.same 512 (inl (omega arith))
 own_gate_same area true at count old new some low high same = same.same (512 + area) (inr (omega arith))
 
-own_content_stays : (area : ℕ) (second : Bool) (at count : ℕ) (old new : List ℕ) → 1 ≤ area → area_start area (not second) ≤ at → at + count ≤ area_start area (not second) + area
+pub own_content_stays : (area : ℕ) (second : Bool) (at count : ℕ) (old new : List ℕ) → 1 ≤ area → area_start area (not second) ≤ at → at + count ≤ area_start area (not second) + area
     → SameOutside at count old new → content_of area second new ≡ content_of area second old
 own_content_stays area false at count old new some low high same = same_apart at count old new (512 + 1) (area - 1) same (inl (omega arith))
 own_content_stays area true at count old new some low high same = same_apart at count old new (512 + area + 1) (area - 1) same (inr (omega arith))
 
-own_open : (area : ℕ) (second : Bool) (bytes : List ℕ) → chosen_area area bytes ≡ Ok second → is_open (gate_of area second bytes) ≡ true
+pub own_open : (area : ℕ) (second : Bool) (bytes : List ℕ) → chosen_area area bytes ≡ Ok second → is_open (gate_of area second bytes) ≡ true
 unfolding chosen_area
 own_open area false bytes h = own_is_open (area_start area true) (is_open (gate_of area false bytes)) (is_open (gate_of area true bytes)) false _ _ h
 own_open area true bytes h = own_is_open (area_start area true) (is_open (gate_of area false bytes)) (is_open (gate_of area true bytes)) true _ _ h
@@ -104,7 +104,11 @@ place_stays place bytes new at count some said lies same shut =
 
 -- ## Inside the device
 
-areas_fit : (area size : ℕ) (second : Bool) → 512 + 2 * area ≤ size → area_start area second + area ≤ size
+pub starts_low : (area : ℕ) (second : Bool) → area_start area second ≤ 512 + area
+starts_low area false = omega arith
+starts_low area true = omega arith
+
+pub areas_fit : (area size : ℕ) (second : Bool) → 512 + 2 * area ≤ size → area_start area second + area ≤ size
 areas_fit area size false room = omega arith
 areas_fit area size true room = omega arith
 
@@ -235,6 +239,14 @@ lies_spare place at bytes old said inside shut o is =
     let own : P (place_at o) = λ closed small. subst (λ range. IsWithin range (other_gate (place_at o) + 1 + at, length bytes)) (sym (spare_is o old.now.bytes closed)) (omega arith, omega arith) in
     subst (λ r. IsWithin (spare_of r old.now.bytes) (other_gate place + 1 + at, length bytes)) (sym is) (subst P here own shut inside)
 
+pub spare_at : (place : Place) (old : State) → place_in old.now.bytes ≡ Some place → OtherIsClosed place old → (o : Opened) → opening t414 t414_ends old.now.bytes ≡ Ok o
+    → device_areas.spare old.now.bytes ≡ (other_gate place + 1, place.area - 1)
+spare_at place old said shut o is =
+    let here : place_at o ≡ place = same_Some (place_at o) place (sym (opening_place t414 t414_ends old.now.bytes o is) ∙ said) in
+    let P : Place → Type 0 = λ p. OtherIsClosed p old → spare_of (Ok o) old.now.bytes ≡ (other_gate p + 1, p.area - 1) in
+    let own : P (place_at o) = λ closed. spare_is o old.now.bytes closed in
+    ap (λ r. spare_of r old.now.bytes) is ∙ subst P here own shut
+
 pub put_by : (place : Place) (at : ℕ) (bytes : List ℕ) (old new : State) → place_in old.now.bytes ≡ Some place → other_gate place + 1 + at + length bytes ≤ length old.now.bytes
     → at + length bytes < place.area → OtherIsClosed place old → new.now ≡ done (Write (other_gate place + 1 + at) bytes) old.now → Goes old new → PutBehind place at bytes old new
 unfolding verdict
@@ -313,3 +325,14 @@ pub switch_leaves : {E : Type 0} (r : Result Unit E) (place : Place) (old new : 
 switch_leaves r place old new said called broke h k gate rests synced other =
     calls_leave r (switch_calls (other_gate place)) old new (OpensToEither h k) called broke
     (within_switch t414 device_areas keep h old.now k rests (other_gate place) synced (other_is place old.now.bytes said h k gate rests.reads other))
+
+-- ## Of a device that opens, whatever becomes of the calls
+
+pub spare_asked : (place : Place) (at : ℕ) (bytes : List ℕ) (old : State) → place_in old.now.bytes ≡ Some place → at + length bytes < place.area → OtherIsClosed place old
+    → (o : Opened) → verdict old.now.bytes ≡ Ok o → IsWithin (device_areas.spare old.now.bytes) (other_gate place + 1 + at, length bytes)
+unfolding verdict
+spare_asked place at bytes old said inside shut o is = lies_spare place at bytes old said inside shut o is
+
+pub open_other_asked : (place : Place) (bytes : List ℕ) → place_in bytes ≡ Some place → (o : Opened) → verdict bytes ≡ Ok o → device_areas.open_other bytes ≡ if_open (other_gate place) bytes
+unfolding verdict
+open_other_asked place bytes said o is = open_other_is place bytes said o is

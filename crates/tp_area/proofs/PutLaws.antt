@@ -34,11 +34,11 @@ pub put_calls-append : (first second : List (ℕ × List ℕ)) → put_calls (fi
 put_calls-append [] second = refl
 put_calls-append (piece ∷ first) second = ap (λ calls. Write piece.0 piece.1 ∷ calls) (put_calls-append first second)
 
-written_nothing : (old : List ℕ) (at : ℕ) → written old at [] ≡ old
+pub written_nothing : (old : List ℕ) (at : ℕ) → written old at [] ≡ old
 written_nothing old at =
     ap (λ xs. xs ++ drop (at + 0) old) (append-nil (take at old)) ∙ ap (λ n. take at old ++ drop n old) (add-zero at) ∙ take-append-drop at old
 
-written_twice : (old : List ℕ) (at : ℕ) (first second : List ℕ) → at ≤ length old
+pub written_twice : (old : List ℕ) (at : ℕ) (first second : List ℕ) → at ≤ length old
     → written (written old at first) (at + length first) second ≡ written old at (first ++ second)
 written_twice old at first second room =
     let mid = written old at first in

@@ -4,3 +4,4 @@ pub mod Appended
 pub mod Puts
 pub mod Formatting
 pub mod Other
+pub mod Tails

@@ -1,13 +1,21 @@
 //! Laws of a device's places and of its rest. The functions do nothing; their contracts are the laws.
 
-ghost use Rattle.std.specs.Prelude.{◌≡◌, ℕ, List, Some, Ok};
+ghost use Rattle.std.specs.Prelude.{◌≡◌, ◌≤◌, ◌<◌, ◌+◌, ◌*◌, ℕ, List, false, true, length, Some, None, Ok};
+ghost use Rattle.std.specs.List.{AllByRecursion};
+ghost use Rattle.tp_model.specs.declared.entry.Entry.{Entry};
+ghost use Rattle.tp_model.specs.EntryBytes.{IsSpelt};
+ghost use Rattle.tp_model.specs.Journal.{entry_room, is_roomy, room};
+ghost use Rattle.tp_model.specs.Topology.{Topology};
 ghost use Rattle.tp_model.specs.NodeState.{NodeState};
 ghost use Rattle.tp_model.specs.Disk.{MayBe};
 ghost use Rattle.tp_model.specs.DiskHistory.{IsSynced, State};
 ghost use Rattle.tp_model.specs.Areas.{Held};
 ghost use Rattle.tp_model.specs.Opening.{Opened, held_of, verdict};
+ghost use Rattle.tp_area.specs.declared.place.Place.{Place};
+ghost use Rattle.tp_area.specs.Appended.{append_refusal};
 ghost use Rattle.tp_area.specs.Crashes.{OpensTo, RestsAs};
 ghost use Rattle.tp_area.specs.Places.{place_at, place_in};
+ghost use Rattle.tp_area.specs.Tails.{tail_refusal};
 
 /// A device that opens says the place of its next group. So whoever opens a device has what `Store::new` asks.
 pub fn open_devices_say_their_place()
@@ -19,4 +27,13 @@ pub fn open_devices_say_their_place()
 pub fn resting_devices_open_alike()
     ensures synced { (s : State) (o : Opened) → verdict s.now.bytes ≡ Ok o → IsSynced s → RestsAs (held_of o) s }
     ensures alike { (h : Held NodeState) (s : State) → RestsAs h s → (left : List ℕ) → MayBe s.now left → OpensTo h left }
+{}
+
+/// What finds room in the journal, each entry in a group of its own, is never refused for want of room: a group behind the
+/// ones that a device holds, and the tail of a checkpoint.
+pub fn entries_with_room_fit()
+    ensures appended { (bytes : List ℕ) (o : Opened) (count : ℕ) → AllByRecursion (λ byte. byte < 256) bytes → verdict bytes ≡ Ok o → 1 ≤ count
+        → entry_room * (length o.kept + count) ≤ room o.head.topology o.head.area → append_refusal false (place_at o) count ≡ None }
+    ensures put { (t : Topology) (place : Place) (entries : List (Entry × ℕ)) → is_roomy t place.area ≡ true → AllByRecursion (λ e. IsSpelt e.0 e.1) entries
+        → entry_room * length entries ≤ room t place.area → tail_refusal false place t entries ≡ None }
 {}

@@ -12,9 +12,11 @@ mod other;
 mod place;
 mod puts;
 mod store;
+mod switch;
+mod tail;
 
 pub use fault::{FormatFault, StoreFault};
 pub use formatting::format;
-pub use laws::{open_devices_say_their_place, resting_devices_open_alike};
+pub use laws::{entries_with_room_fit, open_devices_say_their_place, resting_devices_open_alike};
 pub use place::Place;
 pub use store::Store;

@@ -4,4 +4,5 @@ pub mod Numbers
 pub mod Parts
 pub mod PortBytes
 pub mod Ports
+pub mod Records
 pub mod SameBytes

@@ -16,7 +16,7 @@ pub use front::{
     AREA_FRONT_BYTES, AreaFront, CutFront, FIELDS_BYTES, area_front, cut_front, put_fields,
 };
 pub use head::{Head, head_bytes, head_in, head_length};
-pub use line::{LineTokens, line_in};
+pub use line::{LINES_BYTES, LineTokens, line_in, lines_bytes};
 pub use place::{Places, area_start, piece_length, piece_place};
 pub use port::{PortRecord, port_bytes, port_in};
 pub use room::{

@@ -1,13 +1,22 @@
 //! Records of lines.
 
-ghost use Rattle.std.specs.Prelude.{◌≡◌, if◌then◌else◌, Some, None, length};
+ghost use Rattle.std.specs.Prelude.{◌≡◌, ◌≤◌, ◌<◌, ◌*◌, true, if◌then◌else◌, Some, None, flat_map, length};
+ghost use Rattle.std.specs.List.{AllByRecursion};
 ghost use Rattle.std.specs.Option.{option_map};
+ghost use Rattle.arrayvec.specs.ArrayVec.{array_vec_len};
+ghost use Rattle.tp_model.specs.Network.{on_line};
 ghost use Rattle.tp_model.specs.CutImage.{is_line_of, line_bytes, line_with, tokens_of};
 ghost use Rattle.tp_model.specs.Spelling.{has_record};
 ghost use Rattle.tp_layout.specs.Lines.{tokens_on};
 
+use crate::written::put;
+use arrayvec::ArrayVec;
 use tp_model::limits::LINE_BYTES;
 use tp_model::{Token, WireEnd};
+use tp_net::{Lines, MAX_LINES};
+
+/// The most bytes that the records of all lines have.
+pub const LINES_BYTES: usize = LINE_BYTES * MAX_LINES;
 
 /// The tokens on a line of a cut, first the one that comes next.
 #[derive(Clone, Copy, Debug, PartialEq, Eq)]
@@ -80,4 +89,34 @@ pub fn line_in(wire: Option<WireEnd>, bytes: &[u8]) -> Option<LineTokens>
     } else {
         None
     }
+}
+
+/// The tokens on line `line`, which a cut can have.
+fn tokens_on(lines: &Lines, line: usize) -> LineTokens
+    requires there { line < length lines.now }
+    requires recorded { has_record (on_line lines.now line) ≡ true }
+    ensures { tokens_on result ≡ on_line lines.now line }
+{
+    match (lines.get(line, 0), lines.get(line, 1)) {
+        (None, _) => LineTokens::Empty,
+        (Some(Token::Data(byte)), None) => LineTokens::Data(byte),
+        (Some(Token::Data(byte)), Some(_)) => LineTokens::DataAck(byte),
+        (Some(_), Some(Token::Data(byte))) => LineTokens::AckData(byte),
+        (Some(_), _) => LineTokens::Ack,
+    }
+}
+
+/// The records of all lines, one behind the other.
+pub fn lines_bytes(lines: &Lines) -> ArrayVec<u8, LINES_BYTES>
+    requires few { length lines.now ≤ MAX_LINES }
+    requires recorded { AllByRecursion (λ line. has_record line ≡ true) lines.now }
+    ensures bytes { result.items ≡ flat_map line_bytes lines.now }
+    ensures len { array_vec_len result ≡ LINE_BYTES * length lines.now }
+{
+    let mut out = ArrayVec::new();
+    for line in 0..lines.count() {
+        let record = tokens_on(lines, line).record();
+        put(&record, &mut out);
+    }
+    out
 }

@@ -1,8 +1,9 @@
 //! Where areas and the records of a cut stand.
 
-ghost use Rattle.std.specs.Prelude.{◌≡◌, ◌+◌, ◌^◌, ◌<◌, ◌≤◌, length};
+ghost use Rattle.std.specs.Prelude.{◌≡◌, ◌+◌, ◌^◌, ◌<◌, ◌≤◌, true, length};
 ghost use Rattle.tp_model.specs.Device.{area_start};
 ghost use Rattle.tp_model.specs.Opening.{groups_place, lines_place, nodes_place, ports_place};
+ghost use Rattle.tp_model.specs.Topology.{is_topology};
 ghost use Rattle.tp_model.specs.declared.limits.TheConstants.{HEAD_BYTES, MAX_PAGES};
 ghost use Rattle.tp_layout.specs.Pieces.{piece_length, piece_place};
 
@@ -65,7 +66,9 @@ impl Places {
         ensures lines { result.lines ≡ at + lines_place topology.now }
         ensures ports { result.ports ≡ at + ports_place topology.now }
         ensures groups { result.groups ≡ at + groups_place topology.now }
+        ensures rules { is_topology topology.now ≡ true }
         ensures bound { result.ports < at + 2 ^ 32 }
+        ensures end { result.groups < at + 2 ^ 33 }
     {
         let nodes = at + FIELDS_BYTES as u64;
         let lines = nodes + images_length(topology);

@@ -1,4 +1,4 @@
-use Rattle.std.proofs.Common.{◌≡◌, ◌∙◌, ℕ, List, Vec, Global, map, length, true, sym, ap, subst, arith, Ok}
+use Rattle.std.proofs.Common.{◌≡◌, ◌∙◌, ℕ, List, Vec, Global, map, length, true, sym, ap, subst, Ok}
 use Rattle.std.specs.Prelude.{sum_by}
 use Rattle.tp_model.specs.Journal.{image_length}
 use Rattle.tp_area.specs.Formatting.{Checks}

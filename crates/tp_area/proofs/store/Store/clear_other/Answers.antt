@@ -1,7 +1,7 @@
 use Rattle.std.proofs.Common.{◌<◌, length, subst, arith, OnOk, OnErr}
 use Rattle.tp_model.specs.StoreCalls.{Called, Broke, clear_calls}
 use Rattle.tp_area.specs.Other.{if_open, other_gate}
-use Rattle.tp_area.proofs.OtherArea.{some_area, gate_inside, cleared_by, cleared_place, clear_leaves}
+use Rattle.tp_area.proofs.OtherArea.{some_area, gate_inside, cleared_by, cleared_place, clear_leaves, open_other_asked}
 use Rattle.tp_area.proofs.StoreCrashes.{rests_leaves}
 use Rattle.tp_area.proofs.store.Store.clear_other.Goals as goal
 
@@ -55,3 +55,13 @@ pub returns-in_default-clause-broke : goal.returns-in_default-clause-broke
 returns-in_default-clause-broke g c k unbroken =
     let old = g.D.Disk.state c.args.self.now.disk in
     subst (λ gate. Broke (clear_calls (if_open gate old.now.bytes)) old (g.D.Disk.state c.close_gate.new.disk)) c.area_start-gate.ensures (c.in_default.ensures.broke k)
+
+pub returns-clause-asked : goal.returns-clause-asked
+returns-clause-asked g c k unbroken o is =
+    let a = c.args.self.now in
+    open_other_asked a.place (g.D.Disk.state a.disk).now.bytes (a.placed k unbroken) o is
+
+pub returns-in_default-clause-asked : goal.returns-in_default-clause-asked
+returns-in_default-clause-asked g c k unbroken o is =
+    let a = c.args.self.now in
+    open_other_asked a.place (g.D.Disk.state a.disk).now.bytes (a.placed k unbroken) o is

@@ -3,7 +3,7 @@ use Rattle.tp_model.specs.Disk.{Write, done}
 use Rattle.tp_model.specs.DiskHistory.{Fails}
 use Rattle.tp_disk.proofs.Calls.{broke_one}
 use Rattle.tp_area.specs.Other.{other_gate}
-use Rattle.tp_area.proofs.OtherArea.{piece_inside, put_by, put_leaves, put_place}
+use Rattle.tp_area.proofs.OtherArea.{piece_inside, put_by, put_leaves, put_place, spare_asked}
 use Rattle.tp_area.proofs.StoreCrashes.{rests_leaves}
 use Rattle.tp_area.proofs.store.Store.put_at.Goals as goal
 
@@ -69,3 +69,13 @@ returns-clause-leaves g c k =
     put_leaves c.write_at.result a.place c.args.at bytes old new (a.placed k c.if-self.false) room c.requires.inside (c.requires.closed k c.if-self.false) (c.write_at.ensures.goes k)
     (subst (λ gate. OnOk c.write_at.result (new.now ≡ done (Write (gate + 1 + c.args.at) bytes) old.now)) c.area_start.ensures (c.write_at.ensures.after k))
     (subst (λ gate. OnErr c.write_at.result (Fails (Write (gate + 1 + c.args.at) bytes) old new)) c.area_start.ensures (c.write_at.ensures.failed k))
+
+pub returns-clause-asked : goal.returns-clause-asked
+returns-clause-asked g c k unbroken o is =
+    let a = c.args.self.now in
+    spare_asked a.place c.args.at c.args.bytes.now (g.D.Disk.state a.disk) (a.placed k unbroken) c.requires.inside (c.requires.closed k unbroken) o is
+
+pub returns-in_default-clause-asked : goal.returns-in_default-clause-asked
+returns-in_default-clause-asked g c k unbroken o is =
+    let a = c.args.self.now in
+    spare_asked a.place c.args.at c.args.bytes.now (g.D.Disk.state a.disk) (a.placed k unbroken) c.requires.inside (c.requires.closed k unbroken) o is
