@@ -6,3 +6,4 @@ pub mod Sealing
 pub mod Writing
 pub mod Placing
 pub mod Dealing
+pub mod Hosting
