@@ -1,11 +1,13 @@
 -- What entries are of which process.
-use Rattle.std.specs.Prelude.{◌≡◌, ℕ, Bool, true, false, ◌==◌, if◌then◌else◌, List, [], ◌∷◌, length, Result, Ok, Err}
+use Rattle.std.specs.Prelude.{◌≡◌, ℕ, Bool, true, false, ◌==◌, nat_le, if◌then◌else◌, List, [], ◌∷◌, length, Result, Ok, Err}
 use Rattle.std.specs.List.{AllByRecursion}
 use Rattle.tp_model.specs.declared.entry.Entry.{Entry}
 use Rattle.tp_model.specs.declared.entry.Entry.TheVariants.{Run, Take, HostIn, Confirm}
 use Rattle.tp_model.specs.NodeState.{NodeState}
 use Rattle.tp_model.specs.Network.{Network}
 use Rattle.tp_model.specs.Entries.{process}
+use Rattle.tp_book.specs.Book.{BookValue}
+use Rattle.tp_book.specs.Host.{port_in}
 use Rattle.tp_book.specs.declared.refusal.Refusal.{Refusal}
 
 -- a Take of this process
@@ -37,3 +39,7 @@ TakesOf start number (Err e) = Takes start number
 -- a run's entry; none without a step
 abbrev pub run_entries : ℕ → ℕ → List Entry
 run_entries node count = if count == 0 then [] else Run node count ∷ []
+
+-- the entry of outputs that are confirmed; none up to a position that was confirmed before
+abbrev pub confirm_entries : BookValue → ℕ → ℕ → List Entry
+confirm_entries b port upto = if nat_le upto (port_in b port).out_base then [] else Confirm port upto ∷ []
