@@ -1,5 +1,5 @@
 -- Books that grow by one act after another.
-use Rattle.std.proofs.Common.{◌≡◌, ℕ, ◌+◌, Bool, true, false, List, [], ◌++◌, length, set, refl, sym, ap, subst, ◌∙◌, arith, Some, slice_get, append_assoc, length-append}
+use Rattle.std.proofs.Common.{◌≡◌, ℕ, ◌+◌, Bool, true, false, List, [], ◌++◌, set, refl, sym, ap, subst, ◌∙◌, arith, Some, slice_get, append_assoc, length-append}
 use Rattle.std.specs.Prelude.{Result, Ok, Err}
 use Rattle.std.proofs.lemmas.List.{append-nil, set-set}
 use Rattle.tp_law_machine.proofs.Partial.{all_append}

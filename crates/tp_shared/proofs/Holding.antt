@@ -1,7 +1,6 @@
 -- What a hold of the book's lock does for a node.
-use Rattle.std.proofs.Common.{◌≡◌, ℕ, true, false, cond, inl, inr, List, [], ◌∷◌, ◌++◌, length, set, refl, sym, ap, subst, ◌∙◌, Some, slice_get, eq-eqb, ne_eqb}
-use Rattle.std.specs.Prelude.{Result, Ok, Err, OnOk, OnErr, is_ok}
-use Rattle.std.specs.List.{AllByRecursion}
+use Rattle.std.proofs.Common.{◌≡◌, ℕ, true, false, cond, inl, inr, List, [], ◌∷◌, length, set, sym, ap, subst, ◌∙◌, Some, slice_get, eq-eqb, ne_eqb}
+use Rattle.std.specs.Prelude.{Result, Ok, Err, is_ok}
 use Rattle.std.proofs.lemmas.Bool.{cases_eq}
 use Rattle.std.proofs.lemmas.List.{append-nil}
 use Rattle.tp_law_network.proofs.Local.{process_same}
@@ -17,8 +16,8 @@ use Rattle.tp_book.specs.Book.{BookValue, agreed}
 use Rattle.tp_book.specs.Calls.{with_run, without_run, after_run, with_journalled, RunIsAgreed}
 use Rattle.tp_port.proofs.Lists.{set_back}
 use Rattle.tp_shared.specs.Agreement.{Agreement}
-use Rattle.tp_shared.specs.Acts.{Grown, Added, Acted}
-use Rattle.tp_shared.specs.Entries.{IsTakeBy, Takes, CountedTakes, TakesOf, run_entries}
+use Rattle.tp_shared.specs.Acts.{Added, Acted}
+use Rattle.tp_shared.specs.Entries.{Takes, TakesOf, run_entries}
 use Rattle.tp_shared.proofs.Growing.{grown_like}
 
 -- ## A run

@@ -7,7 +7,7 @@ use mathlib.Core.List.{cons≢nil}
 use Rattle.tp_law_machine.proofs.Partial.{slice_get-set_same, slice_get-set_other}
 use Rattle.tp_token.specs.Sound.{Sound, item_of}
 use Rattle.tp_model.specs.declared.entry.Entry.{Entry}
-use Rattle.tp_book.specs.Book.{BookValue, agreed, next_number}
+use Rattle.tp_book.specs.Book.{BookValue, agreed}
 use Rattle.tp_shared.specs.Agreement.{Agreement}
 use Rattle.tp_shared.specs.Acts.{Grown, Acted, Hosted}
 use Rattle.tp_shared.specs.Gains.{Noted}

@@ -1,4 +1,4 @@
-use Rattle.std.proofs.Common.{◌≡◌, length}
+use Rattle.std.proofs.Common.{length}
 use Rattle.tp_shared.specs.Parted.{IsDealt}
 use Rattle.tp_shared.proofs.parts.deal.Given as goal
 

@@ -1,12 +1,8 @@
-use Rattle.std.proofs.Common.{◌≡◌, ◌∙◌, List, [], length, map, sym, ap, subst}
-use Rattle.tp_book.specs.Host.{after_confirm}
+use Rattle.std.proofs.Common.{◌≡◌, ◌∙◌, List, length, ap}
 use Rattle.tp_model.specs.declared.entry.Entry.{Entry}
-use Rattle.tp_model.specs.declared.entry.Entry.TheVariants.{Confirm}
 use Rattle.tp_shared.specs.Entries.{confirm_entries}
-use Rattle.tp_shared.specs.Gains.{Noted}
-use Rattle.tp_shared.specs.Seals.{Stage}
 use Rattle.tp_shared.proofs.Hosting.{hosted_confirm}
-use Rattle.tp_shared.proofs.Sealing.{sealed_still, tied_after, noted_by}
+use Rattle.tp_shared.proofs.Sealing.{sealed_still, tied_after}
 use Rattle.tp_shared.proofs.Writing.{as_many}
 use Rattle.tp_shared.proofs.locked.Locked.confirm.Goals as goal
 
