@@ -1,0 +1,9 @@
+pub mod Growing
+pub mod Takeable
+pub mod Taking
+pub mod Holding
+pub mod Sealing
+pub mod Writing
+pub mod Placing
+pub mod Dealing
+pub mod Hosting

@@ -1,0 +1,110 @@
+-- What can be taken from a line, and that in a sound network a node can take what stands in front of a line that leads to it.
+use Rattle.std.proofs.Common.{◌≡◌, ℕ, ◌+◌, ◌*◌, ◌%◌, ◌<◌, ◌≤◌, Bool, true, false, List, [], ◌∷◌, length, get_or, refl, sym, ap, subst, ◌∙◌, arith, Option, Some, None, slice_get}
+use Rattle.std.specs.Prelude.{IsSome, is_none, Ok}
+use Rattle.std.specs.Option.{option_map}
+use Rattle.tp_model.specs.Word.{bit}
+use Rattle.tp_model.specs.Image.{IsNode}
+use Rattle.tp_model.specs.NodeState.{NodeState}
+use Rattle.tp_model.specs.Node.{took, waits, holds, t414_ends, on_link}
+use Rattle.tp_model.specs.Network.{Network, OfNode, own, receiver, back, line_of, on_line}
+use Rattle.tp_model.specs.Sound.{owner, datas, acks, end_waits, end_holds}
+use Rattle.tp_model.specs.Markers.{is_marker, plain_network}
+use Rattle.tp_model.specs.Halves.{BookState, live}
+use Rattle.tp_model.specs.declared.link.Token.{Token}
+use Rattle.tp_model.specs.declared.link.Token.TheVariants.{Data, Ack, Marker}
+use Rattle.tp_model.specs.declared.wire.WireEnd.{WireEnd}
+use Rattle.tp_model.specs.declared.wire.WireEnd.TheVariants.{Link, Port as AtPort}
+use Rattle.tp_law_machine.proofs.Partial.{map_some}
+use Rattle.tp_law_machine.proofs.Bits.{bit_small, bit_none, bit_some}
+use Rattle.tp_law_machine.proofs.Taking.{takes_data, takes_ack}
+use Rattle.tp_law_network.proofs.Local.{own-node, owner_of_link}
+use Rattle.tp_law_network.proofs.Flight.{owner_node}
+use Rattle.tp_law_network.proofs.Room.{on_line-plain, datas-plain, acks-plain}
+use Rattle.tp_law_network.proofs.Sound.{end_waits_is, end_holds_is}
+use Rattle.tp_book.specs.Book.{BookValue, agreed}
+use Rattle.tp_book.specs.Calls.{front_of, with_ready, HasTaken}
+use Rattle.tp_book.specs.Refusals.{takeable_of, else_if, entry_refusal, ready_refusal, IsAnswer}
+use Rattle.tp_book.specs.declared.refusal.Refusal.TheVariants.{NothingToTake, StoreBroken}
+use Rattle.tp_book.specs.Kept.{Keeps}
+
+-- what can be taken stands in front, and is no Marker
+pub takeable_front : (ts : List Token) → is_none (takeable_of ts) ≡ false → (rest : List Token) × (ts ≡ get_or ts 0 Marker ∷ rest) × (is_marker (get_or ts 0 Marker) ≡ false)
+takeable_front [] e = cc
+takeable_front (Data b ∷ rest) e = (rest, refl, refl)
+takeable_front (Ack ∷ rest) e = (rest, refl, refl)
+takeable_front (Marker ∷ rest) e = cc
+
+-- a take that was made ready is one of something
+pub ready_some : {A : Type 0} (b : BookValue) (line : ℕ) (x : A) → IsAnswer (ready_refusal b line) (Ok x) → is_none (takeable_of (on_line b.state.lines line)) ≡ false
+ready_some b line x = go (is_none (takeable_of (on_line b.state.lines line)))
+  where
+    go : (none : Bool)
+        → IsAnswer (entry_refusal b 1 (else_if (else_if None none NothingToTake) b.broken StoreBroken)) (Ok x)
+        → none ≡ false
+    go true h = absurd h
+    go false h = refl
+
+pub has_taken : (b r : BookValue) (line number link : ℕ) (before now : NodeState) (answer : Option Token) → r ≡ with_ready b line → receiver b.state.start.wires line ≡ Some (Link number link)
+    → slice_get (agreed b.state) number ≡ Some before → took before link (front_of b line) ≡ Some (now, on_link link answer) → HasTaken r line answer
+has_taken b r line number link before now answer is_ready goes there did =
+    subst (λ x. HasTaken x line answer) (sym is_ready) (record { node = number; link = link; before = before; after = now; goes = goes; there = there; did = did })
+
+module _ (b : BookState NodeState) (K : Keeps b) (line number link : ℕ) (node : NodeState) (goes : receiver b.start.wires line ≡ Some (Link number link)) (there : slice_get (agreed b) number ≡ Some node) where
+  abbrev s : Network NodeState
+  s = plain_network (live b (agreed b))
+
+  inside : (number < length s.nodes) × (link < 4)
+  inside = K.sound.wires.links line number link goes
+
+  comes_back : back s line ≡ Some (4 * number + link)
+  comes_back = ap (option_map (line_of (length s.nodes))) goes
+
+  owner_is : owner (length s.nodes) (4 * number + link) ≡ number
+  owner_is = owner_of_link (length s.nodes) number link inside.0 inside.1
+
+  own_is : own s (owner (length s.nodes) (4 * number + link)) ≡ Some (OfNode node)
+  own_is = ap (own s) owner_is ∙ own-node s number (λ same. omega (arith, inside.0, same)) ∙ ap (option_map OfNode) there
+
+  link_is : (4 * number + link) % 4 ≡ link
+  link_is = let at = owner_node (length s.nodes) number (4 * number + link) inside.0 owner_is in omega (arith, at)
+
+  holds_is : end_holds t414_ends s (4 * number + link) ≡ holds node link
+  holds_is = end_holds_is t414_ends s (length s.nodes) (4 * number + link) (OfNode node) refl own_is ∙ ap (holds node) link_is
+
+  waits_is : end_waits t414_ends s (4 * number + link) ≡ waits node link
+  waits_is = end_waits_is t414_ends s (length s.nodes) (4 * number + link) (OfNode node) refl own_is ∙ ap (waits node) link_is
+
+  datas_here : datas (on_line s.lines line) ≡ datas (on_line b.lines line)
+  datas_here = ap datas (on_line-plain b.lines line) ∙ datas-plain (on_line b.lines line)
+
+  acks_here : acks (on_line s.lines line) ≡ acks (on_line b.lines line)
+  acks_here = ap acks (on_line-plain b.lines line) ∙ acks-plain (on_line b.lines line)
+
+  pub can_take : (token : Token) (rest : List Token) → IsNode node → on_line b.lines line ≡ token ∷ rest → is_marker token ≡ false → IsSome (took node link token)
+  can_take (Data byte) rest N front plainly =
+      let flight = K.sound.flight line (4 * number + link) comes_back in
+      let one : datas (on_line s.lines line) ≡ 1 + datas rest = datas_here ∙ ap datas front in
+      let none : bit (end_holds t414_ends s (4 * number + link)) ≡ 0 = omega (arith, flight, one, bit_small (end_waits t414_ends s line)) in
+      takes_data node link byte N inside.1 (sym holds_is ∙ bit_none (end_holds t414_ends s (4 * number + link)) none)
+  can_take Ack rest N front plainly =
+      let flight = K.sound.flight (4 * number + link) line (K.sound.wires.both_ways line (4 * number + link) comes_back) in
+      let one : acks (on_line s.lines line) ≡ 1 + acks rest = acks_here ∙ ap acks front in
+      let some : 1 ≤ bit (end_waits t414_ends s (4 * number + link)) = omega (arith, flight, one) in
+      takes_ack node link N inside.1 (sym waits_is ∙ bit_some (end_waits t414_ends s (4 * number + link)) some)
+  can_take Marker rest N front plainly = cc
+
+-- the line that comes back to a link leads to it
+pub comes_in : (b : BookState NodeState) (K : Keeps b) (number link line : ℕ) → number < length (agreed b) → link < 4
+    → option_map (line_of (length (agreed b))) (receiver b.start.wires (4 * number + link)) ≡ Some line → receiver b.start.wires line ≡ Some (Link number link)
+comes_in b K number link line below four to =
+    let again = K.sound.wires.both_ways (4 * number + link) line to in
+    let found = map_some (line_of (length (agreed b))) (receiver b.start.wires line) (4 * number + link) again in
+    found.1 ∙ ap Some (same found.0 found.1 found.2)
+  where
+    same : (e : WireEnd) → receiver b.start.wires line ≡ Some e → line_of (length (agreed b)) e ≡ 4 * number + link → e ≡ Link number link
+    same (Link i k) at is =
+        let inside = K.sound.wires.links line i k at in
+        let first : i ≡ number = omega (arith, inside.1, four, is) in
+        let second : k ≡ link = omega (arith, inside.1, four, is) in
+        rw (first, second) refl
+    same (AtPort p) at is = absurd (omega (arith, below, four, is))

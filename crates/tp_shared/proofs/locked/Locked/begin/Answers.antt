@@ -1,0 +1,54 @@
+use Rattle.std.proofs.Common.{◌≡◌, ◌∙◌, length, ap, subst, arith, refl, Some, slice_get}
+use Rattle.std.specs.Prelude.{is_ok}
+use Rattle.std.proofs.lemmas.List.{length-set}
+use Rattle.std.proofs.lemmas.Option.{slice_get_read}
+use Rattle.tp_shared.specs.Entries.{TakesOf}
+use Rattle.tp_shared.specs.Seals.{Stage}
+use Rattle.tp_shared.specs.Gains.{Noted}
+use Rattle.tp_shared.proofs.Holding.{acted_like, takes_of_like}
+use Rattle.tp_shared.proofs.Sealing.{sealed_after, tied_after, noted_by}
+use Rattle.tp_shared.proofs.Writing.{as_many}
+use Rattle.tp_shared.proofs.locked.Locked.begin.Goals as goal
+
+pub invariant_of-self : goal.invariant_of-self
+invariant_of-self g c =
+    let b = c.self.inside.book in
+    let new = c.take_and_reserve-done.new.book in
+    let node = c.take_and_reserve-done.new.node.live in
+    let done = is_ok c.take_and_reserve-done.result in
+    let inv = c.self.invariant in
+    let Are = TakesOf b.state.start c.args.number c.take_and_reserve-done.result in
+    let A = c.take_and_reserve-done.ensures.acted in
+    let at : slice_get c.self.inside.seals.items c.args.number ≡ Some c.index_mut-here.result.now =
+    slice_get_read c.self.inside.seals.items (length c.self.inside.seals.items) c.args.number c.index_mut-here.result.now refl (omega (arith, inv.1, c.requires.there)) c.index_mut-here.ensures.value in
+    let named = (inv.3 c.args.number c.index_mut-here.result.now at).named in
+    let many = as_many c.entries-before.result.now b.state.entries c.entries-before.ensures.entries in (
+      A.grown.ready ∙ inv.0,
+      length-set c.self.inside.seals.items c.args.number _ ∙ inv.1,
+      ap length A.runs ∙ length-set b.runs c.args.number _ ∙ inv.2,
+      sealed_after Are g.J.Naming.node c.self.inside.seals.items b new c.args.number (record { node = node; reserved = done })
+          (record { index = c.index_mut-here.result.now.index; seal = c.turn-2.new.seal }) inv.3 A
+          (omega (arith, inv.1, c.requires.there)) (c.turn-2.ensures.names.0 ∙ c.turn.ensures.names.0 ∙ named)
+          (ap (λ x. x.state) c.turn-2.ensures.seal ∙ c.with-now.ensures ∙ ap (λ r. record { node = node; reserved = r }) c.is_ok.ensures.value),
+      c.write_new.ensures.names.0 ∙ inv.4,
+      c.write_new.ensures.first ∙ inv.5,
+      tied_after Are b new A.grown (length c.entries-before.result.now) many g.J.Naming.first c.self.inside.roll.items c.write_new.new.roll.items inv.6 c.write_new.ensures.roll,
+      ap (λ s. s.wires) A.grown.start ∙ inv.7,
+      ap (λ s. length s.nodes) A.grown.start ∙ inv.8,
+    )
+
+pub returns-clause-noted : goal.returns-clause-noted
+returns-clause-noted g c =
+    let b = c.self.inside.book in
+    let new = c.take_and_reserve-done.new.book in
+    let inv = c.self.invariant in
+    let Are = TakesOf g.J.Naming.start c.args.number c.take_and_reserve-done.result in
+    let A = acted_like (TakesOf b.state.start c.args.number c.take_and_reserve-done.result) Are c.args.number (record { node = c.take_and_reserve-done.new.node.live; reserved = is_ok c.take_and_reserve-done.result }) b new
+    (λ es. takes_of_like g.J.Naming.start b.state.start c.args.number c.take_and_reserve-done.result es inv.7 inv.8) c.take_and_reserve-done.ensures.acted in
+    let many = as_many c.entries-before.result.now b.state.entries c.entries-before.ensures.entries in
+    let old_stage : Stage = record { book = b; all = c.self.inside.roll.items } in
+    let new_stage : Stage = record { book = new; all = c.write_new.new.roll.items } in
+    subst (λ stage. Noted Are g.J.Naming.first stage new_stage c.args.seat.now c.write_new.new.slips.items) c.self.view_is
+    (subst (λ seat. Noted Are g.J.Naming.first old_stage new_stage seat c.write_new.new.slips.items) c.seat.view_is
+    (noted_by Are b new old_stage new_stage g.J.Naming.first c.self.inside.roll.first (length c.entries-before.result.now) c.seat.inside.slips.items c.write_new.new.slips.items
+    A.grown many inv.5 c.write_new.ensures.roll c.write_new.ensures.slips c.write_new.ensures.sound))

@@ -1,0 +1,32 @@
+use Rattle.std.proofs.Common.{ap, sym, ◌∙◌, length, arith}
+use Rattle.tp_shared.specs.Parted.{name_of}
+use Rattle.tp_shared.proofs.Dealing.{celled_start}
+use Rattle.tp_shared.proofs.shared.Shared.start.Goals as goal
+
+pub new-requires-3 : goal.new-requires-3
+new-requires-3 g c = (
+  omega arith,
+  celled_start 0 g.J.Naming.node c.parts.inside.seals.items (length c.parts.inside.book.state.start.nodes) (length g.J.Naming.start.nodes) c.parts.inside.dealt.p0.items
+      (ap (λ v. length v.book.state.start.nodes) c.parts.view_is ∙ c.requires.count_is) (λ i. c.requires.nodes_are i ∙ sym (ap (λ v. name_of v.seals i) c.parts.view_is)) c.parts.invariant.shares.zeroth,
+)
+
+pub new-requires-5 : goal.new-requires-5
+new-requires-5 g c = (
+  omega arith,
+  celled_start 1 g.J.Naming.node c.parts.inside.seals.items (length c.parts.inside.book.state.start.nodes) (length g.J.Naming.start.nodes) c.parts.inside.dealt.p1.items
+      (ap (λ v. length v.book.state.start.nodes) c.parts.view_is ∙ c.requires.count_is) (λ i. c.requires.nodes_are i ∙ sym (ap (λ v. name_of v.seals i) c.parts.view_is)) c.parts.invariant.shares.first,
+)
+
+pub new-requires-7 : goal.new-requires-7
+new-requires-7 g c = (
+  omega arith,
+  celled_start 2 g.J.Naming.node c.parts.inside.seals.items (length c.parts.inside.book.state.start.nodes) (length g.J.Naming.start.nodes) c.parts.inside.dealt.p2.items
+      (ap (λ v. length v.book.state.start.nodes) c.parts.view_is ∙ c.requires.count_is) (λ i. c.requires.nodes_are i ∙ sym (ap (λ v. name_of v.seals i) c.parts.view_is)) c.parts.invariant.shares.second,
+)
+
+pub new-requires-9 : goal.new-requires-9
+new-requires-9 g c = (
+  omega arith,
+  celled_start 3 g.J.Naming.node c.parts.inside.seals.items (length c.parts.inside.book.state.start.nodes) (length g.J.Naming.start.nodes) c.parts.inside.dealt.p3.items
+      (ap (λ v. length v.book.state.start.nodes) c.parts.view_is ∙ c.requires.count_is) (λ i. c.requires.nodes_are i ∙ sym (ap (λ v. name_of v.seals i) c.parts.view_is)) c.parts.invariant.shares.third,
+)

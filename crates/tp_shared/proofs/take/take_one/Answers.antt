@@ -1,0 +1,52 @@
+use Rattle.std.proofs.Common.{◌≡◌, ◌∙◌, subst, rules}
+use Rattle.tp_law_machine.specs.NodeOfBytes.{CarriesByte}
+use Rattle.tp_law_machine.proofs.Nodes.{carries, node_took}
+use Rattle.tp_model.specs.Network.{on_line}
+use Rattle.tp_model.specs.Node.{on_link}
+use Rattle.tp_node.proofs.Answered.{takes_ok}
+use Rattle.tp_book.specs.Calls.{front_of}
+use Rattle.tp_shared.proofs.Takeable.{takeable_front, ready_some, has_taken}
+use Rattle.tp_shared.proofs.Takeable.{can_take}
+use Rattle.tp_shared.proofs.Growing.{added_none}
+use Rattle.tp_shared.proofs.Taking.{take_added, take_there}
+use Rattle.tp_shared.proofs.take.take_one.Goals as goal
+
+pub take-requires : goal.take-requires
+take-requires c =
+    let some = ready_some c.args.book.now c.args.line c.in-Ok.token c.in-Ok.ensures.answer in
+    let front = takeable_front (on_line c.args.book.now.state.lines c.args.line) some in
+    rw c.in-Ok.ensures.ok.1
+    (can_take c.args.book.now.state c.known.ensures.keeps c.args.line c.args.number c.args.link c.args.node.now.live c.requires.goes c.requires.agrees.there (front_of c.args.book.now c.args.line) front.0 c.requires.agrees.image.image front.1 front.2)
+
+pub commit_take-note-requires-clause-took : goal.commit_take-note-requires-clause-took
+commit_take-note-requires-clause-took c =
+    let did = rw c.in-Ok.ensures.ok.1 at (takes_ok _ _ _ _ _ c.in-Ok-take.sent c.in-Ok-take.ensures.takes) in
+    has_taken c.args.book.now c.ready_take.new.self c.args.line c.args.number c.args.link c.args.node.now.live c.take.new.self.live c.in-Ok-take.sent
+    c.in-Ok.ensures.ok.0 c.requires.goes c.requires.agrees.there did
+
+pub returns-in-Ok-take-clause-added : goal.returns-in-Ok-take-clause-added
+returns-in-Ok-take-clause-added c =
+    let did = rw c.in-Ok.ensures.ok.1 at (takes_ok _ _ _ _ _ c.in-Ok-take.sent c.in-Ok-take.ensures.takes) in
+    take_added c.args.book.now c.ready_take.new.self c.commit_take-note.new.self c.args.line c.args.number c.args.link c.args.node.now.live c.take.new.self.live c.in-Ok-take.sent
+    c.in-Ok.ensures.ok.0 c.commit_take-note.ensures.book c.requires.goes c.requires.idle c.requires.agrees.there did c.commit_take-note.ensures.agreed
+
+pub returns-in-Ok-take-clause-agrees : goal.returns-in-Ok-take-clause-agrees
+returns-in-Ok-take-clause-agrees c =
+    let did = rw c.in-Ok.ensures.ok.1 at (takes_ok _ _ _ _ _ c.in-Ok-take.sent c.in-Ok-take.ensures.takes) in
+    let carried : CarriesByte (front_of c.args.book.now c.args.line) = subst CarriesByte c.in-Ok.ensures.ok.1 (carries c.in-Ok.token c.carries_byte.ensures) in
+    record {
+      there = take_there c.args.book.now c.ready_take.new.self c.commit_take-note.new.self c.args.line c.args.number c.args.link c.args.node.now.live c.take.new.self.live c.in-Ok-take.sent
+          c.in-Ok.ensures.ok.0 c.commit_take-note.ensures.book c.requires.goes c.requires.idle c.requires.agrees.there did c.commit_take-note.ensures.agreed;
+      image = (node_took c.args.node.now.live c.args.link (front_of c.args.book.now c.args.line) (c.take.new.self.live, on_link c.args.link c.in-Ok-take.sent) c.requires.agrees.image carried did).0;
+      thawed = c.take.ensures.kept ∙ c.requires.agrees.thawed;
+    }
+
+pub returns-in-Err-NothingToTake-clause-added : goal.returns-in-Err-NothingToTake-clause-added
+returns-in-Err-NothingToTake-clause-added c =
+    let same : c.ready_take.new.self ≡ c.args.book.now = search rules in
+    added_none c.args.book.now c.ready_take.new.self c.args.number c.args.node.now.live same c.requires.agrees.there
+
+pub returns-in-Err-clause-added : goal.returns-in-Err-clause-added
+returns-in-Err-clause-added c =
+    let same : c.ready_take.new.self ≡ c.args.book.now = search rules in
+    added_none c.args.book.now c.ready_take.new.self c.args.number c.args.node.now.live same c.requires.agrees.there

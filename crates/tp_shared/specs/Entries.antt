@@ -1,0 +1,45 @@
+-- What entries are of which process.
+use Rattle.std.specs.Prelude.{◌≡◌, ℕ, Bool, true, false, ◌==◌, nat_le, if◌then◌else◌, List, [], ◌∷◌, length, Result, Ok, Err}
+use Rattle.std.specs.List.{AllByRecursion}
+use Rattle.tp_model.specs.declared.entry.Entry.{Entry}
+use Rattle.tp_model.specs.declared.entry.Entry.TheVariants.{Run, Take, HostIn, Confirm}
+use Rattle.tp_model.specs.NodeState.{NodeState}
+use Rattle.tp_model.specs.Network.{Network}
+use Rattle.tp_model.specs.Entries.{process}
+use Rattle.tp_book.specs.Book.{BookValue}
+use Rattle.tp_book.specs.Host.{port_in}
+use Rattle.tp_book.specs.declared.refusal.Refusal.{Refusal}
+
+-- a Take of this process
+abbrev pub IsTakeBy : Network NodeState → ℕ → Entry → Type 0
+IsTakeBy start number (Run i k) = ⊥
+IsTakeBy start number (Take line token) = process start (Take line token) ≡ number
+IsTakeBy start number (HostIn p x) = ⊥
+IsTakeBy start number (Confirm p upto) = ⊥
+
+-- all are Takes of this process
+abbrev pub Takes : Network NodeState → ℕ → List Entry → Type 0
+Takes start number = AllByRecursion (IsTakeBy start number)
+
+-- they are so many
+abbrev pub CountedTakes : Network NodeState → ℕ → ℕ → List Entry → Type 0
+CountedTakes start number count entries = (length entries ≡ count) × Takes start number entries
+
+-- how many tokens were taken, where at most one was
+abbrev pub taken : Result Bool Refusal → ℕ
+taken (Ok true) = 1
+taken (Ok false) = 0
+taken (Err e) = 0
+
+-- the entries of takes that were answered with their number, or broken off
+abbrev pub TakesOf : Network NodeState → ℕ → Result ℕ Refusal → List Entry → Type 0
+TakesOf start number (Ok count) = CountedTakes start number count
+TakesOf start number (Err e) = Takes start number
+
+-- a run's entry; none without a step
+abbrev pub run_entries : ℕ → ℕ → List Entry
+run_entries node count = if count == 0 then [] else Run node count ∷ []
+
+-- the entry of outputs that are confirmed; none up to a position that was confirmed before
+abbrev pub confirm_entries : BookValue → ℕ → ℕ → List Entry
+confirm_entries b port upto = if nat_le upto (port_in b port).out_base then [] else Confirm port upto ∷ []

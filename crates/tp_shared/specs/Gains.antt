@@ -1,0 +1,22 @@
+-- What a seat gains.
+use Rattle.std.specs.Prelude.{◌≡◌, ◌<◌, ℕ, ◌+◌, List, ◌++◌, length}
+use Rattle.std.specs.List.{AllByRecursion, enumerate_from}
+use Rattle.tp_model.specs.declared.entry.Entry.{Entry}
+use Rattle.tp_shared.specs.Seals.{Stage}
+
+-- What a hold of the book's lock did: some entries were journalled, which are so, and the seat has the slips of just these. All
+-- slips that it had have numbers below theirs.
+pub record Noted (Are : List Entry → Type 0) (first : ℕ) (old new : Stage) (seat_old seat_new : List (ℕ × Entry)) : Type 0 where
+  pub entries : List Entry
+  pub are : Are entries
+  pub journal : new.all ≡ old.all ++ entries
+  pub seat : seat_new ≡ seat_old ++ enumerate_from (first + length old.all) entries
+  pub below : AllByRecursion (λ x. x.0 < first + length old.all) seat_old
+
+-- The same for whoever doesn't see the book: the numbers follow one another.
+pub record Gained (Are : List Entry → Type 0) (seat_old seat_new : List (ℕ × Entry)) : Type 0 where
+  pub next : ℕ
+  pub entries : List Entry
+  pub are : Are entries
+  pub seat : seat_new ≡ seat_old ++ enumerate_from next entries
+  pub below : AllByRecursion (λ x. x.0 < next) seat_old

@@ -1,0 +1,16 @@
+-- What is picked for parts that are put under locks.
+use Rattle.std.specs.Prelude.{◌≡◌, ℕ, length}
+use Rattle.tp_mark.specs.Seen.{MarkName}
+use Rattle.tp_model.specs.NodeState.{NodeState}
+use Rattle.tp_model.specs.Network.{Network}
+use Rattle.tp_shared.specs.Parted.{name_of, PartsValue}
+
+-- What is picked is that of the parts: the names of the roll, the nodes and the mark, the number of the first entry, and a network
+-- with the same wires and as many nodes.
+pub record Names (roll first : ℕ) (start : Network NodeState) (node : ℕ → ℕ) (mark : MarkName) (parts : PartsValue) : Type 0 where
+  pub roll_is : parts.roll ≡ roll
+  pub first_is : parts.first ≡ first
+  pub wires_are : parts.book.state.start.wires ≡ start.wires
+  pub count_is : length parts.book.state.start.nodes ≡ length start.nodes
+  pub nodes_are : (i : ℕ) → node i ≡ name_of parts.seals i
+  pub mark_is : parts.mark ≡ mark

@@ -1,0 +1,40 @@
+-- Parts that belong together.
+use Rattle.std.specs.Prelude.{◌≡◌, ℕ, zero, suc, List, [], ◌∷◌, length, None}
+use Rattle.tp_mark.specs.Seen.{MarkName}
+use Rattle.tp_model.specs.declared.entry.Entry.{Entry}
+use Rattle.tp_book.specs.Book.{BookValue}
+use Rattle.tp_shared.specs.Cells.{Celled}
+use Rattle.tp_shared.specs.Seals.{Sealed, IsTied}
+use Rattle.tp_shared.specs.declared.dealt.Dealt.{Dealt}
+use Rattle.tp_shared.specs.declared.seal.NodeSeal.{NodeSeal}
+
+-- the name of each seal
+abbrev pub name_of : List NodeSeal → ℕ → ℕ
+name_of [] i = 0
+name_of (s ∷ ss) zero = s.seal.name
+name_of (s ∷ ss) (suc i) = name_of ss i
+
+-- Seals and places of so many nodes of a book: each seal and the key beside its node show what the book agrees on.
+pub record IsDealt (b : BookValue) (seals : List NodeSeal) (dealt : Dealt) (count : ℕ) : Type 0 where
+  pub many : length seals ≡ count
+  pub sealed : Sealed (name_of seals) seals b
+  pub zeroth : Celled 0 (name_of seals) count dealt.p0.items
+  pub first : Celled 1 (name_of seals) count dealt.p1.items
+  pub second : Celled 2 (name_of seals) count dealt.p2.items
+  pub third : Celled 3 (name_of seals) count dealt.p3.items
+
+-- The parts belong together: no take is made ready, there is a seal and a place for each node, and the roll has all entries.
+pub record AreParts (b : BookValue) (seals : List NodeSeal) (dealt : Dealt) (roll_first : ℕ) (all : List Entry) : Type 0 where
+  pub idle : b.ready ≡ None
+  pub runs : length b.runs ≡ length b.state.start.nodes
+  pub shares : IsDealt b seals dealt (length b.state.start.nodes)
+  pub tied : IsTied roll_first all b
+
+-- What contracts see of parts: the book, the seals, the name of the roll, the number of its first entry and its entries, and the mark.
+pub record PartsValue : Type 0 where
+  pub book : BookValue
+  pub seals : List NodeSeal
+  pub roll : ℕ
+  pub first : ℕ
+  pub all : List Entry
+  pub mark : MarkName

@@ -1,0 +1,146 @@
+//! The nodes under one lock, and their turns.
+
+ghost use Rattle.std.specs.Prelude.{◌≡◌, ◌<◌, ◌≤◌, ◌%◌, Some, true, false, None, length, is_ok, MatchResult};
+ghost use Rattle.tp_law_machine.specs.NodeOfBytes.{IsNodeOfBytes};
+ghost use Rattle.tp_model.specs.Network.{steps};
+ghost use Rattle.tp_model.specs.Node.{t414};
+ghost use Rattle.tp_model.specs.declared.limits.TheConstants.{MAX_STEPS};
+ghost use Rattle.tp_shared.specs.Cells.{Celled};
+ghost use Rattle.tp_shared.specs.Entries.{Takes, TakesOf, run_entries};
+ghost use Rattle.tp_shared.specs.Gains.{Gained};
+ghost use Rattle.tp_shared.specs.Seals.{Shows};
+ghost use Rattle.tp_shared.specs.Turned.{Turned};
+
+use crate::gate::{COMMITTED, Gate, NODE_LOCKED, RUN_DONE};
+use crate::locked::Locked;
+use crate::naming::Naming;
+use crate::node_turn::NodeTurn;
+use crate::place::Place;
+use crate::seat::Seat;
+use arrayvec::ArrayVec;
+use std::marker::{Model, PhantomData};
+use std::sync::{Mutex, Wait};
+use tp_book::Refusal;
+use tp_model::Token;
+
+/// Every fourth node, from the node `I` on.
+#[derive(Drop)]
+pub struct Cell<const I: usize, J: Naming> {
+    places: Vec<Place>,
+    of: PhantomData<J>,
+}
+
+impl<const I: usize, J: Naming> Model for Cell<I, J> {
+    ghost use Rattle.std.specs.Prelude.{List, length};
+    ghost use Rattle.tp_shared.specs.declared.place.Place.{Place};
+    ghost use Rattle.tp_shared.specs.Cells.{Celled};
+
+    ghost Value = { List Place };
+
+    ghost view = { λ c. c.places.items };
+
+    ghost invariant = { λ c. Celled I J.node (length J.start.nodes) c.places.items };
+}
+
+// The first hold of the book's lock in a node's turn.
+fn begin<J: Naming, R: Wait>(
+    rt: &R,
+    book: &Mutex<Locked<J>>,
+    place: &mut Place,
+    seat: &mut Seat<J>,
+    number: u8,
+) -> Result<usize, Refusal>
+    requires there { number < length J.start.nodes }
+    requires named { place.old.key.name ≡ J.node number }
+    requires shows { Shows place.old false }
+    ensures named { place.new.key.name ≡ place.old.key.name }
+    ensures shows { Shows place.new (is_ok result) }
+    ensures gained { Gained (TakesOf J.start number result) seat.old seat.new }
+{
+    let mut held = book.lock(rt);
+    held.begin(place, seat, number)
+}
+
+// The second one.
+fn commit<J: Naming, R: Wait>(
+    rt: &R,
+    book: &Mutex<Locked<J>>,
+    place: &mut Place,
+    seat: &mut Seat<J>,
+    number: u8,
+    count: u16,
+    tokens: &[(u8, Token)],
+)
+    requires there { number < length J.start.nodes }
+    requires named { place.old.key.name ≡ J.node number }
+    requires reserved { place.old.key.value.state.reserved ≡ true }
+    requires few { count ≤ MAX_STEPS }
+    requires ran { steps t414 count place.old.key.value.state.node ≡ Some (place.old.node.live, tokens.now) }
+    requires image { IsNodeOfBytes place.old.node.live }
+    requires thawed { place.old.node.frozen ≡ None }
+    ensures named { place.new.key.name ≡ place.old.key.name }
+    ensures shows { Shows place.new false }
+    ensures gained { Gained (λ entries. entries ≡ run_entries number count) seat.old seat.new }
+{
+    let mut held = book.lock(rt);
+    held.commit(place, seat, number, count, tokens);
+}
+
+// A turn of a node whose lock is held. The book's is let go while the node runs.
+fn turn_of<J: Naming, G: Gate, R: Wait>(
+    rt: &R,
+    gate: &G,
+    book: &Mutex<Locked<J>>,
+    place: &mut Place,
+    seat: &mut Seat<J>,
+    number: u8,
+    quantum: u16,
+) -> Result<NodeTurn, Refusal>
+    requires quantum { quantum ≤ MAX_STEPS }
+    requires there { number < length J.start.nodes }
+    requires named { place.old.key.name ≡ J.node number }
+    requires shows { Shows place.old false }
+    ensures named { place.new.key.name ≡ place.old.key.name }
+    ensures shows { Shows place.new false }
+    ensures turned { MatchResult result (λ turn. Turned J.start number quantum turn seat.old seat.new) (λ e. Gained (Takes J.start number) seat.old seat.new) }
+{
+    gate.at(number, NODE_LOCKED);
+    let taken = begin(rt, book, place, seat, number)?;
+    let mut sent = ArrayVec::new();
+    let ran = place.run(quantum, &mut sent);
+    gate.at(number, RUN_DONE);
+    commit(rt, book, place, seat, number, ran.count(), sent.as_slice());
+    gate.at(number, COMMITTED);
+    Ok(NodeTurn { taken, ran })
+}
+
+impl<const I: usize, J: Naming> Cell<I, J> {
+    pub(crate) fn new(places: Vec<Place>) -> Cell<I, J>
+        requires { Celled I J.node (length J.start.nodes) places.items }
+    {
+        Cell {
+            places,
+            of: PhantomData,
+        }
+    }
+
+    /// A turn of the node `number`, which is one of the cell's.
+    pub(crate) fn turn<G: Gate, R: Wait>(
+        &mut self,
+        rt: &R,
+        gate: &G,
+        book: &Mutex<Locked<J>>,
+        seat: &mut Seat<J>,
+        number: u8,
+        quantum: u16,
+    ) -> Result<NodeTurn, Refusal>
+        requires quantum { quantum ≤ MAX_STEPS }
+        requires there { number < length J.start.nodes }
+        requires here { number % 4 ≡ I }
+        ensures turned { MatchResult result (λ turn. Turned J.start number quantum turn seat.old seat.new) (λ e. Gained (Takes J.start number) seat.old seat.new) }
+    {
+        let Cell { places, .. } = self;
+        let place = &mut places[number as usize / 4];
+        turn_of(rt, gate, book, place, seat, number, quantum)
+    }
+}

@@ -1,0 +1,60 @@
+//! What the host does while the book's lock is held.
+
+ghost use Rattle.std.specs.Prelude.{◌≡◌, ◌<◌, ◌≤◌, ◌+◌, [], length, map, IfOk, OnErr};
+ghost use Rattle.tp_book.specs.Book.{next_number};
+ghost use Rattle.tp_book.specs.Host.{after_input, input_refusal, port_in, after_confirm, confirm_refusal};
+ghost use Rattle.tp_book.specs.Refusals.{IsAnswer};
+ghost use Rattle.tp_model.specs.declared.entry.Entry.TheVariants.{HostIn};
+ghost use Rattle.tp_shared.specs.Entries.{confirm_entries};
+ghost use Rattle.tp_shared.specs.Gains.{Noted};
+
+use crate::locked::Locked;
+use crate::naming::Naming;
+use crate::receipt::Receipt;
+use crate::seat::Seat;
+use crate::write::write_new;
+use tp_book::Refusal;
+
+impl<J: Naming> Locked<J> {
+    /// Journals bytes that the host hands to a port: all of them or, where it is refused, none. The receipt has the slips of
+    /// their entries, and the next number as its own.
+    pub fn host_in(&mut self, port: u8, bytes: &[u8]) -> Result<Receipt<J>, Refusal>
+        requires there { port < length self.old.book.state.ports }
+        ensures answer { IsAnswer (input_refusal self.old.book port (length bytes.now)) result }
+        ensures book { IfOk result (λ receipt. self.new.book ≡ after_input self.old.book port bytes.now) }
+        ensures number { IfOk result (λ receipt. receipt.number ≡ next_number self.new.book) }
+        ensures noted { IfOk result (λ receipt. Noted (λ entries. entries ≡ map (HostIn port) bytes.now) J.first self.old self.new [] receipt.seat) }
+        ensures err { OnErr result (self.new ≡ self.old) }
+    {
+        let Locked { book, roll, .. } = self;
+        let before = book.entries().len();
+        let given = book.host_in(port, bytes)?;
+        let mut seat = Seat::new();
+        write_new(book, before, roll, &mut seat.slips);
+        Ok(Receipt {
+            number: given.number(),
+            seat,
+        })
+    }
+    /// Journals that the host has a port's outputs up to a position, which go. Up to a position that was confirmed before nothing is
+    /// done. The receipt has the entry's slip, where there is one, and the next number as its own.
+    pub fn confirm(&mut self, port: u8, upto: u64) -> Result<Receipt<J>, Refusal>
+        requires there { port < length self.old.book.state.ports }
+        requires held { upto ≤ (port_in self.old.book port).out_base + length (port_in self.old.book port).outputs }
+        ensures answer { IsAnswer (confirm_refusal self.old.book port upto) result }
+        ensures book { IfOk result (λ receipt. self.new.book ≡ after_confirm self.old.book port upto) }
+        ensures number { IfOk result (λ receipt. receipt.number ≡ next_number self.new.book) }
+        ensures noted { IfOk result (λ receipt. Noted (λ entries. entries ≡ confirm_entries self.old.book port upto) J.first self.old self.new [] receipt.seat) }
+        ensures err { OnErr result (self.new ≡ self.old) }
+    {
+        let Locked { book, roll, .. } = self;
+        let before = book.entries().len();
+        let given = book.confirm(port, upto)?;
+        let mut seat = Seat::new();
+        write_new(book, before, roll, &mut seat.slips);
+        Ok(Receipt {
+            number: given.number(),
+            seat,
+        })
+    }
+}

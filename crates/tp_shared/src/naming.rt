@@ -1,0 +1,38 @@
+//! Which network is meant.
+
+ghost use Rattle.std.specs.Prelude.{ℕ, []};
+ghost use Rattle.tp_mark.specs.Seen.{MarkName};
+ghost use Rattle.tp_model.specs.NodeState.{NodeState};
+ghost use Rattle.tp_model.specs.Network.{Network};
+
+use std::marker::Brand;
+
+/// Which network, tokens and mark all that lies under locks belongs to. Each call of a program picks it.
+pub trait Naming {
+    /// The name of the roll of all entries.
+    ghost roll: { ℕ };
+
+    /// The number of the first entry after the opening.
+    ghost first: { ℕ };
+
+    /// A network with the same wires and as many nodes.
+    ghost start: { Network NodeState };
+
+    /// The name of each node's twin.
+    ghost node: { ℕ → ℕ };
+
+    /// The durable mark.
+    ghost mark: { MarkName };
+}
+
+impl Naming for Brand {
+    ghost roll = { 0 };
+
+    ghost first = { 0 };
+
+    ghost start = { record { wires = []; nodes = []; ports = []; lines = [] } };
+
+    ghost node = { λ i. i };
+
+    ghost mark = { record { words = 1; slots = 0; views_name = 0; atom = 0; block = 0; offset = 0; slot_names = [] } };
+}

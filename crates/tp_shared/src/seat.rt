@@ -1,0 +1,47 @@
+//! Seats: what was journalled, in the hand of one thread.
+
+ghost use Rattle.std.specs.Prelude.{◌≡◌, ℕ, List, [], ◌++◌};
+
+use crate::naming::Naming;
+use std::marker::{Model, PhantomData};
+use tp_model::Entry;
+use tp_token::{Slips, empty, transfer};
+
+/// The slips of entries, in the order in which they came. Contracts see each as its number and its entry. Nobody can copy
+/// one.
+#[derive(Drop)]
+pub struct Seat<J: Naming> {
+    pub(crate) slips: Slips<Entry>,
+    pub(crate) of: PhantomData<J>,
+}
+
+impl<J: Naming> Model for Seat<J> {
+    ghost use Rattle.std.specs.Prelude.{◌≡◌, ℕ, List};
+    ghost use Rattle.tp_model.specs.declared.entry.Entry.{Entry};
+
+    ghost Value = { List (ℕ × Entry) };
+
+    ghost view = { λ s. s.slips.items };
+
+    ghost invariant = { λ s. s.slips.name ≡ J.roll };
+}
+
+impl<J: Naming> Seat<J> {
+    /// A seat without a slip.
+    pub fn new() -> Seat<J>
+        ensures { result ≡ [] }
+    {
+        Seat {
+            slips: empty::<Entry>(),
+            of: PhantomData,
+        }
+    }
+
+    /// Takes all slips of `other` behind its own.
+    pub fn absorb(&mut self, other: Seat<J>)
+        ensures { self.new ≡ self.old ++ other }
+    {
+        let Seat { mut slips, .. } = other;
+        transfer(&mut self.slips, &mut slips);
+    }
+}

@@ -1,0 +1,6 @@
+//! Two threads over what they share.
+#![tactic(auto)]
+
+mod workers;
+
+pub use workers::{turns, turns_of_both};
