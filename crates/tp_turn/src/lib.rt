@@ -13,5 +13,5 @@ pub use host::host_turn;
 pub use law::tried_images_are_formatted;
 pub use run::run_quantum;
 pub use take::{TAKES, take_links};
-pub use trial::{Tried, TryFault, try_turns};
+pub use trial::{ONE_WIRE, Tried, TryFault, lone_node, try_turns};
 pub use turn::{TURN_ENTRIES, node_turn};
