@@ -2,7 +2,7 @@
 use Rattle.std.proofs.Common.{◌≡◌, ℕ, ◌+◌, ◌-◌, ◌*◌, ◌<◌, ◌≤◌, inl, inr, Bool, true, false, List, [], ◌∷◌, length, take, drop, get_or, refl, sym, ap, subst, ◌∙◌, arith, add-zero, Some, None, Result, Ok, Err, OnOk, OnErr}
 use Rattle.std.specs.Prelude.{not, nat_lt, if◌then◌else◌}
 use Rattle.std.proofs.lemmas.Bool.{cond-false, ne_eqb, eq-eqb}
-use Rattle.std.proofs.lemmas.Option.{cond_some}
+use Rattle.std.proofs.lemmas.Option.{cond_some, same_Some}
 use Rattle.std.proofs.lemmas.List.{drop_more, get_or-drop}
 use Rattle.tp_model.specs.declared.opening.OpenFault.{OpenFault}
 use Rattle.tp_model.specs.declared.limits.TheConstants.{GATE_CLOSED}
@@ -26,6 +26,7 @@ use Rattle.tp_area.specs.Places.{cut_field, listed, place_in, place_at}
 use Rattle.tp_area.specs.Other.{other_gate, if_open, OtherIsClosed, Cleared, PutBehind, Switched}
 use Rattle.tp_area.specs.Crashes.{OpensTo, OpensToEither, RestsAs}
 use Rattle.tp_area.proofs.SameFront.{front_of_range, u64_same}
+use Rattle.tp_area.proofs.Behind.{head_ends}
 use Rattle.tp_area.proofs.Frames.{drop_written}
 use Rattle.tp_area.proofs.Placed.{content_at, found_at, is_placed, place_is}
 use Rattle.tp_area.proofs.OpenedPlace.{opening_place}
@@ -80,17 +81,13 @@ unfolding chosen_area
 chosen_alone area false bytes own shut = alone (area_start area true) (is_open (gate_of area false bytes)) (is_open (gate_of area true bytes)) false _ _ own shut
 chosen_alone area true bytes own shut = alone (area_start area true) (is_open (gate_of area false bytes)) (is_open (gate_of area true bytes)) true _ _ own shut
 
-gates_behind_head : (area : ℕ) (second : Bool) → 512 ≤ area_start area second
-gates_behind_head area false = omega arith
-gates_behind_head area true = omega arith
-
 -- the place stays, whatever is written there, while that gate is closed
 pub place_stays : (place : Place) (bytes new : List ℕ) (at count : ℕ) → 1 ≤ place.area → place_in bytes ≡ Some place → InOther place at count → SameOutside at count bytes new
     → is_open (gate_of place.area (not place.second) new) ≡ false → place_in new ≡ Some place
 place_stays place bytes new at count some said lies same shut =
     let is = is_placed bytes place said in
     let low = lies.from in
-    let start = gates_behind_head place.area (not place.second) in
+    let start = head_ends place.area (not place.second) in
     let content = own_content_stays place.area place.second at count bytes new some lies.from lies.upto same in
     let gate = own_gate_same place.area place.second at count bytes new some lies.from lies.upto same in
     let found : found_at place new ≡ found_at place bytes = ap (listed (area_start place.area place.second + 1)) content in
@@ -175,15 +172,12 @@ gate_then gate true old new is inside called =
       subst (SameOutside gate 1 old.now.bytes) (sym now) (written_same_outside old.now.bytes gate gate_closed (omega arith)),
     )
 
-same_some : {A : Type 0} (x y : A) → Some x ≡ Some y → x ≡ y
-same_some x y h = cc
-
 -- where the areas of an open device say that the other gate is open
 open_other_is : (place : Place) (bytes : List ℕ) → place_in bytes ≡ Some place → (o : Opened) → opening t414 t414_ends bytes ≡ Ok o
     → device_areas.open_other bytes ≡ if_open (other_gate place) bytes
 unfolding open_other_of
 open_other_is place bytes said o is =
-    let here : place_at o ≡ place = same_some (place_at o) place (sym (opening_place t414 t414_ends bytes o is) ∙ said) in
+    let here : place_at o ≡ place = same_Some (place_at o) place (sym (opening_place t414 t414_ends bytes o is) ∙ said) in
     ap (λ r. open_other_of r bytes) is ∙ ap (λ (p : Place). if_open (other_gate p) bytes) here
 
 pub cleared_by : (place : Place) (old new : State) → place_in old.now.bytes ≡ Some place → other_gate place < length old.now.bytes
@@ -236,7 +230,7 @@ spare_is o bytes shut = cond-false (other_is_open o bytes) (0, 0) (other_start o
 lies_spare : (place : Place) (at : ℕ) (bytes : List ℕ) (old : State) → place_in old.now.bytes ≡ Some place → at + length bytes < place.area → OtherIsClosed place old
     → (o : Opened) → opening t414 t414_ends old.now.bytes ≡ Ok o → IsWithin (device_areas.spare old.now.bytes) (other_gate place + 1 + at, length bytes)
 lies_spare place at bytes old said inside shut o is =
-    let here : place_at o ≡ place = same_some (place_at o) place (sym (opening_place t414 t414_ends old.now.bytes o is) ∙ said) in
+    let here : place_at o ≡ place = same_Some (place_at o) place (sym (opening_place t414 t414_ends old.now.bytes o is) ∙ said) in
     let P : Place → Type 0 = λ p. OtherIsClosed p old → at + length bytes < p.area → IsWithin (spare_of (Ok o) old.now.bytes) (other_gate p + 1 + at, length bytes) in
     let own : P (place_at o) = λ closed small. subst (λ range. IsWithin range (other_gate (place_at o) + 1 + at, length bytes)) (sym (spare_is o old.now.bytes closed)) (omega arith, omega arith) in
     subst (λ r. IsWithin (spare_of r old.now.bytes) (other_gate place + 1 + at, length bytes)) (sym is) (subst P here own shut inside)
@@ -295,7 +289,7 @@ other_is : (place : Place) (bytes : List ℕ) → place_in bytes ≡ Some place 
     → device_areas.other bytes ≡ Some (other_gate place, k)
 other_is place bytes said h k gate stands other =
     let o = held_ok (opening t414 t414_ends bytes) h stands in
-    let here : place_at o.0 ≡ place = same_some (place_at o.0) place (sym (opening_place t414 t414_ends bytes o.0 o.1) ∙ said) in
+    let here : place_at o.0 ≡ place = same_Some (place_at o.0) place (sym (opening_place t414 t414_ends bytes o.0 o.1) ∙ said) in
     let there : gate ≡ other_gate place =
     other_gate_is o.0 bytes gate k (ap (λ r. other_of t414 t414_ends r bytes) (sym o.1) ∙ other) ∙ ap (λ (p : Place). other_gate p) here in
     subst (λ n. device_areas.other bytes ≡ Some (n, k)) there other

@@ -46,7 +46,7 @@ pub record Wrote (first head : List ℕ) (area : ℕ) (old new : State) : Type 0
   pub called : Called (put_calls pieces ++ (Sync ∷ Write 0 head ∷ Sync ∷ [])) old new
   pub bytes : new.now.bytes ≡ written (with_areas first area old.now.bytes) 0 head
 
--- The device was formatted for the network of these images, before its first entry, and so is whatever a crash leaves from
+-- The device was formatted for the network of the images, before its first entry, and so is whatever a crash leaves from
 -- then on.
 pub record Formatted (t : Topology) (images : List (List ℕ)) (area : ℕ) (old new : State) : Type 0 where
   pub start : Network NodeState

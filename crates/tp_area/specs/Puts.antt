@@ -5,7 +5,7 @@ use Rattle.tp_model.specs.Disk.{Moment, MayBe, IsWithin, SameOutside, written}
 use Rattle.tp_model.specs.DiskHistory.{State}
 use Rattle.tp_model.specs.StoreCalls.{Called, put_calls}
 
--- These bytes were written from this place on, in pieces, and no other call was made. They aren't synced.
+-- The bytes were written from this place on, in pieces, and no other call was made. They aren't synced.
 pub record Puts (at : ℕ) (bytes : List ℕ) (old new : State) : Type 0 where
   pub pieces : List (ℕ × List ℕ)
   pub within : AllByRecursion (λ piece. IsWithin (at, length bytes) (piece.0, length piece.1)) pieces

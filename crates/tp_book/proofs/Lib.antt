@@ -9,6 +9,7 @@ pub mod PortEnds
 pub mod HostTaken
 pub mod TakeRefused
 pub mod Opened
+pub mod OpenedWorld
 pub mod HandedIn
 pub mod Confirming
 pub mod Rising
@@ -20,3 +21,8 @@ pub mod Hosted
 pub mod Tallied
 pub mod Remarked
 pub mod MarkedLines
+pub mod Told
+pub mod Outside
+pub mod GoingOn
+pub mod Trimmed
+pub mod Tails

@@ -23,6 +23,7 @@ use Rattle.tp_law_network.proofs.Sound.{sound_small}
 use Rattle.tp_law_network.proofs.Room.{length-kinds, on_line-plain}
 use Rattle.tp_law_machine.proofs.LinkLaws.{has_four_links}
 use Rattle.tp_port.specs.declared.parts.PortParts.{PortParts}
+use Rattle.tp_port.proofs.OpenedPorts.{opened_ports}
 use Rattle.tp_book.specs.declared.state.NetState.{NetState}
 use Rattle.tp_book.specs.declared.journal.Journal.TheInside.{Inside}
 use Rattle.tp_book.specs.Book.{agreed, nodes_in}
@@ -82,11 +83,7 @@ vec_few s O k d below =
     let on = get_or_from_slice_get (map (λ line. line.items) s.net.lines.items) k (get_or s.net.lines.items k d).items [] there in
     omega (arith, line_few s O k, ap length on, (get_or s.net.lines.items k d).ok.0)
 
--- the ports of an opened state, and the marks of what they hold
-opened_ports : (parts : List PortParts) → map (λ p. p.port) (map (λ port. opened_port (port_of port)) parts) ≡ map port_of parts
-opened_ports [] = refl
-opened_ports (p ∷ ps) = ap (λ more. port_of p ∷ more) (opened_ports ps)
-
+-- the marks of what the ports of an opened state hold
 opened_marks : (parts : List PortParts) → map (λ p. p.marks) (map (λ port. opened_port (port_of port)) parts) ≡ map (λ port. (opened_port port).marks) (map port_of parts)
 opened_marks [] = refl
 opened_marks (p ∷ ps) = ap (λ more. (opened_port (port_of p)).marks ∷ more) (opened_marks ps)

@@ -1,20 +1,19 @@
 -- Markers that are sent and taken leave what every book keeps.
-use Rattle.std.proofs.Common.{◌≡◌, ℕ, ◌+◌, ◌<◌, ◌≤◌, Bool, true, false, cond, List, [], ◌∷◌, ◌++◌, length, map, set, get_or, replicate, zero, suc, drop, refl, sym, ap, subst, ◌∙◌, arith, length-set, Option, Some, None, slice_get}
+use Rattle.std.proofs.Common.{◌≡◌, ℕ, ◌+◌, ◌<◌, ◌≤◌, Bool, true, false, List, [], ◌∷◌, ◌++◌, length, map, set, get_or, replicate, zero, suc, drop, refl, sym, ap, subst, ◌∙◌, arith, length-set, Option, Some, None, slice_get}
 use Rattle.std.specs.Prelude.{is_some, not}
 use Rattle.std.specs.Option.{option_map}
-use Rattle.std.proofs.lemmas.List.{length-map}
 use Rattle.tp_model.specs.declared.link.Token.{Token}
 use Rattle.tp_model.specs.declared.link.Token.TheVariants.{Marker}
 use Rattle.tp_model.specs.NodeState.{NodeState}
 use Rattle.tp_model.specs.Node.{t414, t414_ends}
-use Rattle.tp_model.specs.Network.{Network, has_wire, process_at, receiver, on_line, is_first, sent}
+use Rattle.tp_model.specs.Network.{has_wire, on_line, is_first, sent}
 use Rattle.tp_model.specs.Entries.{process}
-use Rattle.tp_model.specs.Order.{after, made}
+use Rattle.tp_model.specs.Order.{made}
 use Rattle.tp_model.specs.Sound.{Sound}
-use Rattle.tp_model.specs.Markers.{markers, plain, plain_network}
-use Rattle.tp_model.specs.Snapshot.{Snapshot, MarkedNetwork, has_recorded, is_closed, first_snapshot, with_count, with_closed, host_markers, node_markers}
+use Rattle.tp_model.specs.Markers.{markers, plain}
+use Rattle.tp_model.specs.Snapshot.{Snapshot, has_recorded, first_snapshot, with_count, with_closed, host_markers, node_markers}
 use Rattle.tp_model.specs.Halves.{BookState, live, marked, with_begin, with_record, with_close}
-use Rattle.tp_model.specs.Acts.{Act, Begin, Record, Close, happens}
+use Rattle.tp_model.specs.Acts.{Begin, Record, Close, happens}
 use Rattle.tp_law_machine.proofs.LinkLaws.{has_four_links, never_marks}
 use Rattle.tp_law_cuts.proofs.Invariant.{Holds}
 use Rattle.tp_law_cuts.proofs.Room.{few_markers}
@@ -24,12 +23,14 @@ use Rattle.tp_snap.specs.Counted.{SnapshotsValue}
 use Rattle.tp_snap.specs.Needs.{has_recorded_in, is_asked}
 use Rattle.tp_book.specs.Book.{BookValue, agreed, world_of}
 use Rattle.tp_book.specs.Kept.{Keeps, IsShaped}
-use Rattle.tp_book.specs.Joined.{joined, AreMade, HostRecorded, FitsRoom, Stands}
+use Rattle.tp_book.specs.Joined.{joined, HasFloor, HostRecorded, Stands}
 use Rattle.std.proofs.Common.{inl, inr, get_or-set_same, get_or-set_other}
 use Rattle.std.proofs.lemmas.Bool.{cases_eq, cases_lt}
 use Rattle.std.proofs.lemmas.List.{get_or_past}
 use Rattle.tp_book.specs.Marked.{with_lines, after_begin, after_record, after_close, taker_of}
 use Rattle.tp_book.proofs.Commit.{length-agreed}
+use Rattle.tp_model.specs.declared.limits.TheConstants.{NUMBER_LIMIT}
+use Rattle.tp_book.proofs.Told.{ages_kept, floor_kept}
 use Rattle.tp_book.proofs.Entered.{keeps_joined}
 
 -- Other lines with the same tokens, Markers left out, and with no two Markers on one.
@@ -143,6 +144,10 @@ module _ (j : BookValue) (s : SnapshotsValue) (g : ℕ) (B : Stands j s g) (K : 
     counted = B.counted;
     host = closed_host s.snapshot line (length j.state.start.nodes) B.host;
     fits = B.fits;
+    ages = ages_kept (λ x. with_closed x line) s.snapshot g B.ages;
+    low = floor_kept (λ x. with_closed x line) s.snapshot s.floor (length j.state.entries) (length j.state.entries) (omega arith) (λ x. omega arith) B.low;
+    as_many = B.as_many;
+    told = B.told;
   }
 
   -- the host recorded
@@ -161,8 +166,11 @@ module _ (j : BookValue) (s : SnapshotsValue) (g : ℕ) (B : Stands j s g) (K : 
         ap (λ h. joined j_begun (begun_by (length j.runs) h) g) own
         ∙ ap (λ n. joined j_begun (begun_by n (made (process j.state.start) (length j.state.start.nodes) j.state.entries)) g) (sym shaped.count)
 
-    pub begun_stands : Stands j_begun (begun_by (length j.runs) (get_or s.made (length j.runs) 0)) g
-    begun_stands = record {
+    floor_before : s.floor ≤ length j.state.entries
+    floor_before = subst (λ given. HasFloor given s.floor (length j.state.entries)) idle B.low
+
+    pub begun_stands : g + 1 < NUMBER_LIMIT → Stands j_begun (begun_by (length j.runs) (get_or s.made (length j.runs) 0)) g
+    begun_stands age = record {
       holds = subst (λ b. Holds t414 (world_of b)) (sym begun_value) (begin_holds j s g B K idle);
       origin = B.origin;
       counted = B.counted;
@@ -172,6 +180,10 @@ module _ (j : BookValue) (s : SnapshotsValue) (g : ℕ) (B : Stands j s g) (K : 
           ∙ ap (λ n. is_some (get_or (replicate (length j.runs) None ++ Some (get_or s.made (length j.runs) 0) ∷ []) n (Some 0))) shaped.count
           ∙ host_counted (length j.runs) (get_or s.made (length j.runs) 0);
       fits = B.fits;
+      ages = age;
+      low = (floor_before, floor_before);
+      as_many = B.as_many;
+      told = B.told;
     }
 
   -- a node recorded
@@ -196,4 +208,8 @@ module _ (j : BookValue) (s : SnapshotsValue) (g : ℕ) (B : Stands j s g) (K : 
       counted = B.counted;
       host = counted_host s.snapshot node (get_or s.made node 0) (length j.state.start.nodes) B.host;
       fits = B.fits;
+      ages = ages_kept (λ x. with_count x node (get_or s.made node 0)) s.snapshot g B.ages;
+      low = floor_kept (λ x. with_count x node (get_or s.made node 0)) s.snapshot s.floor (length j.state.entries) (length j.state.entries) (omega arith) (λ x. omega arith) B.low;
+      as_many = B.as_many;
+      told = B.told;
     }

@@ -54,7 +54,7 @@ after_input b p bytes =
       history = b.history ++ map (HostIn p) bytes;
     }
 
--- why so many bytes can't be handed in, where there are some
+-- why `count` bytes can't be handed in, where there are some
 abbrev pub some_input_refusal : BookValue → ℕ → ℕ → Option Refusal
 some_input_refusal b p count =
     entry_refusal b count (else_if (else_if None b.broken StoreBroken) (nat_lt (room_of (port_in b p)) count) PortFull)

@@ -9,8 +9,12 @@ pub mod Whole
 pub mod Calls
 pub mod Start
 pub mod Refusals
+pub mod Covered
 pub mod Opened
 pub mod Host
 pub mod Inputs
+pub mod Receipts
 pub mod Acts
 pub mod Marked
+pub mod Trimmed
+pub mod Copies

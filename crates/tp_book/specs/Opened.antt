@@ -33,7 +33,7 @@ numbers_of s = map (λ n. n.number) s.kept.items
 
 -- What opening leaves: the kept entries lead from the kept cut's network to the one that is there, which is sound and has no
 -- Markers under way; each node's image spells it; each port holds what it has room for, and has counted no more than there are
--- entries.
+-- entries; the number of the next entry and the generation are in their ranges.
 pub record IsOpened (s : NetState) : Type 0 where
   pub history : after t414 (cut_of s) (kept_of s) ≡ Some (now_of s)
   pub sound : Sound t414_ends (now_of s)
@@ -43,13 +43,14 @@ pub record IsOpened (s : NetState) : Type 0 where
   pub numbered : AreNumbered 0 s.base (numbers_of s)
   pub next : s.next ≡ s.base + vec_len s.kept
   pub few : s.next < NUMBER_LIMIT
+  pub age : s.generation < NUMBER_LIMIT
   pub counted : AreCounted s.next (now_of s).ports
   pub pending : All (λ port. vec_len port.pending ≤ MAX_HELD) s.net.ports.items
   pub outputs : All (λ port. vec_len port.outputs ≤ MAX_HELD) s.net.ports.items
   pub origin : Sound t414_ends (cut_of s)
   pub images : map (λ image. node_of image.items) s.net.images.items ≡ map (λ node. Some node) (now_of s).nodes
 
--- The book of an opened device, on which groups may fill so many bytes: nothing is reserved, and what the ports hold is shown
+-- The book of an opened device, whose groups may fill `room` bytes: nothing is reserved, and what the ports hold is shown
 -- by every mark.
 abbrev pub opened_book : NetState → Option ℕ → BookValue
 opened_book s room = record {

@@ -1,4 +1,4 @@
--- Why a call is refused. Where several reasons hold, the first one of these is answered: nothing to take, a snapshot that
+-- Why a call is refused. Where several reasons hold, the first one is answered, in this order: nothing to take, a snapshot that
 -- runs, a broken store, a full port, a full journal. Memory is answered only where none of them holds.
 use Rattle.std.specs.Prelude.{◌≡◌, ℕ, Bool, false, nat_le, if◌then◌else◌, List, [], ◌∷◌, length, get_or, Option, Some, None, is_none, Result, Ok, Err, slice_get}
 use Rattle.tp_model.specs.declared.link.Token.{Token}
@@ -6,8 +6,9 @@ use Rattle.tp_model.specs.declared.link.Token.TheVariants.{Data, Ack, Marker}
 use Rattle.tp_model.specs.declared.wire.WireEnd.{WireEnd}
 use Rattle.tp_model.specs.declared.wire.WireEnd.TheVariants.{Link, Port as AtPort}
 use Rattle.tp_model.specs.declared.limits.TheConstants.{MAX_HELD}
-use Rattle.tp_model.specs.Network.{Port, receiver, on_line}
-use Rattle.tp_model.specs.Journal.{is_full}
+use Rattle.tp_model.specs.Network.{Port, process_at, receiver, on_line}
+use Rattle.tp_model.specs.Journal.{is_full, is_full_for_cut}
+use Rattle.tp_snap.specs.Needs.{is_needed}
 use Rattle.tp_book.specs.declared.refusal.Refusal.{Refusal}
 use Rattle.tp_book.specs.declared.refusal.Refusal.TheVariants.{JournalFull, StoreBroken, Memory, NothingToTake, PortFull}
 use Rattle.tp_book.specs.Book.{BookValue, next_number, reserved}
@@ -17,9 +18,19 @@ abbrev pub else_if : Option Refusal → Bool → Refusal → Option Refusal
 else_if (Some reason) holds other = Some reason
 else_if None holds other = if holds then Some other else None
 
--- the journal is full for so many more entries
+-- the journal is full for `more` entries
 abbrev pub is_journal_full : BookValue → ℕ → Bool
 is_journal_full b more = is_full b.room (length b.state.lines) (length b.state.entries) (reserved b) (next_number b) more
+
+-- A running snapshot needs what is taken from a line: the process that receives the line has recorded in it, and the line isn't
+-- closed.
+abbrev pub needs_take : BookValue → ℕ → Bool
+needs_take b line = is_needed b.state.snapshot (process_at (length b.state.start.nodes) (receiver b.state.start.wires line)) line
+
+-- the journal is full for a take: one that a running snapshot needs may use the reserve
+abbrev pub is_full_for_take : BookValue → Bool → Bool
+is_full_for_take b needed =
+    if needed then is_full_for_cut b.room (length b.state.entries) (reserved b) (next_number b) else is_journal_full b 1
 
 -- what can be taken from a line: the token in front, unless that is a Marker
 abbrev pub takeable_of : List Token → Option Token
@@ -36,10 +47,17 @@ entry_refusal b more earlier = else_if earlier (is_journal_full b more) JournalF
 abbrev pub reserve_refusal : BookValue → Option Refusal
 reserve_refusal b = entry_refusal b 1 (else_if None b.broken StoreBroken)
 
--- why a line's front can't be made ready
+-- for a take, which a running snapshot may need
+abbrev pub take_refusal : BookValue → Bool → Option Refusal → Option Refusal
+take_refusal b needed earlier = else_if earlier (is_full_for_take b needed) JournalFull
+
+-- why a line's front can't be made ready, where a running snapshot may need the take
+abbrev pub front_refusal : BookValue → ℕ → Bool → Option Refusal
+front_refusal b line needed =
+    take_refusal b needed (else_if (else_if None (is_none (takeable_of (on_line b.state.lines line))) NothingToTake) b.broken StoreBroken)
+
 abbrev pub ready_refusal : BookValue → ℕ → Option Refusal
-ready_refusal b line =
-    entry_refusal b 1 (else_if (else_if None (is_none (takeable_of (on_line b.state.lines line))) NothingToTake) b.broken StoreBroken)
+ready_refusal b line = front_refusal b line (needs_take b line)
 
 -- a port's outputs are full for the token
 abbrev pub is_full_for : Option Port → Token → Bool
@@ -54,13 +72,16 @@ port_at b None = None
 port_at b (Some (Link i k)) = None
 port_at b (Some (AtPort p)) = slice_get b.state.ports p
 
--- why no port can take a line's front
-abbrev pub host_refusal : BookValue → ℕ → Option Refusal
-host_refusal b line =
-    entry_refusal b 1
+-- why no port can take a line's front, where a running snapshot may need the take
+abbrev pub port_refusal : BookValue → ℕ → Bool → Option Refusal
+port_refusal b line needed =
+    take_refusal b needed
     (else_if
     (else_if (else_if None (is_none (takeable_of (on_line b.state.lines line))) NothingToTake) b.broken StoreBroken)
     (is_full_for (port_at b (receiver b.state.start.wires line)) (get_or (on_line b.state.lines line) 0 Marker)) PortFull)
+
+abbrev pub host_refusal : BookValue → ℕ → Option Refusal
+host_refusal b line = port_refusal b line (needs_take b line)
 
 -- The answer to a call that is refused for this reason, where there is one. A call that isn't may still want memory.
 abbrev pub IsAnswer : {A : Type 0} → Option Refusal → Result A Refusal → Type 0

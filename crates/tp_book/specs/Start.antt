@@ -20,7 +20,7 @@ pub record IsNetwork (s : Network NodeState) : Type 0 where
   pub few_nodes : length s.nodes ≤ MAX_NODES
   pub few_ports : length s.ports ≤ MAX_PORTS
 
--- the book of a network in which nothing has happened, on a device with so many bytes for groups or without one
+-- the book of a network in which nothing has happened, on a device with `room` bytes for groups or without one
 abbrev pub first_book : Network NodeState → Option ℕ → BookValue
 first_book s room = record {
   state = record { start = s; entries = []; ports = s.ports; lines = s.lines; snapshot = None };

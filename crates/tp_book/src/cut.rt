@@ -34,7 +34,7 @@ impl CutNetwork {
         CutNetwork {}
     }
 
-    /// The network that these parts are.
+    /// The network of `parts`.
     pub fn of_parts(parts: &NetParts) -> CutNetwork
         ensures { result.network ≡ network_of parts.now }
     {

@@ -10,7 +10,7 @@ use std::alloc::{AllocError, Global};
 use tp_port::{lines_with, ports_with};
 
 impl Journal {
-    /// The book of an opened device, on which groups may fill so many bytes; nothing is reserved or made ready.
+    /// Opens the book of an opened device, whose groups may fill `room` bytes. Nothing is reserved or made ready.
     pub(crate) fn open(
         alloc: Global,
         state: &NetState,

@@ -5,7 +5,7 @@ ghost use Rattle.tp_book.specs.Host.{port_in, shown_of, shown_upto_of, shown_fro
 
 use crate::journal::Journal;
 
-/// How many of these marks another mark is no less than.
+/// How many of `marks` are at most `mark`.
 fn count_within(marks: &[u64], mark: u64) -> usize
     ensures value { result ≡ count_by (λ least. nat_le least mark) marks.now }
     ensures bound { result ≤ length marks.now }

@@ -1,10 +1,11 @@
 //! One step.
 
-ghost use Rattle.std.specs.Prelude.{◌≡◌, Ok, IsSome};
+ghost use Rattle.std.specs.Prelude.{◌≡◌, Ok};
 ghost use Rattle.tp_model.specs.Step.{executed, instruction, idle, in_state, step_of, MakesStep};
-ghost use Rattle.tp_model.specs.SharedPages.{LacksFrames};
-ghost use Rattle.tp_proc.specs.Ends.{Does, MayRefuse};
-ghost use Rattle.tp_cpu.specs.Acts.{Acts, OnNoFrame, fault_of};
+ghost use Rattle.tp_model.specs.SharedPages.{LacksFrames, kept_after};
+ghost use Rattle.tp_model.specs.StepWrites.{executed_ranges, instruction_ranges, idle_ranges, in_state_ranges, step_ranges};
+ghost use Rattle.tp_proc.specs.Ends.{Does};
+ghost use Rattle.tp_cpu.specs.Acts.{Acts, OnNoFrame, kept_acted, kept_past, fault_of};
 
 use crate::effect::effect;
 use crate::fetch::fetch;
@@ -29,8 +30,8 @@ fn fault_of(fault: DecodeFault) -> Fault
 /// Does the instruction that was read. First it counts in the slice, and the instruction pointer moves past it.
 #[inline(always)]
 fn execute<M: Mem>(cpu: &mut Cpu, mem: &mut M, instr: Instr) -> Result<(), Undone>
-    ensures does { Does (executed (Ok instr)) (MayRefuse (LacksFrames (M.kept mem.old))) cpu.old (M.bytes mem.old) result cpu.new (M.bytes mem.new) }
-    ensures kept { (M.kept mem.new).frozen ≡ (M.kept mem.old).frozen }
+    ensures does { Does (executed (Ok instr)) (executed_ranges (Ok instr)) (M.kept mem.old) cpu.old (M.bytes mem.old) result cpu.new (M.bytes mem.new) }
+    ensures kept { M.kept mem.new ≡ kept_after result (M.kept mem.old) (executed_ranges (Ok instr) cpu.old (M.bytes mem.old)) }
 {
     let iptr = cpu.iptr;
     let slice = cpu.slice;
@@ -48,8 +49,8 @@ fn execute<M: Mem>(cpu: &mut Cpu, mem: &mut M, instr: Instr) -> Result<(), Undon
 /// Reads an instruction and does it.
 #[inline(always)]
 fn instruction<M: Mem>(cpu: &mut Cpu, mem: &mut M) -> Result<(), Undone>
-    ensures does { Does instruction (MayRefuse (LacksFrames (M.kept mem.old))) cpu.old (M.bytes mem.old) result cpu.new (M.bytes mem.new) }
-    ensures kept { (M.kept mem.new).frozen ≡ (M.kept mem.old).frozen }
+    ensures does { Does instruction instruction_ranges (M.kept mem.old) cpu.old (M.bytes mem.old) result cpu.new (M.bytes mem.new) }
+    ensures kept { M.kept mem.new ≡ kept_after result (M.kept mem.old) (instruction_ranges cpu.old (M.bytes mem.old)) }
 {
     match fetch(mem, cpu.iptr) {
         Ok(instr) => execute(cpu, mem, instr),
@@ -59,8 +60,8 @@ fn instruction<M: Mem>(cpu: &mut Cpu, mem: &mut M) -> Result<(), Undone>
 
 /// Finds work for an idle processor: the front high process, then the low process that was interrupted, then the front low one.
 fn idle<M: Mem>(cpu: &mut Cpu, mem: &mut M) -> Option<Result<(), Undone>>
-    ensures acts { Acts idle (MayRefuse (LacksFrames (M.kept mem.old))) cpu.old (M.bytes mem.old) result cpu.new (M.bytes mem.new) }
-    ensures kept { (M.kept mem.new).frozen ≡ (M.kept mem.old).frozen }
+    ensures acts { Acts idle idle_ranges (M.kept mem.old) cpu.old (M.bytes mem.old) result cpu.new (M.bytes mem.new) }
+    ensures kept { M.kept mem.new ≡ kept_acted result (M.kept mem.old) (idle_ranges cpu.old (M.bytes mem.old)) }
 {
     if cpu.high.front != NOT_PROCESS {
         return Some(dispatch_high(cpu, mem));
@@ -76,8 +77,8 @@ fn idle<M: Mem>(cpu: &mut Cpu, mem: &mut M) -> Option<Result<(), Undone>>
 /// Does what the processor does in its state.
 #[inline(always)]
 fn act<M: Mem>(cpu: &mut Cpu, mem: &mut M) -> Option<Result<(), Undone>>
-    ensures acts { Acts (λ cpu. in_state cpu.state cpu) (MayRefuse (LacksFrames (M.kept mem.old))) cpu.old (M.bytes mem.old) result cpu.new (M.bytes mem.new) }
-    ensures kept { (M.kept mem.new).frozen ≡ (M.kept mem.old).frozen }
+    ensures acts { Acts (λ cpu. in_state cpu.state cpu) (λ cpu. in_state_ranges cpu.state cpu) (M.kept mem.old) cpu.old (M.bytes mem.old) result cpu.new (M.bytes mem.new) }
+    ensures kept { M.kept mem.new ≡ kept_acted result (M.kept mem.old) (in_state_ranges cpu.old.state cpu.old (M.bytes mem.old)) }
 {
     match cpu.state {
         State::Idle => idle(cpu, mem),
@@ -88,12 +89,11 @@ fn act<M: Mem>(cpu: &mut Cpu, mem: &mut M) -> Option<Result<(), Undone>>
 
 /// Makes one step of the processor, if there is one.
 #[inline]
-#[tactic(auto, unfolding(tp_model::specs::Step::step_of))]
+#[tactic(auto, unfolding(tp_model::specs::Step::step_of, tp_model::specs::StepWrites::step_ranges))]
 pub fn step<M: Mem>(cpu: &mut Cpu, mem: &mut M) -> StepEnd
     ensures makes { MakesStep (step_of cpu.old (M.bytes mem.old)) cpu.old (M.bytes mem.old) result cpu.new (M.bytes mem.new) }
-    ensures kept { (M.kept mem.new).frozen ≡ (M.kept mem.old).frozen }
-    ensures refusal { OnNoFrame result (MayRefuse (LacksFrames (M.kept mem.old))) }
-    ensures frozen { OnNoFrame result (IsSome (M.kept mem.old).frozen) }
+    ensures kept { M.kept mem.new ≡ kept_past result (M.kept mem.old) (step_ranges cpu.old (M.bytes mem.old)) }
+    ensures refusal { OnNoFrame result (LacksFrames (M.kept mem.old) (step_ranges cpu.old (M.bytes mem.old))) }
 {
     if cpu.halt.is_some() {
         return StepEnd::Idle;

@@ -10,7 +10,7 @@ pub no_file : file_keeps → ⊥
 unfolding file_keeps
 no_file keeps = keeps
 
--- the calls of the system that make a device of so many bytes of a file, where it isn't one yet
+-- the calls of the system that make a device of `size` bytes of a file, where it isn't one yet
 abbrev pub making : Bool → ℕ → List FileCall
 making true size = []
 making false size = Resizes 0 true ∷ Resizes size true ∷ Syncs true ∷ []

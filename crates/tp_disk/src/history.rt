@@ -44,7 +44,7 @@ impl History {
         History::of(self)
     }
 
-    /// One moment more is past, at which these bytes stood.
+    /// Adds a past moment, at which the device held `bytes`.
     pub(crate) fn later(&self, bytes: &[u8]) -> History
         ensures { result.told ≡ record self.now.told { past = self.now.told.past ++ record { bytes = bytes.now; unsynced = self.now.told.unsynced } ∷ [] } }
     {
@@ -65,21 +65,21 @@ impl History {
         History::of(self)
     }
 
-    /// The system said that the file has so many bytes.
+    /// Notes that the system said that the file has `length` bytes.
     pub(crate) fn measured(&self, length: u64) -> History
         ensures { result.told ≡ with_call self.now.told (Measures length) }
     {
         History::of(&(self, length))
     }
 
-    /// The system was asked to give the file so many bytes.
+    /// Notes that the system was asked to give the file `length` bytes.
     pub(crate) fn resized(&self, length: u64, ok: bool) -> History
         ensures { result.told ≡ with_call self.now.told (Resizes length ok) }
     {
         History::of(&(self, length, ok))
     }
 
-    /// The system was asked for bytes, and gave these.
+    /// Notes that the system was asked for bytes from `at` on, and gave `came`.
     pub(crate) fn has_read(&self, at: u64, came: &[u8], ok: bool) -> History
         ensures { result.told ≡ with_call self.now.told (Reads at came.now ok) }
     {

@@ -1,4 +1,4 @@
-//! A device in memory, one call of which may come to a bad end.
+//! A device in memory. One of its calls may come to a bad end.
 
 ghost use Rattle.std.specs.Prelude.{◌≡◌, ℕ, ◌+◌, ◌≤◌, [], refl, ◌∷◌, ◌++◌, length, take, drop, replicate, is_ok, OnOk, IfOk};
 ghost use Rattle.tp_model.specs.Disk.{MayBe, Write, Sync, Read, written};
@@ -132,7 +132,7 @@ impl Counted<RawMemory> {
     ghost use Rattle.tp_disk.specs.Plan.{becomes, planned};
     ghost use Rattle.tp_disk.specs.Memory.{disk_state, disk_plan};
 
-    /// A device that holds these bytes. No call of it has a fault.
+    /// Makes a device that holds `bytes`. No call of it has a fault.
     pub fn of_bytes(bytes: Vec<u8>) -> MemDisk
         ensures state { disk_state result ≡ record { now = record { bytes = bytes.items; unsynced = [] }; past = [] } }
         ensures faultless { (n : ℕ) → becomes (disk_plan result) n ≡ Outcome.Done }
@@ -145,7 +145,7 @@ impl Counted<RawMemory> {
         })
     }
 
-    /// A device of so many bytes, all of them 0. No call of it has a fault.
+    /// Makes a device of `size` bytes, all of them 0. No call of it has a fault.
     pub fn zeroed(alloc: Global, size: usize) -> Result<MemDisk, AllocError>
         ensures faultless { IfOk result (λ disk. (n : ℕ) → becomes (disk_plan disk) n ≡ Outcome.Done) }
         ensures failures { IfOk result (λ disk. ⟦<MemDisk as Disk>⟧.failures_of disk ≡ 0) }

@@ -5,7 +5,7 @@ ghost use Rattle.std.specs.Prelude.{◌≡◌, ℕ, ◌+◌, Option, Some, None}
 /// What happens to one call of a device in memory.
 #[derive(Drop)]
 pub enum PlannedFault {
-    /// The call fails. If it is a write, its range then begins with these bytes, as many as fit. Later calls are made.
+    /// The call fails. If it is a write, its range then begins with `torn`, as far as that fits. Later calls are made.
     Fails { torn: Vec<u8> },
     /// The run stops before the call. It fails, and so does each later one.
     StopsBefore,
@@ -20,7 +20,7 @@ pub enum Outcome {
     Done,
     /// It fails, and changes no byte.
     Refused,
-    /// It fails, and a write's range begins with these bytes.
+    /// It fails, and a write's range begins with the bytes.
     Torn(Vec<u8>),
 }
 

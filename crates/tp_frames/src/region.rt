@@ -33,7 +33,7 @@ impl Model for Region {
 unsafe impl Send for Region {}
 
 impl Region {
-    /// A region of `count` frames, each of which leads to the one behind it.
+    /// Makes a region of `count` frames. Each leads to the one behind it.
     pub(crate) fn new(alloc: Global, count: usize) -> Result<Region, AllocError>
         requires { count < 2 ^ 32 }
         ensures { IfOk result (λ r. (length r ≡ count) × AreLinked r) }

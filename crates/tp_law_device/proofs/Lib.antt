@@ -1,3 +1,4 @@
+pub mod Along
 pub mod AreaReads
 pub mod Checkpoints
 pub mod Chosen

@@ -2,15 +2,16 @@
 //! nothing; their contracts are the laws.
 #![tactic(auto)]
 
-ghost use Rattle.std.specs.Prelude.{◌≡◌, ◌≤◌, ◌<◌, ◌+◌, ◌++◌, ◌*◌, ◌^◌, ℕ, true, false, List, [], Some, Ok, length, map, take, drop};
+ghost use Rattle.std.specs.Prelude.{◌≡◌, ◌≤◌, ◌<◌, ◌+◌, ◌++◌, ◌*◌, ◌^◌, ℕ, true, false, List, [], Some, Ok, length, map, take, drop, slice_get};
 ghost use Rattle.tp_model.specs.declared.entry.Entry.{Entry};
 ghost use Rattle.tp_model.specs.declared.limits.TheConstants.{AREA_HEAD_BYTES, HEAD_BYTES};
 ghost use Rattle.tp_model.specs.NodeState.{NodeState};
-ghost use Rattle.std.specs.List.{AllByRecursion};
+ghost use Rattle.std.specs.List.{AllByRecursion, count_by};
 ghost use Rattle.tp_model.specs.Node.{t414, t414_ends};
-ghost use Rattle.tp_model.specs.Network.{Machine, Network, on_line};
+ghost use Rattle.tp_model.specs.Network.{Machine, Network, Port, on_line};
+ghost use Rattle.tp_model.specs.Counted.{accepted, came_out, is_input, is_output};
 ghost use Rattle.tp_model.specs.Entries.{next, process};
-ghost use Rattle.tp_model.specs.Order.{after, AreIndependent, post};
+ghost use Rattle.tp_model.specs.Order.{after, AreIndependent, pre, post};
 ghost use Rattle.tp_model.specs.CutOrder.{HasOrder};
 ghost use Rattle.tp_model.specs.Markers.{markers, plain_network};
 ghost use Rattle.tp_model.specs.Topology.{Topology, is_topology};
@@ -131,8 +132,9 @@ pub fn openings_begin()
 {}
 
 /// At each moment of a run over a device that was formatted, the journal is possible from the start on and leads to the network
-/// as it is, its Markers left out; so do the entries since the kept cut. There is at most one Marker on a line; a network
-/// that was sound at the start is sound, and then a line has at most three tokens.
+/// as it is, its Markers left out; so do the entries since the kept cut, in their own order and in that of a whole cut. There is
+/// at most one Marker on a line; the network is sound, and a line has at most three tokens. A port's accepted number has grown
+/// since the start by as many bytes as the journal's entries hand to it, and what came out of it by as many as they take to it.
 pub fn histories_hold()
     ensures journal { (start : Network NodeState) (events : List (Event NodeState)) (first last : World NodeState)
         → IsFormatted t414 device_areas start first → Run t414 device_areas first events last → after t414 start last.journal ≡ Some (plain_network last.net.live) }
@@ -141,10 +143,16 @@ pub fn histories_hold()
     ensures markers { (start : Network NodeState) (events : List (Event NodeState)) (first last : World NodeState)
         → IsFormatted t414 device_areas start first → Run t414 device_areas first events last → (line : ℕ) → markers (on_line last.net.live.lines line) ≤ 1 }
     ensures sound { (start : Network NodeState) (events : List (Event NodeState)) (first last : World NodeState)
-        → IsFormatted t414 device_areas start first → Run t414 device_areas first events last → Sound t414_ends start → Sound t414_ends last.net.live }
+        → IsFormatted t414 device_areas start first → Run t414 device_areas first events last → Sound t414_ends last.net.live }
     ensures room { (start : Network NodeState) (events : List (Event NodeState)) (first last : World NodeState)
-        → IsFormatted t414 device_areas start first → Run t414 device_areas first events last → Sound t414_ends start
-        → (line : ℕ) → length (on_line last.net.live.lines line) ≤ 3 }
+        → IsFormatted t414 device_areas start first → Run t414 device_areas first events last → (line : ℕ) → length (on_line last.net.live.lines line) ≤ 3 }
+    ensures both { (start : Network NodeState) (events : List (Event NodeState)) (first last : World NodeState)
+        → IsFormatted t414 device_areas start first → Run t414 device_areas first events last → (cut : WholeCut) → whole last.net ≡ Some cut
+        → after t414 last.net.start (pre (process last.net.start) (count_in cut) last.net.entries ++ post (process last.net.start) (count_in cut) last.net.entries) ≡ Some (plain_network last.net.live) }
+    ensures ports { (start : Network NodeState) (events : List (Event NodeState)) (first last : World NodeState)
+        → IsFormatted t414 device_areas start first → Run t414 device_areas first events last → (p : ℕ) (port : Port) → slice_get start.ports p ≡ Some port
+        → (later : Port) × (slice_get last.net.live.ports p ≡ Some later)
+        × (accepted later ≡ accepted port + count_by (is_input p) last.journal) × (came_out later ≡ came_out port + count_by (is_output start.wires p) last.journal) }
 {}
 
 /// Over any number of checkpoints, crashes and openings: the base of the kept cut is the number of entries in it since the start,

@@ -52,7 +52,7 @@ with_word address word memory = set_word memory (offset address) word
 abbrev pub blank : List ℕ
 blank = with_word 0x8000_002C not_process (zeros 4096)
 
--- so many bytes from an address on, which a process has still to send or to get
+-- `left` bytes from `pointer` on, which a process has still to send or to get
 abbrev pub transfer : ℕ → ℕ → ℕ → Transfer
 transfer process pointer left = record { process = process; pointer = pointer; left = left }
 

@@ -1,6 +1,5 @@
 -- A content that spells a cut and its tail.
 use Rattle.std.proofs.Common.{◌≡◌, ℕ, ◌+◌, ◌-◌, ◌*◌, ◌<◌, ◌≤◌, true, List, [], ◌∷◌, ◌++◌, length, map, refl, sym, ap, subst, ◌∙◌, arith, length-append, le_refl, Some}
-use Rattle.std.specs.Prelude.{flat_map, sum_by}
 use Rattle.std.specs.List.{AllByRecursion}
 use Rattle.std.proofs.lemmas.Bool.{leb-true}
 use Rattle.std.proofs.lemmas.List.{length-replicate}
@@ -8,20 +7,20 @@ use Rattle.tp_model.specs.declared.entry.Entry.{Entry}
 use Rattle.tp_model.specs.declared.limits.TheConstants.{GATE_CLOSED, NUMBER_LIMIT}
 use Rattle.tp_model.specs.Bytes.{zeros}
 use Rattle.tp_model.specs.NodeState.{NodeState}
-use Rattle.tp_model.specs.Image.{image, IsNode}
+use Rattle.tp_model.specs.Image.{IsNode}
 use Rattle.tp_model.specs.Node.{t414, t414_ends}
 use Rattle.tp_model.specs.Network.{Network}
 use Rattle.tp_model.specs.Order.{after}
 use Rattle.tp_model.specs.Sound.{Ends}
 use Rattle.tp_model.specs.Numbers.{AreNumbered}
 use Rattle.tp_model.specs.Topology.{Topology, is_topology}
-use Rattle.tp_model.specs.Journal.{image_length, room, is_roomy}
-use Rattle.tp_model.specs.CutImage.{line_bytes, port_bytes, cut_bytes}
+use Rattle.tp_model.specs.Journal.{room, is_roomy}
 use Rattle.tp_model.specs.Spelling.{front_bytes, groups_bytes, entries_in, IsCut, Spells}
 use Rattle.tp_model.specs.Opening.{groups_place}
 use Rattle.tp_law_machine.proofs.Images.{node_of-image}
-use Rattle.tp_law_device.proofs.Wires.{HasShape, has_shape}
-use Rattle.tp_law_device.proofs.SpeltCuts.{IsReadBack, ReadsBack, length-images, length-lines, length-ports}
+use Rattle.tp_law_device.proofs.Formattable.{length-front_bytes}
+use Rattle.tp_law_device.proofs.Wires.{has_shape}
+use Rattle.tp_law_device.proofs.SpeltCuts.{IsReadBack, ReadsBack}
 use Rattle.tp_law_tail.specs.InGroups.{in_groups}
 use Rattle.tp_law_tail.proofs.Groups.{AreSpelt, parted_entries, parted_groups, parted_bytes}
 
@@ -40,18 +39,6 @@ cut_back E t base s C = record {
   flights = C.flights;
   base_fits = C.base_fits;
 }
-
--- the fields and the cut are as long as the place of the groups says
-pub length-front_bytes : (E : Ends NodeState) (t : Topology) (L : HasShape t) (generation base : ℕ) (s : Network NodeState) → ReadsBack E t base s → length (front_bytes t generation base s) ≡ groups_place t
-unfolding front_bytes cut_bytes
-length-front_bytes E t L generation base s C =
-    let images = flat_map image s.nodes in
-    let lines = flat_map line_bytes s.lines in
-    let ports = flat_map port_bytes s.ports in
-    let a : length images ≡ sum_by image_length t.pages = length-images s.nodes C.nodes ∙ ap (sum_by image_length) C.pages in
-    let b = length-lines t.wires s.lines C.lines in
-    let c = length-ports base s.ports C.ports in
-    omega (arith, length-append images (lines ++ ports), length-append lines ports, C.count, L.lines)
 
 -- what is written into an area of so many bytes
 pub record AreaSpelling (t : Topology) (area generation base : ℕ) (s : Network NodeState) (tail : List (Entry × ℕ)) (now : Network NodeState) : Type 0 where

@@ -1,7 +1,7 @@
 -- The bytes of groups stay inside an area.
 use Rattle.std.proofs.Common.{◌≡◌, ℕ, ◌+◌, ◌-◌, ◌*◌, ◌≤◌, inl, inr, true, List, [], ◌∷◌, ◌++◌, length, refl, sym, ap, subst, ◌∙◌, arith, length-append, Ok}
 use Rattle.std.specs.List.{AllByRecursion}
-use Rattle.std.proofs.lemmas.Bool.{leb-true, lt-ltb}
+use Rattle.std.proofs.lemmas.Bool.{leb-true}
 use Rattle.std.proofs.lemmas.List.{length-map}
 use Rattle.tp_model.specs.declared.entry.Entry.{Entry}
 use Rattle.tp_model.specs.NodeState.{NodeState}
@@ -10,15 +10,14 @@ use Rattle.tp_model.specs.Network.{Network}
 use Rattle.tp_model.specs.Entries.{process}
 use Rattle.tp_model.specs.Order.{post}
 use Rattle.tp_model.specs.EntryBytes.{IsSpelt}
-use Rattle.tp_model.specs.Group.{rows_of, group_bytes, group_length}
+use Rattle.tp_model.specs.Group.{rows_of, group_bytes}
 use Rattle.tp_model.specs.Journal.{entry_room, room, is_roomy}
 use Rattle.tp_model.specs.Topology.{Topology}
 use Rattle.tp_model.specs.Areas.{Held}
 use Rattle.tp_model.specs.CopySpelt.{CopySpelt}
 use Rattle.tp_model.specs.PiecesStand.{IsSized}
-use Rattle.tp_model.specs.Device.{area_start}
 use Rattle.tp_model.specs.Spelling.{groups_bytes, entries_in, IsGroup}
-use Rattle.tp_model.specs.Opening.{Opened, held_of, groups_place, opening}
+use Rattle.tp_model.specs.Opening.{Opened, held_of, groups_place, opening, verdict}
 use Rattle.tp_model.specs.DeviceAreas.{device_areas, has_room}
 use Rattle.tp_model.specs.WriteOrder.{Resting}
 use Rattle.tp_model.specs.WholeCut.{WholeCut, count_in}
@@ -29,7 +28,7 @@ use Rattle.tp_law_machine.proofs.Numbers.{AreBytes}
 use Rattle.tp_law_runs.proofs.Invariant.{At}
 use Rattle.tp_law_runs.proofs.Prefix.{held_of as kept_of}
 use Rattle.tp_law_device.proofs.Listings.{length-group_bytes}
-use Rattle.tp_law_device.proofs.ReadAreas.{opens_stand}
+use Rattle.tp_law_device.proofs.GroupsFit.{verdict_has_room}
 use Rattle.tp_law_device.proofs.Opens.{held_from}
 use Rattle.tp_law_tail.proofs.Pieces.{groups_are}
 use Rattle.tp_law_tail.proofs.TailRoom.{tail_room}
@@ -54,12 +53,10 @@ tail_inside t area copy tail groups roomy C all sized few =
 
 -- ## Behind the groups that are there
 
-pub group_inside : (bytes : List ℕ) (o : Opened) (count : ℕ) → AreBytes bytes → opening t414 t414_ends bytes ≡ Ok o → 1 ≤ count
+group_inside : (bytes : List ℕ) (o : Opened) (count : ℕ) → opening t414 t414_ends bytes ≡ Ok o → 1 ≤ count
     → entry_room * (length o.kept + count) ≤ room o.head.topology o.head.area → has_room o count ≡ true
-group_inside bytes o count are is some few =
-    let S = opens_stand t414 t414_ends bytes o are is in
-    lt-ltb (o.end + group_length count) (area_start o.head.area o.second + o.head.area)
-    (omega (arith, some, few, S.end, ap length S.kept, length-groups_bytes S.groups S.spells.each))
+unfolding verdict
+group_inside bytes o count is = verdict_has_room bytes o is count
 
 -- ## Of a run
 
@@ -84,7 +81,7 @@ run_group_inside most start events first w F bytes run o es more rests are is ba
     entries = omega (arith, kept, ap length a.0.own, length-append a.0.tail (a.0.durable ++ (w.backlog ++ a.0.rest)), length-append a.0.durable (w.backlog ++ a.0.rest), length-append w.backlog a.0.rest, ap length backlog, length-append es more)
 
     go : HasGroupRoom most w → has_room o (length es) ≡ true
-    go (inl few) = group_inside w.disk.bytes o (length es) are is some (omega (arith, few, entries, enough))
+    go (inl few) = group_inside w.disk.bytes o (length es) is some (omega (arith, few, entries, enough))
     go (inr all) = absurd (omega (arith, all, entries, kept, a.0.reach, a.0.count, some))
 
 pub run_tail_room : (most : ℕ) (start : Network NodeState) (events : List (Event NodeState)) (first w : World NodeState) → IsFormatted t414 device_areas start first → AreBytes first.disk.bytes → KeptRun most first events w

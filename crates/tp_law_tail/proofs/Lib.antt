@@ -1,3 +1,4 @@
+pub mod ActRuns
 pub mod Again
 pub mod CanPut
 pub mod Content
@@ -9,6 +10,9 @@ pub mod Kept
 pub mod KeptRuns
 pub mod Nodes
 pub mod Numbers
+pub mod OneCheckpoint
+pub mod OneDevice
+pub mod OneSnapshot
 pub mod Other
 pub mod Pieces
 pub mod Places
@@ -17,4 +21,5 @@ pub mod Ranges
 pub mod ReadNodes
 pub mod RunRoom
 pub mod Switch
+pub mod Switching
 pub mod TailRoom

@@ -1,6 +1,5 @@
 -- An area that spells a cut and its tail behind its closed gate, at a higher generation, is what is held once that is open.
-use Rattle.std.proofs.Common.{◌≡◌, ℕ, ◌+◌, ◌-◌, ◌<◌, ◌≤◌, false, not, cond, List, length, map, sym, ap, ◌∙◌, arith, Some, None, Ok}
-use Rattle.std.proofs.lemmas.Bool.{lt-ltb}
+use Rattle.std.proofs.Common.{◌≡◌, ℕ, ◌+◌, ◌-◌, ◌<◌, ◌≤◌, false, not, List, length, map, sym, ◌∙◌, arith, Some, Ok}
 use Rattle.std.proofs.lemmas.Grind.{same_number_lists}
 use Rattle.tp_model.specs.declared.entry.Entry.{Entry}
 use Rattle.tp_model.specs.NodeState.{NodeState}
@@ -9,51 +8,24 @@ use Rattle.tp_model.specs.Network.{Network}
 use Rattle.tp_model.specs.Areas.{Held}
 use Rattle.tp_model.specs.Disk.{written}
 use Rattle.tp_model.specs.Spelling.{entries_in, Spells}
-use Rattle.tp_model.specs.Opening.{Opened, held_of, area_in, opening}
-use Rattle.tp_model.specs.DeviceAreas.{other_start, other_is_open, other_content, if_newer, other_of, device_areas}
+use Rattle.tp_model.specs.Opening.{Opened, opening}
+use Rattle.tp_model.specs.DeviceAreas.{other_start, other_is_open, other_content, device_areas}
 use Rattle.tp_law_runs.proofs.Moments.{length-written, get_or-written_inside}
-use Rattle.tp_law_device.proofs.Heads.{head_parts}
-use Rattle.tp_law_device.proofs.Wires.{has_shape}
 use Rattle.tp_law_device.proofs.Contents.{places, length-content_of, get_or-content_of}
-use Rattle.tp_law_device.proofs.SpeltAreas.{SpeltArea, end_of_groups, area_spelt}
+use Rattle.tp_law_device.proofs.Stand.{spelt_area}
+use Rattle.tp_law_device.proofs.Checkpoints.{other_spelt as spelt_other}
 use Rattle.tp_law_device.proofs.Opens.{reads_of, layout}
-use Rattle.tp_law_tail.proofs.Content.{cut_back}
 
 -- what is held then
 abbrev pub held_then : ℕ → Network NodeState → List (List (Entry × ℕ)) → Held NodeState
 held_then base s groups = record { network = s; entries = map (λ (e : Entry × ℕ). e.0) (entries_in groups); base = base }
-
-other_closed : (o : Opened) (bytes : List ℕ) → other_is_open o bytes ≡ false
-    → other_of t414 t414_ends (Ok o) bytes ≡ if_newer o (area_in t414 t414_ends o.head (not o.second) (other_content o bytes))
-unfolding other_of
-other_closed o bytes closed = ap (λ b. cond b None (if_newer o (area_in t414 t414_ends o.head (not o.second) (other_content o bytes)))) closed
 
 pub other_spelt : (bytes : List ℕ) (o : Opened) (generation base : ℕ) (s : Network NodeState) (groups : List (List (Entry × ℕ))) (now : Network NodeState)
     → opening t414 t414_ends bytes ≡ Ok o → other_is_open o bytes ≡ false → o.generation < generation
     → Spells t414 t414_ends o.head.topology (other_content o bytes) generation base s groups now
     → device_areas.other bytes ≡ Some (other_start o, held_then base s groups)
 other_spelt bytes o generation base s groups now is closed higher S =
-    let R = reads_of t414 t414_ends bytes o is in
-    let H = head_parts bytes o.head R.head in
-    let t = o.head.topology in
-    let content = other_content o bytes in
-    let A : SpeltArea t414 t414_ends t content generation base s groups now = record {
-      gate = S.gate;
-      rest = S.rest;
-      shut = S.shut;
-      spelled = S.spelled;
-      generation_fits = S.generation_fits;
-      cut = cut_back t414_ends t base s S.cut;
-      each = S.each;
-      numbers = S.numbers;
-      last = S.last;
-      leads = S.leads;
-    } in
-    let k : Opened = record { head = o.head; second = not o.second; generation = generation; base = base; cut = s; kept = entries_in groups; now = now; end = end_of_groups o.head (not o.second) groups } in
-    ap (λ found. other_of t414 t414_ends found bytes) is
-    ∙ other_closed o bytes closed
-    ∙ ap (if_newer o) (area_spelt t414 t414_ends o.head (not o.second) (has_shape t H.topology) content generation base s groups now A)
-    ∙ ap (λ b. cond b (Some (other_start o, held_of k)) None) (lt-ltb o.generation generation higher)
+    spelt_other t414 t414_ends bytes o is closed generation base s groups now (spelt_area t414 t414_ends o.head.topology (other_content o bytes) generation base s groups now S) higher
 
 -- the other area's content, once it is written whole
 pub content_written : (bytes : List ℕ) (o : Opened) (content : List ℕ) → opening t414 t414_ends bytes ≡ Ok o → length content ≡ o.head.area - 1

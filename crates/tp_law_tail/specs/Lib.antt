@@ -1,3 +1,4 @@
 pub mod CanPut
 pub mod CutSpelt
 pub mod InGroups
+pub mod OneCheckpoint

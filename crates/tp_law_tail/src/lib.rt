@@ -4,8 +4,10 @@
 
 ghost use Rattle.std.specs.List.{AllByRecursion};
 ghost use Rattle.std.specs.Prelude.{◌≡◌, ◌≤◌, ◌<◌, ◌+◌, ◌-◌, ◌*◌, ◌++◌, ◌⊎◌, ℕ, Bool, false, true, List, Ok, Some, length, map, take, drop, slice_get};
+ghost use Rattle.tp_law_device.specs.Checkpoints.{Switches};
 ghost use Rattle.tp_law_tail.specs.CanPut.{CanPut};
 ghost use Rattle.tp_law_tail.specs.CutSpelt.{CutSpelt};
+ghost use Rattle.tp_law_tail.specs.OneCheckpoint.{OneCheckpoint};
 ghost use Rattle.tp_model.specs.Acts.{Act, CutHolds, happens};
 ghost use Rattle.tp_model.specs.Areas.{Held, gate_open};
 ghost use Rattle.tp_model.specs.CopySpelt.{CopySpelt};
@@ -28,7 +30,7 @@ ghost use Rattle.tp_model.specs.Order.{post};
 ghost use Rattle.tp_model.specs.PiecesStand.{IsSized, IsThere, PiecesStand};
 ghost use Rattle.tp_model.specs.Runs.{Event, HasCut, IsFormatted, World, copy_of, is_trim};
 ghost use Rattle.tp_model.specs.Snapshot.{MarkedNetwork};
-ghost use Rattle.tp_model.specs.Spelling.{Spells, entries_in, groups_bytes};
+ghost use Rattle.tp_model.specs.Spelling.{entries_in, groups_bytes};
 ghost use Rattle.tp_model.specs.Topology.{Topology, is_topology};
 ghost use Rattle.tp_model.specs.WholeCut.{WholeCut, all_some, count_in, network_in};
 ghost use Rattle.tp_model.specs.WriteOrder.{Resting};
@@ -37,18 +39,13 @@ ghost use Rattle.tp_model.specs.declared.limits.TheConstants.{IMAGE_HEAD_BYTES, 
 
 /// However the other area came to hold the pieces of a copy, each at its place and the tail in any groups of 1 to 64: that
 /// copy is what the area holds behind its closed gate. Once the gate is open, opening answers the copy: its base, its
-/// network, the entries of the tail with their numbers, and the other area as the one that is taken. The same of whatever
-/// spells a cut and groups there, of a higher generation.
+/// network, the entries of the tail with their numbers, and the other area as the one that is taken.
 pub fn copies_open()
-    ensures stands { (bytes : List ℕ) (o : Opened) (copy : Held NodeState) (tail : List (Entry × ℕ)) (groups : List (List (Entry × ℕ)))
+    ensures { (bytes : List ℕ) (o : Opened) (copy : Held NodeState) (tail : List (Entry × ℕ)) (groups : List (List (Entry × ℕ)))
         → verdict bytes ≡ Ok o → other_is_open o bytes ≡ false → o.generation + 1 < NUMBER_LIMIT
         → (C : CopySpelt o.head.topology copy tail) → entries_in groups ≡ tail → AllByRecursion IsSized groups
         → PiecesStand o.head.topology (other_content o bytes) (o.generation + 1) copy groups
         → (device_areas.other bytes ≡ Some (other_start o, copy)) × (verdict (written bytes (other_start o) gate_open) ≡ Ok (opened_copy o copy groups C.now)) }
-    ensures spelt { (bytes : List ℕ) (o : Opened) (generation base : ℕ) (s : Network NodeState) (groups : List (List (Entry × ℕ))) (now : Network NodeState)
-        → verdict bytes ≡ Ok o → other_is_open o bytes ≡ false → o.generation < generation
-        → Spells t414 t414_ends o.head.topology (other_content o bytes) generation base s groups now
-        → device_areas.other bytes ≡ Some (other_start o, record { network = s; entries = map (λ e. e.0) (entries_in groups); base = base }) }
 {}
 
 /// A whole cut of a book whose kept cut has an image, with bytes in its nodes, has one too, with its own entries added to the
@@ -86,14 +83,11 @@ pub fn copies_can_be_put()
 {}
 
 /// However the entries of a spelt copy's tail are divided into groups of 1 to 64, they end inside the content of an area, with
-/// the closed gate behind them, where each entry finds room in a group of its own. So does a next group behind those of the
-/// area that is taken, the next gate with it, whatever groups stand there.
+/// the closed gate behind them, where each entry finds room in a group of its own.
 pub fn groups_stay_inside()
-    ensures put { (t : Topology) (area : ℕ) (copy : Held NodeState) (tail : List (Entry × ℕ)) (groups : List (List (Entry × ℕ))) → is_roomy t area ≡ true → CopySpelt t copy tail
+    ensures { (t : Topology) (area : ℕ) (copy : Held NodeState) (tail : List (Entry × ℕ)) (groups : List (List (Entry × ℕ))) → is_roomy t area ≡ true → CopySpelt t copy tail
         → entries_in groups ≡ tail → AllByRecursion IsSized groups → entry_room * length tail ≤ room t area
         → groups_place t + length (groups_bytes groups) + 1 ≤ area - 1 }
-    ensures added { (bytes : List ℕ) (o : Opened) (count : ℕ) → AllByRecursion (λ byte. byte < 256) bytes → verdict bytes ≡ Ok o → 1 ≤ count
-        → entry_room * (length o.kept + count) ≤ room o.head.topology o.head.area → has_room o count ≡ true }
 {}
 
 /// In a run over a device that was formatted, where each entry was made with room for it: the entries outside a whole cut find
@@ -130,4 +124,25 @@ pub fn pieces_stay()
     ensures image { (content : List ℕ) (at : ℕ) (node : NodeState) → IsNode node → IsThere content at (image_head node)
         → ((page : ℕ) → page < page_count node.memory → IsThere content (at + IMAGE_HEAD_BYTES + PAGE_BYTES * page) (take PAGE_BYTES (drop (PAGE_BYTES * page) node.memory)))
         → IsThere content at (image node) }
+{}
+
+/// Each whole cut of a run can be switched to, whatever checkpoints, crashes and openings came before, and whether the other area
+/// is closed or still open. Where entries are made with room for them, and a generation is left: whenever the flusher rests, a
+/// run closes the other area if it is open, copies cut and tail, writes them there, syncs, opens the gate, syncs and trims the
+/// book. Its last world's device opens as the other area, of the next generation, and holds the cut and each entry outside it.
+pub fn cuts_can_be_switched_to()
+    ensures { (most : ℕ) (start : Network NodeState) (events : List (Event NodeState)) (first w : World NodeState) → IsFormatted t414 device_areas start first
+        → AllByRecursion (λ byte. byte < 256) first.disk.bytes → KeptRun most first events w
+        → (o : Opened) (cut : WholeCut) (nodes : List NodeState) → w.at ≡ Resting → AllByRecursion (λ byte. byte < 256) w.disk.bytes → HasCut w.net cut nodes
+        → verdict w.disk.bytes ≡ Ok o → o.generation + 1 < NUMBER_LIMIT → most ≤ room o.head.topology o.head.area
+        → Switches w o cut nodes (o.generation + 1) }
+{}
+
+/// A run that does a checkpoint, computed from a formatted device on. A node sends a byte and the host takes it; these two entries are
+/// appended as a group, the mark is raised, and read. A snapshot begins, the node records, and then takes the Ack and goes on,
+/// which are two entries outside the cut; in the cut the Ack is on its line. Both Markers are taken, so the cut is whole. Then
+/// it is copied with its tail, written into the other area and synced, the gate is opened and synced, and the book is trimmed:
+/// the device opens as the second area, with the cut of two entries, the two behind it, and the network as it is.
+pub fn a_run_checkpoints()
+    ensures { OneCheckpoint }
 {}

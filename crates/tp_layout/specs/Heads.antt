@@ -13,7 +13,7 @@ use Rattle.tp_model.specs.Topology.{Topology, is_topology}
 abbrev pub topology_at : List ℕ → Option Topology
 topology_at bytes = if is_topology (head_at bytes).topology then Some (head_at bytes).topology else None
 
--- the bytes are that head's, and so many have room for what it says
+-- the bytes are that head's, and `len` bytes have room for what it says
 abbrev pub is_whole : ℕ → List ℕ → Head → Bool
 is_whole len bytes head =
     is_topology head.topology && (bytes_eq bytes (head_bytes head.topology head.area) && fits len head.topology head.area)

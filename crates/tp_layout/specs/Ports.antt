@@ -11,7 +11,7 @@ use Rattle.tp_layout.specs.declared.port.PortRecord.{PortRecord}
 abbrev pub port_of : PortRecord → Port
 port_of r = record { pending = r.pending.now; in_base = r.in_base; outputs = r.outputs.now; out_base = r.out_base }
 
--- a record stands in front of these bytes, of a port of a cut of so many entries
+-- the bytes begin with the record of a port of a cut of `base` entries
 abbrev pub is_port_at : ℕ → List ℕ → Bool
 is_port_at base bytes = bytes_eq (take PORT_BYTES bytes) (port_bytes (port_at bytes)) && is_port_of base (port_at bytes)
 

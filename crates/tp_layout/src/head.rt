@@ -11,30 +11,20 @@ ghost use Rattle.tp_model.specs.Topology.{is_topology};
 ghost use Rattle.tp_layout.specs.Heads.{fields_in, head_in, topology_at};
 
 use crate::end::{end_byte, end_of_byte};
+use crate::head_places::{
+    AREA_PLACE, ENDS_PLACE, NODES_PLACE, PAGES_PLACE, PORTS_PLACE, VERSION_PLACE,
+};
 use crate::number::{u16_at, u64_at};
 use crate::room::fits;
 use crate::written::{pad, put};
 use arrayvec::ArrayVec;
 use std::marker::Model;
-use tp_model::limits::{HEAD_BYTES, HEAD_NODES, HEAD_VERSION, MAX_NODES, MAX_PORTS};
+use tp_model::limits::{HEAD_BYTES, HEAD_VERSION, MAX_NODES, MAX_PORTS};
 use tp_model::{OpenFault, WireEnd};
 use tp_net::{MAX_LINES, Topology, end_of, link_line};
 
 /// The bytes that a formatted device begins with.
 const MAGIC: [u8; 7] = *b"TPNET\0\0";
-
-/// Where the fields of a head stand.
-const VERSION_PLACE: usize = 7;
-
-const NODES_PLACE: usize = 8;
-
-const PORTS_PLACE: usize = 9;
-
-const AREA_PLACE: usize = 16;
-
-const PAGES_PLACE: usize = 24;
-
-const ENDS_PLACE: usize = PAGES_PLACE + 2 * HEAD_NODES;
 
 /// How many bytes a head of version `version` has. Behind it the areas begin.
 pub fn head_length(version: u8) -> u64

@@ -4,6 +4,7 @@
 mod end;
 mod front;
 mod head;
+pub mod head_places;
 mod line;
 mod number;
 mod place;
@@ -18,4 +19,6 @@ pub use head::{Head, head_bytes, head_in, head_length};
 pub use line::{LineTokens, line_in};
 pub use place::{Places, area_start, piece_length, piece_place};
 pub use port::{PortRecord, port_bytes, port_in};
-pub use room::{cut_length, fits, image_length, images_length, journal_room, records_length};
+pub use room::{
+    area_for, cut_length, fits, image_length, images_length, journal_room, records_length,
+};

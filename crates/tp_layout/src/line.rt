@@ -47,7 +47,7 @@ impl LineTokens {
         }
     }
 
-    /// The record of a line with these tokens.
+    /// Encodes the record of a line.
     pub fn record(self) -> [u8; LINE_BYTES]
         ensures { result ≡ line_bytes (tokens_on self) }
     {
@@ -60,7 +60,7 @@ impl LineTokens {
         }
     }
 
-    /// Whether a line with this wire may have these tokens.
+    /// Whether a line with `wire` may have the tokens.
     fn may_be_on(self, wire: Option<WireEnd>) -> bool
         ensures { result ≡ is_line_of wire (tokens_on self) }
     {

@@ -1,4 +1,4 @@
-//! The rule of the word, and what each step on it tells. These types are for the proofs alone.
+//! The rule of the word, and what each step on it tells. Its types are for the proofs alone.
 ghost use Rattle.std.specs.Prelude.{◌≡◌};
 ghost use Rattle.tp_mark.specs.View.{raiser, reader, Marks, Loaded, Audited, Raised, informed};
 

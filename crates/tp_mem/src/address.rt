@@ -4,14 +4,15 @@ ghost use Rattle.std.specs.Prelude.{◌≡◌, ℕ, ◌^◌, ◌<◌, List, leng
 ghost use Rattle.tp_model.specs.Memory.{offset, word_offset, is_inside};
 ghost use Rattle.tp_mem.specs.Ranges.{are_inside};
 
-const FIRST: u32 = 0x8000_0000;
+/// The first address of memory.
+pub const FIRST_ADDRESS: u32 = 0x8000_0000;
 
-/// How far an address lies behind the first one.
+/// How far `address` lies behind the first one.
 #[inline(always)]
 pub(crate) fn offset(address: u32) -> usize
     ensures { result ≡ offset address }
 {
-    address.wrapping_sub(FIRST) as usize
+    address.wrapping_sub(FIRST_ADDRESS) as usize
 }
 
 /// Where the word of an address begins.
@@ -22,7 +23,7 @@ pub(crate) fn word_offset(address: u32) -> usize
     offset(address / 4 * 4)
 }
 
-/// Whether a range of `count` bytes from an address lies inside so many bytes of memory.
+/// Whether `count` bytes from `address` on lie inside a memory of `len` bytes.
 #[inline(always)]
 pub(crate) fn is_inside(len: usize, address: u32, count: u32) -> bool
     requires { len < 2 ^ 32 }
@@ -31,7 +32,7 @@ pub(crate) fn is_inside(len: usize, address: u32, count: u32) -> bool
     count == 0 || offset(address) + count as usize <= len
 }
 
-/// Whether each write goes to a word inside so many bytes of memory.
+/// Whether each write goes to a word inside a memory of `len` bytes.
 #[inline(always)]
 pub(crate) fn are_inside(len: usize, writes: &[(u32, u32)]) -> bool
     ensures { result ≡ are_inside len writes.now }

@@ -12,6 +12,7 @@ mod memory;
 mod touch;
 mod write;
 
+pub use address::FIRST_ADDRESS;
 pub use cow::CowMemory;
 pub use fault::{NoFrame, WriteFault};
 pub use flat::FlatMemory;

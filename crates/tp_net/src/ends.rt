@@ -23,7 +23,7 @@ pub fn link_line(node: usize, link: usize) -> usize
 
 /// The line that port `port` sends, with `nodes` nodes.
 pub fn port_line(nodes: usize, port: usize) -> usize
-    requires nodes { nodes < 2 ^ 32 }
+    requires nodes { nodes ≤ 2 ^ 32 }
     requires port { port < 2 ^ 32 }
     ensures { result ≡ 4 * nodes + port }
 {
@@ -32,7 +32,7 @@ pub fn port_line(nodes: usize, port: usize) -> usize
 
 /// The line that `end` sends, with `nodes` nodes.
 pub fn line_of(nodes: usize, end: WireEnd) -> usize
-    requires { nodes < 2 ^ 32 }
+    requires { nodes ≤ 2 ^ 32 }
     ensures value { result ≡ line_of nodes end }
     ensures bound { result < 4 * nodes + 2 ^ 11 }
 {

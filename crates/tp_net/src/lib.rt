@@ -1,10 +1,10 @@
 //! The network's shape, read from a text or made of its parts, and its lines.
 #![tactic(auto)]
 
+mod declarations;
 mod ends;
 mod line;
 mod rules;
-mod said;
 mod topology;
 mod words;
 

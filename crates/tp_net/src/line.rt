@@ -80,7 +80,7 @@ impl Model for Lines {
 }
 
 impl Lines {
-    /// So many lines, all empty.
+    /// Makes `count` lines, all empty.
     pub fn new(alloc: Global, count: usize) -> Result<Lines, AllocError>
         ensures { IfOk result (λ lines. lines ≡ replicate count []) }
     {

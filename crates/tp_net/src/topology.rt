@@ -8,9 +8,9 @@ ghost use Rattle.tp_net.specs.NodeNames.{node_names};
 ghost use Rattle.tp_net.specs.Parts.{if_topology, parts};
 ghost use Rattle.tp_net.specs.Steps.{IsFaultOf, IsRead};
 
+use crate::declarations::Declarations;
 use crate::ends::{MAX_LINES, port_line};
 use crate::rules::is_topology;
-use crate::said::Said;
 use crate::words::next_line;
 use arrayvec::ArrayVec;
 use std::alloc::Global;
@@ -74,7 +74,7 @@ impl Topology {
     pub fn read(alloc: Global, text: &[u8]) -> Result<Topology, NetFault>
         ensures { IsRead (read_text text.now) result }
     {
-        said_in(alloc, text)?.finish()
+        declarations_in(alloc, text)?.finish()
     }
 
     /// Reads a text as `read` does, and keeps its nodes' names.
@@ -82,9 +82,9 @@ impl Topology {
         ensures topology { MatchResult result (λ found. read_text text.now ≡ Ok found.topology) (λ fault. IsFaultOf (read_text text.now) fault) }
         ensures names { IfOk result (λ found. map (λ name. name.now) found.names.items ≡ node_names text.now) }
     {
-        let said = said_in(alloc, text)?;
-        let topology = said.finish()?;
-        let Ok(names) = said.names(alloc) else {
+        let declared = declarations_in(alloc, text)?;
+        let topology = declared.finish()?;
+        let Ok(names) = declared.names(alloc) else {
             return Err(NetFault::Memory);
         };
         Ok(Named { topology, names })
@@ -133,17 +133,17 @@ pub struct Named<'a> {
     pub names: Vec<&'a str>,
 }
 
-/// What all lines of a text have said.
-fn said_in(alloc: Global, text: &[u8]) -> Result<Said<'_>, NetFault>
+/// Reads what all lines of a text declare.
+fn declarations_in(alloc: Global, text: &[u8]) -> Result<Declarations<'_>, NetFault>
     ensures { IsRead (read_lines nothing_said 1 (lines text.now)) result }
 {
-    let mut said = Said::new(alloc);
+    let mut declared = Declarations::new(alloc);
     let mut number = 1;
     let mut rest = text;
     while let Some((line, behind)) = next_line(rest) {
-        said.add_line(alloc, number, line)?;
+        declared.add_line(alloc, number, line)?;
         number += 1;
         rest = behind;
     }
-    Ok(said)
+    Ok(declared)
 }

@@ -1,6 +1,8 @@
 -- What a node's answers say: to a token, at the end of a run, to an image.
 use Rattle.std.proofs.Common.{◌≡◌, ℕ, ◌<◌, ◌≤◌, List, refl, sym, ap, arith, Option, Some, None, IsSome}
 use Rattle.std.specs.Prelude.{Ok, Err}
+use Rattle.std.specs.Option.{option_map}
+use Rattle.tp_model.specs.SharedPages.{LacksFrames}
 use Rattle.tp_model.specs.declared.link.Token.{Token}
 use Rattle.tp_model.specs.NodeState.{NodeState}
 use Rattle.tp_model.specs.Node.{node_step, on_link}
@@ -8,7 +10,7 @@ use Rattle.tp_model.specs.Step.{step_of}
 use Rattle.tp_node.specs.declared.run.Why.{Why}
 use Rattle.tp_node.specs.declared.run.Why.TheVariants.{Full, Idle, NoFrame, Halted}
 use Rattle.tp_node.specs.declared.fault.NoFrame.{NoFrame as NoFrameLeft}
-use Rattle.tp_node.specs.NodeContents.{NodeContents}
+use Rattle.tp_node.specs.NodeContents.{NodeContents, kept_of}
 use Rattle.tp_node.specs.RunEnd.{IsWhy}
 use Rattle.tp_node.specs.Takes.{Takes}
 use Rattle.tp_node.specs.FromImage.{ReadsImage}
@@ -21,6 +23,14 @@ takes_ok (Some (after, sent)) cause link before now answer takes = rw (takes.0, 
 pub takes_err : (o : Option (NodeState × List (ℕ × Token))) (cause : Type 0) (link : ℕ) (before now : NodeState) (e : NoFrameLeft) → Takes o cause link before (Err e) now → cause
 takes_err None cause link before now e takes = absurd takes
 takes_err (Some after) cause link before now e takes = takes.0
+
+-- a node that lacks frames is frozen
+pub lacking_frozen : (node : NodeContents) (ranges : List (ℕ × ℕ)) → LacksFrames (kept_of node) ranges → IsSome node.frozen
+lacking_frozen node ranges lacks = kept_some node.frozen lacks.frozen
+  where
+    kept_some : (frozen : Option NodeState) → IsSome (option_map (λ (n : NodeState). n.memory) frozen) → IsSome frozen
+    kept_some None is = is
+    kept_some (Some n) is = refl
 
 -- a node that has halted makes no step
 halted_rests : (node : NodeState) → IsSome node.cpu.halt → node_step node ≡ None
@@ -43,9 +53,9 @@ why_fewer Halted max count cause now is never fewer = halted_rests now is.1
 
 -- an image that was read
 pub image_read : (found : Option NodeState) (node : NodeContents) → ReadsImage found (Ok node) → found ≡ Some node.live
-image_read (Some state) node is = ap (λ (n : NodeContents). Some n.live) (sym is)
+image_read (Some state) node is = ap Some (sym is.0)
 image_read None node is = absurd is
 
 pub image_thawed : (found : Option NodeState) (node : NodeContents) → ReadsImage found (Ok node) → node.frozen ≡ None
-image_thawed (Some state) node is = ap (λ (n : NodeContents). n.frozen) is
+image_thawed (Some state) node is = is.1
 image_thawed None node is = absurd is

@@ -2,6 +2,7 @@ pub mod Answered
 pub mod EndsAsBytes
 pub mod FirstStored
 pub mod Images
+pub mod Keeps
 pub mod OneMore
 pub mod Pieces
 pub mod Room

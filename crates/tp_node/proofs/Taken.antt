@@ -1,5 +1,5 @@
 -- A token that is taken, by its parts.
-use Rattle.std.proofs.Common.{◌≡◌, ℕ, List, set, Option, Some, None, IsSome, Ok, refl, sym}
+use Rattle.std.proofs.Common.{◌≡◌, ℕ, List, set, Option, Some, None, IsSome, Ok, Err, refl, sym, true≢false}
 use Rattle.std.specs.List.{slice_get}
 use Rattle.tp_model.specs.Memory.{byte_at}
 use Rattle.tp_model.specs.NodeState.{NodeState}
@@ -13,6 +13,10 @@ use Rattle.tp_model.specs.declared.link.OutEnd.{OutEnd}
 use Rattle.tp_model.specs.declared.link.InEnd.{InEnd}
 use Rattle.tp_model.specs.declared.link.Arrival.{Arrival}
 use Rattle.tp_model.specs.declared.link.News.{News}
+use Rattle.tp_model.specs.NodeWrites.{place_range, tell_ranges, took_ranges}
+use Rattle.tp_node.specs.declared.fault.NoFrame.{NoFrame}
+use Rattle.tp_node.specs.declared.first.First.{First}
+use Rattle.tp_node.specs.First.{first_stored, put_ranges, put_then}
 use Rattle.tp_node.specs.Hears.{with_both}
 use Rattle.tp_node.specs.Takes.{Takes}
 
@@ -39,3 +43,23 @@ pub ack_taken : (node : NodeState) (k : ℕ) (end new : OutEnd) (arrival : Arriv
     → Takes (took_token node k Ack) cause k node (Ok arrival.token) (record node { cpu = cpu; memory = now; outputs = set node.outputs k new })
 ack_taken node k end new arrival cause cpu now there arrived hears =
     rw (there, arrived) (sym (hears (record node { outputs = set node.outputs k new }) node.memory refl), refl)
+
+-- a token that isn't taken, which has a cause and changes nothing
+pub not_taken : (o : Option (NodeState × List (ℕ × Token))) (cause : Type 0) (k : ℕ) (before now : NodeState) (e : NoFrame) → IsSome o → cause → now ≡ before → Takes o cause k before (Err e) now
+not_taken None cause k before now e can so same = absurd (true≢false (sym can))
+not_taken (Some after) cause k before now e can so same = (so, same)
+
+pub same_node : (node : NodeState) (cpu : Cpu) (memory : List ℕ) → cpu ≡ node.cpu → memory ≡ node.memory → ◌≡◌ {A = NodeState} (record node { cpu = cpu; memory = memory }) node
+same_node node cpu memory same_cpu same_memory = rw (same_cpu, same_memory) refl
+
+-- what a token writes, by its parts
+pub data_ranges : (node : NodeState) (k byte : ℕ) (end new : InEnd) (arrival : Arrival) (first : First) → slice_get node.inputs k ≡ Some end → in_arrived byte end ≡ Some (new, arrival)
+    → ((memory : List ℕ) → first_stored first memory ≡ placed arrival.place byte memory) → put_ranges first ≡ place_range arrival.place
+    → took_ranges node k (Data byte) ≡ put_then first node.memory (tell_ranges arrival.news node.cpu)
+unfolding took_ranges
+data_ranges node k byte end new arrival first there arrived stored ranges = rw (there, arrived, stored node.memory, ranges) refl
+
+pub ack_ranges : (node : NodeState) (k : ℕ) (end new : OutEnd) (arrival : Arrival) → slice_get node.outputs k ≡ Some end
+    → out_acked (next_pointer end >>= byte_at node.memory) end ≡ Some (new, arrival) → took_ranges node k Ack ≡ tell_ranges arrival.news node.cpu node.memory
+unfolding took_ranges
+ack_ranges node k end new arrival there arrived = rw (there, arrived) refl

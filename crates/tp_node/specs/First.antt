@@ -1,6 +1,8 @@
 -- What a token puts into memory, before the process that hears of it is queued.
-use Rattle.std.specs.Prelude.{◌≡◌, ℕ, List, [], ◌∷◌, Option, Some, option_and_then}
+use Rattle.std.specs.Prelude.{◌≡◌, ℕ, List, [], ◌∷◌, ◌++◌, Option, Some, option_and_then}
 use Rattle.tp_model.specs.Memory.{byte_stored, stored}
+use Rattle.tp_model.specs.SharedPages.{word_ranges, byte_ranges}
+use Rattle.tp_model.specs.StepWrites.{◌>>=◌, word_range}
 use Rattle.tp_model.specs.declared.link.News.{News}
 use Rattle.tp_model.specs.declared.link.News.TheVariants.{Nobody, Process, Alternative}
 use Rattle.tp_node.specs.declared.first.First.{First}
@@ -15,6 +17,15 @@ first_stored (Word address word) memory = stored memory ((address, word) ∷ [])
 -- and after words behind it
 abbrev pub stored_behind : First → List (ℕ × ℕ) → List ℕ → Option (List ℕ)
 stored_behind first writes memory = option_and_then (λ m. stored m writes) (first_stored first memory)
+
+-- the ranges that it writes, and those of what goes on behind it
+abbrev pub put_ranges : First → List (ℕ × ℕ)
+put_ranges Nothing = []
+put_ranges (Byte address byte) = byte_ranges address
+put_ranges (Word address word) = word_range address
+
+abbrev pub put_then : First → List ℕ → (List ℕ → List (ℕ × ℕ)) → List (ℕ × ℕ)
+put_then first memory rest = first_stored first memory >>= λ m. put_ranges first ++ rest m
 
 -- a token for an alternative puts nothing into memory by itself
 abbrev pub GoesWith : First → News → Type 0

@@ -1,5 +1,6 @@
 -- What reading an image answers.
-use Rattle.std.specs.Prelude.{◌≡◌, Option, Some, None, Result, Ok, Err}
+use Rattle.std.specs.Prelude.{◌≡◌, ℕ, ◌/◌, false, length, replicate, min, Option, Some, None, Result, Ok, Err}
+use Rattle.tp_model.specs.declared.limits.TheConstants.{PAGE_BYTES}
 use Rattle.tp_model.specs.NodeState.{NodeState}
 use Rattle.tp_node.specs.declared.fault.ImageFault.{ImageFault}
 use Rattle.tp_node.specs.declared.fault.ImageFault.TheVariants.{BadImage, Memory}
@@ -8,9 +9,14 @@ use Rattle.tp_node.specs.NodeContents.{NodeContents}
 -- The node whose image the bytes are, not frozen. They are refused just where they are no image, and memory is wanting
 -- only where they are one.
 abbrev pub ReadsImage : Option NodeState → Result NodeContents ImageFault → Type 0
-ReadsImage (Some state) (Ok node) = node ≡ record { live = state; frozen = None }
+ReadsImage (Some state) (Ok node) = (node.live ≡ state) × (node.frozen ≡ None)
 ReadsImage (Some state) (Err Memory) = Unit {0}
 ReadsImage (Some state) (Err BadImage) = ⊥
 ReadsImage None (Err BadImage) = Unit {0}
 ReadsImage None (Err Memory) = ⊥
 ReadsImage None (Ok node) = ⊥
+
+-- no page of it is shared, and it has that many spare frames, but no more than pages
+pub record HasFrames (wanted : ℕ) (node : NodeContents) : Type 0 where
+  pub shared : node.shared ≡ replicate (length node.live.memory / PAGE_BYTES) false
+  pub spare : node.spare ≡ min wanted (length node.live.memory / PAGE_BYTES)

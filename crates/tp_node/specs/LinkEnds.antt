@@ -1,5 +1,6 @@
 -- What a call answers and leaves that does what an instruction asks of an end of a link.
 use Rattle.std.specs.Prelude.{◌≡◌, ℕ, List, Option, Result, Ok, Err}
+use Rattle.tp_model.specs.SharedPages.{Kept, LacksFrames, kept_behind}
 use Rattle.tp_model.specs.LinkStep.{LinkOutcome, Did, Fails}
 use Rattle.tp_model.specs.declared.processor.Cpu.{Cpu}
 use Rattle.tp_model.specs.declared.link.Token.{Token}
@@ -19,7 +20,12 @@ IsUndone outcome cause (Asks request) = ⊥
 IsUndone outcome cause (Wants request) = ⊥
 
 -- The processor, the memory and the end are what the outcome says, and the token that leaves is answered; else nothing
--- has changed, and the answer says why.
-abbrev pub LinkEnds : {End : Type 0} → LinkOutcome End → Type 0 → Cpu → List ℕ → End → Result (Option Token) Undone → Cpu → List ℕ → End → Type 0
-LinkEnds outcome cause before was end (Ok token) after now new = outcome ≡ Did after now new token
-LinkEnds outcome cause before was end (Err undone) after now new = IsUndone outcome cause undone × (after ≡ before) × (now ≡ was) × (new ≡ end)
+-- has changed, and the answer says why. Where it is want of a frame, frames are wanting for the ranges.
+abbrev pub LinkEnds : {End : Type 0} → LinkOutcome End → List (ℕ × ℕ) → Kept → Cpu → List ℕ → End → Result (Option Token) Undone → Cpu → List ℕ → End → Type 0
+LinkEnds outcome ranges kept before was end (Ok token) after now new = outcome ≡ Did after now new token
+LinkEnds outcome ranges kept before was end (Err undone) after now new = IsUndone outcome (LacksFrames kept ranges) undone × (after ≡ before) × (now ≡ was) × (new ≡ end)
+
+-- what a call leaves beside the live bytes, by its answer: all is as it was where nothing was done
+abbrev pub kept_done : {A E : Type 0} → Result A E → Kept → List (ℕ × ℕ) → Kept
+kept_done (Ok x) kept ranges = kept_behind kept ranges
+kept_done (Err e) kept ranges = kept

@@ -1,13 +1,22 @@
 -- What a node holds.
-use Rattle.std.specs.Prelude.{ℕ, List, Option, Some, None}
+use Rattle.std.specs.Prelude.{ℕ, Bool, List, Option, Some, None}
+use Rattle.std.specs.Option.{option_map}
+use Rattle.tp_model.specs.SharedPages.{Kept}
 use Rattle.tp_model.specs.NodeState.{NodeState}
 use Rattle.tp_node.specs.declared.head.Head.{Head}
 use Rattle.tp_node.specs.StateWith.{state_with}
 
--- the node; and while it is frozen, the node as it was at the freeze
+-- the node; while it is frozen, the node as it was at the freeze; of each page of its memory, whether both share it; and
+-- how many frames there are for the pages that they don't share
 pub record NodeContents : Type 0 where
   pub live : NodeState
   pub frozen : Option NodeState
+  pub shared : List Bool
+  pub spare : ℕ
+
+-- what its memory keeps beside the live bytes
+abbrev pub kept_of : NodeContents → Kept
+kept_of node = record { frozen = option_map (λ kept. kept.memory) node.frozen; shared = node.shared; spare = node.spare }
 
 -- the frozen node, whose head and memory are kept together
 abbrev pub frozen_state : Option Head → Option (List ℕ) → Option NodeState

@@ -5,7 +5,7 @@ use Rattle.tp_model.specs.Node.{node_step}
 use Rattle.tp_node.specs.declared.run.Why.{Why}
 use Rattle.tp_node.specs.declared.run.Why.TheVariants.{Full, Idle, NoFrame, Halted}
 
--- of so many steps that were asked for, so many were made; and why no more
+-- how many steps were asked for and how many were made; and why no more
 pub record RunEnd : Type 0 where
   pub max : ℕ
   pub count : ℕ

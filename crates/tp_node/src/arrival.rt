@@ -3,21 +3,17 @@
 ghost use Rattle.std.specs.Prelude.{◌≡◌, ℕ, List, Some, IsSome};
 ghost use Rattle.tp_model.specs.Node.{bad_address, wake, tell};
 ghost use Rattle.tp_model.specs.NodeState.{NodeState};
-ghost use Rattle.tp_node.specs.First.{GoesWith, first_stored};
+ghost use Rattle.tp_model.specs.NodeWrites.{wake_ranges, tell_ranges};
+ghost use Rattle.tp_model.specs.SharedPages.{LacksFrames};
+ghost use Rattle.tp_node.specs.First.{GoesWith, first_stored, put_then};
 ghost use Rattle.tp_node.specs.Hears.{Hears, with_both};
+ghost use Rattle.tp_node.specs.LinkEnds.{kept_done};
 
 use crate::fault::NoFrame;
 use crate::first::First;
 use tp_mem::Mem;
 use tp_model::{Cpu, Fault, News};
-use tp_proc::{queue, queue_write, state_at, workspace};
-
-/// The states of an alternative: its branches are being enabled; it waits; a partner has come.
-const ENABLING: u32 = 0x8000_0001;
-
-const WAITING: u32 = 0x8000_0002;
-
-pub(crate) const READY: u32 = 0x8000_0003;
+use tp_proc::{ENABLING, READY, WAITING, queue, queue_write, state_at, workspace};
 
 /// A node that runs halts, since a process lies outside memory.
 fn halt_outside(cpu: &mut Cpu)
@@ -32,8 +28,8 @@ fn halt_outside(cpu: &mut Cpu)
 #[tactic(auto, using(crate::proofs::FirstStored::word_behind))]
 fn wake<M: Mem>(cpu: &mut Cpu, mem: &mut M, first: First, descriptor: u32) -> Result<(), NoFrame>
     requires { IsSome (first_stored first (M.bytes mem.old)) }
-    ensures hears { Hears (wake descriptor) (first_stored first (M.bytes mem.old)) (IsSome (M.kept mem.old).frozen) cpu.old (M.bytes mem.old) result cpu.new (M.bytes mem.new) }
-    ensures kept { (M.kept mem.new).frozen ≡ (M.kept mem.old).frozen }
+    ensures hears { Hears (wake descriptor) (first_stored first (M.bytes mem.old)) (LacksFrames (M.kept mem.old) (put_then first (M.bytes mem.old) (wake_ranges descriptor cpu.old))) cpu.old (M.bytes mem.old) result cpu.new (M.bytes mem.new) }
+    ensures kept { M.kept mem.new ≡ kept_done result (M.kept mem.old) (put_then first (M.bytes mem.old) (wake_ranges descriptor cpu.old)) }
 {
     // Memory has whole words: its length says so.
     let _len = mem.len();
@@ -59,8 +55,8 @@ fn wake<M: Mem>(cpu: &mut Cpu, mem: &mut M, first: First, descriptor: u32) -> Re
 /// A partner has come for the alternative of a descriptor.
 #[tactic(auto, using(crate::proofs::FirstStored::word_behind))]
 fn signal<M: Mem>(cpu: &mut Cpu, mem: &mut M, descriptor: u32) -> Result<(), NoFrame>
-    ensures hears { Hears (tell (News.Alternative descriptor)) (Some (M.bytes mem.old)) (IsSome (M.kept mem.old).frozen) cpu.old (M.bytes mem.old) result cpu.new (M.bytes mem.new) }
-    ensures kept { (M.kept mem.new).frozen ≡ (M.kept mem.old).frozen }
+    ensures hears { Hears (tell (News.Alternative descriptor)) (Some (M.bytes mem.old)) (LacksFrames (M.kept mem.old) (tell_ranges (News.Alternative descriptor) cpu.old (M.bytes mem.old))) cpu.old (M.bytes mem.old) result cpu.new (M.bytes mem.new) }
+    ensures kept { M.kept mem.new ≡ kept_done result (M.kept mem.old) (tell_ranges (News.Alternative descriptor) cpu.old (M.bytes mem.old)) }
 {
     let address = state_at(workspace(descriptor));
     let ready = First::Word {
@@ -87,8 +83,8 @@ pub(crate) fn tell<M: Mem>(
 ) -> Result<(), NoFrame>
     requires inside { IsSome (first_stored first (M.bytes mem.old)) }
     requires alone { GoesWith first news }
-    ensures hears { Hears (tell news) (first_stored first (M.bytes mem.old)) (IsSome (M.kept mem.old).frozen) cpu.old (M.bytes mem.old) result cpu.new (M.bytes mem.new) }
-    ensures kept { (M.kept mem.new).frozen ≡ (M.kept mem.old).frozen }
+    ensures hears { Hears (tell news) (first_stored first (M.bytes mem.old)) (LacksFrames (M.kept mem.old) (put_then first (M.bytes mem.old) (tell_ranges news cpu.old))) cpu.old (M.bytes mem.old) result cpu.new (M.bytes mem.new) }
+    ensures kept { M.kept mem.new ≡ kept_done result (M.kept mem.old) (put_then first (M.bytes mem.old) (tell_ranges news cpu.old)) }
 {
     match news {
         News::Nobody => first.store(mem, &[]),

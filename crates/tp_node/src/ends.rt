@@ -5,20 +5,11 @@ ghost use Rattle.tp_model.specs.Bytes.{u8_at};
 ghost use Rattle.std.specs.List.{flat_map};
 ghost use Rattle.tp_model.specs.EndBytes.{end_bytes, out_end_bytes, in_end_bytes, transfer_at, out_end_at, in_end_at, ends_at};
 
+use crate::image_places::{LEFT_PLACE, POINTER_PLACE, PROCESS_PLACE};
 use crate::number::u32_at;
 use byteorder::{ByteOrder, LittleEndian};
 use tp_link::{InEngine, OutEngine};
 use tp_model::{InEnd, OutEnd, Transfer};
-
-/// The links of a node.
-pub(crate) const LINKS: usize = 4;
-
-/// Where a node's output ends and its input ends stand in its image, and the bytes of each.
-pub(crate) const OUTPUTS_PLACE: usize = 44;
-
-pub(crate) const INPUTS_PLACE: usize = OUTPUTS_PLACE + END_BYTES * LINKS;
-
-pub(crate) const END_BYTES: usize = 16;
 
 const NO_TRANSFER: Transfer = Transfer {
     process: 0,
@@ -35,9 +26,9 @@ fn put_end(out: &mut [u8], state: u8, held: u8, byte: u8, transfer: Transfer)
     out[1] = held;
     out[2] = byte;
     out[3] = 0;
-    LittleEndian::write_u32(&mut out[4..], transfer.process);
-    LittleEndian::write_u32(&mut out[8..], transfer.pointer);
-    LittleEndian::write_u32(&mut out[12..], transfer.left);
+    LittleEndian::write_u32(&mut out[PROCESS_PLACE..], transfer.process);
+    LittleEndian::write_u32(&mut out[POINTER_PLACE..], transfer.pointer);
+    LittleEndian::write_u32(&mut out[LEFT_PLACE..], transfer.left);
 }
 
 fn put_out_end(out: &mut [u8], end: OutEnd)
@@ -93,9 +84,9 @@ fn transfer_at(bytes: &[u8], at: usize) -> Transfer
     ensures { result ≡ transfer_at (drop at bytes.now) }
 {
     Transfer {
-        process: u32_at(bytes, at + 4),
-        pointer: u32_at(bytes, at + 8),
-        left: u32_at(bytes, at + 12),
+        process: u32_at(bytes, at + PROCESS_PLACE),
+        pointer: u32_at(bytes, at + POINTER_PLACE),
+        left: u32_at(bytes, at + LEFT_PLACE),
     }
 }
 
@@ -131,7 +122,7 @@ fn in_end_at(bytes: &[u8], at: usize) -> InEngine
     } else if bytes[at] == 1 {
         InEngine::new(InEnd::Inputs(transfer_at(bytes, at)))
     } else {
-        InEngine::new(InEnd::Enabled(u32_at(bytes, at + 4)))
+        InEngine::new(InEnd::Enabled(u32_at(bytes, at + PROCESS_PLACE)))
     }
 }
 

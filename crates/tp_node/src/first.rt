@@ -1,7 +1,9 @@
 //! What a token puts into memory.
 
-ghost use Rattle.std.specs.Prelude.{◌≡◌, Some, IsSome, OnOk, OnErr};
-ghost use Rattle.tp_node.specs.First.{stored_behind};
+ghost use Rattle.std.specs.Prelude.{◌≡◌, ◌++◌, Some, IsSome, OnOk, OnErr};
+ghost use Rattle.tp_model.specs.SharedPages.{LacksFrames, word_ranges};
+ghost use Rattle.tp_node.specs.First.{stored_behind, put_ranges};
+ghost use Rattle.tp_node.specs.LinkEnds.{kept_done};
 
 use crate::fault::NoFrame;
 use tp_mem::{Mem, WriteFault};
@@ -16,13 +18,12 @@ pub(crate) enum First {
 
 impl First {
     /// Puts it into memory, and then writes a word, if there is one.
-    #[tactic(auto, using(tp_mem::proofs::Kept::frozen_stays))]
     pub(crate) fn store<M: Mem>(self, mem: &mut M, behind: &[(u32, u32)]) -> Result<(), NoFrame>
         requires { IsSome (stored_behind self behind.now (M.bytes mem.old)) }
         ensures ok { OnOk result (stored_behind self behind.now (M.bytes mem.old) ≡ Some (M.bytes mem.new)) }
         ensures err { OnErr result (M.bytes mem.new ≡ M.bytes mem.old) }
-        ensures kept { (M.kept mem.new).frozen ≡ (M.kept mem.old).frozen }
-        ensures refusal { OnErr result (IsSome (M.kept mem.old).frozen) }
+        ensures kept { M.kept mem.new ≡ kept_done result (M.kept mem.old) (put_ranges self ++ word_ranges behind.now) }
+        ensures refusal { OnErr result (LacksFrames (M.kept mem.old) (put_ranges self ++ word_ranges behind.now)) }
     {
         let written = match self {
             First::Nothing => mem.write_words(behind),

@@ -8,7 +8,11 @@ ghost use Rattle.tp_model.specs.Image.{words_of, cpu_at, page_count, image_head}
 ghost use Rattle.tp_node.specs.StateWith.{state_with};
 
 use crate::code::{halt_byte, halt_of, state_byte, state_of};
-use crate::ends::{INPUTS_PLACE, OUTPUTS_PLACE, inputs_at, outputs_at, put_inputs, put_outputs};
+use crate::ends::{inputs_at, outputs_at, put_inputs, put_outputs};
+use crate::image_places::{
+    A_PLACE, B_PLACE, C_PLACE, ERROR_PLACE, HALT_PLACE, HIGH_PLACE, INPUTS_PLACE, IPTR_PLACE,
+    LOW_PLACE, OUTPUTS_PLACE, SLICE_PLACE, STATE_PLACE, WPTR_PLACE,
+};
 use crate::number::{u16_at, u32_at};
 use byteorder::{ByteOrder, LittleEndian};
 use tp_link::{InEngine, OutEngine};
@@ -38,19 +42,19 @@ fn cpu_at(bytes: &[u8]) -> Cpu
     ensures { result ≡ cpu_at bytes.now }
 {
     Cpu {
-        iptr: u32_at(bytes, 4),
-        wptr: u32_at(bytes, 8),
+        iptr: u32_at(bytes, IPTR_PLACE),
+        wptr: u32_at(bytes, WPTR_PLACE),
         regs: Regs {
-            a: u32_at(bytes, 12),
-            b: u32_at(bytes, 16),
-            c: u32_at(bytes, 20),
-            error: bytes[40] != 0,
+            a: u32_at(bytes, A_PLACE),
+            b: u32_at(bytes, B_PLACE),
+            c: u32_at(bytes, C_PLACE),
+            error: bytes[ERROR_PLACE] != 0,
         },
-        high: queue_at(bytes, 24),
-        low: queue_at(bytes, 32),
-        state: state_of(bytes[41]),
-        slice: u16_at(bytes, 42),
-        halt: halt_of(bytes[1]),
+        high: queue_at(bytes, HIGH_PLACE),
+        low: queue_at(bytes, LOW_PLACE),
+        state: state_of(bytes[STATE_PLACE]),
+        slice: u16_at(bytes, SLICE_PLACE),
+        halt: halt_of(bytes[HALT_PLACE]),
     }
 }
 
@@ -118,9 +122,9 @@ impl Head {
             ..
         } = self.cpu;
         put_four(out, IMAGE_VERSION, halt_byte(self.cpu.halt), pages);
-        put_words(&mut out[4..], &words_of(&self.cpu));
+        put_words(&mut out[IPTR_PLACE..], &words_of(&self.cpu));
         put_four(
-            &mut out[40..],
+            &mut out[ERROR_PLACE..],
             u8::from(regs.error),
             state_byte(state),
             slice,

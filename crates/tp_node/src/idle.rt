@@ -6,7 +6,7 @@ ghost use Rattle.tp_model.specs.Bytes.{u8_at};
 ghost use Rattle.tp_model.specs.EndBytes.{out_end_at, in_end_at, ends_at, is_idle_out, is_idle_in};
 ghost use Rattle.tp_model.specs.Image.{node_at, has_idle_links};
 
-use crate::ends::{END_BYTES, INPUTS_PLACE, LINKS, OUTPUTS_PLACE};
+use crate::image_places::{END_BYTES, INPUTS_PLACE, LINKS, OUTPUTS_PLACE};
 
 /// The byte of `image` at `at`; 0 behind its end.
 fn byte_at(image: &[u8], at: usize) -> u8

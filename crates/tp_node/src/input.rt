@@ -1,28 +1,23 @@
 //! What an instruction does at the input end of a link.
 
-ghost use Rattle.std.specs.Prelude.{◌≡◌, option_and_then};
+ghost use Rattle.std.specs.Prelude.{◌≡◌, ◌++◌, option_and_then};
 ghost use Rattle.tp_model.specs.Memory.{stored};
 ghost use Rattle.tp_model.specs.LinkEnd.{in_started, in_enabled, in_disabled};
 ghost use Rattle.tp_model.specs.LinkStep.{message, with_byte, take_up, enabled, disabled, begin_input};
 ghost use Rattle.tp_model.specs.Processor.{descriptor_of};
-ghost use Rattle.tp_model.specs.SharedPages.{LacksFrames};
-ghost use Rattle.tp_proc.specs.Ends.{Writes, MayRefuse};
-ghost use Rattle.tp_node.specs.LinkEnds.{LinkEnds};
+ghost use Rattle.tp_model.specs.SharedPages.{word_ranges, kept_after};
+ghost use Rattle.tp_model.specs.NodeWrites.{byte_written, take_up_ranges, enabled_ranges, disabled_ranges, begin_input_ranges};
+ghost use Rattle.tp_proc.specs.Ends.{Writes};
+ghost use Rattle.tp_node.specs.LinkEnds.{LinkEnds, kept_done};
 
 use crate::output::LINK_BUSY;
 use tp_link::InEngine;
 use tp_mem::{Mem, WriteFault};
 use tp_model::{Cpu, Token, Transfer, Wish};
 use tp_proc::{
-    BAD_ADDRESS, Undone, descriptor_of, drop_b, end, load, note_choice, pass_over, saved_at,
-    state_at, store, store_all,
+    BAD_ADDRESS, NONE_CHOSEN, READY, Undone, descriptor_of, drop_b, end, load, note_choice,
+    pass_over, saved_at, state_at, store, store_all,
 };
-
-/// The state of an alternative for which a partner has come.
-const READY: u32 = 0x8000_0003;
-
-/// What stands at the workspace while no branch is chosen.
-const NONE_CHOSEN: u32 = 0xFFFF_FFFF;
 
 /// Puts a byte at an address, if there is one, and then writes words.
 fn put<M: Mem>(
@@ -31,8 +26,8 @@ fn put<M: Mem>(
     byte: Option<u8>,
     writes: &[(u32, u32)],
 ) -> Result<(), Undone>
-    ensures written { Writes (option_and_then (λ m. stored m writes.now) (with_byte byte address (M.bytes mem.old))) (MayRefuse (LacksFrames (M.kept mem.old))) (M.bytes mem.old) result (M.bytes mem.new) }
-    ensures kept { (M.kept mem.new).frozen ≡ (M.kept mem.old).frozen }
+    ensures written { Writes (option_and_then (λ m. stored m writes.now) (with_byte byte address (M.bytes mem.old))) (byte_written byte address ++ word_ranges writes.now) (M.kept mem.old) (M.bytes mem.old) result (M.bytes mem.new) }
+    ensures kept { M.kept mem.new ≡ kept_after result (M.kept mem.old) (byte_written byte address ++ word_ranges writes.now) }
 {
     let Some(byte) = byte else {
         return store_all(mem, writes);
@@ -52,8 +47,8 @@ fn take_up<M: Mem>(
     pointer: u32,
     count: u32,
 ) -> Result<Option<Token>, Undone>
-    ensures does { LinkEnds (take_up (in_started (message pointer count cpu.old) engine.old) pointer count cpu.old (M.bytes mem.old)) (MayRefuse (LacksFrames (M.kept mem.old))) cpu.old (M.bytes mem.old) engine.old result cpu.new (M.bytes mem.new) engine.new }
-    ensures kept { (M.kept mem.new).frozen ≡ (M.kept mem.old).frozen }
+    ensures does { LinkEnds (take_up (in_started (message pointer count cpu.old) engine.old) pointer count cpu.old (M.bytes mem.old)) (take_up_ranges (in_started (message pointer count cpu.old) engine.old) pointer cpu.old) (M.kept mem.old) cpu.old (M.bytes mem.old) engine.old result cpu.new (M.bytes mem.new) engine.new }
+    ensures kept { M.kept mem.new ≡ kept_done result (M.kept mem.old) (take_up_ranges (in_started (message pointer count cpu.old) engine.old) pointer cpu.old) }
 {
     let message = Transfer {
         process: descriptor_of(cpu),
@@ -89,8 +84,8 @@ fn enable<M: Mem>(
     cpu: &mut Cpu,
     mem: &mut M,
 ) -> Result<Option<Token>, Undone>
-    ensures does { LinkEnds (enabled (in_enabled (descriptor_of cpu.old) engine.old) cpu.old (M.bytes mem.old)) (MayRefuse (LacksFrames (M.kept mem.old))) cpu.old (M.bytes mem.old) engine.old result cpu.new (M.bytes mem.new) engine.new }
-    ensures kept { (M.kept mem.new).frozen ≡ (M.kept mem.old).frozen }
+    ensures does { LinkEnds (enabled (in_enabled (descriptor_of cpu.old) engine.old) cpu.old (M.bytes mem.old)) (enabled_ranges (in_enabled (descriptor_of cpu.old) engine.old) cpu.old) (M.kept mem.old) cpu.old (M.bytes mem.old) engine.old result cpu.new (M.bytes mem.new) engine.new }
+    ensures kept { M.kept mem.new ≡ kept_done result (M.kept mem.old) (enabled_ranges (in_enabled (descriptor_of cpu.old) engine.old) cpu.old) }
 {
     let mut guarded = *engine;
     let Ok(is_held) = guarded.enable(descriptor_of(cpu)) else {
@@ -110,8 +105,8 @@ fn disable<M: Mem>(
     cpu: &mut Cpu,
     mem: &mut M,
 ) -> Result<Option<Token>, Undone>
-    ensures does { LinkEnds (disabled (in_disabled (descriptor_of cpu.old) engine.old) cpu.old (M.bytes mem.old)) (MayRefuse (LacksFrames (M.kept mem.old))) cpu.old (M.bytes mem.old) engine.old result cpu.new (M.bytes mem.new) engine.new }
-    ensures kept { (M.kept mem.new).frozen ≡ (M.kept mem.old).frozen }
+    ensures does { LinkEnds (disabled (in_disabled (descriptor_of cpu.old) engine.old) cpu.old (M.bytes mem.old)) (disabled_ranges (in_disabled (descriptor_of cpu.old) engine.old) cpu.old (M.bytes mem.old)) (M.kept mem.old) cpu.old (M.bytes mem.old) engine.old result cpu.new (M.bytes mem.new) engine.new }
+    ensures kept { M.kept mem.new ≡ kept_done result (M.kept mem.old) (disabled_ranges (in_disabled (descriptor_of cpu.old) engine.old) cpu.old (M.bytes mem.old)) }
 {
     let mut guarded = *engine;
     let Ok(is_held) = guarded.disable(descriptor_of(cpu)) else {
@@ -138,8 +133,8 @@ pub(crate) fn begin_input<M: Mem>(
     mem: &mut M,
     wish: Wish,
 ) -> Result<Option<Token>, Undone>
-    ensures does { LinkEnds (begin_input wish engine.old cpu.old (M.bytes mem.old)) (MayRefuse (LacksFrames (M.kept mem.old))) cpu.old (M.bytes mem.old) engine.old result cpu.new (M.bytes mem.new) engine.new }
-    ensures kept { (M.kept mem.new).frozen ≡ (M.kept mem.old).frozen }
+    ensures does { LinkEnds (begin_input wish engine.old cpu.old (M.bytes mem.old)) (begin_input_ranges wish engine.old cpu.old (M.bytes mem.old)) (M.kept mem.old) cpu.old (M.bytes mem.old) engine.old result cpu.new (M.bytes mem.new) engine.new }
+    ensures kept { M.kept mem.new ≡ kept_done result (M.kept mem.old) (begin_input_ranges wish engine.old cpu.old (M.bytes mem.old)) }
 {
     match wish {
         Wish::Message { count: 0, .. } => Ok(None),

@@ -9,6 +9,7 @@ mod first;
 mod head;
 mod idle;
 mod image;
+pub mod image_places;
 mod input;
 mod memory;
 mod node;

@@ -1,24 +1,24 @@
 //! The memory that nodes have.
 
-ghost use Rattle.std.specs.Prelude.{◌≡◌, ◌*◌, ◌≤◌, None, length, IfOk};
+ghost use Rattle.std.specs.Prelude.{◌≡◌, ◌*◌, ◌≤◌, None, false, length, replicate, min, IfOk};
 
 use std::alloc::{AllocError, Global};
-use tp_mem::FlatMemory;
+use tp_mem::CowMemory;
 use tp_model::limits::PAGE_BYTES;
 
 /// The kind of memory.
-pub(crate) type Memory = FlatMemory;
+pub(crate) type Memory = CowMemory;
 
-/// A memory of so many pages with these bytes, and so many spare frames beside them.
+/// Makes a memory of `pages` pages that holds `bytes`, with `spare` frames for copies, but no more than it has pages.
 pub(crate) fn reserve(
     alloc: Global,
     pages: usize,
-    _spare: usize,
+    spare: usize,
     bytes: &[u8],
 ) -> Result<Memory, AllocError>
     requires few { pages ≤ 1024 }
     requires whole { length bytes.now ≡ PAGE_BYTES * pages }
-    ensures { IfOk result (λ m. m ≡ record { live = bytes.now; frozen = None }) }
+    ensures { IfOk result (λ m. m ≡ record { live = bytes.now; frozen = None; shared = replicate pages false; spare = min spare pages }) }
 {
-    Memory::new(alloc, pages, bytes)
+    Memory::new(alloc, pages, spare.min(pages), bytes)
 }

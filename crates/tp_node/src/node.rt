@@ -1,11 +1,15 @@
 //! A node: its image, the tokens that come in, and how it is frozen.
 
-ghost use Rattle.std.specs.Prelude.{◌≡◌, ◌*◌, ◌<◌, [], Some, None, length, IsSome, IsNone, IfSome, is_some};
+ghost use Rattle.std.specs.Prelude.{◌≡◌, ◌*◌, ◌<◌, [], Some, None, true, false, length, replicate, IsSome, IsNone, IfSome, IfOk, is_some};
 ghost use Rattle.tp_model.specs.Image.{image_head, node_of};
 ghost use Rattle.tp_model.specs.Network.{steps};
 ghost use Rattle.tp_model.specs.Node.{took, t414, waits, holds};
+ghost use Rattle.tp_model.specs.NodeWrites.{node_ranges, kept_behind_steps, took_ranges};
+ghost use Rattle.tp_model.specs.SharedPages.{LacksFrames};
 ghost use Rattle.tp_mem.specs.Contents.{page_of};
-ghost use Rattle.tp_node.specs.FromImage.{ReadsImage};
+ghost use Rattle.tp_node.specs.FromImage.{ReadsImage, HasFrames};
+ghost use Rattle.tp_node.specs.LinkEnds.{kept_done};
+ghost use Rattle.tp_node.specs.NodeContents.{kept_of};
 ghost use Rattle.tp_node.specs.RunEnd.{IsWhy};
 ghost use Rattle.tp_node.specs.Takes.{Takes};
 
@@ -37,7 +41,7 @@ impl Model for Node {
 
     ghost Value = { NodeContents };
 
-    ghost view = { λ n. record { live = state_with n.head n.memory.live; frozen = frozen_state n.frozen n.memory.frozen } };
+    ghost view = { λ n. record { live = state_with n.head n.memory.live; frozen = frozen_state n.frozen n.memory.frozen; shared = n.memory.shared; spare = n.memory.spare } };
 
     ghost invariant = { λ n. is_some n.frozen ≡ is_some n.memory.frozen };
 }
@@ -45,7 +49,8 @@ impl Model for Node {
 impl Node {
     /// The node of an image. No more spare frames are reserved than the node has pages.
     pub fn from_image(alloc: Global, bytes: &[u8], spare: usize) -> Result<Node, ImageFault>
-        ensures { ReadsImage (node_of bytes.now) result }
+        ensures reads { ReadsImage (node_of bytes.now) result }
+        ensures frames { IfOk result (λ node. HasFrames spare node) }
     {
         let Some((head, memory)) = read_image(bytes) else {
             return Err(ImageFault::BadImage);
@@ -101,7 +106,8 @@ impl Node {
     /// Keeps the node as it is now. It takes no memory.
     pub fn freeze(&mut self)
         requires { IsNone self.old.frozen }
-        ensures { self.new ≡ record self.old { frozen = Some self.old.live } }
+        ensures frozen { self.new ≡ record self.old { frozen = Some self.old.live; shared = replicate (length self.old.shared) true } }
+        ensures thawed { self.old.shared ≡ replicate (length self.old.shared) false }
     {
         self.memory.freeze();
         self.frozen = Some(self.head);
@@ -128,18 +134,20 @@ impl Node {
 
     /// Lets the frozen node go.
     pub fn drop_frozen(&mut self)
-        ensures { self.new ≡ record self.old { frozen = None } }
+        ensures { self.new ≡ record self.old { frozen = None; shared = replicate (length self.old.shared) false } }
     {
         self.memory.drop_frozen();
         self.frozen = None;
     }
 
-    /// Takes a token that comes in on a link, also where the node has halted. Answers what leaves on that link.
-    #[tactic(auto, unfolding(tp_model::specs::Node::took))]
+    /// Takes a token that comes in on a link, also where the node has halted. Answers what leaves on that link. It is
+    /// refused only where the shared pages that the token would write outnumber the free frames.
+    #[tactic(auto, using(crate::proofs::Keeps::kept_same), unfolding(tp_model::specs::Node::took))]
     pub fn take(&mut self, link: u8, token: Token) -> Result<Option<Token>, NoFrame>
         requires { IsSome (took self.old.live link token) }
-        ensures takes { Takes (took self.old.live link token) (IsSome self.old.frozen) link self.old.live result self.new.live }
+        ensures takes { Takes (took self.old.live link token) (LacksFrames (kept_of self.old) (took_ranges self.old.live link token)) link self.old.live result self.new.live }
         ensures kept { self.new.frozen ≡ self.old.frozen }
+        ensures shared { kept_of self.new ≡ kept_done result (kept_of self.old) (took_ranges self.old.live link token) }
     {
         match token {
             Token::Data(byte) => take_data(&mut self.head, &mut self.memory, link as usize, byte),
@@ -148,13 +156,16 @@ impl Node {
         }
     }
 
-    /// Makes at most `max` steps. What leaves goes into `out`, each token with its link.
+    /// Makes at most `max` steps. What leaves goes into `out`, each token with its link. It ends for want of a frame only
+    /// before a step that would write shared pages which outnumber the free frames; that step isn't counted.
+    #[tactic(auto, using(crate::proofs::Keeps::kept_same))]
     pub fn run(&mut self, max: u16, out: &mut ArrayVec<(u8, Token), 8>) -> Ran
         requires { out.old.items ≡ [] }
         ensures asked { result.max ≡ max }
         ensures steps { steps t414 result.count self.old.live ≡ Some (self.new.live, out.new.items) }
-        ensures why { IsWhy result.why max result.count (IsSome self.old.frozen) self.new.live }
+        ensures why { IsWhy result.why max result.count (LacksFrames (kept_of self.new) (node_ranges self.new.live)) self.new.live }
         ensures kept { self.new.frozen ≡ self.old.frozen }
+        ensures shared { kept_of self.new ≡ kept_behind_steps result.count self.old.live (kept_of self.old) }
     {
         run(&mut self.head, &mut self.memory, max, out)
     }

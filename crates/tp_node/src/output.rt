@@ -1,13 +1,15 @@
 //! What an instruction does at the output end of a link.
 
-ghost use Rattle.std.specs.Prelude.{◌≡◌, ℕ, List, [], ◌∷◌, Some, is_some};
+ghost use Rattle.std.specs.Prelude.{◌≡◌, ℕ, List, [], ◌∷◌, ◌++◌, Some, is_some};
 ghost use Rattle.tp_model.specs.Memory.{byte_at};
 ghost use Rattle.tp_model.specs.LinkStep.{begin_output};
 ghost use Rattle.tp_proc.specs.After.{held, stored_after};
-ghost use Rattle.tp_model.specs.SharedPages.{LacksFrames};
-ghost use Rattle.tp_proc.specs.Ends.{Writes, MayRefuse};
-ghost use Rattle.tp_node.specs.LinkEnds.{LinkEnds};
-ghost use Rattle.tp_node.specs.OutputAfter.{output_after};
+ghost use Rattle.tp_model.specs.SharedPages.{word_ranges, kept_after};
+ghost use Rattle.tp_model.specs.NodeWrites.{begin_output_ranges};
+ghost use Rattle.tp_proc.specs.AfterWrites.{first_ranges};
+ghost use Rattle.tp_proc.specs.Ends.{Writes};
+ghost use Rattle.tp_node.specs.LinkEnds.{LinkEnds, kept_done};
+ghost use Rattle.tp_node.specs.OutputAfter.{output_after, output_after_ranges};
 
 use tp_link::OutEngine;
 use tp_mem::Mem;
@@ -30,8 +32,8 @@ pub(crate) const LINK_BUSY: Undone = Undone::Faulty(Fault::LinkBusy);
 
 /// Stores a first word, if there is one.
 fn hold<M: Mem>(mem: &mut M, first: Option<(u32, u32)>) -> Result<(), Undone>
-    ensures written { Writes (held first (M.bytes mem.old)) (MayRefuse (LacksFrames (M.kept mem.old))) (M.bytes mem.old) result (M.bytes mem.new) }
-    ensures kept { (M.kept mem.new).frozen ≡ (M.kept mem.old).frozen }
+    ensures written { Writes (held first (M.bytes mem.old)) (first_ranges first) (M.kept mem.old) (M.bytes mem.old) result (M.bytes mem.new) }
+    ensures kept { M.kept mem.new ≡ kept_after result (M.kept mem.old) (first_ranges first) }
 {
     match first {
         None => Ok(()),
@@ -46,8 +48,8 @@ fn store_behind<M: Mem>(
     address: u32,
     word: u32,
 ) -> Result<(), Undone>
-    ensures written { Writes (stored_after first ((address, word) ∷ []) (M.bytes mem.old)) (MayRefuse (LacksFrames (M.kept mem.old))) (M.bytes mem.old) result (M.bytes mem.new) }
-    ensures kept { (M.kept mem.new).frozen ≡ (M.kept mem.old).frozen }
+    ensures written { Writes (stored_after first ((address, word) ∷ []) (M.bytes mem.old)) (first_ranges first ++ word_ranges ((address, word) ∷ [])) (M.kept mem.old) (M.bytes mem.old) result (M.bytes mem.new) }
+    ensures kept { M.kept mem.new ≡ kept_after result (M.kept mem.old) (first_ranges first ++ word_ranges ((address, word) ∷ [])) }
 {
     match first {
         None => store(mem, address, word),
@@ -74,8 +76,8 @@ fn output_after<M: Mem>(
     first: Option<(u32, u32)>,
     request: OutRequest,
 ) -> Result<Option<Token>, Undone>
-    ensures does { LinkEnds (output_after first request engine.old cpu.old (M.bytes mem.old)) (MayRefuse (LacksFrames (M.kept mem.old))) cpu.old (M.bytes mem.old) engine.old result cpu.new (M.bytes mem.new) engine.new }
-    ensures kept { (M.kept mem.new).frozen ≡ (M.kept mem.old).frozen }
+    ensures does { LinkEnds (output_after first request engine.old cpu.old (M.bytes mem.old)) (output_after_ranges first request cpu.old) (M.kept mem.old) cpu.old (M.bytes mem.old) engine.old result cpu.new (M.bytes mem.new) engine.new }
+    ensures kept { M.kept mem.new ≡ kept_done result (M.kept mem.old) (output_after_ranges first request cpu.old) }
 {
     let OutRequest { pointer, count, .. } = request;
     // Memory has whole words: its length says so.
@@ -116,8 +118,8 @@ pub(crate) fn begin_output<M: Mem>(
     mem: &mut M,
     request: OutRequest,
 ) -> Result<Option<Token>, Undone>
-    ensures does { LinkEnds (begin_output request engine.old cpu.old (M.bytes mem.old)) (MayRefuse (LacksFrames (M.kept mem.old))) cpu.old (M.bytes mem.old) engine.old result cpu.new (M.bytes mem.new) engine.new }
-    ensures kept { (M.kept mem.new).frozen ≡ (M.kept mem.old).frozen }
+    ensures does { LinkEnds (begin_output request engine.old cpu.old (M.bytes mem.old)) (begin_output_ranges request cpu.old) (M.kept mem.old) cpu.old (M.bytes mem.old) engine.old result cpu.new (M.bytes mem.new) engine.new }
+    ensures kept { M.kept mem.new ≡ kept_done result (M.kept mem.old) (begin_output_ranges request cpu.old) }
 {
     match request.word {
         None => output_after(engine, cpu, mem, None, request),

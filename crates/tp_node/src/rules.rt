@@ -6,10 +6,9 @@ ghost use Rattle.tp_model.specs.EndBytes.{is_under_way, is_out_end, is_in_end};
 ghost use Rattle.tp_model.specs.Image.{is_memory};
 
 use tp_link::{InEngine, OutEngine};
+use tp_mem::FIRST_ADDRESS;
 use tp_model::limits::{MAX_PAGES, MIN_PAGES, PAGE_BYTES};
 use tp_model::{InEnd, OutEnd, Transfer};
-
-const FIRST: u32 = 0x8000_0000;
 
 /// Whether `len` bytes of memory are whole pages, as many as a node may have.
 pub(crate) fn is_memory(len: usize) -> bool
@@ -23,7 +22,7 @@ pub(crate) fn is_memory(len: usize) -> bool
 fn is_under_way(len: usize, transfer: Transfer) -> bool
     ensures { (memory : List ℕ) → length memory ≡ len → result ≡ is_under_way memory transfer }
 {
-    let start = transfer.pointer.wrapping_sub(FIRST) as usize;
+    let start = transfer.pointer.wrapping_sub(FIRST_ADDRESS) as usize;
     transfer.left >= 1 && start + transfer.left as usize <= len
 }
 

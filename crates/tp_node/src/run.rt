@@ -1,13 +1,15 @@
 //! Runs of a node.
 
-ghost use Rattle.std.specs.Prelude.{◌≡◌, ◌≤◌, ◌+◌, [], ◌++◌, Some, IsSome, is_some, if◌then◌else◌, length, option_to_list};
+ghost use Rattle.std.specs.Prelude.{◌≡◌, ◌≤◌, ◌+◌, [], ◌++◌, Some, is_some, if◌then◌else◌, length, option_to_list};
 ghost use Rattle.tp_model.specs.Network.{steps};
 ghost use Rattle.tp_model.specs.Node.{t414};
+ghost use Rattle.tp_model.specs.NodeWrites.{node_ranges, kept_behind_steps};
+ghost use Rattle.tp_model.specs.SharedPages.{LacksFrames};
 ghost use Rattle.tp_node.specs.RunEnd.{IsWhy};
 ghost use Rattle.tp_node.specs.StateWith.{state_with};
 
 use crate::head::Head;
-use crate::step::{Made, make_step};
+use crate::step::{StepOutcome, make_step};
 use arrayvec::ArrayVec;
 use std::marker::Model;
 use tp_mem::Mem;
@@ -94,17 +96,18 @@ pub(crate) fn run<M: Mem>(
     requires { sent.old.items ≡ [] }
     ensures asked { result.max ≡ max }
     ensures steps { steps t414 result.count (state_with head.old (M.bytes mem.old)) ≡ Some (state_with head.new (M.bytes mem.new), sent.new.items) }
-    ensures why { IsWhy result.why max result.count (IsSome (M.kept mem.old).frozen) (state_with head.new (M.bytes mem.new)) }
-    ensures kept { (M.kept mem.new).frozen ≡ (M.kept mem.old).frozen }
+    ensures why { IsWhy result.why max result.count (LacksFrames (M.kept mem.new) (node_ranges (state_with head.new (M.bytes mem.new)))) (state_with head.new (M.bytes mem.new)) }
+    ensures kept { M.kept mem.new ≡ kept_behind_steps result.count (state_with head.old (M.bytes mem.old)) (M.kept mem.old) }
+    ensures frozen { (M.kept mem.new).frozen ≡ (M.kept mem.old).frozen }
 {
     for count in 0..max {
         match make_step(head, mem) {
-            Made::Step(token) => push(sent, token),
-            Made::Idle => {
+            StepOutcome::Step(token) => push(sent, token),
+            StepOutcome::Idle => {
                 let why = why_none(head.cpu.halt);
                 return Ran { max, count, why };
             }
-            Made::NoFrame => {
+            StepOutcome::NoFrame => {
                 let why = Why::NoFrame;
                 return Ran { max, count, why };
             }

@@ -1,8 +1,10 @@
 //! One step of a node.
 
-ghost use Rattle.std.specs.Prelude.{◌≡◌, IsSome, option_to_list};
+ghost use Rattle.std.specs.Prelude.{◌≡◌, option_to_list};
 ghost use Rattle.tp_model.specs.Node.{on_link, asks_output, asks_input, node_step};
-ghost use Rattle.tp_node.specs.Makes.{Makes};
+ghost use Rattle.tp_model.specs.NodeWrites.{asks_output_ranges, asks_input_ranges, node_ranges};
+ghost use Rattle.tp_model.specs.SharedPages.{LacksFrames};
+ghost use Rattle.tp_node.specs.Makes.{Makes, kept_made};
 ghost use Rattle.tp_node.specs.StateWith.{state_with};
 
 use crate::head::Head;
@@ -15,7 +17,7 @@ use tp_proc::{Undone, pass};
 
 /// How a call that makes a step ends.
 #[derive(Clone, Copy)]
-pub(crate) enum Made {
+pub(crate) enum StepOutcome {
     /// A step was made. The token leaves on that link, if one does.
     Step(Option<(u8, Token)>),
     /// There is no step.
@@ -35,13 +37,13 @@ fn on_link(link: u8, token: Option<Token>) -> Option<(u8, Token)>
 }
 
 /// Ends a step that asks something of an output end.
-fn output<M: Mem>(head: &mut Head, mem: &mut M, request: OutRequest) -> Made
-    ensures makes { Makes (asks_output request (state_with head.old (M.bytes mem.old))) (IsSome (M.kept mem.old).frozen) (state_with head.old (M.bytes mem.old)) result (state_with head.new (M.bytes mem.new)) }
-    ensures kept { (M.kept mem.new).frozen ≡ (M.kept mem.old).frozen }
+fn output<M: Mem>(head: &mut Head, mem: &mut M, request: OutRequest) -> StepOutcome
+    ensures makes { Makes (asks_output request (state_with head.old (M.bytes mem.old))) (LacksFrames (M.kept mem.old) (asks_output_ranges request (state_with head.old (M.bytes mem.old)))) (state_with head.old (M.bytes mem.old)) result (state_with head.new (M.bytes mem.new)) }
+    ensures kept { M.kept mem.new ≡ kept_made result (M.kept mem.old) (asks_output_ranges request (state_with head.old (M.bytes mem.old))) }
 {
     let link = request.link as usize;
     if link >= 4 {
-        return Made::Idle;
+        return StepOutcome::Idle;
     }
     let before = head.cpu;
     let mut engine = head.outputs[link];
@@ -49,29 +51,29 @@ fn output<M: Mem>(head: &mut Head, mem: &mut M, request: OutRequest) -> Made
     match begin_output(&mut engine, &mut head.cpu, mem, request) {
         Ok(token) => {
             head.outputs[link] = engine;
-            Made::Step(on_link(request.link, token))
+            StepOutcome::Step(on_link(request.link, token))
         }
         Err(Undone::Faulty(fault)) => {
             head.cpu = before;
             head.cpu.halt = Some(fault);
-            Made::Step(None)
+            StepOutcome::Step(None)
         }
         Err(Undone::NoFrame) => {
             head.cpu = before;
-            Made::NoFrame
+            StepOutcome::NoFrame
         }
         Err(_) => unreachable!(),
     }
 }
 
 /// Ends a step that asks something of an input end.
-fn input<M: Mem>(head: &mut Head, mem: &mut M, request: InRequest) -> Made
-    ensures makes { Makes (asks_input request (state_with head.old (M.bytes mem.old))) (IsSome (M.kept mem.old).frozen) (state_with head.old (M.bytes mem.old)) result (state_with head.new (M.bytes mem.new)) }
-    ensures kept { (M.kept mem.new).frozen ≡ (M.kept mem.old).frozen }
+fn input<M: Mem>(head: &mut Head, mem: &mut M, request: InRequest) -> StepOutcome
+    ensures makes { Makes (asks_input request (state_with head.old (M.bytes mem.old))) (LacksFrames (M.kept mem.old) (asks_input_ranges request (state_with head.old (M.bytes mem.old)))) (state_with head.old (M.bytes mem.old)) result (state_with head.new (M.bytes mem.new)) }
+    ensures kept { M.kept mem.new ≡ kept_made result (M.kept mem.old) (asks_input_ranges request (state_with head.old (M.bytes mem.old))) }
 {
     let link = request.link as usize;
     if link >= 4 {
-        return Made::Idle;
+        return StepOutcome::Idle;
     }
     let before = head.cpu;
     let mut engine = head.inputs[link];
@@ -79,16 +81,16 @@ fn input<M: Mem>(head: &mut Head, mem: &mut M, request: InRequest) -> Made
     match begin_input(&mut engine, &mut head.cpu, mem, request.wish) {
         Ok(token) => {
             head.inputs[link] = engine;
-            Made::Step(on_link(request.link, token))
+            StepOutcome::Step(on_link(request.link, token))
         }
         Err(Undone::Faulty(fault)) => {
             head.cpu = before;
             head.cpu.halt = Some(fault);
-            Made::Step(None)
+            StepOutcome::Step(None)
         }
         Err(Undone::NoFrame) => {
             head.cpu = before;
-            Made::NoFrame
+            StepOutcome::NoFrame
         }
         Err(_) => unreachable!(),
     }
@@ -96,15 +98,15 @@ fn input<M: Mem>(head: &mut Head, mem: &mut M, request: InRequest) -> Made
 
 /// Makes a step, if there is one.
 #[inline]
-#[tactic(auto, unfolding(tp_model::specs::Node::node_step))]
-pub(crate) fn make_step<M: Mem>(head: &mut Head, mem: &mut M) -> Made
-    ensures makes { Makes (node_step (state_with head.old (M.bytes mem.old))) (IsSome (M.kept mem.old).frozen) (state_with head.old (M.bytes mem.old)) result (state_with head.new (M.bytes mem.new)) }
-    ensures kept { (M.kept mem.new).frozen ≡ (M.kept mem.old).frozen }
+#[tactic(auto, unfolding(tp_model::specs::Node::node_step, tp_model::specs::NodeWrites::node_ranges, tp_model::specs::StepWrites::step_ranges))]
+pub(crate) fn make_step<M: Mem>(head: &mut Head, mem: &mut M) -> StepOutcome
+    ensures makes { Makes (node_step (state_with head.old (M.bytes mem.old))) (LacksFrames (M.kept mem.old) (node_ranges (state_with head.old (M.bytes mem.old)))) (state_with head.old (M.bytes mem.old)) result (state_with head.new (M.bytes mem.new)) }
+    ensures kept { M.kept mem.new ≡ kept_made result (M.kept mem.old) (node_ranges (state_with head.old (M.bytes mem.old))) }
 {
     match step(&mut head.cpu, mem) {
-        StepEnd::Done | StepEnd::Halted(_) => Made::Step(None),
-        StepEnd::Idle => Made::Idle,
-        StepEnd::NoFrame => Made::NoFrame,
+        StepEnd::Done | StepEnd::Halted(_) => StepOutcome::Step(None),
+        StepEnd::Idle => StepOutcome::Idle,
+        StepEnd::NoFrame => StepOutcome::NoFrame,
         StepEnd::LinkOut(request) => output(head, mem, request),
         StepEnd::LinkIn(request) => input(head, mem, request),
     }

@@ -2,7 +2,10 @@
 
 ghost use Rattle.std.specs.Prelude.{◌≡◌, ℕ, ◌<◌, List, None, IsSome};
 ghost use Rattle.tp_model.specs.Node.{placed, took_token};
-ghost use Rattle.tp_node.specs.First.{first_stored};
+ghost use Rattle.tp_model.specs.NodeWrites.{place_range, took_ranges};
+ghost use Rattle.tp_model.specs.SharedPages.{LacksFrames};
+ghost use Rattle.tp_node.specs.First.{first_stored, put_ranges};
+ghost use Rattle.tp_node.specs.LinkEnds.{kept_done};
 ghost use Rattle.tp_node.specs.StateWith.{state_with};
 ghost use Rattle.tp_node.specs.Takes.{Takes, next_byte};
 
@@ -18,6 +21,7 @@ use tp_model::Token;
 fn placed(place: Option<u32>, byte: u8) -> First
     ensures value { (memory : List ℕ) → first_stored result memory ≡ placed place byte memory }
     ensures nowhere { place ≡ None → result ≡ First.Nothing }
+    ensures ranges { put_ranges result ≡ place_range place }
 {
     match place {
         None => First::Nothing,
@@ -44,8 +48,8 @@ pub(crate) fn take_data<M: Mem>(
 ) -> Result<Option<Token>, NoFrame>
     requires link { link < 4 }
     requires can { IsSome (took_token (state_with head.old (M.bytes mem.old)) link (Token.Data byte)) }
-    ensures takes { Takes (took_token (state_with head.old (M.bytes mem.old)) link (Token.Data byte)) (IsSome (M.kept mem.old).frozen) link (state_with head.old (M.bytes mem.old)) result (state_with head.new (M.bytes mem.new)) }
-    ensures kept { (M.kept mem.new).frozen ≡ (M.kept mem.old).frozen }
+    ensures takes { Takes (took_token (state_with head.old (M.bytes mem.old)) link (Token.Data byte)) (LacksFrames (M.kept mem.old) (took_ranges (state_with head.old (M.bytes mem.old)) link (Token.Data byte))) link (state_with head.old (M.bytes mem.old)) result (state_with head.new (M.bytes mem.new)) }
+    ensures kept { M.kept mem.new ≡ kept_done result (M.kept mem.old) (took_ranges (state_with head.old (M.bytes mem.old)) link (Token.Data byte)) }
 {
     let mut engine = head.inputs[link];
     let arrival = engine.on_data(byte);
@@ -67,8 +71,8 @@ pub(crate) fn take_ack<M: Mem>(
 ) -> Result<Option<Token>, NoFrame>
     requires link { link < 4 }
     requires can { IsSome (took_token (state_with head.old (M.bytes mem.old)) link Token.Ack) }
-    ensures takes { Takes (took_token (state_with head.old (M.bytes mem.old)) link Token.Ack) (IsSome (M.kept mem.old).frozen) link (state_with head.old (M.bytes mem.old)) result (state_with head.new (M.bytes mem.new)) }
-    ensures kept { (M.kept mem.new).frozen ≡ (M.kept mem.old).frozen }
+    ensures takes { Takes (took_token (state_with head.old (M.bytes mem.old)) link Token.Ack) (LacksFrames (M.kept mem.old) (took_ranges (state_with head.old (M.bytes mem.old)) link Token.Ack)) link (state_with head.old (M.bytes mem.old)) result (state_with head.new (M.bytes mem.new)) }
+    ensures kept { M.kept mem.new ≡ kept_done result (M.kept mem.old) (took_ranges (state_with head.old (M.bytes mem.old)) link Token.Ack) }
 {
     let mut engine = head.outputs[link];
     let next = next_byte(engine, mem);

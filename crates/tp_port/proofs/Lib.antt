@@ -1,4 +1,5 @@
 pub mod Lists
 pub mod Owns
 pub mod Sending
+pub mod OpenedPorts
 pub mod Counted

@@ -25,7 +25,7 @@ fn fill_line(lines: &mut Lines, line: usize, tokens: &[Token])
     }
 }
 
-/// Lines with these tokens, where no line has more than it has room for.
+/// Makes lines that hold `tokens`, where no line has more than it has room for.
 pub fn lines_with(alloc: Global, tokens: &[Vec<Token>]) -> Result<Lines, AllocError>
     requires few { All (λ line. vec_len line ≤ LINE_TOKENS) tokens.now }
     ensures { IfOk result (λ lines. lines ≡ map (λ line. line.items) tokens.now) }

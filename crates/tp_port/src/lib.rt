@@ -2,13 +2,11 @@
 #![tactic(auto)]
 
 mod fill;
-mod lines;
 mod parts;
 mod port;
 mod send;
 
 pub use fill::{lines_with, ports_with};
-pub use lines::{first_line, line_of};
 pub use parts::{PortParts, all_parts, parts_of};
 pub use port::{HostPort, fresh_ports};
 pub use send::{send_all, send_answer, send_some};

@@ -144,7 +144,7 @@ impl HostPort {
         self.outputs.as_slice()
     }
 
-    /// For each of these outputs the least mark that shows it.
+    /// For each output the least mark that shows it.
     pub fn marks(&self) -> &[u64]
         ensures value { result.now ≡ self.now.marks }
         ensures len { length result.now ≡ length self.now.port.outputs }

@@ -8,7 +8,7 @@ ghost use Rattle.tp_port.specs.Sends.{answer_from, sends_on};
 ghost use Rattle.tp_port.specs.Room.{HasRoom, from_line};
 
 use tp_model::{Token, WireEnd};
-use tp_net::Lines;
+use tp_net::{Lines, link_line};
 
 /// Sends a token on a line, where the line has a wire.
 fn send(wires: &[Option<WireEnd>], lines: &mut Lines, line: usize, token: Token)
@@ -34,7 +34,7 @@ pub fn send_all(wires: &[Option<WireEnd>], lines: &mut Lines, first: usize, toke
     }
 }
 
-/// Sends what a node answers to a token that came in on this line, where it answers.
+/// Sends what a node answers to a token that came in on `line`, where it answers.
 #[tactic(auto, unfolding(tp_model::specs::Network::sent))]
 pub fn send_answer(wires: &[Option<WireEnd>], lines: &mut Lines, line: usize, answer: Option<Token>)
     requires known { line < length wires.now }
@@ -47,7 +47,7 @@ pub fn send_answer(wires: &[Option<WireEnd>], lines: &mut Lines, line: usize, an
         Some(WireEnd::Link(node, link)) => send_some(
             wires,
             lines,
-            4 * node as usize + link as usize,
+            link_line(node as usize, link as usize),
             answer,
         ),
         Some(WireEnd::Port(_)) => {}

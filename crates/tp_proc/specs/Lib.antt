@@ -1,3 +1,4 @@
 pub mod After
+pub mod AfterWrites
 pub mod Ends
 pub mod Room

@@ -1,9 +1,9 @@
 //! Reads and writes of memory, as parts of a step.
 
-ghost use Rattle.std.specs.Prelude.{◌≡◌, [], ◌∷◌};
+ghost use Rattle.std.specs.Prelude.{◌≡◌, [], ◌∷◌, ◌++◌};
 ghost use Rattle.tp_model.specs.Memory.{byte_at, word_at, stored, byte_stored, copied, changed};
-ghost use Rattle.tp_model.specs.SharedPages.{LacksFrames};
-ghost use Rattle.tp_proc.specs.Ends.{Finds, Writes, MayRefuse};
+ghost use Rattle.tp_model.specs.SharedPages.{word_ranges, block_ranges, kept_after};
+ghost use Rattle.tp_proc.specs.Ends.{Finds, Writes};
 
 use crate::undone::{BAD_ADDRESS, Undone};
 use tp_mem::{Mem, WriteFault};
@@ -21,10 +21,9 @@ pub fn load<M: Mem>(mem: &M, address: u32) -> Result<u32, Undone>
 
 /// Writes the word at `address`.
 #[inline(always)]
-#[tactic(auto, using(tp_mem::proofs::Kept::frozen_stays))]
 pub fn store<M: Mem>(mem: &mut M, address: u32, word: u32) -> Result<(), Undone>
-    ensures written { Writes (stored (M.bytes mem.old) ((address, word) ∷ [])) (MayRefuse (LacksFrames (M.kept mem.old))) (M.bytes mem.old) result (M.bytes mem.new) }
-    ensures kept { (M.kept mem.new).frozen ≡ (M.kept mem.old).frozen }
+    ensures written { Writes (stored (M.bytes mem.old) ((address, word) ∷ [])) (word_ranges ((address, word) ∷ [])) (M.kept mem.old) (M.bytes mem.old) result (M.bytes mem.new) }
+    ensures kept { M.kept mem.new ≡ kept_after result (M.kept mem.old) (word_ranges ((address, word) ∷ [])) }
 {
     match mem.write_word(address, word) {
         Ok(()) => Ok(()),
@@ -35,10 +34,9 @@ pub fn store<M: Mem>(mem: &mut M, address: u32, word: u32) -> Result<(), Undone>
 
 /// Writes words, one after another.
 #[inline(always)]
-#[tactic(auto, using(tp_mem::proofs::Kept::frozen_stays))]
 pub fn store_all<M: Mem>(mem: &mut M, writes: &[(u32, u32)]) -> Result<(), Undone>
-    ensures written { Writes (stored (M.bytes mem.old) writes.now) (MayRefuse (LacksFrames (M.kept mem.old))) (M.bytes mem.old) result (M.bytes mem.new) }
-    ensures kept { (M.kept mem.new).frozen ≡ (M.kept mem.old).frozen }
+    ensures written { Writes (stored (M.bytes mem.old) writes.now) (word_ranges writes.now) (M.kept mem.old) (M.bytes mem.old) result (M.bytes mem.new) }
+    ensures kept { M.kept mem.new ≡ kept_after result (M.kept mem.old) (word_ranges writes.now) }
 {
     match mem.write_words(writes) {
         Ok(()) => Ok(()),
@@ -49,7 +47,6 @@ pub fn store_all<M: Mem>(mem: &mut M, writes: &[(u32, u32)]) -> Result<(), Undon
 
 /// Copies `count` bytes, all read before the first is written, and then writes words.
 #[inline(always)]
-#[tactic(auto, using(tp_mem::proofs::Kept::frozen_stays))]
 pub fn change<M: Mem>(
     mem: &mut M,
     to: u32,
@@ -57,8 +54,8 @@ pub fn change<M: Mem>(
     count: u32,
     writes: &[(u32, u32)],
 ) -> Result<(), Undone>
-    ensures written { Writes (changed (M.bytes mem.old) to from count writes.now) (MayRefuse (LacksFrames (M.kept mem.old))) (M.bytes mem.old) result (M.bytes mem.new) }
-    ensures kept { (M.kept mem.new).frozen ≡ (M.kept mem.old).frozen }
+    ensures written { Writes (changed (M.bytes mem.old) to from count writes.now) (block_ranges to count ++ word_ranges writes.now) (M.kept mem.old) (M.bytes mem.old) result (M.bytes mem.new) }
+    ensures kept { M.kept mem.new ≡ kept_after result (M.kept mem.old) (block_ranges to count ++ word_ranges writes.now) }
 {
     match mem.change(to, from, count, writes) {
         Ok(()) => Ok(()),

@@ -1,11 +1,12 @@
 //! Reads and writes behind a first word that is to be stored. Nothing is stored before all is known to lie inside
 //! memory: reads answer what they would after it, and the writes are made in one call.
 
-ghost use Rattle.std.specs.Prelude.{◌≡◌};
+ghost use Rattle.std.specs.Prelude.{◌≡◌, [], ◌∷◌, ◌++◌, Some};
 ghost use Rattle.tp_model.specs.Memory.{word_offset};
 ghost use Rattle.tp_proc.specs.After.{word_after, stored_after, changed_after};
-ghost use Rattle.tp_model.specs.SharedPages.{LacksFrames};
-ghost use Rattle.tp_proc.specs.Ends.{Finds, Writes, MayRefuse};
+ghost use Rattle.tp_model.specs.SharedPages.{word_ranges, block_ranges, kept_after};
+ghost use Rattle.tp_proc.specs.AfterWrites.{first_ranges};
+ghost use Rattle.tp_proc.specs.Ends.{Finds, Writes};
 
 use crate::access::{change, load, store_all};
 use crate::undone::{BAD_ADDRESS, Undone};
@@ -45,8 +46,8 @@ pub(crate) fn store_after<M: Mem>(
     first: Option<(u32, u32)>,
     writes: &[(u32, u32)],
 ) -> Result<(), Undone>
-    ensures written { Writes (stored_after first writes.now (M.bytes mem.old)) (MayRefuse (LacksFrames (M.kept mem.old))) (M.bytes mem.old) result (M.bytes mem.new) }
-    ensures kept { (M.kept mem.new).frozen ≡ (M.kept mem.old).frozen }
+    ensures written { Writes (stored_after first writes.now (M.bytes mem.old)) (first_ranges first ++ word_ranges writes.now) (M.kept mem.old) (M.bytes mem.old) result (M.bytes mem.new) }
+    ensures kept { M.kept mem.new ≡ kept_after result (M.kept mem.old) (first_ranges first ++ word_ranges writes.now) }
 {
     match first {
         None => store_all(mem, writes),
@@ -64,8 +65,8 @@ pub(crate) fn change_after<M: Mem>(
     count: u32,
     writes: &[(u32, u32)],
 ) -> Result<(), Undone>
-    ensures written { Writes (changed_after first to from count writes.now (M.bytes mem.old)) (MayRefuse (LacksFrames (M.kept mem.old))) (M.bytes mem.old) result (M.bytes mem.new) }
-    ensures kept { (M.kept mem.new).frozen ≡ (M.kept mem.old).frozen }
+    ensures written { Writes (changed_after first to from count writes.now (M.bytes mem.old)) (first_ranges first ++ (block_ranges to count ++ word_ranges writes.now)) (M.kept mem.old) (M.bytes mem.old) result (M.bytes mem.new) }
+    ensures kept { M.kept mem.new ≡ kept_after result (M.kept mem.old) (first_ranges first ++ (block_ranges to count ++ word_ranges writes.now)) }
 {
     match first {
         None => change(mem, to, from, count, writes),
@@ -73,7 +74,6 @@ pub(crate) fn change_after<M: Mem>(
     }
 }
 
-#[tactic(auto, using(tp_mem::proofs::Kept::frozen_stays))]
 fn change_behind<M: Mem>(
     mem: &mut M,
     first: (u32, u32),
@@ -82,8 +82,8 @@ fn change_behind<M: Mem>(
     count: u32,
     writes: &[(u32, u32)],
 ) -> Result<(), Undone>
-    ensures written { Writes (changed_after (Some first) to from count writes.now (M.bytes mem.old)) (MayRefuse (LacksFrames (M.kept mem.old))) (M.bytes mem.old) result (M.bytes mem.new) }
-    ensures kept { (M.kept mem.new).frozen ≡ (M.kept mem.old).frozen }
+    ensures written { Writes (changed_after (Some first) to from count writes.now (M.bytes mem.old)) (word_ranges (first ∷ []) ++ (block_ranges to count ++ word_ranges writes.now)) (M.kept mem.old) (M.bytes mem.old) result (M.bytes mem.new) }
+    ensures kept { M.kept mem.new ≡ kept_after result (M.kept mem.old) (word_ranges (first ∷ []) ++ (block_ranges to count ++ word_ranges writes.now)) }
 {
     match mem.change_after(first, to, from, count, writes) {
         Ok(()) => Ok(()),

@@ -3,8 +3,9 @@
 ghost use Rattle.std.specs.Prelude.{◌≡◌};
 ghost use Rattle.tp_model.specs.Processor.{with_a, without_b};
 ghost use Rattle.tp_model.specs.Alternative.{is_alternative, signalled, passed_over, chosen, alt, enbs, altwt, choose, diss};
-ghost use Rattle.tp_model.specs.SharedPages.{LacksFrames};
-ghost use Rattle.tp_proc.specs.Ends.{Does, MayRefuse};
+ghost use Rattle.tp_model.specs.SharedPages.{kept_after};
+ghost use Rattle.tp_model.specs.StepWrites.{alt_ranges, enbs_ranges, altwt_ranges, choose_ranges, diss_ranges};
+ghost use Rattle.tp_proc.specs.Ends.{Does};
 
 use crate::access::{load, store, store_all};
 use crate::process::end;
@@ -45,8 +46,8 @@ pub(crate) fn signal(state: u32, descriptor: u32, cpu: &mut Cpu)
 /// Begins an alternative.
 #[inline]
 pub fn alt<M: Mem>(cpu: &mut Cpu, mem: &mut M) -> Result<(), Undone>
-    ensures does { Does alt (MayRefuse (LacksFrames (M.kept mem.old))) cpu.old (M.bytes mem.old) result cpu.new (M.bytes mem.new) }
-    ensures kept { (M.kept mem.new).frozen ≡ (M.kept mem.old).frozen }
+    ensures does { Does alt alt_ranges (M.kept mem.old) cpu.old (M.bytes mem.old) result cpu.new (M.bytes mem.new) }
+    ensures kept { M.kept mem.new ≡ kept_after result (M.kept mem.old) (alt_ranges cpu.old (M.bytes mem.old)) }
 {
     store(mem, state_at(cpu.wptr), ENABLING)
 }
@@ -54,8 +55,8 @@ pub fn alt<M: Mem>(cpu: &mut Cpu, mem: &mut M) -> Result<(), Undone>
 /// Enables a branch that waits for nobody, where its guard is true.
 #[inline]
 pub fn enbs<M: Mem>(cpu: &mut Cpu, mem: &mut M) -> Result<(), Undone>
-    ensures does { Does enbs (MayRefuse (LacksFrames (M.kept mem.old))) cpu.old (M.bytes mem.old) result cpu.new (M.bytes mem.new) }
-    ensures kept { (M.kept mem.new).frozen ≡ (M.kept mem.old).frozen }
+    ensures does { Does enbs enbs_ranges (M.kept mem.old) cpu.old (M.bytes mem.old) result cpu.new (M.bytes mem.new) }
+    ensures kept { M.kept mem.new ≡ kept_after result (M.kept mem.old) (enbs_ranges cpu.old (M.bytes mem.old)) }
 {
     if cpu.regs.a == 0 {
         return Ok(());
@@ -66,8 +67,8 @@ pub fn enbs<M: Mem>(cpu: &mut Cpu, mem: &mut M) -> Result<(), Undone>
 /// Waits for a partner where none has come. No branch is chosen yet.
 #[inline]
 pub fn altwt<M: Mem>(cpu: &mut Cpu, mem: &mut M) -> Result<(), Undone>
-    ensures does { Does altwt (MayRefuse (LacksFrames (M.kept mem.old))) cpu.old (M.bytes mem.old) result cpu.new (M.bytes mem.new) }
-    ensures kept { (M.kept mem.new).frozen ≡ (M.kept mem.old).frozen }
+    ensures does { Does altwt altwt_ranges (M.kept mem.old) cpu.old (M.bytes mem.old) result cpu.new (M.bytes mem.new) }
+    ensures kept { M.kept mem.new ≡ kept_after result (M.kept mem.old) (altwt_ranges cpu.old (M.bytes mem.old)) }
 {
     let wptr = cpu.wptr;
     let state = load(mem, state_at(wptr))?;
@@ -97,8 +98,8 @@ pub fn note_choice(word: u32, cpu: &mut Cpu)
 /// Chooses a branch that is ready, where none is chosen.
 #[inline]
 pub fn choose<M: Mem>(cpu: &mut Cpu, mem: &mut M) -> Result<(), Undone>
-    ensures does { Does choose (MayRefuse (LacksFrames (M.kept mem.old))) cpu.old (M.bytes mem.old) result cpu.new (M.bytes mem.new) }
-    ensures kept { (M.kept mem.new).frozen ≡ (M.kept mem.old).frozen }
+    ensures does { Does choose choose_ranges (M.kept mem.old) cpu.old (M.bytes mem.old) result cpu.new (M.bytes mem.new) }
+    ensures kept { M.kept mem.new ≡ kept_after result (M.kept mem.old) (choose_ranges cpu.old (M.bytes mem.old)) }
 {
     let word = load(mem, cpu.wptr)?;
     if word == NONE_CHOSEN {
@@ -127,8 +128,8 @@ pub fn drop_b(cpu: &mut Cpu)
 /// Disables a branch that waits for nobody.
 #[inline]
 pub fn diss<M: Mem>(cpu: &mut Cpu, mem: &mut M) -> Result<(), Undone>
-    ensures does { Does diss (MayRefuse (LacksFrames (M.kept mem.old))) cpu.old (M.bytes mem.old) result cpu.new (M.bytes mem.new) }
-    ensures kept { (M.kept mem.new).frozen ≡ (M.kept mem.old).frozen }
+    ensures does { Does diss diss_ranges (M.kept mem.old) cpu.old (M.bytes mem.old) result cpu.new (M.bytes mem.new) }
+    ensures kept { M.kept mem.new ≡ kept_after result (M.kept mem.old) (diss_ranges cpu.old (M.bytes mem.old)) }
 {
     if cpu.regs.b == 0 {
         drop_b(cpu);

@@ -4,8 +4,10 @@ ghost use Rattle.std.specs.Prelude.{◌≡◌, ◌++◌};
 ghost use Rattle.tp_model.specs.Alternative.{signal_writes};
 ghost use Rattle.tp_model.specs.Channel.{channel_at, wait_writes, waits_first, meets, waits_for_alternative, input, output, input_at, output_at, output_word_at, enable, enable_at, disable, disable_at};
 ghost use Rattle.tp_proc.specs.After.{after, stored_after};
-ghost use Rattle.tp_model.specs.SharedPages.{LacksFrames};
-ghost use Rattle.tp_proc.specs.Ends.{Does, Writes, MayRefuse};
+ghost use Rattle.tp_model.specs.SharedPages.{word_ranges, kept_after};
+ghost use Rattle.tp_model.specs.StepWrites.{waits_first_ranges, meets_ranges, waits_for_alternative_ranges, input_ranges, output_ranges, input_at_ranges, output_at_ranges, output_word_at_ranges, enable_ranges, enable_at_ranges, disable_ranges, disable_at_ranges};
+ghost use Rattle.tp_proc.specs.AfterWrites.{first_ranges, after_ranges};
+ghost use Rattle.tp_proc.specs.Ends.{Does, Writes};
 
 use crate::access::{load, store};
 use crate::after::{change_after, load_after, store_after};
@@ -16,7 +18,7 @@ use crate::process::end;
 use crate::queues::{NOT_PROCESS, queue, queue_write};
 use crate::undone::{BAD_ADDRESS, Undone};
 use crate::workspaces::{descriptor_of, saved_at, state_at, workspace};
-use tp_mem::Mem;
+use tp_mem::{FIRST_ADDRESS, Mem};
 use tp_model::{ChannelWord, Cpu, InRequest, OutRequest, Regs, Wish};
 
 /// Says what the address of a channel names: an output link, an input link or a word of memory.
@@ -24,7 +26,7 @@ use tp_model::{ChannelWord, Cpu, InRequest, OutRequest, Regs, Wish};
 pub fn channel_at(address: u32) -> ChannelWord
     ensures { result ≡ channel_at address }
 {
-    let at = (address / 4 * 4).wrapping_sub(0x8000_0000);
+    let at = (address / 4 * 4).wrapping_sub(FIRST_ADDRESS);
     if at < 16 {
         ChannelWord::Output((at / 4) as u8)
     } else if at < 32 {
@@ -58,8 +60,8 @@ fn waits_first<M: Mem>(
     first: Option<(u32, u32)>,
     message: Message,
 ) -> Result<(), Undone>
-    ensures does { Does (after first (waits_first message.channel message.pointer message.count)) (MayRefuse (LacksFrames (M.kept mem.old))) cpu.old (M.bytes mem.old) result cpu.new (M.bytes mem.new) }
-    ensures kept { (M.kept mem.new).frozen ≡ (M.kept mem.old).frozen }
+    ensures does { Does (after first (waits_first message.channel message.pointer message.count)) (after_ranges first (waits_first_ranges message.channel message.pointer)) (M.kept mem.old) cpu.old (M.bytes mem.old) result cpu.new (M.bytes mem.new) }
+    ensures kept { M.kept mem.new ≡ kept_after result (M.kept mem.old) (after_ranges first (waits_first_ranges message.channel message.pointer) cpu.old (M.bytes mem.old)) }
 {
     // Memory has whole words: its length says so.
     let _len = mem.len();
@@ -89,8 +91,8 @@ fn meets<M: Mem>(
     channel: u32,
     partner: u32,
 ) -> Result<(), Undone>
-    ensures does { Does (after first (meets block.to block.from block.count channel partner)) (MayRefuse (LacksFrames (M.kept mem.old))) cpu.old (M.bytes mem.old) result cpu.new (M.bytes mem.new) }
-    ensures kept { (M.kept mem.new).frozen ≡ (M.kept mem.old).frozen }
+    ensures does { Does (after first (meets block.to block.from block.count channel partner)) (after_ranges first (meets_ranges block.to block.count channel partner)) (M.kept mem.old) cpu.old (M.bytes mem.old) result cpu.new (M.bytes mem.new) }
+    ensures kept { M.kept mem.new ≡ kept_after result (M.kept mem.old) (after_ranges first (meets_ranges block.to block.count channel partner) cpu.old (M.bytes mem.old)) }
 {
     let Block { to, from, count } = block;
     let empty = (channel, NOT_PROCESS);
@@ -112,8 +114,8 @@ fn write_signal<M: Mem>(
     state: u32,
     partner: u32,
 ) -> Result<(), Undone>
-    ensures written { Writes (stored_after first (signal_writes state partner cpu.now ++ wait_writes message.channel message.pointer cpu.now) (M.bytes mem.old)) (MayRefuse (LacksFrames (M.kept mem.old))) (M.bytes mem.old) result (M.bytes mem.new) }
-    ensures kept { (M.kept mem.new).frozen ≡ (M.kept mem.old).frozen }
+    ensures written { Writes (stored_after first (signal_writes state partner cpu.now ++ wait_writes message.channel message.pointer cpu.now) (M.bytes mem.old)) (first_ranges first ++ word_ranges (signal_writes state partner cpu.now ++ wait_writes message.channel message.pointer cpu.now)) (M.kept mem.old) (M.bytes mem.old) result (M.bytes mem.new) }
+    ensures kept { M.kept mem.new ≡ kept_after result (M.kept mem.old) (first_ranges first ++ word_ranges (signal_writes state partner cpu.now ++ wait_writes message.channel message.pointer cpu.now)) }
 {
     let ready = (state_at(workspace(partner)), READY);
     let own = (message.channel, descriptor_of(cpu));
@@ -141,8 +143,8 @@ fn waits_for_alternative<M: Mem>(
     state: u32,
     partner: u32,
 ) -> Result<(), Undone>
-    ensures does { Does (after first (waits_for_alternative state partner message.channel message.pointer message.count)) (MayRefuse (LacksFrames (M.kept mem.old))) cpu.old (M.bytes mem.old) result cpu.new (M.bytes mem.new) }
-    ensures kept { (M.kept mem.new).frozen ≡ (M.kept mem.old).frozen }
+    ensures does { Does (after first (waits_for_alternative state partner message.channel message.pointer message.count)) (after_ranges first (waits_for_alternative_ranges state partner message.channel message.pointer)) (M.kept mem.old) cpu.old (M.bytes mem.old) result cpu.new (M.bytes mem.new) }
+    ensures kept { M.kept mem.new ≡ kept_after result (M.kept mem.old) (after_ranges first (waits_for_alternative_ranges state partner message.channel message.pointer) cpu.old (M.bytes mem.old)) }
 {
     // Memory has whole words: its length says so.
     let _len = mem.len();
@@ -157,8 +159,8 @@ fn waits_for_alternative<M: Mem>(
 
 /// Inputs a message.
 fn input<M: Mem>(cpu: &mut Cpu, mem: &mut M, message: Message) -> Result<(), Undone>
-    ensures does { Does (input message.count message.channel message.pointer) (MayRefuse (LacksFrames (M.kept mem.old))) cpu.old (M.bytes mem.old) result cpu.new (M.bytes mem.new) }
-    ensures kept { (M.kept mem.new).frozen ≡ (M.kept mem.old).frozen }
+    ensures does { Does (input message.count message.channel message.pointer) (input_ranges message.count message.channel message.pointer) (M.kept mem.old) cpu.old (M.bytes mem.old) result cpu.new (M.bytes mem.new) }
+    ensures kept { M.kept mem.new ≡ kept_after result (M.kept mem.old) (input_ranges message.count message.channel message.pointer cpu.old (M.bytes mem.old)) }
 {
     let channel = message.channel;
     let partner = load(mem, channel)?;
@@ -181,8 +183,8 @@ fn output<M: Mem>(
     first: Option<(u32, u32)>,
     message: Message,
 ) -> Result<(), Undone>
-    ensures does { Does (after first (output message.count message.channel message.pointer)) (MayRefuse (LacksFrames (M.kept mem.old))) cpu.old (M.bytes mem.old) result cpu.new (M.bytes mem.new) }
-    ensures kept { (M.kept mem.new).frozen ≡ (M.kept mem.old).frozen }
+    ensures does { Does (after first (output message.count message.channel message.pointer)) (after_ranges first (output_ranges message.count message.channel message.pointer)) (M.kept mem.old) cpu.old (M.bytes mem.old) result cpu.new (M.bytes mem.new) }
+    ensures kept { M.kept mem.new ≡ kept_after result (M.kept mem.old) (after_ranges first (output_ranges message.count message.channel message.pointer) cpu.old (M.bytes mem.old)) }
 {
     let channel = message.channel;
     let partner = load_after(mem, first, channel)?;
@@ -203,8 +205,8 @@ fn output<M: Mem>(
 
 /// Does `in`: count A, channel B, pointer C.
 pub fn chan_in<M: Mem>(cpu: &mut Cpu, mem: &mut M) -> Result<(), Undone>
-    ensures does { Does (λ cpu. input_at (channel_at cpu.regs.b) cpu) (MayRefuse (LacksFrames (M.kept mem.old))) cpu.old (M.bytes mem.old) result cpu.new (M.bytes mem.new) }
-    ensures kept { (M.kept mem.new).frozen ≡ (M.kept mem.old).frozen }
+    ensures does { Does (λ cpu. input_at (channel_at cpu.regs.b) cpu) (λ cpu. input_at_ranges (channel_at cpu.regs.b) cpu) (M.kept mem.old) cpu.old (M.bytes mem.old) result cpu.new (M.bytes mem.new) }
+    ensures kept { M.kept mem.new ≡ kept_after result (M.kept mem.old) (input_at_ranges (channel_at cpu.old.regs.b) cpu.old (M.bytes mem.old)) }
 {
     let Regs { a, b, c, .. } = cpu.regs;
     match channel_at(b) {
@@ -231,8 +233,8 @@ pub fn chan_in<M: Mem>(cpu: &mut Cpu, mem: &mut M) -> Result<(), Undone>
 
 /// Does `out`: count A, channel B, pointer C.
 pub fn chan_out<M: Mem>(cpu: &mut Cpu, mem: &mut M) -> Result<(), Undone>
-    ensures does { Does (λ cpu. output_at (channel_at cpu.regs.b) cpu) (MayRefuse (LacksFrames (M.kept mem.old))) cpu.old (M.bytes mem.old) result cpu.new (M.bytes mem.new) }
-    ensures kept { (M.kept mem.new).frozen ≡ (M.kept mem.old).frozen }
+    ensures does { Does (λ cpu. output_at (channel_at cpu.regs.b) cpu) (λ cpu. output_at_ranges (channel_at cpu.regs.b) cpu) (M.kept mem.old) cpu.old (M.bytes mem.old) result cpu.new (M.bytes mem.new) }
+    ensures kept { M.kept mem.new ≡ kept_after result (M.kept mem.old) (output_at_ranges (channel_at cpu.old.regs.b) cpu.old (M.bytes mem.old)) }
 {
     let Regs { a, b, c, .. } = cpu.regs;
     match channel_at(b) {
@@ -259,8 +261,8 @@ pub fn chan_out<M: Mem>(cpu: &mut Cpu, mem: &mut M) -> Result<(), Undone>
 
 /// Does `outbyte` or `outword`: stores A at the workspace, and outputs `count` bytes of it, 1 or 4, on the channel B.
 pub fn chan_out_word<M: Mem>(cpu: &mut Cpu, mem: &mut M, count: u32) -> Result<(), Undone>
-    ensures does { Does (λ cpu. output_word_at (channel_at cpu.regs.b) count cpu) (MayRefuse (LacksFrames (M.kept mem.old))) cpu.old (M.bytes mem.old) result cpu.new (M.bytes mem.new) }
-    ensures kept { (M.kept mem.new).frozen ≡ (M.kept mem.old).frozen }
+    ensures does { Does (λ cpu. output_word_at (channel_at cpu.regs.b) count cpu) (λ cpu. output_word_at_ranges (channel_at cpu.regs.b) count cpu) (M.kept mem.old) cpu.old (M.bytes mem.old) result cpu.new (M.bytes mem.new) }
+    ensures kept { M.kept mem.new ≡ kept_after result (M.kept mem.old) (output_word_at_ranges (channel_at cpu.old.regs.b) count cpu.old (M.bytes mem.old)) }
 {
     let Regs { a, b, .. } = cpu.regs;
     let wptr = cpu.wptr;
@@ -288,8 +290,8 @@ pub fn chan_out_word<M: Mem>(cpu: &mut Cpu, mem: &mut M, count: u32) -> Result<(
 
 /// Enables a branch that waits for an output on a word of memory.
 fn enable<M: Mem>(cpu: &mut Cpu, mem: &mut M) -> Result<(), Undone>
-    ensures does { Does enable (MayRefuse (LacksFrames (M.kept mem.old))) cpu.old (M.bytes mem.old) result cpu.new (M.bytes mem.new) }
-    ensures kept { (M.kept mem.new).frozen ≡ (M.kept mem.old).frozen }
+    ensures does { Does enable enable_ranges (M.kept mem.old) cpu.old (M.bytes mem.old) result cpu.new (M.bytes mem.new) }
+    ensures kept { M.kept mem.new ≡ kept_after result (M.kept mem.old) (enable_ranges cpu.old (M.bytes mem.old)) }
 {
     let channel = cpu.regs.b;
     let own = descriptor_of(cpu);
@@ -305,8 +307,8 @@ fn enable<M: Mem>(cpu: &mut Cpu, mem: &mut M) -> Result<(), Undone>
 
 /// Does `enbc`: guard A, channel B.
 pub fn alt_enable<M: Mem>(cpu: &mut Cpu, mem: &mut M) -> Result<(), Undone>
-    ensures does { Does (λ cpu. enable_at (channel_at cpu.regs.b) cpu) (MayRefuse (LacksFrames (M.kept mem.old))) cpu.old (M.bytes mem.old) result cpu.new (M.bytes mem.new) }
-    ensures kept { (M.kept mem.new).frozen ≡ (M.kept mem.old).frozen }
+    ensures does { Does (λ cpu. enable_at (channel_at cpu.regs.b) cpu) (λ cpu. enable_at_ranges (channel_at cpu.regs.b) cpu) (M.kept mem.old) cpu.old (M.bytes mem.old) result cpu.new (M.bytes mem.new) }
+    ensures kept { M.kept mem.new ≡ kept_after result (M.kept mem.old) (enable_at_ranges (channel_at cpu.old.regs.b) cpu.old (M.bytes mem.old)) }
 {
     let Regs { a, b, .. } = cpu.regs;
     match channel_at(b) {
@@ -326,8 +328,8 @@ pub fn alt_enable<M: Mem>(cpu: &mut Cpu, mem: &mut M) -> Result<(), Undone>
 
 /// Disables a branch that waits for an output on a word of memory.
 fn disable<M: Mem>(cpu: &mut Cpu, mem: &mut M) -> Result<(), Undone>
-    ensures does { Does disable (MayRefuse (LacksFrames (M.kept mem.old))) cpu.old (M.bytes mem.old) result cpu.new (M.bytes mem.new) }
-    ensures kept { (M.kept mem.new).frozen ≡ (M.kept mem.old).frozen }
+    ensures does { Does disable disable_ranges (M.kept mem.old) cpu.old (M.bytes mem.old) result cpu.new (M.bytes mem.new) }
+    ensures kept { M.kept mem.new ≡ kept_after result (M.kept mem.old) (disable_ranges cpu.old (M.bytes mem.old)) }
 {
     let channel = cpu.regs.c;
     let partner = load(mem, channel)?;
@@ -345,8 +347,8 @@ fn disable<M: Mem>(cpu: &mut Cpu, mem: &mut M) -> Result<(), Undone>
 
 /// Does `disc`: offset A, guard B, channel C.
 pub fn alt_disable<M: Mem>(cpu: &mut Cpu, mem: &mut M) -> Result<(), Undone>
-    ensures does { Does (λ cpu. disable_at (channel_at cpu.regs.c) cpu) (MayRefuse (LacksFrames (M.kept mem.old))) cpu.old (M.bytes mem.old) result cpu.new (M.bytes mem.new) }
-    ensures kept { (M.kept mem.new).frozen ≡ (M.kept mem.old).frozen }
+    ensures does { Does (λ cpu. disable_at (channel_at cpu.regs.c) cpu) (λ cpu. disable_at_ranges (channel_at cpu.regs.c) cpu) (M.kept mem.old) cpu.old (M.bytes mem.old) result cpu.new (M.bytes mem.new) }
+    ensures kept { M.kept mem.new ≡ kept_after result (M.kept mem.old) (disable_at_ranges (channel_at cpu.old.regs.c) cpu.old (M.bytes mem.old)) }
 {
     let Regs { b, c, .. } = cpu.regs;
     match channel_at(c) {

@@ -3,9 +3,10 @@
 ghost use Rattle.std.specs.Prelude.{◌≡◌, [], ◌∷◌, option_to_list};
 ghost use Rattle.tp_model.specs.Processor.{emptied, started, dispatch_high, dispatch_low, stopped, stop, counted, past, must_slice, sliced, jump, interrupt, restore};
 ghost use Rattle.tp_model.specs.Step.{startp, runp, endp};
-ghost use Rattle.tp_proc.specs.Room.{makes_room};
-ghost use Rattle.tp_model.specs.SharedPages.{LacksFrames};
-ghost use Rattle.tp_proc.specs.Ends.{Does, MayRefuse};
+ghost use Rattle.tp_proc.specs.Room.{makes_room, makes_room_ranges};
+ghost use Rattle.tp_model.specs.SharedPages.{kept_after};
+ghost use Rattle.tp_model.specs.StepWrites.{nowhere_ranges, stop_ranges, jump_ranges, interrupt_ranges, restore_ranges, startp_ranges, runp_ranges, endp_ranges};
+ghost use Rattle.tp_proc.specs.Ends.{Does};
 
 use crate::access::{load, store, store_all};
 use crate::queues::{NOT_PROCESS, enqueue, joined, link_write, queue, queue_write, rest_of_queue};
@@ -33,7 +34,7 @@ fn emptied(regs: Regs) -> Regs
 /// Starts the process of the workspace `front` in `state`, from where it had stopped.
 #[inline(always)]
 fn start<M: Mem>(cpu: &mut Cpu, mem: &M, front: u32, state: State) -> Result<(), Undone>
-    ensures { Does (started front state) (MayRefuse (LacksFrames (M.kept mem.now))) cpu.old (M.bytes mem.now) result cpu.new (M.bytes mem.now) }
+    ensures { Does (started front state) nowhere_ranges (M.kept mem.now) cpu.old (M.bytes mem.now) result cpu.new (M.bytes mem.now) }
 {
     let iptr = load(mem, saved_at(front))?;
     cpu.iptr = iptr;
@@ -45,7 +46,7 @@ fn start<M: Mem>(cpu: &mut Cpu, mem: &M, front: u32, state: State) -> Result<(),
 
 /// Starts the process at the front of the high queue.
 pub fn dispatch_high<M: Mem>(cpu: &mut Cpu, mem: &M) -> Result<(), Undone>
-    ensures { Does dispatch_high (MayRefuse (LacksFrames (M.kept mem.now))) cpu.old (M.bytes mem.now) result cpu.new (M.bytes mem.now) }
+    ensures { Does dispatch_high nowhere_ranges (M.kept mem.now) cpu.old (M.bytes mem.now) result cpu.new (M.bytes mem.now) }
 {
     let rest = rest_of_queue(cpu.high, mem)?;
     start(cpu, mem, cpu.high.front, State::High)?;
@@ -55,7 +56,7 @@ pub fn dispatch_high<M: Mem>(cpu: &mut Cpu, mem: &M) -> Result<(), Undone>
 
 /// Starts the process at the front of the low queue, with a new slice.
 pub fn dispatch_low<M: Mem>(cpu: &mut Cpu, mem: &M) -> Result<(), Undone>
-    ensures { Does dispatch_low (MayRefuse (LacksFrames (M.kept mem.now))) cpu.old (M.bytes mem.now) result cpu.new (M.bytes mem.now) }
+    ensures { Does dispatch_low nowhere_ranges (M.kept mem.now) cpu.old (M.bytes mem.now) result cpu.new (M.bytes mem.now) }
 {
     let rest = rest_of_queue(cpu.low, mem)?;
     start(cpu, mem, cpu.low.front, State::Low)?;
@@ -77,8 +78,8 @@ pub fn end(cpu: &mut Cpu)
 
 /// Stops the process that runs, to go on at the instruction pointer later.
 pub fn stop<M: Mem>(cpu: &mut Cpu, mem: &mut M) -> Result<(), Undone>
-    ensures does { Does stop (MayRefuse (LacksFrames (M.kept mem.old))) cpu.old (M.bytes mem.old) result cpu.new (M.bytes mem.new) }
-    ensures kept { (M.kept mem.new).frozen ≡ (M.kept mem.old).frozen }
+    ensures does { Does stop stop_ranges (M.kept mem.old) cpu.old (M.bytes mem.old) result cpu.new (M.bytes mem.new) }
+    ensures kept { M.kept mem.new ≡ kept_after result (M.kept mem.old) (stop_ranges cpu.old (M.bytes mem.old)) }
 {
     store(mem, saved_at(cpu.wptr), cpu.iptr)?;
     end(cpu);
@@ -127,8 +128,8 @@ fn leave(cpu: &mut Cpu)
 
 /// Slices the low process that runs: it goes on at `to` later.
 pub fn slice<M: Mem>(cpu: &mut Cpu, mem: &mut M, to: u32) -> Result<(), Undone>
-    ensures does { Does (makes_room to []) (MayRefuse (LacksFrames (M.kept mem.old))) cpu.old (M.bytes mem.old) result cpu.new (M.bytes mem.new) }
-    ensures kept { (M.kept mem.new).frozen ≡ (M.kept mem.old).frozen }
+    ensures does { Does (makes_room to []) (makes_room_ranges []) (M.kept mem.old) cpu.old (M.bytes mem.old) result cpu.new (M.bytes mem.new) }
+    ensures kept { M.kept mem.new ≡ kept_after result (M.kept mem.old) (makes_room_ranges [] cpu.old (M.bytes mem.old)) }
 {
     let saved = (saved_at(cpu.wptr), to);
     match link_write(cpu.wptr, cpu.low) {
@@ -142,8 +143,8 @@ pub fn slice<M: Mem>(cpu: &mut Cpu, mem: &mut M, to: u32) -> Result<(), Undone>
 /// Jumps to `to`. A low process whose slice is over is sliced there.
 #[inline(always)]
 pub fn jump<M: Mem>(cpu: &mut Cpu, mem: &mut M, to: u32) -> Result<(), Undone>
-    ensures does { Does (jump to []) (MayRefuse (LacksFrames (M.kept mem.old))) cpu.old (M.bytes mem.old) result cpu.new (M.bytes mem.new) }
-    ensures kept { (M.kept mem.new).frozen ≡ (M.kept mem.old).frozen }
+    ensures does { Does (jump to []) (jump_ranges []) (M.kept mem.old) cpu.old (M.bytes mem.old) result cpu.new (M.bytes mem.new) }
+    ensures kept { M.kept mem.new ≡ kept_after result (M.kept mem.old) (jump_ranges [] cpu.old (M.bytes mem.old)) }
 {
     if must_slice(cpu) {
         return slice(cpu, mem, to);
@@ -160,8 +161,8 @@ fn slice_looping<M: Mem>(
     count: (u32, u32),
     index: (u32, u32),
 ) -> Result<(), Undone>
-    ensures does { Does (makes_room to (count ∷ index ∷ [])) (MayRefuse (LacksFrames (M.kept mem.old))) cpu.old (M.bytes mem.old) result cpu.new (M.bytes mem.new) }
-    ensures kept { (M.kept mem.new).frozen ≡ (M.kept mem.old).frozen }
+    ensures does { Does (makes_room to (count ∷ index ∷ [])) (makes_room_ranges (count ∷ index ∷ [])) (M.kept mem.old) cpu.old (M.bytes mem.old) result cpu.new (M.bytes mem.new) }
+    ensures kept { M.kept mem.new ≡ kept_after result (M.kept mem.old) (makes_room_ranges (count ∷ index ∷ []) cpu.old (M.bytes mem.old)) }
 {
     let saved = (saved_at(cpu.wptr), to);
     match link_write(cpu.wptr, cpu.low) {
@@ -181,8 +182,8 @@ pub fn jump_looping<M: Mem>(
     count: (u32, u32),
     index: (u32, u32),
 ) -> Result<(), Undone>
-    ensures does { Does (jump to (count ∷ index ∷ [])) (MayRefuse (LacksFrames (M.kept mem.old))) cpu.old (M.bytes mem.old) result cpu.new (M.bytes mem.new) }
-    ensures kept { (M.kept mem.new).frozen ≡ (M.kept mem.old).frozen }
+    ensures does { Does (jump to (count ∷ index ∷ [])) (jump_ranges (count ∷ index ∷ [])) (M.kept mem.old) cpu.old (M.bytes mem.old) result cpu.new (M.bytes mem.new) }
+    ensures kept { M.kept mem.new ≡ kept_after result (M.kept mem.old) (jump_ranges (count ∷ index ∷ []) cpu.old (M.bytes mem.old)) }
 {
     if must_slice(cpu) {
         return slice_looping(cpu, mem, to, count, index);
@@ -197,8 +198,8 @@ pub const KEPT_AT: u32 = 0x8000_002C;
 
 /// Keeps the low process that runs, so that a high one can start.
 pub fn interrupt<M: Mem>(cpu: &mut Cpu, mem: &mut M) -> Result<(), Undone>
-    ensures does { Does interrupt (MayRefuse (LacksFrames (M.kept mem.old))) cpu.old (M.bytes mem.old) result cpu.new (M.bytes mem.new) }
-    ensures kept { (M.kept mem.new).frozen ≡ (M.kept mem.old).frozen }
+    ensures does { Does interrupt interrupt_ranges (M.kept mem.old) cpu.old (M.bytes mem.old) result cpu.new (M.bytes mem.new) }
+    ensures kept { M.kept mem.new ≡ kept_after result (M.kept mem.old) (interrupt_ranges cpu.old (M.bytes mem.old)) }
 {
     let Regs { a, b, c, .. } = cpu.regs;
     store_all(
@@ -217,8 +218,8 @@ pub fn interrupt<M: Mem>(cpu: &mut Cpu, mem: &mut M) -> Result<(), Undone>
 
 /// Goes on with the interrupted low process of `descriptor`.
 pub fn restore<M: Mem>(cpu: &mut Cpu, mem: &mut M, descriptor: u32) -> Result<(), Undone>
-    ensures does { Does (restore descriptor) (MayRefuse (LacksFrames (M.kept mem.old))) cpu.old (M.bytes mem.old) result cpu.new (M.bytes mem.new) }
-    ensures kept { (M.kept mem.new).frozen ≡ (M.kept mem.old).frozen }
+    ensures does { Does (restore descriptor) restore_ranges (M.kept mem.old) cpu.old (M.bytes mem.old) result cpu.new (M.bytes mem.new) }
+    ensures kept { M.kept mem.new ≡ kept_after result (M.kept mem.old) (restore_ranges cpu.old (M.bytes mem.old)) }
 {
     let iptr = load(mem, KEPT_AT + 4)?;
     let a = load(mem, KEPT_AT + 8)?;
@@ -239,8 +240,8 @@ pub fn restore<M: Mem>(cpu: &mut Cpu, mem: &mut M, descriptor: u32) -> Result<()
 
 /// Does `startp`: queues a process with the workspace A that begins at N + B, at the priority of the one that runs. N is the next instruction.
 pub fn startp<M: Mem>(cpu: &mut Cpu, mem: &mut M) -> Result<(), Undone>
-    ensures does { Does startp (MayRefuse (LacksFrames (M.kept mem.old))) cpu.old (M.bytes mem.old) result cpu.new (M.bytes mem.new) }
-    ensures kept { (M.kept mem.new).frozen ≡ (M.kept mem.old).frozen }
+    ensures does { Does startp startp_ranges (M.kept mem.old) cpu.old (M.bytes mem.old) result cpu.new (M.bytes mem.new) }
+    ensures kept { M.kept mem.new ≡ kept_after result (M.kept mem.old) (startp_ranges cpu.old (M.bytes mem.old)) }
 {
     let Regs { a, b, .. } = cpu.regs;
     let process = workspace(a) + u32::from(is_low(cpu));
@@ -255,16 +256,16 @@ pub fn startp<M: Mem>(cpu: &mut Cpu, mem: &mut M) -> Result<(), Undone>
 
 /// Does `runp`: queues the process of the descriptor A.
 pub fn runp<M: Mem>(cpu: &mut Cpu, mem: &mut M) -> Result<(), Undone>
-    ensures does { Does runp (MayRefuse (LacksFrames (M.kept mem.old))) cpu.old (M.bytes mem.old) result cpu.new (M.bytes mem.new) }
-    ensures kept { (M.kept mem.new).frozen ≡ (M.kept mem.old).frozen }
+    ensures does { Does runp runp_ranges (M.kept mem.old) cpu.old (M.bytes mem.old) result cpu.new (M.bytes mem.new) }
+    ensures kept { M.kept mem.new ≡ kept_after result (M.kept mem.old) (runp_ranges cpu.old (M.bytes mem.old)) }
 {
     enqueue(cpu, mem, cpu.regs.a)
 }
 
 /// Does `endp`: counts down the word behind A. The last process goes on for all, and each other one ends.
 pub fn endp<M: Mem>(cpu: &mut Cpu, mem: &mut M) -> Result<(), Undone>
-    ensures does { Does endp (MayRefuse (LacksFrames (M.kept mem.old))) cpu.old (M.bytes mem.old) result cpu.new (M.bytes mem.new) }
-    ensures kept { (M.kept mem.new).frozen ≡ (M.kept mem.old).frozen }
+    ensures does { Does endp endp_ranges (M.kept mem.old) cpu.old (M.bytes mem.old) result cpu.new (M.bytes mem.new) }
+    ensures kept { M.kept mem.new ≡ kept_after result (M.kept mem.old) (endp_ranges cpu.old (M.bytes mem.old)) }
 {
     let a = cpu.regs.a;
     let count_at = a.wrapping_add(4);

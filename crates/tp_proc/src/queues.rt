@@ -4,8 +4,8 @@ ghost use Rattle.std.specs.Prelude.{◌≡◌, option_to_list};
 ghost use Rattle.tp_model.specs.Memory.{stored};
 ghost use Rattle.tp_model.specs.Outcome.{leaves};
 ghost use Rattle.tp_model.specs.Processor.{link_writes, joined, queue_writes, queued, rest_of_queue};
-ghost use Rattle.tp_model.specs.SharedPages.{LacksFrames};
-ghost use Rattle.tp_proc.specs.Ends.{Does, Finds, MayRefuse};
+ghost use Rattle.tp_model.specs.SharedPages.{word_ranges, kept_after};
+ghost use Rattle.tp_proc.specs.Ends.{Does, Finds};
 
 use crate::access::{load, store};
 use crate::undone::Undone;
@@ -72,8 +72,8 @@ pub fn queue(descriptor: u32, cpu: &mut Cpu)
 
 /// Queues the process of `descriptor`, with its link in memory.
 pub fn enqueue<M: Mem>(cpu: &mut Cpu, mem: &mut M, descriptor: u32) -> Result<(), Undone>
-    ensures does { Does (λ cpu memory. leaves (stored memory (queue_writes descriptor cpu)) (queued descriptor cpu)) (MayRefuse (LacksFrames (M.kept mem.old))) cpu.old (M.bytes mem.old) result cpu.new (M.bytes mem.new) }
-    ensures kept { (M.kept mem.new).frozen ≡ (M.kept mem.old).frozen }
+    ensures does { Does (λ cpu memory. leaves (stored memory (queue_writes descriptor cpu)) (queued descriptor cpu)) (λ cpu memory. word_ranges (queue_writes descriptor cpu)) (M.kept mem.old) cpu.old (M.bytes mem.old) result cpu.new (M.bytes mem.new) }
+    ensures kept { M.kept mem.new ≡ kept_after result (M.kept mem.old) (word_ranges (queue_writes descriptor cpu.old)) }
 {
     if let Some((address, word)) = queue_write(descriptor, cpu) {
         store(mem, address, word)?;

@@ -1,4 +1,4 @@
-//! The ready queue: the numbers of processes, each of which is in the queue or with one holder.
+//! The ready queue: the numbers of processes. Each is in the queue or with one holder.
 #![tactic(auto)]
 
 mod hand;

@@ -1,4 +1,4 @@
-//! The rule of the queue, and what each step tells. These types are for the proofs alone.
+//! The rule of the queue, and what each step tells. Its types are for the proofs alone.
 ghost use Rattle.std.specs.Prelude.{◌≡◌, ◌<◌, ◌+◌, [], ◌++◌, ◌∷◌, take, drop};
 ghost use Rattle.tp_ready.specs.View.{maker, holder, nobody, Dealt, AreDistinct, AreFew};
 

@@ -14,6 +14,7 @@ use Rattle.tp_port.specs.Parts.{port_of}
 use Rattle.tp_port.specs.Ports.{PortValue, opened_port}
 use Rattle.tp_node.specs.NodeContents.{NodeContents}
 use Rattle.tp_replay.specs.Flat.{network_of}
+use Rattle.tp_port.proofs.OpenedPorts.{opened_ports}
 use Rattle.tp_recover.specs.declared.cut.Cut.{Cut}
 use Rattle.tp_recover.specs.Cuts.{cut_network}
 use Rattle.tp_recover.specs.Nodes.{AreThawed}
@@ -62,13 +63,9 @@ thawed_at [] all i node at = cc
 thawed_at (first ∷ nodes) all zero node at = let same : first ≡ node = cc in subst (λ n. n.frozen ≡ None) same all.0
 thawed_at (first ∷ nodes) all (suc i) node at = thawed_at nodes all.1 i node at
 
-ports_again : (parts : List PortParts) → map (λ p. p.port) (map (λ port. opened_port (port_of port)) parts) ≡ map port_of parts
-ports_again [] = refl
-ports_again (p ∷ ps) = ap (λ more. port_of p ∷ more) (ports_again ps)
-
 -- The network that is made of a cut is the cut's.
 pub network_again : (cut : Cut) (wires these : List (Option WireEnd)) (lines : List (List Token)) (ports : List PortValue) → these ≡ wires → lines ≡ map (λ line. line.items) cut.lines.items
     → ports ≡ map (λ port. opened_port (port_of port)) cut.ports.items → network_of these cut.nodes.items lines ports ≡ cut_network wires cut
 network_again cut wires these lines ports w l p =
-    let q : map (λ (v : PortValue). v.port) ports ≡ map port_of cut.ports.items = ap (map (λ (v : PortValue). v.port)) p ∙ ports_again cut.ports.items in
+    let q : map (λ (v : PortValue). v.port) ports ≡ map port_of cut.ports.items = ap (map (λ (v : PortValue). v.port)) p ∙ opened_ports cut.ports.items in
     λ i. record { wires = w i; nodes = map (λ node. node.live) cut.nodes.items; ports = q i; lines = l i }

@@ -12,11 +12,11 @@ use Rattle.tp_recover.specs.declared.cut.Cut.{Cut}
 use Rattle.tp_layout.specs.declared.place.Places.{Places}
 use Rattle.tp_recover.specs.Nodes.{live}
 
--- a network with these wires
+-- a network with `wires`
 abbrev pub wired : List (Option WireEnd) → List NodeState → List (List Token) → List Port → Network NodeState
 wired wires nodes lines ports = record { wires = wires; nodes = nodes; ports = ports; lines = lines }
 
--- the network of a cut, with these wires
+-- the network of a cut, with `wires`
 abbrev pub cut_network : List (Option WireEnd) → Cut → Network NodeState
 cut_network wires cut = wired wires (map live cut.nodes.items) (map (λ line. line.items) cut.lines.items) (map port_of cut.ports.items)
 
@@ -24,7 +24,7 @@ cut_network wires cut = wired wires (map live cut.nodes.items) (map (λ line. li
 abbrev pub three : {A B C D : Type 0} → Result A OpenFault → Result B OpenFault → Result C OpenFault → (A → B → C → D) → Result D OpenFault
 three first second third f = first >>= (λ x. second >>= (λ y. third >>= (λ z. Ok (f x y z))))
 
--- what stands at these places of a device: nodes of so many pages, lines with these wires, so many ports
+-- what stands at `places` of a device: nodes with `pages` pages each, lines with `wires`, and `ports` ports
 abbrev pub records_at : List ℕ → List (Option WireEnd) → ℕ → ℕ → Places → List ℕ → Result (Network NodeState) OpenFault
 records_at pages wires ports base places bytes =
     three (nodes_in places.nodes pages (drop places.nodes bytes)) (lines_in places.lines wires (drop places.lines bytes))

@@ -14,12 +14,12 @@ abbrev pub AreThawed : List NodeContents → Type 0
 AreThawed [] = Unit {0}
 AreThawed (node ∷ nodes) = (node.frozen ≡ None) × AreThawed nodes
 
--- it has an image, and so many pages
+-- it has an image, and `pages` pages
 pub record HasImage (pages : ℕ) (node : NodeState) : Type 0 where
   pub image : IsNodeOfBytes node
   pub count : page_count node.memory ≡ pages
 
--- each has an image, and so many pages each
+-- each has an image, and as many pages as `pages` says
 pub record HaveImages (pages : List ℕ) (nodes : List NodeState) : Type 0 where
   pub images : AllByRecursion IsNodeOfBytes nodes
   pub counts : map (λ n. page_count n.memory) nodes ≡ pages

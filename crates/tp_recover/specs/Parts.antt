@@ -5,7 +5,7 @@ use Rattle.tp_model.specs.Network.{Network}
 use Rattle.tp_port.specs.Parts.{port_of}
 use Rattle.tp_recover.specs.declared.flights.CutParts.{CutParts}
 
--- the network of these parts
+-- the network of the parts
 abbrev pub network_in : CutParts → Network NodeState
 network_in c = record {
   wires = c.wires.now;

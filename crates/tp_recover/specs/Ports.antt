@@ -4,6 +4,6 @@ use Rattle.std.specs.List.{AllByRecursion}
 use Rattle.tp_model.specs.Network.{Port}
 use Rattle.tp_model.specs.CutImage.{is_port_of}
 
--- each is a port of a cut of so many entries
+-- each is a port of a cut of `base` entries
 abbrev pub ArePorts : ℕ → List Port → Type 0
 ArePorts base ports = AllByRecursion (λ port. is_port_of base port ≡ true) ports

@@ -27,7 +27,7 @@ fn read_area_front<D: Disk>(disk: &mut D, start: u64) -> Result<AreaFront, Unope
     Ok(area_front(&bytes))
 }
 
-/// Which area is taken by the fronts of both, the second one of which begins at `at`.
+/// Chooses an area by the fronts of both: whether the second one is taken, which begins at `at`.
 fn choose(at: u64, first: AreaFront, second: AreaFront) -> Result<bool, OpenFault>
     ensures { result ≡ choice at first.is_open second.is_open first.generation second.generation }
 {
@@ -41,7 +41,7 @@ fn choose(at: u64, first: AreaFront, second: AreaFront) -> Result<bool, OpenFaul
     }
 }
 
-/// Which area of a device is taken, each of which has `area` bytes: whether it is the second one.
+/// Reads which area of a device is taken: whether it is the second one. Each area has `area` bytes.
 pub fn read_choice<D: Disk>(disk: &mut D, area: u64) -> Result<bool, Unopened>
     requires some { 9 ≤ area }
     requires inside { HEAD_BYTES + 2 * area ≤ D.size_of disk.old }

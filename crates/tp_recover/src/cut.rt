@@ -123,7 +123,7 @@ fn check_flights(wires: &[Option<WireEnd>], cut: &Cut, at: u64) -> Result<(), Op
     flights(parts, at)
 }
 
-/// Reads the cut of an area, which has so many entries.
+/// Reads the cut of an area, which has `base` entries.
 ///
 /// What is read was tested, so it is sound and thawed also where the device doesn't keep the model.
 pub fn read_cut<D: Disk>(

@@ -27,7 +27,7 @@ pub(crate) fn read_array<D: Disk, const N: usize>(
     }
 }
 
-/// Reads so many bytes from a place on.
+/// Reads `count` bytes from `at` on.
 pub(crate) fn read_bytes<D: Disk>(
     alloc: Global,
     disk: &mut D,

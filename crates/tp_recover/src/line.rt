@@ -18,7 +18,7 @@ use tp_model::limits::LINE_BYTES;
 use tp_model::{OpenFault, WireEnd};
 use tp_net::MAX_LINES;
 
-/// The tokens of the lines with these wires, whose records stand here, one behind the other.
+/// Decodes the tokens of the lines with `wires` from their records, one behind the other. The first stands at `at`.
 pub(crate) fn lines_in(
     alloc: Global,
     at: u64,
@@ -54,7 +54,7 @@ fn damaged(at: u64, line: usize) -> Unopened
     Unopened::Fault(OpenFault::Damaged(at + (LINE_BYTES * line) as u64))
 }
 
-/// Reads the tokens of the lines with these wires, whose records stand here, one behind the other.
+/// Reads the tokens of the lines with `wires`. Their records stand from `at` on, one behind the other.
 pub(crate) fn read_lines<D: Disk>(
     alloc: Global,
     disk: &mut D,

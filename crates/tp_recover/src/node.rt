@@ -15,7 +15,7 @@ use tp_layout::image_length;
 use tp_model::OpenFault;
 use tp_node::{ImageFault, Node};
 
-/// The node of so many pages whose image these bytes are, which stand here.
+/// Decodes the node of `pages` pages from its image `bytes`, which stands at `at`.
 fn node_in(alloc: Global, at: u64, pages: u16, bytes: &[u8]) -> Result<Node, Unopened>
     requires { length bytes.now ≡ image_length pages }
     ensures read { has_read result ≡ true }
@@ -30,7 +30,7 @@ fn node_in(alloc: Global, at: u64, pages: u16, bytes: &[u8]) -> Result<Node, Uno
     }
 }
 
-/// Reads the node of so many pages whose image stands here.
+/// Reads the node of `pages` pages whose image stands at `at`.
 fn read_node<D: Disk>(alloc: Global, disk: &mut D, at: u64, pages: u16) -> Result<Node, Unopened>
     requires { at + image_length pages ≤ D.size_of disk.old }
     ensures counts { Counts (has_read result) (D.size_of disk.old) (D.size_of disk.new) (D.failures_of disk.old) (D.failures_of disk.new) }
@@ -44,7 +44,7 @@ fn read_node<D: Disk>(alloc: Global, disk: &mut D, at: u64, pages: u16) -> Resul
     node_in(alloc, at, pages, &bytes)
 }
 
-/// Reads the nodes of so many pages each whose images stand here, one behind the other.
+/// Reads the nodes with `pages` pages each. Their images stand from `at` on, one behind the other.
 pub(crate) fn read_nodes<D: Disk>(
     alloc: Global,
     disk: &mut D,

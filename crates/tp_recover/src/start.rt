@@ -31,7 +31,7 @@ pub(crate) struct Start {
     pub(crate) replay: Replay,
 }
 
-/// The network of a cut with these wires.
+/// Makes the network of a cut with `wires`.
 fn flat_network(
     alloc: Global,
     wires: &[Option<WireEnd>],

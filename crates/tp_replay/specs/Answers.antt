@@ -16,7 +16,7 @@ Applies (Some after) (Err fault) now = ⊥
 Applies None (Ok done) now = ⊥
 Applies None (Err fault) now = Unit {0}
 
--- So many steps of the node were made in place of those that can't all be made.
+-- The node made fewer steps than the `count` that it can't all make.
 pub record RanShort (s : Network NodeState) (node count : ℕ) (now : Network NodeState) : Type 0 where
   pub made : ℕ
   pub fewer : made < count

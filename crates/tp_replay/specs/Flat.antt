@@ -35,7 +35,7 @@ TakesByte (Take line token) = CarriesByte token
 TakesByte (HostIn port byte) = Unit {0}
 TakesByte (Confirm port upto) = Unit {0}
 
--- the network of these nodes and ports, with these wires and lines
+-- the network of the nodes and ports, with the wires and lines
 abbrev pub network_of : List (Option WireEnd) → List NodeContents → List (List Token) → List PortValue → Network NodeState
 network_of wires nodes lines ports = record {
   wires = wires;

@@ -59,7 +59,7 @@ impl FlatNetwork {
         let _lines = &self.lines;
     }
 
-    /// The nodes, none of which is frozen.
+    /// The nodes. None is frozen.
     pub fn nodes(&self) -> &[Node]
         ensures { map (λ node. node.live) result.now ≡ self.now.nodes }
     {

@@ -28,7 +28,7 @@ impl FlatNetwork {
         ran.count()
     }
 
-    /// A node makes so many steps. Where it can't, it has made as many as it can.
+    /// Has `node` make `count` steps. Where it can't, it has made as many as it can.
     pub(crate) fn run(&mut self, node: u8, count: u16) -> Result<(), NotPossible>
         ensures applies { Applies (next t414 self.old (Run node count)) result self.new }
         ensures err { OnErr result (Leaves self.old (Run node count) self.new) }

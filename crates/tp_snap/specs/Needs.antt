@@ -17,7 +17,7 @@ abbrev pub is_needed : Option Snapshot → ℕ → ℕ → Bool
 is_needed None p line = false
 is_needed (Some snap) p line = has_recorded snap p && not (is_closed snap line)
 
--- the snapshot that may run knows the process, the line, and has so many lines
+-- the snapshot that may run knows the process, the line, and has the lines
 abbrev pub KnowsProcess : Option Snapshot → ℕ → Type 0
 KnowsProcess given p = (snap : Snapshot) → given ≡ Some snap → p < length snap.counts
 

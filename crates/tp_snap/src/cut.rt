@@ -32,7 +32,7 @@ impl Model for Cut {
 }
 
 impl Cut {
-    /// A cut with these ports, of `processes` processes and `lines` lines, on which nothing stands.
+    /// Makes a cut with `ports`, of `processes` processes and `lines` lines, on which nothing stands.
     pub(crate) fn new(
         alloc: Global,
         processes: usize,
@@ -76,6 +76,13 @@ impl Cut {
         ensures { result ≡ self.now.size }
     {
         self.size
+    }
+
+    /// How many entries of each process it holds, for itself.
+    pub fn into_counts(self) -> Vec<u64>
+        ensures { result.items ≡ self.counts }
+    {
+        self.counts
     }
 
     /// It holds `count` entries of `process`.

@@ -6,8 +6,8 @@ ghost use Rattle.tp_model.specs.Snapshot.{host_markers, node_markers};
 ghost use Rattle.tp_port.specs.Room.{HasRoom};
 
 use tp_model::{Token, WireEnd};
-use tp_net::Lines;
-use tp_port::{first_line, line_of, send_all, send_some};
+use tp_net::{Lines, link_line, port_line};
+use tp_port::{send_all, send_some};
 
 /// A Marker on each of a node's four lines.
 const NODE_MARKERS: [(u8, Token); 4] = [
@@ -24,7 +24,7 @@ pub fn mark_node(wires: &[Option<WireEnd>], lines: &mut Lines, node: u8)
     requires room { HasRoom (has_wire wires.now) lines.old (node_markers node) }
     ensures { lines.new ≡ sent (has_wire wires.now) lines.old (node_markers node) }
 {
-    send_all(wires, lines, first_line(node), &NODE_MARKERS);
+    send_all(wires, lines, link_line(node as usize, 0), &NODE_MARKERS);
 }
 
 /// Sends a Marker on the wired line of each of `ports` ports, in a network with `nodes` nodes.
@@ -37,7 +37,7 @@ pub fn mark_ports(wires: &[Option<WireEnd>], lines: &mut Lines, nodes: usize, po
 {
     for done in 0..ports {
         let port = ports - 1 - done;
-        let line = line_of(nodes, WireEnd::Port(port));
+        let line = port_line(nodes, port as usize);
         send_some(wires, lines, line, Some(Token::Marker));
     }
 }

@@ -1,11 +1,12 @@
 //! A snapshot that runs.
 
-ghost use Rattle.std.specs.Prelude.{◌≡◌, ◌+◌, ◌<◌, ◌^◌, IfOk, Some, length, map, get_or, true, not, ◌||◌, ◌∷◌, []};
+ghost use Rattle.std.specs.Prelude.{◌≡◌, ◌+◌, ◌<◌, ◌^◌, ℕ, IfOk, Option, Some, List, length, map, get_or, true, not, ◌||◌, ◌∷◌, []};
 ghost use Rattle.std.specs.List.{list_all};
 ghost use Rattle.std.specs.Option.{option_copied};
 ghost use Rattle.tp_model.specs.Network.{has_wire, is_wired, pushed};
 ghost use Rattle.tp_model.specs.Snapshot.{first_snapshot, with_count, with_closed, collected, has_recorded, is_closed};
-ghost use Rattle.tp_model.specs.WholeCut.{all_closed, whole_of};
+ghost use Rattle.tp_model.specs.WholeCut.{WholeCut, all_closed, whole_of};
+ghost use Rattle.tp_model.specs.declared.wire.WireEnd.{WireEnd};
 ghost use Rattle.tp_port.specs.Room.{HasRoom};
 ghost use Rattle.tp_snap.specs.Counted.{takes_of, FitsIn};
 
@@ -163,5 +164,12 @@ impl Running {
             return None;
         }
         Some(&self.cut)
+    }
+
+    /// The cut, as the snapshot ends.
+    pub(crate) fn into_cut(self) -> Cut
+        ensures { (wires : List (Option WireEnd)) (lines : ℕ) (cut : WholeCut) → whole_of wires lines (Some self) ≡ Some cut → result ≡ cut }
+    {
+        self.cut
     }
 }

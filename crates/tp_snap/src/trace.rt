@@ -92,9 +92,9 @@ impl Trace {
         Trace::of(&all)
     }
 
-    /// There is no frozen image.
+    /// There is no frozen image, and no entry from before the book was opened.
     pub(crate) fn ended(&self) -> Trace
-        ensures { result.seen ≡ record self.now.seen { frozen = [] } }
+        ensures { result.seen ≡ record self.now.seen { frozen = []; floor = 0 } }
     {
         Trace::of(self)
     }

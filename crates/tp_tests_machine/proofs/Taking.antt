@@ -51,6 +51,6 @@ node_hears bytes node k token reads can = go (node_of bytes) refl reads
   where
     go : (found : Option NodeState) → node_of bytes ≡ found → ReadsImage found (Ok node) → IsSome (took node.live k token)
     go (Some state) is reads =
-        let e : node_at bytes ≡ node.live = node_of-is bytes state is ∙ sym (ap (λ n. n.live) reads) in
+        let e : node_at bytes ≡ node.live = node_of-is bytes state is ∙ sym reads.0 in
         rw (sym e) can
     go None is reads = absurd reads

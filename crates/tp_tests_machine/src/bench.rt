@@ -34,7 +34,7 @@ fn image_of(node: &mut Node, alloc: Global) -> Result<Vec<u8>, AllocError> {
 }
 
 impl Bench {
-    /// A node that is about to run this program, but for these facts.
+    /// A node that is about to run `code`, but for the facts `given`.
     pub fn new(alloc: Global, code: &[u8], given: &[Fact<'_>]) -> Result<Bench, Fail> {
         let mut wanted = Image::new(alloc)?;
         wanted.put_all(&[Fact::Bytes(START, code)]);
@@ -47,7 +47,7 @@ impl Bench {
         })
     }
 
-    /// Whether it makes so many steps, and sends these tokens.
+    /// Whether it makes `steps` steps and sends `sent`.
     pub fn runs(&mut self, steps: u16, sent: &[(u8, Token)]) -> bool {
         let mut out = ArrayVec::new();
         let ran = self.node.run(steps, &mut out);
@@ -77,19 +77,19 @@ impl Bench {
         }
     }
 
-    /// The test changes it in these facts.
+    /// Changes the facts `given` in it.
     pub fn also(&mut self, given: &[Fact<'_>]) -> Result<(), Fail> {
         self.wanted.put_all(given);
         self.node = Node::from_image(self.alloc, &self.wanted.bytes, 0)?;
         Ok(())
     }
 
-    /// These facts ought to change, and perhaps others too.
+    /// Expects the facts `changed` to change, and perhaps others too.
     pub fn expect(&mut self, changed: &[Fact<'_>]) {
         self.wanted.put_all(changed);
     }
 
-    /// Whether since it was last looked at these facts have changed and nothing else.
+    /// Whether the facts `changed` have changed since it was last looked at, and nothing else.
     pub fn is(&mut self, changed: &[Fact<'_>]) -> Result<bool, Fail> {
         self.wanted.put_all(changed);
         let seen = image_of(&mut self.node, self.alloc)?;

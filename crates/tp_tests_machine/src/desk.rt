@@ -41,7 +41,7 @@ fn begun() -> Cpu {
 }
 
 impl Desk {
-    /// A low process that runs, but for these facts. No process was interrupted.
+    /// A low process that runs, but for the facts `given`. No process was interrupted.
     pub fn new(alloc: Global, given: &[Fact<'_>]) -> Result<Desk, AllocError> {
         let mut desk = Desk {
             cpu: begun(),

@@ -17,6 +17,8 @@ mod desk;
 #[cfg(test)]
 mod ends;
 #[cfg(test)]
+mod frames;
+#[cfg(test)]
 mod guards;
 #[cfg(test)]
 mod image;

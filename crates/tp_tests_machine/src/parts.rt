@@ -428,7 +428,7 @@ fn channels(rt: HostRuntime) {
     }
 }
 
-/// Whether all of these are as they ought to be.
+/// Whether all parts of workspaces are as they ought to be.
 fn are_workspaces(desk: &Desk) -> bool {
     workspace(0x8000_0203) == 0x8000_0200
         && saved_at(0x8000_0200) == 0x8000_01FC

@@ -11,19 +11,19 @@ use tp_node::Why;
 /// One thing that happens to a node, or is looked at.
 #[derive(Clone, Copy)]
 pub enum Event<'a> {
-    /// It runs for so many steps, all of which it makes, and sends these tokens.
+    /// It makes all the steps that it is to run for, and sends the tokens.
     Run(u16, &'a [(u8, Token)]),
     /// It has no step.
     Rests(Why),
     /// It takes a token on a link, and answers.
     Take(u8, Token, Option<Token>),
-    /// The test changes it in these facts.
+    /// The test changes the facts in it.
     Also(&'a [Fact<'a>]),
-    /// Since the node was last looked at, these facts have changed and nothing else.
+    /// Since the node was last looked at, the facts have changed and nothing else.
     Then(&'a [Fact<'a>]),
 }
 
-/// A node that is about to run this program, but for these facts, and what happens to it.
+/// A node that is about to run a program, but for some facts, and what happens to it.
 #[derive(Clone, Copy)]
 pub struct Story<'a> {
     pub name: &'a str,
@@ -103,7 +103,7 @@ fn is_halt(alloc: Global, row: &Halting<'_>) -> Result<bool, Fail> {
     Ok(ran && same && bench.rests(Why::Halted))
 }
 
-/// Makes the step of each row of a table, each of which halts.
+/// Makes the step of each row of a table. Each of them halts.
 pub fn check_halts(
     rt: &impl Abort,
     alloc: Global,

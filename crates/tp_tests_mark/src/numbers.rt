@@ -94,7 +94,7 @@ fn next_hand(queue: &ReadyQueue, hands: &mut Vec<Hand>) -> Option<Hand>
     hands.pop()
 }
 
-// Whether one hand takes these numbers, each put back before the next.
+// Whether one hand takes the numbers, each put back before the next.
 fn come_in_order<R: Wait + Abort>(
     rt: &R,
     queue: &ReadyQueue,

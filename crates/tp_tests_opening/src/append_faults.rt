@@ -63,7 +63,7 @@ impl Case {
         self.call % 2 == 1
     }
 
-    /// The range of the last write, nothing of which is synced: its first byte and its length.
+    /// The range of the last write, which isn't synced at all: its first byte and its length.
     fn range(self) -> (usize, usize) {
         let (gate, body) = GATES.get(self.group()).copied().unwrap_or((0, 0));
         if self.call % 4 < 2 {
@@ -73,7 +73,7 @@ impl Case {
         }
     }
 
-    /// The fault of the call, where these bytes are torn.
+    /// The fault of the call, where `torn` is what a write leaves.
     fn fault(self, torn: Vec<u8>) -> PlannedFault {
         match self.ending {
             Ending::Before => PlannedFault::StopsBefore,
@@ -129,7 +129,7 @@ impl Known {
         Ok(Known { bytes, held })
     }
 
-    /// The bytes of a range, once that many groups are there.
+    /// The bytes of a range, once `groups` groups are there.
     fn part(&self, groups: usize, range: (usize, usize)) -> &[u8] {
         let Some(device) = self.bytes.get(groups) else {
             return &[];
@@ -150,7 +150,7 @@ impl Known {
         }
     }
 
-    /// Whether a device of these bytes holds what that many groups give.
+    /// Whether a device of `bytes` holds what `groups` groups give.
     fn holds(&self, alloc: Global, bytes: &[u8], groups: usize) -> Result<bool, Fail> {
         let want = self.held.get(groups).ok_or("no such device")?;
         Ok(is_same(&what_is_held(alloc, bytes)?, want))
@@ -225,7 +225,7 @@ fn what_is_stored_is_what_is_replayed(rt: HostRuntime) -> Result<(), Fail> {
     Ok(())
 }
 
-/// Whether the store says that it is broken, whatever is appended, and makes no call of its device, of which one has failed.
+/// Whether a store says that it is broken, whatever is appended, and makes no call of its device once one has failed.
 fn stays_broken<R: AllocGlobal + Abort>(
     rt: &R,
     store: &mut Store<MemDisk>,

@@ -24,7 +24,7 @@ struct Filling<'a> {
     refused: &'a [usize],
 }
 
-/// The first area's groups have the bytes from 13,033 to 16,896, of which the last is a gate. A group of n entries takes 16
+/// The first area's groups have the bytes from 13,033 to 16,896, and the last is a gate. A group of n entries takes 16
 /// and 16 n bytes: three of 64 leave 743, which is room for 45 entries and the gate behind them. Where 752 bytes are left, 46
 /// entries fill them, and no gate fits behind; where 753 are, it does.
 const FILLINGS: &[Filling<'static>] = &[
@@ -80,7 +80,7 @@ fn refuses<R: AllocGlobal + Abort>(
     )
 }
 
-/// Whether no group of these counts fits.
+/// Whether no group fits that has one of the counts.
 fn refuses_all<R: AllocGlobal + Abort>(
     rt: &R,
     store: &mut Store<MemDisk>,
@@ -109,7 +109,7 @@ fn fill<R: AllocGlobal + Abort>(
     Ok(true)
 }
 
-/// Whether a device holds what a plain replay of these groups gives.
+/// Whether a device holds what a plain replay of the groups gives.
 fn is_replayed<R: AllocGlobal>(
     rt: &R,
     first: &[u8],
@@ -126,7 +126,7 @@ fn is_replayed<R: AllocGlobal>(
     Ok(is_same(&held, &replayed(alloc, first, &entries)?))
 }
 
-/// Whether a device of these bytes is as full once it is opened.
+/// Whether a device of `bytes` is as full once it is opened.
 fn stays_full<R: AllocGlobal + Abort>(
     rt: &R,
     bytes: &[u8],
@@ -138,7 +138,7 @@ fn stays_full<R: AllocGlobal + Abort>(
     Ok(is_kept && refuses_all(rt, &mut store, filling.refused)?)
 }
 
-/// Whether a store is full once it has these groups, and the device stays so.
+/// Whether a store is full once it has the groups of `filling`, and the device stays so.
 fn fills<R: AllocGlobal + Abort>(rt: &R, filling: &Filling<'_>) -> Result<bool, Fail> {
     let alloc = rt.alloc();
     let first = fresh(alloc, filling.area)?;

@@ -26,7 +26,7 @@ fn opens_as(alloc: Global, bytes: &[u8]) -> Result<Result<u64, Unopened>, AllocE
     })
 }
 
-/// What a format leaves of which a call has a fault: whether it was done, and the bytes.
+/// What a format leaves whose call number `call` has a fault: whether it was done, and the bytes.
 fn formatted(alloc: Global, call: u64, fault: PlannedFault) -> Result<(bool, Vec<u8>), Fail> {
     let mut disk = MemDisk::zeroed(alloc, SIZE)?.with_fault(call, fault);
     let done = Letter::new(alloc)?.format(alloc, &mut disk, AREA).is_ok();

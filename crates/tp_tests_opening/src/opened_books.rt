@@ -33,7 +33,7 @@ fn grown(alloc: Global) -> Result<Vec<u8>, Fail> {
     Ok(bytes)
 }
 
-/// What a device of these bytes opens as.
+/// What a device of `bytes` opens as.
 fn state_of(alloc: Global, bytes: Vec<u8>) -> Result<NetState, Fail>
     ensures { IfOk result (λ state. IsOpened state) }
 {
@@ -44,7 +44,7 @@ fn state_of(alloc: Global, bytes: Vec<u8>) -> Result<NetState, Fail>
     }
 }
 
-/// The book of a device of these bytes.
+/// The book of a device of `bytes`.
 fn book_of(alloc: Global, bytes: Vec<u8>) -> Result<Book, Fail>
     ensures { IfOk result (λ book. IsUsable book) }
 {

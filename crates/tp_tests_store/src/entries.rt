@@ -7,7 +7,7 @@ use tp_entry::{BadEntry, get, put};
 use tp_model::Entry;
 use tp_model::Token::{Ack, Data};
 
-/// The entry with its number is written as these bytes, and they are read as it.
+/// The entry with its number is written as `bytes`, and they are read as it.
 fn is_spelt<R: Abort>(rt: &R, entry: Entry, number: u64, bytes: [u8; 16])
     requires { IsSpelt entry number }
 {

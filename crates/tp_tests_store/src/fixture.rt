@@ -52,7 +52,7 @@ fn state(alloc: Global) -> Result<NetState, AllocError>
     })
 }
 
-/// The book, on which groups may fill so many bytes.
+/// The book, whose groups may fill `room` bytes.
 pub(crate) fn book(alloc: Global, room: Option<u64>) -> Result<Book, AllocError>
     ensures { IfOk result (λ book. IsUsable book) }
 {

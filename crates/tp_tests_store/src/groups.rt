@@ -127,7 +127,7 @@ fn two_entries_are_written(rt: HostRuntime) {
     assert_eq!(rt; &written[47..], [0, 0xEE, 0xEE].as_slice());
 }
 
-/// A group of entries with these numbers, each the run of a step.
+/// A group of entries with `numbers`, each the run of a step.
 fn group_of<R: AllocGlobal>(rt: &R, numbers: &[u8]) -> Result<Vec<u8>, AllocError> {
     let mut bytes = Vec::new(rt.alloc());
     bytes.extend_from_slice(&[0xA5, 0, numbers.len().min(255) as u8, 0, 0, 0, 0, 0])?;

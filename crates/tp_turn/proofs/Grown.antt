@@ -17,7 +17,7 @@ use Rattle.tp_turn.specs.Turns.{Then, InOrder, IsLeft, TookSo, TookAll, TookBack
 use Rattle.tp_turn.specs.Books.{network_of, Grew, Did, IsRefused, Stopped, DidOrStopped, TookOne}
 
 pub grew_none : (b : BookValue) → Grew [] b b
-grew_none b = record { start = refl; entries_are = sym (append-nil b.state.entries); base = refl; runs = refl; ready = refl; broken = refl; room = refl }
+grew_none b = record { start = refl; entries_are = sym (append-nil b.state.entries); base = refl; runs = refl; ready = refl; broken = refl; room = refl; history = sym (append-nil b.history); generation = refl; floor = refl }
 
 pub grew_more : (es fs : List Entry) (a b c : BookValue) → Grew es a b → Grew fs b c → Grew (es ++ fs) a c
 grew_more es fs a b c G H = record {
@@ -28,6 +28,9 @@ grew_more es fs a b c G H = record {
   ready = H.ready ∙ G.ready;
   broken = H.broken ∙ G.broken;
   room = H.room ∙ G.room;
+  history = H.history ∙ ap (λ xs. xs ++ fs) G.history ∙ append_assoc a.history es fs;
+  generation = H.generation ∙ G.generation;
+  floor = H.floor ∙ G.floor;
 }
 
 -- ## Takes from one line

@@ -47,7 +47,7 @@ module _ (b new : BookValue) (line : ℕ) (K : Keeps b.state) (S : IsShaped b.st
   host_took_done = record {
     entries = Take line (front_of b line) ∷ [];
     grew = subst (Grew (Take line (front_of b line) ∷ []) b) (sym H.is)
-        (record { start = refl; entries_are = refl; base = refl; runs = refl; ready = refl; broken = refl; room = refl });
+        (record { start = refl; entries_are = refl; base = refl; runs = refl; ready = refl; broken = refl; room = refl; history = refl; generation = refl; floor = refl });
     did = record { tokens = front_of b line ∷ []; many = refl; are = refl; leads = after_one t414 (network_of b) (Take line (front_of b line)) ∙ leads };
   }
 

@@ -17,7 +17,7 @@ use Rattle.tp_book.specs.Book.{BookValue, agreed}
 use Rattle.tp_book.specs.Kept.{Keeps}
 use Rattle.tp_book.specs.Calls.{front_of, with_ready, after_take, TakeIsAgreed, HasTaken}
 use Rattle.tp_port.specs.Sends.{on_lines, answer_from}
-use Rattle.tp_book.specs.Refusals.{takeable_of, else_if, entry_refusal, ready_refusal, IsAnswer}
+use Rattle.tp_book.specs.Refusals.{takeable_of, else_if, needs_take, take_refusal, ready_refusal, IsAnswer}
 use Rattle.tp_book.specs.declared.refusal.Refusal.TheVariants.{NothingToTake, StoreBroken}
 use Rattle.tp_book.proofs.Commit.{Change, change_leads}
 use Rattle.tp_port.proofs.Sending.{answer_on}
@@ -39,7 +39,7 @@ pub ready_some : {A : Type 0} (b : BookValue) (line : ℕ) (x : A) → IsAnswer 
 ready_some b line x = go (is_none (takeable_of (on_line b.state.lines line)))
   where
     go : (none : Bool)
-        → IsAnswer (entry_refusal b 1 (else_if (else_if None none NothingToTake) b.broken StoreBroken)) (Ok x)
+        → IsAnswer (take_refusal b (needs_take b line) (else_if (else_if None none NothingToTake) b.broken StoreBroken)) (Ok x)
         → none ≡ false
     go true h = absurd h
     go false h = refl
@@ -75,7 +75,7 @@ module _ (b r new : BookValue) (line number link : ℕ) (before now : NodeState)
   take_done = record {
     entries = Take line (front_of b line) ∷ [];
     grew = subst (Grew (Take line (front_of b line) ∷ []) b) (sym is_after)
-        (record { start = refl; entries_are = refl; base = refl; runs = refl; ready = sym idle; broken = refl; room = refl });
+        (record { start = refl; entries_are = refl; base = refl; runs = refl; ready = sym idle; broken = refl; room = refl; history = refl; generation = refl; floor = refl });
     did = record { tokens = front_of b line ∷ []; many = refl; are = refl; leads = after_one t414 (network_of b) (Take line (front_of b line)) ∙ leads };
   }
 

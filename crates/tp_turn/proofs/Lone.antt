@@ -3,10 +3,6 @@ use Rattle.std.proofs.Common.{◌≡◌, ℕ, zero, suc, ◌%◌, ◌<◌, Bool,
 use Rattle.std.specs.Prelude.{◌&&◌, is_some, IsSome, Err}
 use Rattle.std.specs.List.{list_all}
 use Rattle.std.proofs.lemmas.Bool.{and_parts}
-use Rattle.tp_model.specs.declared.link.OutEnd.{OutEnd}
-use Rattle.tp_model.specs.declared.link.OutEnd.TheVariants.{Waits, Idle as NoOutput}
-use Rattle.tp_model.specs.declared.link.InEnd.{InEnd}
-use Rattle.tp_model.specs.declared.link.InEnd.TheVariants.{Inputs, Enabled, Idle}
 use Rattle.tp_model.specs.declared.wire.WireEnd.TheVariants.{Link}
 use Rattle.tp_model.specs.EndBytes.{is_idle_out, is_idle_in}
 use Rattle.tp_model.specs.Image.{is_node, node_at, node_of, has_idle_links}

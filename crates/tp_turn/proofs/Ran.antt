@@ -53,7 +53,7 @@ module _ (b r new : BookValue) (number count quantum : ℕ) (before now : NodeSt
         is_after ∙ ap (λ test. cond test (without_run (with_run b number) number) (with_journalled (without_run (with_run b number) number) (Run number count) b.state.ports (on_lines number tokens))) (eq-eqb count 0 none) in
         record {
           entries = [];
-          grew = subst (Grew [] b) (sym is) (record { start = refl; entries_are = sym (append-nil b.state.entries); base = refl; runs = runs_back; ready = refl; broken = refl; room = refl });
+          grew = subst (Grew [] b) (sym is) (record { start = refl; entries_are = sym (append-nil b.state.entries); base = refl; runs = runs_back; ready = refl; broken = refl; room = refl; history = sym (append-nil b.history); generation = refl; floor = refl });
           did = record {
             count = count;
             few = few;
@@ -72,7 +72,7 @@ module _ (b r new : BookValue) (number count quantum : ℕ) (before now : NodeSt
         let C = run_change b.state number count before now tokens there some (omega (arith, few, bound)) made in
         record {
           entries = Run number count ∷ [];
-          grew = subst (Grew (Run number count ∷ []) b) (sym is) (record { start = refl; entries_are = refl; base = refl; runs = runs_back; ready = refl; broken = refl; room = refl });
+          grew = subst (Grew (Run number count ∷ []) b) (sym is) (record { start = refl; entries_are = refl; base = refl; runs = runs_back; ready = refl; broken = refl; room = refl; history = refl; generation = refl; floor = refl });
           did = record {
             count = count;
             few = few;

@@ -14,7 +14,7 @@ use Rattle.tp_turn.specs.Turns.{TookSo, IsLeft}
 abbrev pub network_of : BookValue → Network NodeState
 network_of b = live b.state (agreed b.state)
 
--- The book has these entries more, and nothing else is changed but lines, ports and nodes.
+-- The book has `entries` more, and nothing else is changed but lines, ports and nodes.
 pub record Grew (entries : List Entry) (old new : BookValue) : Type 0 where
   pub start : new.state.start ≡ old.state.start
   pub entries_are : new.state.entries ≡ old.state.entries ++ entries
@@ -23,6 +23,9 @@ pub record Grew (entries : List Entry) (old new : BookValue) : Type 0 where
   pub ready : new.ready ≡ old.ready
   pub broken : new.broken ≡ old.broken
   pub room : new.room ≡ old.room
+  pub history : new.history ≡ old.history ++ entries
+  pub generation : new.generation ≡ old.generation
+  pub floor : new.floor ≡ old.floor
 
 -- An act was done and journalled.
 pub record Did (act : Network NodeState → List Entry → Network NodeState → Type 0) (old new : BookValue) : Type 0 where
@@ -34,14 +37,14 @@ pub record Did (act : Network NodeState → List Entry → Network NodeState →
 abbrev pub IsRefused : BookValue → Refusal → Type 0
 IsRefused b e = (e ≡ Memory) ⊎ (reserve_refusal b ≡ Some e)
 
--- An act was broken off, after at most so many entries.
+-- An act was broken off, after at most `most` entries.
 pub record Stopped (most : ℕ) (old new : BookValue) (e : Refusal) : Type 0 where
   pub entries : List Entry
   pub few : length entries ≤ most
   pub grew : Grew entries old new
   pub why : IsRefused new e
 
--- An act was done, or broken off after at most so many entries.
+-- An act was done, or broken off after at most `most` entries.
 abbrev pub DidOrStopped : (Network NodeState → List Entry → Network NodeState → Type 0) → ℕ → BookValue → BookValue → Result (Unit {0}) Refusal → Type 0
 DidOrStopped act most old new (Ok x) = Did act old new
 DidOrStopped act most old new (Err e) = Stopped most old new e

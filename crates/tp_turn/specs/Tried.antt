@@ -34,7 +34,7 @@ one_wire = Some (AtPort 0) ∷ None ∷ None ∷ None ∷ Some (Link 0 0) ∷ []
 abbrev pub lone_network : NodeState → Network NodeState
 lone_network node = record { wires = one_wire; nodes = node ∷ []; ports = fresh_port ∷ []; lines = replicate 5 [] }
 
--- The entries are those of so many turns of the network, and the output is what its port then holds.
+-- The entries are those of `turns` turns of the network, and the output is what its port then holds.
 pub record IsTried (node : NodeState) (turns quantum : ℕ) (tried : Tried) : Type 0 where
   pub end : Network NodeState
   pub leads : after t414 (lone_network node) tried.entries.items ≡ Some end

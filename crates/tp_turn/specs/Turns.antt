@@ -1,4 +1,4 @@
--- What a turn does. Each act is seen as the network before it, its entries in order, and the network after it.
+-- What a turn does. A part of a turn is seen as the state before it, what it makes in order, and the state after it.
 use Rattle.std.specs.Prelude.{◌≡◌, ◌<◌, ◌≤◌, ◌⊎◌, ℕ, zero, suc, ◌+◌, ◌*◌, ◌%◌, ◌==◌, Bool, true, false, if◌then◌else◌, List, [], ◌∷◌, ◌++◌, map, length, get_or, Option, Some, None, slice_get}
 use Rattle.tp_model.specs.declared.link.Token.{Token}
 use Rattle.tp_model.specs.declared.link.Token.TheVariants.{Marker}
@@ -13,21 +13,21 @@ use Rattle.tp_model.specs.Order.{after}
 use Rattle.tp_book.specs.Refusals.{takeable_of, is_full_for}
 use Rattle.tp_turn.specs.declared.take.TheConstants.{TAKES}
 
--- ## Acts in order
+-- ## Parts in order
 
--- one act and then another
-pub record Then (one other : Network NodeState → List Entry → Network NodeState → Type 0) (s : Network NodeState) (entries : List Entry) (t : Network NodeState) : Type 0 where
-  pub between : Network NodeState
-  pub first : List Entry
-  pub second : List Entry
-  pub are : entries ≡ first ++ second
+-- one part and then another
+pub record Then {S E : Type 0} (one other : S → List E → S → Type 0) (s : S) (done : List E) (t : S) : Type 0 where
+  pub between : S
+  pub first : List E
+  pub second : List E
+  pub are : done ≡ first ++ second
   pub one_did : one s first between
   pub other_did : other between second t
 
--- so many acts in order, the first of them number 0
-unfoldable pub InOrder : (ℕ → Network NodeState → List Entry → Network NodeState → Type 0) → ℕ → Network NodeState → List Entry → Network NodeState → Type 0
-InOrder act zero s entries t = (entries ≡ []) × (t ≡ s)
-InOrder act (suc count) s entries t = Then (InOrder act count) (act count) s entries t
+-- a number of parts in order, the first of them number 0
+unfoldable pub InOrder : {S E : Type 0} → (ℕ → S → List E → S → Type 0) → ℕ → S → List E → S → Type 0
+InOrder part zero s done t = (done ≡ []) × (t ≡ s)
+InOrder part (suc count) s done t = Then (InOrder part count) (part count) s done t
 
 -- ## Takes
 
@@ -44,7 +44,7 @@ IsLeft s line =
     (takeable_of (on_line s.lines line) ≡ None)
     ⊎ (is_full_for (port_there s.ports (receiver s.wires line)) (get_or (on_line s.lines line) 0 Marker) ≡ true)
 
--- So many tokens were taken from a line, each from its front.
+-- `count` tokens were taken from a line, each from its front.
 pub record TookSo (line count : ℕ) (s : Network NodeState) (entries : List Entry) (t : Network NodeState) : Type 0 where
   pub tokens : List Token
   pub many : length tokens ≡ count
@@ -73,7 +73,7 @@ TookIn out s entries t = TookBack (back s out) s entries t
 abbrev pub run_entries : ℕ → ℕ → List Entry
 run_entries node count = if count == 0 then [] else Run node count ∷ []
 
--- A node ran for so many steps, or for fewer, after which it has no step.
+-- A node ran for `quantum` steps, or for fewer, after which it has no step.
 pub record RanOn (quantum node : ℕ) (s : Network NodeState) (entries : List Entry) (t : Network NodeState) : Type 0 where
   pub count : ℕ
   pub few : count ≤ quantum
@@ -98,6 +98,6 @@ abbrev pub IsTurnOf : ℕ → Bool → Network NodeState → List Entry → Netw
 IsTurnOf quantum true = IsNodeTurn quantum 0
 IsTurnOf quantum false = IsHostTurn
 
--- So many turns in order: node 0, the host, node 0, the host ..
+-- `turns` turns in order: node 0, the host, node 0, the host ..
 abbrev pub AreTurns : ℕ → ℕ → Network NodeState → List Entry → Network NodeState → Type 0
 AreTurns quantum turns = InOrder (λ number. IsTurnOf quantum (number % 2 == 0)) turns

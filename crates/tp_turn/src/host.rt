@@ -12,6 +12,7 @@ use crate::back::back;
 use crate::take::TAKES;
 use tp_book::{Book, Refusal};
 use tp_model::WireEnd;
+use tp_net::port_line;
 
 /// A port takes the front of a line that leads to it, where it can. Answers whether it did.
 pub(crate) fn host_take_one(book: &mut Book, port: u8, line: u16) -> Result<bool, Refusal>
@@ -58,14 +59,14 @@ pub(crate) fn host_take_port(
     ensures agreed { agreed book.new.state ≡ agreed book.old.state }
 {
     book.known();
-    match back(wires, nodes, 4 * nodes as u16 + port as u16) {
+    match back(wires, nodes, port_line(nodes as usize, port as usize)) {
         Some(line) => host_take_line(book, port, line),
         None => Ok(()),
     }
 }
 
 /// The host's turn: each of its ports takes what came to it, in their order.
-pub fn host_turn(
+pub(crate) fn plain_host_turn(
     book: &mut Book,
     wires: &[Option<WireEnd>],
     nodes: u8,

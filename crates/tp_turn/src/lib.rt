@@ -1,17 +1,25 @@
-//! Turns of a network in one thread: a node takes what came in and runs, the host takes what came to its ports.
+//! Turns of a network, over a book and a node that are lent: a node records, takes what came in and runs; the host takes what
+//! came to its ports.
 #![tactic(auto)]
 
 mod back;
+mod front;
 mod host;
 mod law;
+mod left;
+mod ports;
 mod run;
+mod settling;
+mod stages;
 mod take;
 mod trial;
 mod turn;
 
-pub use host::host_turn;
 pub use law::tried_images_are_formatted;
-pub use run::run_quantum;
-pub use take::{TAKES, take_links};
+pub use left::Left;
+pub use ports::host_turn;
+pub use settling::settle;
+pub use stages::{Stretch, Turn, commit_turn, node_turn, open_turn, run_node};
+pub use take::TAKES;
 pub use trial::{ONE_WIRE, Tried, TryFault, lone_node, try_turns};
-pub use turn::{TURN_ENTRIES, node_turn};
+pub use turn::TURN_ENTRIES;

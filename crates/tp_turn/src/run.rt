@@ -10,8 +10,8 @@ use tp_book::{Book, Refusal};
 use tp_model::limits::MAX_STEPS;
 use tp_node::Node;
 
-/// A node runs for so many steps, or until it has none.
-pub fn run_quantum(
+/// Runs a node for `quantum` steps, or until it has none.
+pub(crate) fn run_quantum(
     book: &mut Book,
     node: &mut Node,
     number: u8,

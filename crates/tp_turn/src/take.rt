@@ -11,6 +11,7 @@ use crate::back::back;
 use tp_book::{Book, Refusal};
 use tp_law_machine::carries_byte;
 use tp_model::WireEnd;
+use tp_net::link_line;
 use tp_node::Node;
 
 /// The most tokens that a turn takes from one line.
@@ -85,14 +86,14 @@ pub(crate) fn take_link(
     ensures agrees { Agrees book.new number node.new }
 {
     book.known();
-    match back(wires, nodes, 4 * number as u16 + link as u16) {
+    match back(wires, nodes, link_line(number as usize, link as usize)) {
         Some(line) => take_line(book, node, number, link, line),
         None => Ok(()),
     }
 }
 
 /// A node takes what came in on its links, in their order.
-pub fn take_links(
+pub(crate) fn take_links(
     book: &mut Book,
     node: &mut Node,
     wires: &[Option<WireEnd>],

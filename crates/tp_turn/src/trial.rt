@@ -99,7 +99,7 @@ fn tried_in(alloc: Global, book: &Book) -> Result<Tried, AllocError>
     Ok(Tried { entries, output })
 }
 
-/// Runs the node of an image without a device for so many turns: node, host, node, host .. A run has at most `quantum`
+/// Runs the node of an image without a device for `turns` turns: node, host, node, host .. A run has at most `quantum`
 /// steps. The images that are refused are those with which no device may be formatted.
 pub fn try_turns(alloc: Global, image: &[u8], turns: u32, quantum: u16) -> Result<Tried, TryFault>
     requires { quantum ≤ MAX_STEPS }

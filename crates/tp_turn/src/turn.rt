@@ -8,7 +8,7 @@ ghost use Rattle.tp_turn.specs.Nodes.{Agrees};
 ghost use Rattle.tp_turn.specs.Turns.{IsNodeTurn, IsTurnOf, AreTurns};
 ghost use Rattle.tp_turn.specs.declared.take.TheConstants.{TAKES};
 
-use crate::host::host_turn;
+use crate::host::plain_host_turn;
 use crate::run::run_quantum;
 use crate::take::{TAKES, take_links};
 use tp_book::{Book, Refusal};
@@ -20,7 +20,7 @@ use tp_node::Node;
 pub const TURN_ENTRIES: usize = 4 * TAKES + 1;
 
 /// A node's turn: it takes what came in on its links, and runs.
-pub fn node_turn(
+pub(crate) fn plain_turn(
     book: &mut Book,
     node: &mut Node,
     wires: &[Option<WireEnd>],
@@ -61,13 +61,13 @@ pub(crate) fn lone_turn(
     ensures agrees { Agrees book.new 0 node.new }
 {
     if number % 2 == 0 {
-        node_turn(book, node, wires, 1, 0, quantum)
+        plain_turn(book, node, wires, 1, 0, quantum)
     } else {
-        host_turn(book, wires, 1, 1)
+        plain_host_turn(book, wires, 1, 1)
     }
 }
 
-/// So many turns of node 0 and the host in turns. As long as numbers are left, only memory may be wanting.
+/// Makes `turns` turns, of node 0 and the host in turns. As long as numbers are left, only memory may be wanting.
 pub(crate) fn lone_turns(
     book: &mut Book,
     node: &mut Node,

@@ -9,7 +9,7 @@ use Rattle.tp_turn.specs.declared.trial.TryFault.TheVariants.{BadImage, Memory}
 use Rattle.tpnet.specs.declared.refusal.Refusal.TheVariants.{Trial, DeviceFailed}
 use Rattle.tpnet.specs.declared.commands.TheConstants.{TRY_QUANTUM}
 
--- The node of the image was tried for so many turns, and exactly what its port put out was appended.
+-- The node of the image was tried for `turns` turns, and exactly what its port put out was appended.
 pub record Shows (image : List ℕ) (turns : ℕ) (was now : Option (List ℕ)) : Type 0 where
   pub node : NodeState
   pub is : fresh_image image ≡ Some node

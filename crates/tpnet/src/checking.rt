@@ -10,21 +10,8 @@ use std::fmt::Write as Push;
 use std::io::Write;
 use tp_area::{FormatFault, format};
 use tp_disk::MemDisk;
-use tp_layout::cut_length;
-use tp_model::limits::{AREA_HEAD_BYTES, ENTRY_BYTES, GROUP_HEAD_BYTES, RESERVED};
+use tp_layout::area_for;
 use tp_net::Topology;
-
-/// The most bytes that an entry takes.
-const ENTRY_ROOM: u64 = (GROUP_HEAD_BYTES + ENTRY_BYTES) as u64;
-
-/// The least area of a network, which has room for one entry.
-pub(crate) fn least_area(topology: &Topology) -> u64
-    requires { is_topology topology.now ≡ true }
-    ensures { result < 2 ^ 33 }
-{
-    let kept = RESERVED as u64 * ENTRY_ROOM * topology.line_count() as u64;
-    AREA_HEAD_BYTES as u64 + cut_length(topology) + 1 + kept + ENTRY_ROOM
-}
 
 /// Whether a device may be formatted with the images: it is tried on one that has no bytes.
 fn check_images(alloc: Global, topology: &Topology, images: &[Vec<u8>]) -> Result<(), Refusal>
@@ -39,20 +26,20 @@ fn check_images(alloc: Global, topology: &Topology, images: &[Vec<u8>]) -> Resul
 }
 
 /// How many entries the journals have room for, whose areas are told.
-const JOURNALS: [u64; 3] = [4_096, 65_536, 1_048_576];
+const JOURNALS: [u32; 3] = [4_096, 65_536, 1_048_576];
 
 fn checked_text(alloc: Global, topology: &Topology) -> Result<String, AllocError>
     requires { is_topology topology.now ≡ true }
 {
     let (nodes, ports) = (topology.pages().len(), topology.port_count());
-    let least = least_area(topology);
+    let least = area_for(topology, 1);
     let mut text = String::new(alloc);
     write!(
         &mut text,
         "nodes {nodes} ports {ports}\nleast area {least}\n"
     )?;
     for entries in JOURNALS {
-        let area = least + ENTRY_ROOM * (entries - 1);
+        let area = area_for(topology, u64::from(entries));
         write!(&mut text, "entries {entries} area {area}\n")?;
     }
     Ok(text)

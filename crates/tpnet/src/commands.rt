@@ -54,7 +54,7 @@ pub fn print_help<O: Write, E: Write>(text: &str, out: &mut O, err: &mut E) -> u
     }
 }
 
-/// Runs the node of an image for so many turns, its own and the host's in turns, and shows what its port puts out.
+/// Runs the node of an image for `turns` turns, its own and the host's in turns, and shows what its port puts out.
 fn attempt<O: Write>(alloc: Global, image: &[u8], turns: u32, out: &mut O) -> Result<(), Refusal>
     ensures { Answers image.now turns (O.contents out.old) (O.contents out.new) result }
 {

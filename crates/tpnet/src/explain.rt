@@ -1,7 +1,6 @@
 //! What `--explain` says of a refusal: which file, why, and the way out. It looks again at what the command looked at.
 
 use crate::args::{Asked, NewDevice};
-use crate::checking::least_area;
 use crate::image_rules::broken_rule;
 use crate::places::{Layout, Record, layout_of};
 use std::alloc::{AllocError, Global};
@@ -11,7 +10,9 @@ use std::io::Write;
 use std::os::unix::fs::FileExt;
 use std::{fs, io};
 use tp_disk::{Counted, Disk, NotedFile, RawFile};
-use tp_model::limits::{HEAD_BYTES, IMAGE_HEAD_BYTES, PAGE_BYTES};
+use tp_layout::head_places::VERSION_PLACE;
+use tp_layout::{area_for, area_start, image_length};
+use tp_model::limits::HEAD_BYTES;
 use tp_model::{NetFault, OpenFault};
 use tp_net::{Named, Topology};
 use tp_recover::{Unopened, open};
@@ -171,7 +172,7 @@ fn push_network<R: Files + AllocGlobal>(
         return Ok(true);
     }
     let _rules = named.topology.pages();
-    let least = least_area(&named.topology);
+    let least = area_for(&named.topology, 1);
     if area < least {
         write!(
             text,
@@ -258,7 +259,7 @@ fn push_node<D: Disk>(
     start: u64,
     pages: u16,
 ) -> Result<(), AllocError> {
-    let count = IMAGE_HEAD_BYTES + PAGE_BYTES * usize::from(pages);
+    let count = image_length(pages);
     let mut image = Vec::new(alloc);
     image.resize(count, 0)?;
     let size = disk.size();
@@ -334,14 +335,14 @@ fn push_fault<D: Disk>(
             "  it doesn't begin with TPNET\n  It is no device, or its format was stopped: make one with tpnet format.\n"
         ),
         OpenFault::BadVersion => {
-            let version = head[7];
+            let version = head[VERSION_PLACE];
             write!(
                 text,
                 "  byte 7, the version, is {version}, and this program reads 1\n  Open it with the program that made it.\n"
             )
         }
         OpenFault::NoOpenArea => {
-            push_gate(text, disk, HEAD_BYTES as u64)?;
+            push_gate(text, disk, area_start(0, false))?;
             push_gate(text, disk, layout.second())?;
             write!(text, "  Restore a copy, or make the device anew.\n")
         }

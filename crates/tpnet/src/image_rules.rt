@@ -3,17 +3,22 @@
 use crate::registers::{byte_in, half_in, word_in};
 use std::alloc::{AllocError, Global};
 use std::fmt::Write;
-use tp_model::limits::{IMAGE_HEAD_BYTES, MAX_PAGES, MIN_PAGES, PAGE_BYTES, SLICE};
+use tp_layout::image_length;
+use tp_model::limits::{IMAGE_HEAD_BYTES, IMAGE_VERSION, MAX_PAGES, MIN_PAGES, SLICE};
+use tp_node::image_places::{
+    END_BYTES, ERROR_PLACE, HALT_PLACE, OUTPUTS_PLACE, PAGES_PLACE, SLICE_PLACE, STATE_PLACE,
+    VERSION_PLACE, WPTR_PLACE,
+};
 use tp_node::{ImageFault, Node};
 
 /// A byte of an image's head and the most that it may be.
-const BYTES: &[(u8, u8, &str)] = &[
-    (1, 4, "the halt code, 0 to 4"),
-    (40, 1, "the Error flag, 0 or 1"),
-    (41, 2, "the state, 0 idle, 1 high or 2 low"),
+const BYTES: &[(usize, u8, &str)] = &[
+    (HALT_PLACE, 4, "the halt code, 0 to 4"),
+    (ERROR_PLACE, 1, "the Error flag, 0 or 1"),
+    (STATE_PLACE, 2, "the state, 0 idle, 1 high or 2 low"),
 ];
 
-/// The rule on lengths that an image of `pages` pages breaks, where the topology asks for so many.
+/// Appends the rule on lengths that an image breaks, where the topology asks for `wanted` pages: whether it breaks one.
 fn push_length(text: &mut String, image: &[u8], wanted: Option<u16>) -> Result<bool, AllocError> {
     let length = image.len();
     if length < IMAGE_HEAD_BYTES {
@@ -23,8 +28,8 @@ fn push_length(text: &mut String, image: &[u8], wanted: Option<u16>) -> Result<b
         )?;
         return Ok(true);
     }
-    let (version, pages) = (byte_in(image, 0), half_in(image, 2));
-    if version != 1 {
+    let (version, pages) = (byte_in(image, VERSION_PLACE), half_in(image, PAGES_PLACE));
+    if version != IMAGE_VERSION {
         write!(
             text,
             "byte 0 of its head, the version, must be 1 and is {version}"
@@ -38,7 +43,7 @@ fn push_length(text: &mut String, image: &[u8], wanted: Option<u16>) -> Result<b
         )?;
         return Ok(true);
     }
-    let full = IMAGE_HEAD_BYTES + PAGE_BYTES * usize::from(pages);
+    let full = image_length(pages);
     if length != full {
         write!(
             text,
@@ -59,13 +64,13 @@ fn push_length(text: &mut String, image: &[u8], wanted: Option<u16>) -> Result<b
 fn push_byte(text: &mut String, image: &[u8]) -> Result<bool, AllocError> {
     for row in BYTES {
         let (at, most, what) = *row;
-        let byte = byte_in(image, usize::from(at));
+        let byte = byte_in(image, at);
         if byte > most {
             write!(text, "byte {at} of its head is {byte} and must be {what}")?;
             return Ok(true);
         }
     }
-    let (workspace, slice) = (word_in(image, 8), half_in(image, 42));
+    let (workspace, slice) = (word_in(image, WPTR_PLACE), half_in(image, SLICE_PLACE));
     if workspace % 4 != 0 {
         write!(
             text,
@@ -86,11 +91,8 @@ fn push_byte(text: &mut String, image: &[u8]) -> Result<bool, AllocError> {
 /// The first link end that is at work.
 fn push_busy(text: &mut String, image: &[u8]) -> Result<bool, AllocError> {
     for end in 0..8u8 {
-        let at = 44 + 16 * end;
-        let (state, held) = (
-            byte_in(image, usize::from(at)),
-            byte_in(image, usize::from(at) + 1),
-        );
+        let at = OUTPUTS_PLACE + END_BYTES * usize::from(end);
+        let (state, held) = (byte_in(image, at), byte_in(image, at + 1));
         if state != 0 || held != 0 {
             let (side, link) = if end < 4 {
                 ("output", end)

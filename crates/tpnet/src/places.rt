@@ -2,10 +2,9 @@
 
 use std::alloc::AllocError;
 use std::fmt::Write;
-use tp_model::limits::{
-    AREA_HEAD_BYTES, BASE_BYTES, HEAD_BYTES, IMAGE_HEAD_BYTES, LINE_BYTES, MAX_NODES, MAX_PORTS,
-    PAGE_BYTES, PORT_BYTES,
-};
+use tp_layout::head_places::{AREA_PLACE, NODES_PLACE, PAGES_PLACE, PORTS_PLACE};
+use tp_layout::{FIELDS_BYTES, area_start, image_length};
+use tp_model::limits::{HEAD_BYTES, LINE_BYTES, MAX_NODES, MAX_PORTS, PORT_BYTES};
 
 /// What a device's head says of where its records stand.
 #[derive(Clone, Copy)]
@@ -38,14 +37,17 @@ pub(crate) struct Place {
 pub(crate) fn layout_of(head: &[u8; HEAD_BYTES]) -> Layout {
     let mut pages = [0u16; MAX_NODES];
     for (node, count) in pages.iter_mut().enumerate() {
-        *count = u16::from_le_bytes([head[24 + 2 * node], head[25 + 2 * node]]);
+        *count = u16::from_le_bytes([
+            head[PAGES_PLACE + 2 * node],
+            head[PAGES_PLACE + 2 * node + 1],
+        ]);
     }
     let mut area = [0u8; 8];
-    area.copy_from_slice(&head[16..24]);
+    area.copy_from_slice(&head[AREA_PLACE..AREA_PLACE + 8]);
     Layout {
         area: u64::from_le_bytes(area),
-        nodes: u64::from(head[8]).min(MAX_NODES as u64),
-        ports: u64::from(head[9]).min(MAX_PORTS as u64),
+        nodes: u64::from(head[NODES_PLACE]).min(MAX_NODES as u64),
+        ports: u64::from(head[PORTS_PLACE]).min(MAX_PORTS as u64),
         pages,
     }
 }
@@ -53,12 +55,12 @@ pub(crate) fn layout_of(head: &[u8; HEAD_BYTES]) -> Layout {
 impl Layout {
     /// Where the second area begins.
     pub(crate) fn second(&self) -> u64 {
-        self.area.saturating_add(HEAD_BYTES as u64)
+        self.area.saturating_add(area_start(0, true))
     }
 
     /// What stands where a damaged record begins.
     pub(crate) fn place(&self, at: u64) -> Place {
-        let first = HEAD_BYTES as u64;
+        let first = area_start(0, false);
         if at < first {
             return Place {
                 record: Record::Head,
@@ -70,7 +72,7 @@ impl Layout {
         } else {
             first
         };
-        let images = start.saturating_add((AREA_HEAD_BYTES + BASE_BYTES) as u64);
+        let images = start.saturating_add(1 + FIELDS_BYTES as u64);
         if at < images {
             return Place {
                 record: Record::Front,
@@ -80,9 +82,7 @@ impl Layout {
         let mut next = images;
         for (node, pages) in self.pages.iter().enumerate() {
             if (node as u64) < self.nodes {
-                let end = next.saturating_add(
-                    (IMAGE_HEAD_BYTES + PAGE_BYTES * usize::from(*pages)) as u64,
-                );
+                let end = next.saturating_add(image_length(*pages) as u64);
                 if at < end {
                     let record = Record::Image {
                         node: node as u64,

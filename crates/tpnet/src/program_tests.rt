@@ -68,7 +68,7 @@ fn the_greatest_numbers(rt: HostRuntime) -> Result<(), Fail> {
     scratch.remove(&rt)
 }
 
-/// Two nodes, the second of which sends B.
+/// Two nodes. The second one sends B.
 const TWO: &[u8] = b"node left 4\nnode right 4\nport h\nwire left.0 h\n";
 
 const SHOWN: &[u8] =

@@ -1,7 +1,14 @@
 //! A node's registers, queues and link ends as text, from its image.
 
+ghost use Rattle.std.specs.Prelude.{◌<◌, ◌^◌};
+
 use std::alloc::{AllocError, Global};
 use std::fmt::Write;
+use tp_node::image_places::{
+    A_PLACE, B_PLACE, C_PLACE, END_BYTES, ERROR_PLACE, HALT_PLACE, HIGH_PLACE, INPUTS_PLACE,
+    IPTR_PLACE, LEFT_PLACE, LOW_PLACE, OUTPUTS_PLACE, PAGES_PLACE, POINTER_PLACE, PROCESS_PLACE,
+    SLICE_PLACE, STATE_PLACE, WPTR_PLACE,
+};
 
 /// The byte of an image at a place.
 pub(crate) fn byte_in(image: &[u8], at: usize) -> u8 {
@@ -12,14 +19,16 @@ pub(crate) fn byte_in(image: &[u8], at: usize) -> u8 {
 }
 
 /// The number of two bytes of an image, the low one first.
-pub(crate) fn half_in(image: &[u8], at: u8) -> u16 {
-    let at = usize::from(at);
+pub(crate) fn half_in(image: &[u8], at: usize) -> u16
+    requires { at < 2 ^ 32 }
+{
     u16::from_le_bytes([byte_in(image, at), byte_in(image, at + 1)])
 }
 
 /// The number of four bytes of an image, the low one first.
-pub(crate) fn word_in(image: &[u8], at: u8) -> u32 {
-    let at = usize::from(at);
+pub(crate) fn word_in(image: &[u8], at: usize) -> u32
+    requires { at < 2 ^ 32 }
+{
     u32::from_le_bytes([
         byte_in(image, at),
         byte_in(image, at + 1),
@@ -59,49 +68,52 @@ fn end_name(state: u8, is_input: bool) -> &'static str {
 }
 
 fn push_registers(text: &mut String, image: &[u8]) -> Result<(), AllocError> {
-    let (iptr, wptr) = (word_in(image, 4), word_in(image, 8));
-    let (a, b, c) = (word_in(image, 12), word_in(image, 16), word_in(image, 20));
+    let (iptr, wptr) = (word_in(image, IPTR_PLACE), word_in(image, WPTR_PLACE));
+    let (a, b, c) = (
+        word_in(image, A_PLACE),
+        word_in(image, B_PLACE),
+        word_in(image, C_PLACE),
+    );
     write!(
         text,
         "Iptr {iptr:08X} Wptr {wptr:08X}\nA {a:08X} B {b:08X} C {c:08X}\n"
     )?;
-    let (high, high_back) = (word_in(image, 24), word_in(image, 28));
-    let (low, low_back) = (word_in(image, 32), word_in(image, 36));
+    let (high, high_back) = (word_in(image, HIGH_PLACE), word_in(image, HIGH_PLACE + 4));
+    let (low, low_back) = (word_in(image, LOW_PLACE), word_in(image, LOW_PLACE + 4));
     write!(
         text,
         "high front {high:08X} back {high_back:08X}\nlow front {low:08X} back {low_back:08X}\n"
     )?;
     let (error, state, slice) = (
-        byte_in(image, 40),
-        state_name(byte_in(image, 41)),
-        half_in(image, 42),
+        byte_in(image, ERROR_PLACE),
+        state_name(byte_in(image, STATE_PLACE)),
+        half_in(image, SLICE_PLACE),
     );
     write!(text, "error {error} state {state} slice {slice}\n")
 }
 
-/// Appends the line of a link end, whose 16 bytes begin at a place of the image.
+/// Appends the line of a link end, whose bytes begin at `at` in the image.
 fn push_end(
     text: &mut String,
     image: &[u8],
     link: u8,
-    at: u8,
+    at: usize,
     is_input: bool,
-) -> Result<(), AllocError> {
+) -> Result<(), AllocError>
+    requires { at < 2 ^ 16 }
+{
     let side = if is_input { "in" } else { "out" };
-    let state = end_name(byte_in(image, usize::from(at)), is_input);
-    let (held, byte) = (
-        byte_in(image, usize::from(at) + 1),
-        byte_in(image, usize::from(at) + 2),
-    );
+    let state = end_name(byte_in(image, at), is_input);
+    let (held, byte) = (byte_in(image, at + 1), byte_in(image, at + 2));
     write!(text, "{side} {link} {state}")?;
     if held != 0 {
         write!(text, " held {byte:02X}")?;
     }
-    if byte_in(image, usize::from(at)) != 0 && at < 160 {
+    if byte_in(image, at) != 0 {
         let (process, pointer, left) = (
-            word_in(image, at + 4),
-            word_in(image, at + 8),
-            word_in(image, at + 12),
+            word_in(image, at + PROCESS_PLACE),
+            word_in(image, at + POINTER_PLACE),
+            word_in(image, at + LEFT_PLACE),
         );
         write!(
             text,
@@ -114,15 +126,17 @@ fn push_end(
 /// All that is printed of a node by its image: its halt code, registers, queues and link ends, addresses in hexadecimal.
 pub(crate) fn node_text(alloc: Global, node: u64, image: &[u8]) -> Result<String, AllocError> {
     let mut text = String::new(alloc);
-    let (halt, pages) = (byte_in(image, 1), half_in(image, 2));
+    let (halt, pages) = (byte_in(image, HALT_PLACE), half_in(image, PAGES_PLACE));
     let name = halt_name(halt);
     write!(&mut text, "node {node} pages {pages} halt {halt} {name}\n")?;
     push_registers(&mut text, image)?;
     for link in 0..4u8 {
-        push_end(&mut text, image, link, 44 + 16 * link, false)?;
+        let at = OUTPUTS_PLACE + END_BYTES * usize::from(link);
+        push_end(&mut text, image, link, at, false)?;
     }
     for link in 0..4u8 {
-        push_end(&mut text, image, link, 108 + 16 * link, true)?;
+        let at = INPUTS_PLACE + END_BYTES * usize::from(link);
+        push_end(&mut text, image, link, at, true)?;
     }
     Ok(text)
 }

@@ -68,7 +68,7 @@ impl Scratch {
         }
     }
 
-    /// The program's name, and these words behind it.
+    /// The program's name, and `words` behind it.
     pub(crate) fn line(&self, alloc: Global, words: &[&str]) -> Result<Vec<String>, Fail> {
         let mut line = Vec::new(alloc);
         line.push(String::from_str(alloc, "tpnet")?)?;
@@ -78,7 +78,7 @@ impl Scratch {
         Ok(line)
     }
 
-    /// What the program does for these words.
+    /// What the program does for `words`.
     pub(crate) fn run<R: Files<File = F> + AllocGlobal, F: FileExt + OpenFile + Drop>(
         &self,
         rt: &R,
@@ -91,7 +91,7 @@ impl Scratch {
         Ok(Output { status, out, err })
     }
 
-    /// Whether these words are refused with that line on standard error, and print nothing.
+    /// Whether `words` are refused with that line on standard error, and print nothing.
     pub(crate) fn is_refused<R: Files<File = F> + AllocGlobal, F: FileExt + OpenFile + Drop>(
         &self,
         rt: &R,

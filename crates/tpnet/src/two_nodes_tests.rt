@@ -48,7 +48,7 @@ fn fresh(alloc: Global) -> Result<Vec<u8>, Fail> {
     }
 }
 
-/// The device with the group, and with these bytes over a place of it.
+/// The device with the group, and with `bytes` over what stands at `at`.
 fn grown(alloc: Global, at: usize, bytes: &[u8]) -> Result<MemDisk, Fail> {
     let mut device = fresh(alloc)?;
     place(&mut device, FIRST_GROUP, GROUP);

@@ -1,7 +1,8 @@
-use Rattle.tp_law_machine.proofs.LinkLaws.{has_four_links, never_marks, keeps_flight}
+use Rattle.tp_law_machine.proofs.LinkLaws.{has_four_links, never_marks}
 use Rattle.tp_model.specs.Node.{t414, t414_ends}
 use Rattle.tp_model.specs.DeviceAreas.{device_areas}
 use Rattle.tp_law_runs.proofs.History as History
+use Rattle.tp_law_device.proofs.Along.{live_sound, few_tokens, both_orders, ports_counted}
 use Rattle.tp_law_device.proofs.Holds.{areas_keep}
 use Rattle.tp_law_device.proofs.histories_hold.Goals as goal
 
@@ -15,7 +16,13 @@ pub returns-clause-markers : goal.returns-clause-markers
 returns-clause-markers c = History.one_marker t414 has_four_links never_marks device_areas (areas_keep t414 t414_ends)
 
 pub returns-clause-sound : goal.returns-clause-sound
-returns-clause-sound c = λ start events first last formatted run. History.stays_sound t414 has_four_links never_marks device_areas (areas_keep t414 t414_ends) start events first last formatted run t414_ends keeps_flight
+returns-clause-sound c = live_sound
 
 pub returns-clause-room : goal.returns-clause-room
-returns-clause-room c = λ start events first last formatted run. History.three_tokens t414 has_four_links never_marks device_areas (areas_keep t414 t414_ends) start events first last formatted run t414_ends keeps_flight
+returns-clause-room c = few_tokens
+
+pub returns-clause-both : goal.returns-clause-both
+returns-clause-both c = both_orders
+
+pub returns-clause-ports : goal.returns-clause-ports
+returns-clause-ports c = ports_counted

@@ -4,10 +4,13 @@ use Rattle.tp_model.specs.NodeState.{NodeState}
 use Rattle.tp_model.specs.Network.{steps}
 use Rattle.tp_model.specs.Node.{node_step, t414}
 use Rattle.tp_model.specs.declared.link.Token.{Token}
-use Rattle.tp_node.specs.declared.step.Made.TheVariants.{Step}
+use Rattle.tp_node.specs.declared.step.StepOutcome.TheVariants.{Step}
 use Rattle.tp_node.specs.Makes.{Makes}
 use Rattle.tp_node.specs.StateWith.{state_with}
-use Rattle.tp_node.proofs.OneMore.{one_more}
+use Rattle.tp_model.specs.SharedPages.{Kept, kept_behind}
+use Rattle.tp_model.specs.NodeWrites.{node_ranges}
+use Rattle.tp_mem.proofs.Kept.{frozen-kept_behind}
+use Rattle.tp_node.proofs.OneMore.{one_more, kept_one_more}
 use Rattle.tp_node.proofs.Room.{room, room_step, room_few}
 use Rattle.tp_node.proofs.run.run.Invariants.{Runs}
 use Rattle.tp_node.proofs.run.run.Goals as goal
@@ -23,7 +26,7 @@ unfolding steps
 loop-count-init g c =
     let few = room_few (state_with c.args.head.now (g.M.Mem.bytes c.args.mem.now)) in
     let none : length c.args.sent.now.items ≡ 0 = ap length c.requires in
-    record { steps = ap (λ xs. Some (state_with c.args.head.now (g.M.Mem.bytes c.args.mem.now), xs)) (sym c.requires); places = omega arith; frozen = refl }
+    record { steps = ap (λ xs. Some (state_with c.args.head.now (g.M.Mem.bytes c.args.mem.now), xs)) (sym c.requires); places = omega arith; kept = refl; frozen = refl }
 
 pub push-requires : goal.push-requires
 push-requires g c =
@@ -42,9 +45,11 @@ loop-count-preserved g c =
     let less : length token + room now ≤ room before = room_step before (now, token) step in
     let more : steps t414 (c.loop-count.count + 1) begun ≡ Some (now, sent ++ token) =
     one_more t414 c.loop-count.count begun before sent (now, token) c.loop-count.invariant.steps step in
+    let kept : g.M.Mem.kept c.make_step.new.mem ≡ kept_behind (g.M.Mem.kept c.loop-count.mem) (node_ranges before) = c.in-Step.ensures.kept in
     let size : length c.push.new.sent.items ≡ length sent + length token = ap length c.push.ensures ∙ length-append sent token in
     record {
       steps = rw c.push.ensures more;
       places = omega (arith, c.loop-count.invariant.places);
-      frozen = c.in-Step.ensures.kept ∙ c.loop-count.invariant.frozen;
+      kept = kept ∙ ap (λ k. kept_behind k (node_ranges before)) c.loop-count.invariant.kept ∙ sym (kept_one_more c.loop-count.count begun before sent (now, token) (g.M.Mem.kept c.args.mem.now) c.loop-count.invariant.steps step);
+      frozen = ap (λ (k : Kept). k.frozen) kept ∙ frozen-kept_behind (g.M.Mem.kept c.loop-count.mem) (node_ranges before) ∙ c.loop-count.invariant.frozen;
     }

@@ -12,7 +12,7 @@ host_take_line-requires-clause-goes c =
     let many = c.requires.nodes ∙ sym (length-agreed b c.known.ensures.keeps) in
     comes_to b c.known.ensures.keeps c.args.port c.in-Some.line
     (ap (λ (n : ℕ). option_map (line_of n) (receiver b.start.wires (4 * n + c.args.port))) (sym many)
-    ∙ ap (λ wires. option_map (line_of c.args.nodes) (receiver wires (4 * c.args.nodes + c.args.port))) (sym c.requires.wires) ∙ sym c.back.ensures ∙ c.in-Some.is)
+    ∙ ap (λ wires. option_map (line_of c.args.nodes) (receiver wires (4 * c.args.nodes + c.args.port))) (sym c.requires.wires) ∙ sym (rw c.port_line.ensures at c.back.ensures) ∙ c.in-Some.is)
 
 pub returns-in-Some-clause-took : goal.returns-in-Some-clause-took
 returns-in-Some-clause-took c =
@@ -20,5 +20,5 @@ returns-in-Some-clause-took c =
     let many = c.requires.nodes ∙ sym (length-agreed b c.known.ensures.keeps) in
     did_in c.args.book.now c.host_take_line.new.book (4 * c.args.nodes + c.args.port) c.in-Some.line _ c.host_take_line.result
     (ap (λ (n : ℕ). option_map (line_of n) (receiver b.start.wires (4 * c.args.nodes + c.args.port))) (sym many)
-    ∙ ap (λ wires. option_map (line_of c.args.nodes) (receiver wires (4 * c.args.nodes + c.args.port))) (sym c.requires.wires) ∙ sym c.back.ensures ∙ c.in-Some.is)
+    ∙ ap (λ wires. option_map (line_of c.args.nodes) (receiver wires (4 * c.args.nodes + c.args.port))) (sym c.requires.wires) ∙ sym (rw c.port_line.ensures at c.back.ensures) ∙ c.in-Some.is)
     c.host_take_line.ensures.took

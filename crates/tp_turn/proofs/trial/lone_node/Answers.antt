@@ -15,11 +15,11 @@ returns-then-not-has_idle_links c =
 pub returns-in-Ok : goal.returns-in-Ok
 returns-in-Ok c =
     let yes : has_idle_links (node_at c.args.image.now) ≡ true = search rules in
-    let read = image_read (node_of c.args.image.now) c.in-Ok.node c.in-Ok.ensures in
-    (fresh_some c.args.image.now c.in-Ok.node.live read yes, image_thawed (node_of c.args.image.now) c.in-Ok.node c.in-Ok.ensures)
+    let read = image_read (node_of c.args.image.now) c.in-Ok.node c.in-Ok.ensures.reads in
+    (fresh_some c.args.image.now c.in-Ok.node.live read yes, image_thawed (node_of c.args.image.now) c.in-Ok.node c.in-Ok.ensures.reads)
 
 pub returns-in-Err-Memory : goal.returns-in-Err-Memory
 returns-in-Err-Memory c =
     let yes : has_idle_links (node_at c.args.image.now) ≡ true = search rules in
-    let read : ReadsImage (node_of c.args.image.now) (Err Memory) = rw c.in-Err-Memory.field-0-is at c.in-Err-Memory.ensures in
+    let read : ReadsImage (node_of c.args.image.now) (Err Memory) = rw c.in-Err-Memory.field-0-is at c.in-Err-Memory.ensures.reads in
     reads_memory c.args.image.now (node_of c.args.image.now) refl read yes

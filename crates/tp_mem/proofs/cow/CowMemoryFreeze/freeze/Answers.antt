@@ -1,6 +1,8 @@
-use Rattle.std.proofs.Common.{◌≡◌, Some, true, length, replicate, refl, sym, ap, subst, ◌∙◌, arith, IsNone}
+use Rattle.std.proofs.Common.{◌≡◌, Some, true, false, length, replicate, refl, sym, ap, subst, ◌∙◌, arith, IsNone}
+use Rattle.std.proofs.lemmas.List.{length-replicate}
+use Rattle.tp_mem.specs.Copies.{shared_of}
 use Rattle.tp_mem.specs.Copies.{Paged}
-use Rattle.tp_mem.proofs.Copies.{shared_of-none, length-shared_of, frozen_from-none}
+use Rattle.tp_mem.proofs.Copies.{shared_of-none, shared_of-thawed, length-shared_of, frozen_from-none}
 use Rattle.tp_mem.proofs.Paged.{paged_same, not_frozen}
 use Rattle.tp_mem.proofs.cow.CowMemoryFreeze.freeze.Goals as goal
 
@@ -18,9 +20,16 @@ invariant_of-self c =
       thawed = λ frozen. none;
     }
 
-pub returns : goal.returns
-returns c =
+pub returns-clause-frozen : goal.returns-clause-frozen
+returns-clause-frozen c =
     let v = c.self.inside in let i = c.self.invariant in
     let thawed = not_frozen v.is_frozen _ (subst (λ (m : Paged). IsNone m.frozen) (sym c.self.view_is) c.requires) in
     let none = i.thawed thawed in
     rw (← c.self.view_is) (paged_same v.live.items _ _ _ _ _ _ (ap Some (frozen_from-none 0 v.live.items v.copies.items v.pool (omega (arith, i.whole)) none)) (c.fill.ensures.items (λ y same. same) ∙ ap (λ n. replicate n true) v.shared.ok.0) refl)
+
+pub returns-clause-thawed : goal.returns-clause-thawed
+returns-clause-thawed c =
+    let v = c.self.inside in let i = c.self.invariant in
+    let thawed = not_frozen v.is_frozen _ (subst (λ (m : Paged). IsNone m.frozen) (sym c.self.view_is) c.requires) in
+    let flags : v.shared.items ≡ replicate (length v.copies.items) false = i.flags ∙ ap (λ frozen. shared_of frozen v.copies.items) thawed ∙ shared_of-thawed v.copies.items in
+    rw (← c.self.view_is) (flags ∙ ap (λ n. replicate n false) (sym (ap length flags ∙ length-replicate (length v.copies.items) false)))

@@ -10,27 +10,27 @@ use Rattle.tp_net.proofs.topology.Topology.read_named.Goals as goal
 at_fault : {T : Type 0} (P : T → Type 0) (F : NetFault → Type 0) (r : Result T NetFault) (fault : NetFault) → r ≡ Err fault → F fault → MatchResult r P F
 at_fault P F r fault e h = subst (λ s. MatchResult s P F) (sym e) h
 
-pub returns-in_err-said-clause-topology : goal.returns-in_err-said-clause-topology
-returns-in_err-said-clause-topology c =
-    at_fault _ (IsFaultOf (read_text c.args.text.now)) c.from_residual.result c.in_err-said.field-0.0 (search rules)
-    (elim c.in_err-said.ensures [
+pub returns-in_err-declared-clause-topology : goal.returns-in_err-declared-clause-topology
+returns-in_err-declared-clause-topology c =
+    at_fault _ (IsFaultOf (read_text c.args.text.now)) c.from_residual.result c.in_err-declared.field-0.0 (search rules)
+    (elim c.in_err-declared.ensures [
       | inl memory ↦ inl memory
-      | inr fault ↦ inr (read_text-fault c.args.text.now c.in_err-said.field-0.0 fault)
+      | inr fault ↦ inr (read_text-fault c.args.text.now c.in_err-declared.field-0.0 fault)
     ])
 
 pub finish-requires : goal.finish-requires
-finish-requires c = shape_of_lines (lines c.args.text.now) c.in_ok-said.said c.in_ok-said.ensures
+finish-requires c = shape_of_lines (lines c.args.text.now) c.in_ok-declared.declared c.in_ok-declared.ensures
 
 pub returns-in_err-topology-clause-topology : goal.returns-in_err-topology-clause-topology
 returns-in_err-topology-clause-topology c =
     at_fault _ (IsFaultOf (read_text c.args.text.now)) c.from_residual-in_err-topology.result c.in_err-topology.field-0.0 (search rules)
     (elim c.in_err-topology.ensures [
       | inl memory ↦ inl memory
-      | inr fault ↦ inr (read_text-said c.args.text.now c.in_ok-said.said c.in_ok-said.ensures ∙ fault)
+      | inr fault ↦ inr (read_text-said c.args.text.now c.in_ok-declared.declared c.in_ok-declared.ensures ∙ fault)
     ])
 
 pub returns-clause-topology : goal.returns-clause-topology
-returns-clause-topology c = read_text-said c.args.text.now c.in_ok-said.said c.in_ok-said.ensures ∙ c.in_ok-topology.ensures
+returns-clause-topology c = read_text-said c.args.text.now c.in_ok-declared.declared c.in_ok-declared.ensures ∙ c.in_ok-topology.ensures
 
 pub returns-clause-names : goal.returns-clause-names
-returns-clause-names c = c.in-Ok.ensures ∙ sym (node_names-said c.args.text.now c.in_ok-said.said c.in_ok-said.ensures)
+returns-clause-names c = c.in-Ok.ensures ∙ sym (node_names-said c.args.text.now c.in_ok-declared.declared c.in_ok-declared.ensures)

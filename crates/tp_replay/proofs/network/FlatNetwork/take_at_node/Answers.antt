@@ -8,7 +8,7 @@ use Rattle.tp_law_machine.proofs.Nodes.{carries}
 use Rattle.tp_replay.specs.Inside.{state_of}
 use Rattle.tp_replay.proofs.Applied.{node_count, node_at, room, node_inside, node_next}
 use Rattle.tp_replay.proofs.Fronts.{front_taken}
-use Rattle.tp_node.proofs.Answered.{takes_ok, takes_err}
+use Rattle.tp_node.proofs.Answered.{takes_ok, takes_err, lacking_frozen}
 use Rattle.tp_port.proofs.Sending.{answer_on}
 use Rattle.tp_replay.proofs.Steps.{without_front, node_takes}
 use Rattle.tp_replay.proofs.network.FlatNetwork.take_at_node.Goals as goal
@@ -30,7 +30,7 @@ unreachable-requires c =
     let below : c.args.node < length n.nodes.items = omega (arith, node_count n c.self.invariant, (c.self.invariant.flat.sound.wires.links c.args.line c.args.node c.args.link to).0) in
     let at = node_at n c.self.invariant c.args.node c.index_mut.result.now below c.index_mut.ensures.value in
     let there = slice_get_read n.nodes.items (length n.nodes.items) c.args.node c.index_mut.result.now refl below c.index_mut.ensures.value in
-    let frozen = takes_err _ _ c.args.link c.index_mut.result.now.live c.take.new.self.live c.in-Err.field-0 c.in-Err.ensures.takes in
+    let frozen = lacking_frozen c.index_mut.result.now _ (takes_err _ _ c.args.link c.index_mut.result.now.live c.take.new.self.live c.in-Err.field-0 c.in-Err.ensures.takes) in
     absurd (true≢false (sym frozen ∙ ap is_some (c.self.invariant.thawed c.args.node c.index_mut.result.now there)))
 
 pub send_some-requires-clause-room : goal.send_some-requires-clause-room

@@ -1,0 +1,76 @@
+-- A run with a checkpoint, computed: entries in the cut and outside it, and an Ack on a line of the cut.
+use Rattle.std.specs.Prelude.{◌≡◌, ℕ, ◌-◌, false, List, [], ◌∷◌, ◌++◌, length, map, None, Ok}
+use Rattle.tp_model.specs.declared.link.Token.TheVariants.{Data, Ack}
+use Rattle.tp_model.specs.declared.entry.Entry.{Entry}
+use Rattle.tp_model.specs.declared.entry.Entry.TheVariants.{Run, Take}
+use Rattle.tp_model.specs.declared.limits.TheConstants.{GATE_OPEN, GATE_CLOSED}
+use Rattle.tp_model.specs.Bytes.{zeros}
+use Rattle.tp_model.specs.NodeState.{NodeState}
+use Rattle.tp_model.specs.Image.{image}
+use Rattle.tp_model.specs.Network.{Network}
+use Rattle.tp_model.specs.WholeCut.{WholeCut}
+use Rattle.tp_model.specs.Acts.{Act, Begin, Record, Journal, Close}
+use Rattle.tp_model.specs.Head.{head_bytes}
+use Rattle.tp_model.specs.Spelling.{front_bytes}
+use Rattle.tp_model.specs.Format.{fresh_port}
+use Rattle.tp_model.specs.Opening.{Opened, held_of, network_of, verdict}
+use Rattle.tp_model.specs.Runs.{World, Event, HasCut}
+use Rattle.tp_model.specs.KeptRun.{KeptRun}
+use Rattle.tp_law_machine.specs.OneNode.{one_node, one_before, one_after}
+use Rattle.tp_law_machine.specs.Transfers.{sends, awaits}
+use Rattle.tp_law_device.specs.Checkpoints.{Switches}
+use Rattle.tp_law_device.specs.FormattedWorld.{formatted_world, WasFormatted}
+
+-- a device that was formatted for the network of one node, in areas of 16,384 bytes
+abbrev pub first_content : List ℕ
+first_content = front_bytes one_node 1 0 one_before
+
+abbrev pub one_device : List ℕ
+one_device =
+    head_bytes one_node 16384
+    ++ (GATE_OPEN ∷ (first_content ++ (GATE_CLOSED ∷ (zeros (16384 - 2 - length first_content) ++ (GATE_CLOSED ∷ zeros (16384 - 1))))))
+
+-- The node sends a byte and the host takes it. A snapshot begins, the node records, and after that it takes the Ack and goes on.
+abbrev pub inside : List Entry
+inside = Run 0 3 ∷ Take 0 (Data 0x41) ∷ []
+
+abbrev pub outside : List Entry
+outside = Take 4 Ack ∷ Run 0 16 ∷ []
+
+abbrev pub before_snapshot : List Act
+before_snapshot = map Journal inside
+
+abbrev pub snapshot : List Act
+snapshot = Begin ∷ Record 0 ∷ Journal (Take 4 Ack) ∷ Close 4 ∷ Journal (Run 0 16) ∷ Close 0 ∷ []
+
+-- in the cut the node waits for the Ack, which is on its line, and the byte is an output of the port
+abbrev pub cut_network : Network NodeState
+cut_network = network_of one_node (awaits ∷ []) ([] ∷ [] ∷ [] ∷ [] ∷ (Ack ∷ []) ∷ []) (record fresh_port { outputs = 0x41 ∷ [] } ∷ [])
+
+-- the bytes that groups may fill in such an area
+abbrev pub one_room : ℕ
+one_room = 3862
+
+-- From that device a run, in which each entry is made with room for it, leads to a world in which a mark of 2 was read, the device
+-- holds the first two entries in its first area, of generation 1, and the cut is whole. From there a run switches: the book is
+-- trimmed to the cut, and the device opens as the second area, of generation 2; it holds the cut, of two entries, and the two
+-- entries outside it, which lead to the network as it is.
+pub record OneCheckpoint : Type 0 where
+  pub formatted : WasFormatted one_node 16384 (image sends ∷ []) one_before one_device
+  pub events : List (Event NodeState)
+  pub w : World NodeState
+  pub run : KeptRun one_room (formatted_world one_before one_device) events w
+  pub seen : w.seen ≡ 2 ∷ []
+  pub journal : w.journal ≡ inside ++ outside
+  pub entries : w.net.entries ≡ inside ++ outside
+  pub live : w.net.live ≡ one_after
+  pub first : Opened
+  pub reads : verdict w.disk.bytes ≡ Ok first
+  pub held : held_of first ≡ record { network = one_before; entries = inside; base = 0 }
+  pub in_first : (first.second ≡ false) × (first.generation ≡ 1)
+  pub cut : WholeCut
+  pub has : HasCut w.net cut (awaits ∷ [])
+  pub switches : Switches w first cut (awaits ∷ []) 2
+  pub book : switches.last.net ≡ record { start = cut_network; entries = outside; live = one_after; snapshot = None; frozen = [] }
+  pub copy : held_of switches.opened ≡ record { network = cut_network; entries = outside; base = 2 }
+  pub now : switches.opened.now ≡ one_after

@@ -1,0 +1,17 @@
+use Rattle.std.proofs.Common.{◌≡◌, ℕ, List, ap, ◌∙◌, map}
+use Rattle.std.specs.Borrow.{Bor}
+use Rattle.std.specs.Map.{keys_of}
+use Rattle.std.proofs.lemmas.Iterator.{items_from_collect}
+use Rattle.std.proofs.lemmas.Iterator.Consumers.{YieldsList-from_copied, YieldsList-from_rest}
+use Rattle.std.proofs.lemmas.Result.{IfOk-weaker}
+use Rattle.tp_model.specs.TopologyText.{Said}
+use Rattle.tp_net.proofs.Kept.{names_kept}
+use Rattle.tp_net.proofs.declarations.Declarations.names.Goals as goal
+
+pub returns : goal.returns
+returns c =
+    IfOk-weaker c.collect.result (λ names. names.items ≡ keys_of c.self.inside.nodes.entries) (λ names. map (λ name. name.now) names.items ≡ map (λ node. node.0) c.args.self.now.nodes)
+    (λ names is. ap (λ keys. map (λ (name : Bor (List ℕ)). name.now) keys) is ∙ names_kept c.self.inside.nodes.entries
+    ∙ ap (λ (said : Said). map (λ node. node.0) said.nodes) c.self.view_is)
+    (items_from_collect c.collect.result c.collect.ensures.ran
+    (YieldsList-from_copied (YieldsList-from_rest (keys_of c.self.inside.nodes.entries) (c.copied.ensures.source ∙ c.keys.ensures.rest))))

@@ -1,0 +1,90 @@
+-- What a node does at the front of a line, and why it leaves the line.
+use Rattle.std.specs.Prelude.{◌≡◌, ◌<◌, ℕ, ◌+◌, ◌*◌, true, false, List, [], ◌∷◌, Option, Some, None, IsSome, Result, Ok, Err}
+use Rattle.tp_model.specs.declared.link.Token.{Token}
+use Rattle.tp_model.specs.declared.link.Token.TheVariants.{Data, Ack, Marker}
+use Rattle.tp_model.specs.declared.entry.Entry.TheVariants.{Take}
+use Rattle.tp_model.specs.Network.{back, on_line, is_first}
+use Rattle.tp_model.specs.Acts.{Act, Journal, Close}
+use Rattle.tp_snap.specs.Needs.{has_recorded_in}
+use Rattle.tp_book.specs.declared.refusal.Refusal.{Refusal}
+use Rattle.tp_book.specs.declared.refusal.Refusal.TheVariants.{JournalFull, StoreBroken, Memory, NothingToTake, SnapshotRunning, PortFull}
+use Rattle.tp_book.specs.Book.{BookValue}
+use Rattle.tp_book.specs.Calls.{front_of}
+use Rattle.tp_book.specs.Refusals.{ready_refusal}
+use Rattle.tp_turn.specs.declared.left.Left.{Left}
+use Rattle.tp_turn.specs.declared.left.Left.TheVariants as left
+use Rattle.tp_turn.specs.declared.take.TheConstants.{TAKES}
+use Rattle.tp_turn.specs.Turns.{InOrder}
+use Rattle.tp_turn.specs.Moments.{Moment, Added, Done}
+
+-- ## One act
+
+-- what is done with the token in front of a line: it is taken, or, where it is a Marker, the line is closed
+abbrev pub front_act : ℕ → Token → Act
+front_act line (Data byte) = Journal (Take line (Data byte))
+front_act line Ack = Journal (Take line Ack)
+front_act line Marker = Close line
+
+-- That was done, and the node stays frozen as it was, or not frozen.
+pub record AtFront (number line : ℕ) (s : Moment) (acts : List Act) (t : Moment) : Type 0 where
+  pub are : acts ≡ front_act line (front_of s.book line) ∷ []
+  pub added : Added number t.node.live acts s.book t.book
+  pub kept : t.node.frozen ≡ s.node.frozen
+
+-- ## Why a line is left
+
+-- The line is empty; a Marker is in front, and no snapshot runs in which the node has recorded; the node's memory has no
+-- frame, though the journal has room; the journal is full.
+abbrev pub IsLeft : ℕ → ℕ → Left → Moment → Type 0
+IsLeft number line left.NoWire m = ⊥
+IsLeft number line left.Enough m = ⊥
+IsLeft number line left.Empty m = on_line m.book.state.lines line ≡ []
+IsLeft number line left.Marked m =
+    (is_first (on_line m.book.state.lines line) Marker ≡ true) × (has_recorded_in m.book.state.snapshot number ≡ false)
+IsLeft number line left.NoFrame m = (ready_refusal m.book line ≡ None) × IsSome m.node.frozen
+IsLeft number line left.PortFull m = ⊥
+IsLeft number line left.JournalFull m = ready_refusal m.book line ≡ Some JournalFull
+
+-- A token is in front that can't be taken, and the turn ends: the store is broken, or memory was refused, which is told
+-- only where nothing else is in the way.
+abbrev pub IsStop : ℕ → Refusal → BookValue → Type 0
+IsStop line JournalFull b = ⊥
+IsStop line StoreBroken b = ready_refusal b line ≡ Some StoreBroken
+IsStop line Memory b = ready_refusal b line ≡ None
+IsStop line NothingToTake b = ⊥
+IsStop line SnapshotRunning b = ⊥
+IsStop line PortFull b = ⊥
+
+-- One act was done at the front of a line; or none, and the line is left, or the turn ends.
+abbrev pub FrontAnswers : ℕ → ℕ → Result (Option Left) Refusal → Moment → Moment → Type 0
+FrontAnswers number line (Ok None) s t = Done number (AtFront number line) s t
+FrontAnswers number line (Ok (Some why)) s t = (t ≡ s) × IsLeft number line why s
+FrontAnswers number line (Err e) s t = (t ≡ s) × IsStop line e s.book
+
+-- ## A line in a turn
+
+-- why so many acts were done at the front of a line, and no more
+abbrev pub LineEnds : ℕ → ℕ → ℕ → Result Left Refusal → Moment → Type 0
+LineEnds number line count (Ok left.Enough) m = count ≡ TAKES
+LineEnds number line count (Ok left.NoWire) m = ⊥
+LineEnds number line count (Ok left.Empty) m = (count < TAKES) × IsLeft number line left.Empty m
+LineEnds number line count (Ok left.Marked) m = (count < TAKES) × IsLeft number line left.Marked m
+LineEnds number line count (Ok left.NoFrame) m = (count < TAKES) × IsLeft number line left.NoFrame m
+LineEnds number line count (Ok left.PortFull) m = ⊥
+LineEnds number line count (Ok left.JournalFull) m = (count < TAKES) × IsLeft number line left.JournalFull m
+LineEnds number line count (Err e) m = (count < TAKES) × IsStop line e m.book
+
+-- Acts one after another at the front of a line: three, or as many as there are up to a reason why there are no more.
+pub record OnLine (number line : ℕ) (answer : Result Left Refusal) (s : Moment) (acts : List Act) (t : Moment) : Type 0 where
+  pub count : ℕ
+  pub did : InOrder (λ at. AtFront number line) count s acts t
+  pub ends : LineEnds number line count answer t
+
+-- the same on a wire; where there is none, nothing is done
+abbrev pub OnWire : ℕ → Option ℕ → Result Left Refusal → Moment → List Act → Moment → Type 0
+OnWire number None answer s acts t = (answer ≡ Ok left.NoWire) × (acts ≡ []) × (t ≡ s)
+OnWire number (Some line) answer s acts t = OnLine number line answer s acts t
+
+-- on the line that comes in on a link
+abbrev pub OnLink : ℕ → ℕ → Result Left Refusal → Moment → List Act → Moment → Type 0
+OnLink number link answer s acts t = OnWire number (back s.book.state.start (4 * number + link)) answer s acts t

@@ -1,0 +1,65 @@
+-- A node's turn: its open part, then a run, whose entry the book gets once the node has run.
+use Rattle.std.specs.Prelude.{◌≡◌, ◌≤◌, ◌⊎◌, ℕ, List, Some, None, IsSome, Result, Ok, Err}
+use Rattle.tp_model.specs.declared.limits.TheConstants.{MAX_STEPS}
+use Rattle.tp_model.specs.declared.link.Token.{Token}
+use Rattle.tp_model.specs.Node.{t414}
+use Rattle.tp_model.specs.Network.{steps}
+use Rattle.tp_model.specs.Acts.{Act}
+use Rattle.tp_node.specs.NodeContents.{NodeContents}
+use Rattle.tp_node.specs.RunEnd.{RunEnd, IsWhy}
+use Rattle.tp_book.specs.declared.refusal.Refusal.{Refusal}
+use Rattle.tp_book.specs.Acts.{run_acts}
+use Rattle.tp_book.specs.Book.{BookValue}
+use Rattle.tp_book.specs.Calls.{with_run}
+use Rattle.tp_book.specs.Refusals.{reserve_refusal, IsAnswer}
+use Rattle.tp_turn.specs.declared.stages.Turn.{Turn}
+use Rattle.tp_turn.specs.Turns.{Then}
+use Rattle.tp_turn.specs.Moments.{Moment, moment, IsNodeOf, Added, Done}
+use Rattle.tp_turn.specs.Settled.{Settles, SettlesWith, StopsAt}
+
+-- ## A turn is opened
+
+-- the open part is done with so many takes, and a run of the node is reserved
+pub record IsOpen (number takes : ℕ) (s t : Moment) : Type 0 where
+  pub between : Moment
+  pub settled : Done number (SettlesWith number takes) s between
+  pub free : reserve_refusal between.book ≡ None
+  pub is : t ≡ moment (with_run between.book number) between.node
+
+-- the open part is done, and no run can be reserved
+pub record IsRefused (number : ℕ) (e : Refusal) (s : Moment) (acts : List Act) (t : Moment) : Type 0 where
+  pub did : Settles number s acts t
+  pub answer : IsAnswer {A = Unit {0}} (reserve_refusal t.book) (Err e)
+
+-- The turn ended at a link, or where its run was to be reserved. Nothing ran.
+abbrev pub Breaks : ℕ → Refusal → Moment → List Act → Moment → Type 0
+Breaks number e s acts t = StopsAt number e s acts t ⊎ IsRefused number e s acts t
+
+abbrev pub Opens : ℕ → Result ℕ Refusal → Moment → Moment → Type 0
+Opens number (Ok takes) s t = IsOpen number takes s t
+Opens number (Err e) s t = Done number (Breaks number e) s t
+
+-- ## A node runs
+
+-- Since the book agreed on the node, it has made so many steps and sent these tokens.
+pub record HasRunOn (b : BookValue) (number count : ℕ) (tokens : List (ℕ × Token)) (node : NodeContents) : Type 0 where
+  pub before : NodeContents
+  pub is : IsNodeOf b number before
+  pub few : count ≤ MAX_STEPS
+  pub made : steps t414 count before.live ≡ Some (node.live, tokens)
+  pub kept : node.frozen ≡ before.frozen
+
+-- The node ran on as far as it may, and that is one entry; none without a step.
+pub record Runs (number quantum : ℕ) (ran : RunEnd) (s : Moment) (acts : List Act) (t : Moment) : Type 0 where
+  pub are : acts ≡ run_acts number ran.count
+  pub added : Added number t.node.live acts s.book t.book
+  pub max : ran.max ≡ quantum
+  pub why : IsWhy ran.why quantum ran.count (IsSome t.node.frozen) t.node.live
+  pub kept : t.node.frozen ≡ s.node.frozen
+
+-- ## A whole turn
+
+-- the open part and the run; or it broke off before the run
+abbrev pub TurnsAs : ℕ → ℕ → Result Turn Refusal → Moment → List Act → Moment → Type 0
+TurnsAs number quantum (Ok turn) = Then (SettlesWith number turn.takes) (Runs number quantum turn.ran)
+TurnsAs number quantum (Err e) = Breaks number e

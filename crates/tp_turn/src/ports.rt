@@ -1,0 +1,99 @@
+//! The host at the fronts of the lines that come to its ports.
+
+ghost use Rattle.std.specs.Prelude.{◌≡◌, ◌<◌, ◌||◌, Some, None, length};
+ghost use Rattle.tp_model.specs.Network.{receiver};
+ghost use Rattle.tp_model.specs.declared.wire.WireEnd.TheVariants.{Port as AtPort};
+ghost use Rattle.tp_turn.specs.Hosted.{HostDone, PortAnswers, OnPortLine, OnPort, HostTurns, is_for_room};
+
+use crate::left::Left;
+use crate::take::TAKES;
+use tp_book::{Book, Refusal};
+use tp_net::line_of;
+
+/// A port takes the token in front of a line that leads to it, or closes the line at its Marker. Answers why not, where
+/// nothing was done: then the book is as before.
+fn act_on_front(book: &mut Book, port: u8, line: u16) -> Result<Option<Left>, Refusal>
+    requires goes { receiver book.old.state.start.wires line ≡ Some (AtPort port) }
+    requires idle { book.old.ready ≡ None }
+    ensures { PortAnswers line result book.old book.new }
+{
+    book.known();
+    if book.marker_ready(line) {
+        if !book.recorded(book.nodes()) {
+            return Ok(Some(Left::Marked));
+        }
+        book.close_line(line);
+        return Ok(None);
+    }
+    match book.host_take(line) {
+        Ok(_note) => Ok(None),
+        Err(Refusal::NothingToTake) => Ok(Some(Left::Empty)),
+        Err(Refusal::PortFull) => Ok(Some(Left::PortFull)),
+        Err(Refusal::JournalFull) => Ok(Some(Left::JournalFull)),
+        Err(refusal) => Err(refusal),
+    }
+}
+
+/// A port does at the front of a line that leads to it what a turn may do there. Answers why it left the line.
+fn act_on_line(book: &mut Book, port: u8, line: u16) -> Result<Left, Refusal>
+    requires goes { receiver book.old.state.start.wires line ≡ Some (AtPort port) }
+    requires idle { book.old.ready ≡ None }
+    ensures { HostDone (OnPortLine line result) book.old book.new }
+{
+    for _done in 0..TAKES {
+        if let Some(left) = act_on_front(book, port, line)? {
+            return Ok(left);
+        }
+    }
+    Ok(Left::Enough)
+}
+
+/// The same at the line that comes to a port, where there is one.
+fn act_on_port(book: &mut Book, port: u8) -> Result<Left, Refusal>
+    requires there { port < length book.old.state.ports }
+    requires idle { book.old.ready ≡ None }
+    ensures { HostDone (OnPort port result) book.old book.new }
+{
+    book.known();
+    let nodes = book.nodes();
+    match book.receiver(4 * nodes as u16 + port as u16) {
+        Some(end) => {
+            let line = line_of(nodes, end);
+            act_on_line(book, port, line as u16)
+        }
+        None => Ok(Left::NoWire),
+    }
+}
+
+/// Whether the journal was full for a port, as one more is left.
+fn is_full_by(before: bool, left: Left) -> bool
+    ensures { result ≡ (before || is_for_room left) }
+{
+    before || matches!(left, Left::JournalFull)
+}
+
+/// The host's turn. Each of its ports in order takes at most three tokens of the line that comes to it, a Marker among
+/// them, at which the line is closed. A port leaves a line that is empty, whose byte its outputs have no room for, or for
+/// which the journal is full. Answers how many tokens were taken; a Marker isn't counted.
+///
+/// Errors: `JournalFull` where it was full for a port, once all had their turn. `StoreBroken` and `Memory` end the turn
+/// where they come. What was done before stays. No other comes.
+pub fn host_turn(book: &mut Book) -> Result<u64, Refusal>
+    requires { book.old.ready ≡ None }
+    ensures { HostDone (HostTurns result) book.old book.new }
+{
+    book.known();
+    let first = book.next();
+    let ports = book.ports() as u8;
+    let mut full = false;
+    for port in 0..ports {
+        book.known();
+        let left = act_on_port(book, port)?;
+        full = is_full_by(full, left);
+    }
+    if full {
+        return Err(Refusal::JournalFull);
+    }
+    let last = book.next();
+    Ok(last - first)
+}

@@ -1,0 +1,43 @@
+//! The open part of a node's turn: it records, takes and closes, and makes no run.
+
+ghost use Rattle.std.specs.Prelude.{◌≡◌, None};
+ghost use Rattle.tp_turn.specs.Moments.{IsNodeOf, Done, moment};
+ghost use Rattle.tp_turn.specs.Settled.{Records, SettledAs};
+
+use crate::front::act_on_link;
+use tp_book::{Book, Refusal};
+use tp_node::Node;
+
+/// A node records where it is asked to: it is frozen, and a Marker goes onto each of its wired lines.
+fn record_asked(book: &mut Book, node: &mut Node, number: u8)
+    requires is { IsNodeOf book.old number node.old }
+    ensures done { Done number (Records number) (moment book.old node.old) (moment book.new node.new) }
+    ensures is { IsNodeOf book.new number node.new }
+{
+    book.known();
+    if book.asked(number) {
+        node.freeze();
+        book.record(number);
+    }
+}
+
+/// A node records where it is asked to. Then, on links 0 to 3 in order, it takes at most three tokens of the line that
+/// comes in, a Marker among them, at which it closes the line. It leaves a line that is empty, whose token finds no frame
+/// in memory, or for which the journal is full. Nothing runs. Answers how many tokens were taken; a Marker isn't counted.
+///
+/// Errors: `StoreBroken` and `Memory` end the turn where they come, and what was done before stays. No other comes.
+pub fn settle(book: &mut Book, node: &mut Node, number: u8) -> Result<u64, Refusal>
+    requires idle { book.old.ready ≡ None }
+    requires is { IsNodeOf book.old number node.old }
+    ensures done { Done number (SettledAs number result) (moment book.old node.old) (moment book.new node.new) }
+    ensures is { IsNodeOf book.new number node.new }
+{
+    book.known();
+    let first = book.next();
+    record_asked(book, node, number);
+    for link in 0..4 {
+        act_on_link(book, node, number, link)?;
+    }
+    let last = book.next();
+    Ok(last - first)
+}

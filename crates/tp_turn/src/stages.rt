@@ -1,0 +1,97 @@
+//! A node's turn in its stages, so that the book may be let go while the node runs.
+
+ghost use Rattle.std.specs.Prelude.{◌≡◌, ◌≤◌, Some, None, true, false, IsSome, slice_get};
+ghost use Rattle.tp_model.specs.declared.limits.TheConstants.{MAX_STEPS};
+ghost use Rattle.tp_model.specs.Network.{steps};
+ghost use Rattle.tp_model.specs.Node.{t414};
+ghost use Rattle.tp_node.specs.RunEnd.{IsWhy};
+ghost use Rattle.tp_book.specs.Acts.{run_acts};
+ghost use Rattle.tp_book.specs.Calls.{without_run};
+ghost use Rattle.tp_turn.specs.Moments.{IsNodeOf, Added, Done, moment};
+ghost use Rattle.tp_turn.specs.Stages.{Opens, HasRunOn, TurnsAs};
+
+use crate::settling::settle;
+use arrayvec::ArrayVec;
+use tp_book::{Book, Refusal};
+use tp_model::Token;
+use tp_node::{Node, Ran};
+
+/// What a node ran: how far, and what it sent, each token with its link.
+#[derive(Drop)]
+pub struct Stretch {
+    pub ran: Ran,
+    pub sent: ArrayVec<(u8, Token), 8>,
+}
+
+/// What a node's turn did: how many tokens it took, and how far the node ran.
+#[derive(Drop)]
+pub struct Turn {
+    pub takes: u64,
+    pub ran: Ran,
+}
+
+/// Opens a node's turn: the node settles, and a run of it is reserved. Answers how many tokens were taken.
+///
+/// Errors: those of `settle`, and those of `Book::reserve_run`. What was done before stays, and nothing is reserved.
+pub fn open_turn(book: &mut Book, node: &mut Node, number: u8) -> Result<u64, Refusal>
+    requires free { slice_get book.old.runs number ≡ Some false }
+    requires idle { book.old.ready ≡ None }
+    requires is { IsNodeOf book.old number node.old }
+    ensures opens { Opens number result (moment book.old node.old) (moment book.new node.new) }
+    ensures is { IsNodeOf book.new number node.new }
+{
+    let takes = settle(book, node, number)?;
+    book.reserve_run(number)?;
+    Ok(takes)
+}
+
+/// Lets a node run for at most `quantum` steps. No book is needed.
+pub fn run_node(node: &mut Node, quantum: u16) -> Stretch
+    ensures asked { result.ran.max ≡ quantum }
+    ensures steps { steps t414 result.ran.count node.old.live ≡ Some (node.new.live, result.sent.items) }
+    ensures why { IsWhy result.ran.why quantum result.ran.count (IsSome node.old.frozen) node.new.live }
+    ensures kept { node.new.frozen ≡ node.old.frozen }
+{
+    let mut sent = ArrayVec::new();
+    let ran = node.run(quantum, &mut sent);
+    Stretch { ran, sent }
+}
+
+/// Journals what a node ran since its run was reserved: one entry, or none where it made no step. The reservation ends.
+/// The book may have changed in between by what others do.
+pub fn commit_turn(book: &mut Book, node: &Node, number: u8, stretch: Stretch) -> Ran
+    requires reserved { slice_get book.old.runs number ≡ Some true }
+    requires idle { book.old.ready ≡ None }
+    requires ran { HasRunOn book.old number stretch.ran.count stretch.sent.items node.now }
+    ensures ran { result ≡ stretch.ran }
+    ensures added { Added number node.now.live (run_acts number stretch.ran.count) (without_run book.old number) book.new }
+    ensures is { IsNodeOf book.new number node.now }
+{
+    let _node = node;
+    book.known();
+    let Stretch { ran, sent } = stretch;
+    let _note = book.commit_run(number, ran.count(), sent.as_slice());
+    ran
+}
+
+/// A node's turn: it is opened, the node runs for at most `quantum` steps, and the run is journalled.
+///
+/// Errors: those of `open_turn`. What was done before stays, and nothing ran.
+pub fn node_turn(
+    book: &mut Book,
+    node: &mut Node,
+    number: u8,
+    quantum: u16,
+) -> Result<Turn, Refusal>
+    requires quantum { quantum ≤ MAX_STEPS }
+    requires free { slice_get book.old.runs number ≡ Some false }
+    requires idle { book.old.ready ≡ None }
+    requires is { IsNodeOf book.old number node.old }
+    ensures done { Done number (TurnsAs number quantum result) (moment book.old node.old) (moment book.new node.new) }
+    ensures is { IsNodeOf book.new number node.new }
+{
+    let takes = open_turn(book, node, number)?;
+    let stretch = run_node(node, quantum);
+    let ran = commit_turn(book, node, number, stretch);
+    Ok(Turn { takes, ran })
+}
