@@ -13,3 +13,5 @@ mod format_faults;
 #[cfg(test)]
 mod opened_books;
 mod possible;
+#[cfg(test)]
+mod reserve;

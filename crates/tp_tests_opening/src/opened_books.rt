@@ -34,7 +34,7 @@ fn grown(alloc: Global) -> Result<Vec<u8>, Fail> {
 }
 
 /// What a device of `bytes` opens as.
-fn state_of(alloc: Global, bytes: Vec<u8>) -> Result<NetState, Fail>
+pub(crate) fn state_of(alloc: Global, bytes: Vec<u8>) -> Result<NetState, Fail>
     ensures { IfOk result (λ state. IsOpened state) }
 {
     let mut disk = MemDisk::of_bytes(bytes);
@@ -45,7 +45,7 @@ fn state_of(alloc: Global, bytes: Vec<u8>) -> Result<NetState, Fail>
 }
 
 /// The book of a device of `bytes`.
-fn book_of(alloc: Global, bytes: Vec<u8>) -> Result<Book, Fail>
+pub(crate) fn book_of(alloc: Global, bytes: Vec<u8>) -> Result<Book, Fail>
     ensures { IfOk result (λ book. IsUsable book) }
 {
     let state = state_of(alloc, bytes)?;

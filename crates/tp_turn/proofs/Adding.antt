@@ -12,20 +12,13 @@ use Rattle.tp_law_machine.proofs.Partial.{bind_some, all_append, slice_get-set_o
 use Rattle.tp_node.specs.NodeContents.{NodeContents}
 use Rattle.tp_port.proofs.Lists.{set_back}
 use Rattle.tp_book.specs.Book.{BookValue, agreed, world_of}
+use Rattle.tp_book.proofs.Stood.{no_act}
 use Rattle.tp_turn.specs.Books.{Grew}
 use Rattle.tp_turn.specs.Turns.{Then, InOrder}
 use Rattle.tp_turn.specs.Moments.{Moment, IsNodeOf, entries_in, Added, Done}
 use Rattle.tp_turn.proofs.Grown.{grew_none, grew_more}
 
 -- ## Acts
-
-pub acted_none : (w : MarkedNetwork NodeState) → acted t414 w [] ≡ Some w
-unfolding acted
-acted_none w = refl
-
-pub acted_one : (w v : MarkedNetwork NodeState) (act : Act) → happens t414 w act ≡ Some v → acted t414 w (act ∷ []) ≡ Some v
-unfolding acted
-acted_one w v act did = ap (λ o. o >>= λ u. Some u) did
 
 pub acted_more : (w v u : MarkedNetwork NodeState) (first second : List Act) → acted t414 w first ≡ Some v → acted t414 v second ≡ Some u → acted t414 w (first ++ second) ≡ Some u
 unfolding acted
@@ -46,7 +39,7 @@ entries_more (Trim ∷ first) second = entries_more first second
 
 pub added_none : (number : ℕ) (node : NodeState) (b : BookValue) → slice_get (agreed b.state) number ≡ Some node → Added number node [] b b
 added_none number node b there = record {
-  did = acted_none (world_of b);
+  did = no_act (world_of b);
   grew = grew_none b;
   own = tt;
   nodes = sym (set_back (agreed b.state) number node there);

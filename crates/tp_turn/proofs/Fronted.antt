@@ -22,10 +22,10 @@ use Rattle.tp_snap.specs.Needs.{has_recorded_in}
 use Rattle.tp_book.specs.Book.{BookValue, agreed, world_of}
 use Rattle.tp_book.specs.Calls.{front_of, with_ready, after_take, TakeIsAgreed}
 use Rattle.tp_book.specs.Marked.{after_close}
+use Rattle.tp_book.proofs.Stood.{one_act}
 use Rattle.tp_turn.specs.Books.{Grew}
 use Rattle.tp_turn.specs.Moments.{moment, IsNodeOf, Added, Done}
 use Rattle.tp_turn.specs.Fronts.{front_act, AtFront}
-use Rattle.tp_turn.proofs.Adding.{acted_one}
 
 -- ## What is in front
 
@@ -88,7 +88,7 @@ module _ (b r new : BookValue) (line number link : ℕ) (n m : NodeContents) (an
 
   added : Added number m.live (Journal (Take line (front_of b line)) ∷ []) b new
   added = record {
-    did = acted_one (world_of b) (world_of new) (Journal (Take line (front_of b line)))
+    did = one_act (world_of b) (world_of new) (Journal (Take line (front_of b line)))
         (subst (λ x. happens t414 (world_of x) (Journal (Take line (front_of x line))) ≡ Some (world_of new)) is_ready act);
     grew = subst (Grew (Take line (front_of b line) ∷ []) b) (sym is_after)
         (record { start = refl; entries_are = refl; base = refl; runs = refl; ready = sym idle; broken = refl; room = refl; history = refl; generation = refl; floor = refl });
@@ -124,7 +124,7 @@ module _ (b new : BookValue) (line number : ℕ) (n : NodeContents) (is : new �
 
   closed_added : happens t414 (world_of b) (Close line) ≡ Some (world_of new) → Added number n.live (Close line ∷ []) b new
   closed_added act = record {
-    did = acted_one (world_of b) (world_of new) (Close line) act;
+    did = one_act (world_of b) (world_of new) (Close line) act;
     grew = subst (Grew [] b) (sym is)
         (record { start = refl; entries_are = sym (append-nil b.state.entries); base = refl; runs = refl; ready = refl; broken = refl; room = refl; history = sym (append-nil b.history); generation = refl; floor = refl });
     own = tt;

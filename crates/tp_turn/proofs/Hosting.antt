@@ -21,6 +21,7 @@ use Rattle.tp_book.specs.Calls.{front_of, HostTook}
 use Rattle.tp_book.specs.Marked.{after_close}
 use Rattle.tp_book.specs.declared.refusal.Refusal.{Refusal}
 use Rattle.tp_book.specs.declared.refusal.Refusal.TheVariants.{JournalFull as Full, StoreBroken, Memory, NothingToTake, SnapshotRunning, PortFull as NoRoom}
+use Rattle.tp_book.proofs.Stood.{one_act, no_act}
 use Rattle.tp_turn.specs.Books.{Grew}
 use Rattle.tp_turn.specs.Turns.{Then, InOrder}
 use Rattle.tp_turn.specs.Moments.{IsNodeOf, entries_in}
@@ -30,13 +31,13 @@ use Rattle.tp_turn.specs.declared.left.Left.{Left}
 use Rattle.tp_turn.specs.declared.left.Left.TheVariants.{NoWire, Enough, Empty, Marked, NoFrame, PortFull, JournalFull}
 use Rattle.tp_turn.specs.declared.take.TheConstants.{TAKES}
 use Rattle.tp_turn.proofs.Grown.{grew_none, grew_more}
-use Rattle.tp_turn.proofs.Adding.{acted_none, acted_one, acted_more, entries_more}
+use Rattle.tp_turn.proofs.Adding.{acted_more, entries_more}
 use Rattle.tp_turn.proofs.Fronted.{front_takes, front_marker, collected_recorded, closed_recorded, close_agreed}
 
 -- ## Acts of the host
 
 pub host_none : (b : BookValue) → HostAdded [] b b
-host_none b = record { did = acted_none (world_of b); grew = grew_none b; own = tt; nodes = refl; recorded = λ process. refl; frozen = refl }
+host_none b = record { did = no_act (world_of b); grew = grew_none b; own = tt; nodes = refl; recorded = λ process. refl; frozen = refl }
 
 pub host_more : (first second : List Act) (a b c : BookValue) → HostAdded first a b → HostAdded second b c → HostAdded (first ++ second) a c
 host_more first second a b c A B = record {
@@ -94,7 +95,7 @@ pub port_taken : (b new : BookValue) (line port : ℕ) → receiver b.state.star
 port_taken b new line port goes H nodes act =
     let added : HostAdded (Journal (Take line (front_of b line)) ∷ []) b new =
     record {
-      did = acted_one (world_of b) (world_of new) (Journal (Take line (front_of b line))) act;
+      did = one_act (world_of b) (world_of new) (Journal (Take line (front_of b line))) act;
       grew = subst (Grew (Take line (front_of b line) ∷ []) b) (sym H.is)
           (record { start = refl; entries_are = refl; base = refl; runs = refl; ready = refl; broken = refl; room = refl; history = refl; generation = refl; floor = refl });
       own = (take_own b.state.start line port (front_of b line) goes, tt);
@@ -112,7 +113,7 @@ pub port_closed : (b new : BookValue) (line : ℕ) → new ≡ after_close b lin
 port_closed b new line is first act =
     let added : HostAdded (Close line ∷ []) b new =
     record {
-      did = acted_one (world_of b) (world_of new) (Close line) act;
+      did = one_act (world_of b) (world_of new) (Close line) act;
       grew = subst (Grew [] b) (sym is)
           (record { start = refl; entries_are = sym (append-nil b.state.entries); base = refl; runs = refl; ready = refl; broken = refl; room = refl; history = sym (append-nil b.history); generation = refl; floor = refl });
       own = tt;

@@ -1,5 +1,5 @@
 -- A run that a book journals.
-use Rattle.std.proofs.Common.{◌≡◌, ℕ, zero, suc, ◌<◌, ◌≤◌, true, false, cond, inl, inr, List, [], ◌∷◌, set, refl, sym, ap, subst, ◌∙◌, arith, Some, None, slice_get, eq-eqb, ne_eqb}
+use Rattle.std.proofs.Common.{◌≡◌, ℕ, zero, ◌<◌, ◌≤◌, true, false, cond, inl, inr, List, [], ◌∷◌, set, refl, sym, ap, subst, ◌∙◌, arith, Some, None, slice_get, eq-eqb, ne_eqb}
 use Rattle.std.proofs.lemmas.Bool.{cases_eq}
 use Rattle.std.proofs.lemmas.List.{append-nil}
 use Rattle.tp_model.specs.declared.link.Token.{Token}
@@ -16,14 +16,10 @@ use Rattle.tp_book.specs.Kept.{Keeps}
 use Rattle.tp_book.specs.Calls.{with_run, without_run, after_run, with_journalled, HasRun, RunIsAgreed}
 use Rattle.tp_port.specs.Sends.{on_lines}
 use Rattle.tp_book.proofs.Changes.{run_change}
+use Rattle.tp_turn.proofs.Staging.{set_twice}
 use Rattle.tp_turn.specs.Turns.{RanOn}
 use Rattle.tp_turn.specs.Books.{network_of, Grew, Did}
 use Rattle.tp_book.proofs.Commit.{change_leads}
-
-set_twice : {A : Type 0} (xs : List A) (i : ℕ) (x y : A) → slice_get xs i ≡ Some x → set (set xs i y) i x ≡ xs
-set_twice [] i x y e = cc
-set_twice (z ∷ xs) zero x y e = let same : z ≡ x = cc in ap (λ w. w ∷ xs) (sym same)
-set_twice (z ∷ xs) (suc i) x y e = ap (λ ws. z ∷ ws) (set_twice xs i x y e)
 
 pub has_run : (b r : BookValue) (number count quantum : ℕ) (before now : NodeState) (tokens : List (ℕ × Token)) → r ≡ with_run b number → slice_get (agreed b.state) number ≡ Some before
     → count ≤ quantum → quantum ≤ MAX_STEPS → steps t414 count before ≡ Some (now, tokens) → HasRun r number count tokens

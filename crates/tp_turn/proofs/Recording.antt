@@ -12,10 +12,11 @@ use Rattle.tp_port.proofs.Lists.{set_back}
 use Rattle.tp_snap.specs.Needs.{has_recorded_in, is_asked}
 use Rattle.tp_book.specs.Book.{BookValue, agreed, world_of}
 use Rattle.tp_book.specs.Marked.{after_record}
+use Rattle.tp_book.proofs.Stood.{one_act}
 use Rattle.tp_turn.specs.Books.{Grew}
 use Rattle.tp_turn.specs.Moments.{moment, IsNodeOf, Added, Done}
 use Rattle.tp_turn.specs.Settled.{Records}
-use Rattle.tp_turn.proofs.Adding.{acted_one, added_none}
+use Rattle.tp_turn.proofs.Adding.{added_none}
 
 -- who is asked hasn't recorded
 asked_not : (given : Option Snapshot) (p : ℕ) → is_asked given p ≡ true → has_recorded_in given p ≡ false
@@ -72,7 +73,7 @@ module _ (b new : BookValue) (number : ℕ) (n : NodeContents) (asked : is_asked
 
   added : happens t414 (world_of b) (Record number) ≡ Some (world_of new) → Added number n.live (Record number ∷ []) b new
   added act = record {
-    did = acted_one (world_of b) (world_of new) (Record number) act;
+    did = one_act (world_of b) (world_of new) (Record number) act;
     grew = subst (Grew [] b) (sym is)
         (record { start = refl; entries_are = sym (append-nil b.state.entries); base = refl; runs = refl; ready = refl; broken = refl; room = refl; history = sym (append-nil b.history); generation = refl; floor = refl });
     own = tt;

@@ -1,6 +1,6 @@
 -- A node's turn in its stages.
-use Rattle.std.proofs.Common.{◌≡◌, ℕ, zero, suc, true, false, cond, inl, inr, List, [], ◌∷◌, set, get_or, refl, sym, ap, subst, ◌∙◌, Option, Some, None, slice_get, eq-eqb, ne_eqb}
-use Rattle.std.specs.Prelude.{IsSome, Ok, Err}
+use Rattle.std.proofs.Common.{◌≡◌, ℕ, zero, suc, true, false, cond, inl, inr, List, [], ◌∷◌, set, get_or, refl, sym, ap, subst, ◌∙◌, Some, None, slice_get, eq-eqb, ne_eqb}
+use Rattle.std.specs.Prelude.{IsSome, Err}
 use Rattle.std.specs.List.{AllByRecursion}
 use Rattle.std.proofs.lemmas.Bool.{cases_eq}
 use Rattle.tp_model.specs.declared.link.Token.{Token}
@@ -19,7 +19,6 @@ use Rattle.tp_snap.specs.Needs.{has_recorded_in}
 use Rattle.tp_book.specs.Acts.{run_acts}
 use Rattle.tp_book.specs.Book.{BookValue, agreed, world_of}
 use Rattle.tp_book.specs.Calls.{with_run, without_run, with_journalled, after_run, HasRun, RunIsAgreed}
-use Rattle.tp_book.specs.Refusals.{reserve_refusal, IsAnswer}
 use Rattle.tp_book.specs.declared.refusal.Refusal.{Refusal}
 use Rattle.tp_turn.specs.Books.{Grew}
 use Rattle.tp_turn.specs.Turns.{Then}

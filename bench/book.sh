@@ -1,0 +1,38 @@
+#!/bin/bash
+# What a snapshot and the entries beside it cost a book, by how many nodes and entries it has, in one run, outside the gate.
+# usage: bench/book.sh [ROUNDS]     5 rounds by default. The devices have no wire, so a cut is whole once all nodes have recorded
+set -e
+top=$(cd "$(dirname "$0")/.." && pwd)
+rounds=${1:-5}
+work=$(mktemp -d /tmp/bench-book-XXXX)
+trap 'rm -rf "$work"' EXIT
+
+cp -r "$top/crates" "$top/crates.txt" "$top/HANDLES" "$work"
+mkdir -p "$work/crates/bench_book/src"
+cp "$top/bench/book.rattle" "$work/crates/bench_book/src/main.rt"
+echo "bench_book: tp_book tp_disk tp_recover" >> "$work/crates.txt"
+(cd "$work/crates/bench_book" && rt run > "$work/build.log" 2>&1) || true
+program=$work/crates/bench_book/out/bench_book
+[ -x "$program" ] || { tail -20 "$work/build.log"; exit 1; }
+
+"$top/tools/make-image" "$top/examples/compute.txt" "$work/node.img"
+python3 - "$program" "$top/bench/make-device" "$work" "$rounds" <<'PY'
+import os, subprocess, sys
+program, make, work, rounds = sys.argv[1:5]
+
+KINDS = [(1, 64), (16, 64), (16, 100000)]
+best = {}
+for nodes, entries in KINDS:
+    subprocess.run([make, work + "/node.img", str(nodes), str(entries), "16", "%s/%d-%d" % (work, nodes, entries)], check=True)
+for _ in range(int(rounds)):
+    for nodes, entries in KINDS:
+        said = subprocess.run([program, "%s/%d-%d" % (work, nodes, entries)], capture_output=True, text=True, check=True).stdout
+        times = [int(word) for word in said.split()]
+        best[nodes, entries] = [min(pair) for pair in zip(times, best.get((nodes, entries), times))]
+print("nodes entries  1,024 inputs  begin  inputs while it runs  record all  whole   (ns, best of %s)" % rounds)
+for kind in KINDS:
+    print("%5d %7d  %12d  %5d  %20d  %10d  %5d" % (kind + tuple(best[kind])))
+few, many = best[16, 64], best[16, 100000]
+print("100,000 entries beside 64: inputs %.2f, begin %.2f, inputs while it runs %.2f, record %.2f, whole %.2f" % tuple(
+    b / max(a, 1) for a, b in zip(few, many)))
+PY

@@ -1,0 +1,266 @@
+//! What is kept of a device for finishing a snapshot: the takes that a running one needs go on behind the last entry that anyone
+//! may make.
+
+ghost use Rattle.std.specs.Prelude.{◌≡◌, ◌<◌, length, true};
+ghost use Rattle.tp_book.specs.Marked.{taker_of};
+ghost use Rattle.tp_tests_store.specs.Lone.{IsUsable};
+
+use crate::devices::{AREA, GROUPS, fresh, place};
+use crate::opened_books::book_of;
+use std::alloc::Global;
+use std::process::Abort;
+use std::test::Fail;
+use tp_book::Refusal::{JournalFull, NothingToTake, SnapshotRunning};
+use tp_book::{Book, Refusal};
+use tp_model::WireEnd;
+use tp_tests_store::calls::hand_in;
+
+/// A call on the book. A take that was made ready is given back.
+#[derive(Clone, Copy, Debug)]
+enum Call {
+    HandIn,
+    ReadyTake(u16),
+    HostTake(u16),
+    Begin,
+    Record,
+    Close(u16),
+}
+
+/// A call; its answer, and none where it may not be made; and then the next number.
+type Row = (Call, Option<Result<(), Refusal>>, u64);
+
+/// How many entries the device has, whether the node took the host's first byte, and calls one after another.
+type Story<'a> = (u8, bool, &'a [Row]);
+
+pub(crate) const DONE: Option<Result<(), Refusal>> = Some(Ok(()));
+
+const FULL: Option<Result<(), Refusal>> = Some(Err(JournalFull));
+
+const NOTHING: Option<Result<(), Refusal>> = Some(Err(NothingToTake));
+
+const STORIES: &[Story<'static>] = &[
+    // Without a snapshot: the 105th entry has 3,360 bytes of at most 3,382, and the 106th would have 3,392.
+    (
+        104,
+        false,
+        &[
+            (Call::Record, None, 104),
+            (Call::ReadyTake(4), DONE, 104),
+            (Call::HostTake(0), DONE, 105),
+            (Call::ReadyTake(4), FULL, 105),
+            (Call::HandIn, FULL, 105),
+        ],
+    ),
+    // While one runs the host has recorded, and the node hasn't yet.
+    (
+        105,
+        false,
+        &[
+            (Call::HostTake(0), FULL, 105),
+            (Call::Begin, DONE, 105),
+            (Call::Begin, Some(Err(SnapshotRunning)), 105),
+            (Call::ReadyTake(4), FULL, 105),
+            (Call::HandIn, FULL, 105),
+            (Call::HostTake(0), DONE, 106),
+            (Call::Record, DONE, 106),
+            (Call::ReadyTake(4), DONE, 106),
+            (Call::HandIn, FULL, 106),
+        ],
+    ),
+    // The 120th entry has 3,840 bytes of at most 3,862, and the 121st would have 3,872.
+    (
+        119,
+        false,
+        &[
+            (Call::ReadyTake(4), FULL, 119),
+            (Call::Begin, DONE, 119),
+            (Call::Record, DONE, 119),
+            (Call::Record, None, 119),
+            (Call::ReadyTake(4), DONE, 119),
+            (Call::HostTake(0), DONE, 120),
+            (Call::ReadyTake(4), FULL, 120),
+        ],
+    ),
+    (
+        120,
+        false,
+        &[
+            (Call::Begin, DONE, 120),
+            (Call::Record, DONE, 120),
+            (Call::ReadyTake(4), FULL, 120),
+            (Call::HostTake(0), FULL, 120),
+        ],
+    ),
+    // Once the line is closed, a take from it is like any other.
+    (
+        118,
+        true,
+        &[
+            (Call::Begin, DONE, 118),
+            (Call::Close(4), None, 118),
+            (Call::Record, DONE, 118),
+            (Call::HostTake(0), DONE, 119),
+            (Call::ReadyTake(4), NOTHING, 119),
+            (Call::Close(4), DONE, 119),
+            (Call::ReadyTake(4), FULL, 119),
+        ],
+    ),
+    (
+        103,
+        true,
+        &[
+            (Call::Begin, DONE, 103),
+            (Call::Record, DONE, 103),
+            (Call::HostTake(0), DONE, 104),
+            (Call::Close(4), DONE, 104),
+            (Call::ReadyTake(4), DONE, 104),
+            (Call::HandIn, DONE, 105),
+            (Call::ReadyTake(4), FULL, 105),
+        ],
+    ),
+];
+
+/// An entry's bytes: the node sends its letter, and the host hands in bytes, the first of which the node may take.
+fn entry_bytes(number: u8, took: bool) -> [u8; 16] {
+    let mut bytes = [3, 0, 0x78, 0, 0, 0, 0, 0, 0, 0, 0, 0, 0, 0, 0, 0];
+    if number == 0 {
+        bytes = [1, 0, 3, 0, 0, 0, 0, 0, 0, 0, 0, 0, 0, 0, 0, 0];
+    }
+    if took && number == 2 {
+        bytes = [2, 1, 4, 0, 0x78, 0, 0, 0, 0, 0, 0, 0, 0, 0, 0, 0];
+    }
+    bytes[8] = number;
+    bytes
+}
+
+/// The bytes of a device with so many entries, in groups of up to 64.
+fn device(alloc: Global, entries: u8, took: bool) -> Result<Vec<u8>, Fail> {
+    let mut bytes = fresh(alloc, AREA)?;
+    for number in 0..entries {
+        let at = GROUPS + 16 * (usize::from(number) + usize::from(number / 64));
+        if number % 64 == 0 {
+            let count = (entries - number).min(64);
+            place(&mut bytes, at, &[0xA5, 0, count, 0, 0, 0, 0, 0, number]);
+        }
+        place(&mut bytes, at + 16, &entry_bytes(number, took));
+    }
+    Ok(bytes)
+}
+
+/// Whether the book has a line.
+pub(crate) fn has_line(book: &Book, line: u16) -> bool
+    ensures { result ≡ true → line < length book.now.state.lines }
+{
+    book.known();
+    usize::from(line) < 4 * book.nodes() + book.ports()
+}
+
+/// The process that receives a line.
+fn taker(book: &Book, line: u16) -> usize
+    requires { line < length book.now.state.lines }
+    ensures { result ≡ taker_of book.now line }
+{
+    book.known();
+    match book.receiver(line) {
+        Some(WireEnd::Link(node, _)) => usize::from(node),
+        Some(WireEnd::Port(_)) => book.nodes(),
+        None => book.nodes(),
+    }
+}
+
+fn ready_take(book: &mut Book, line: u16) -> Option<Result<(), Refusal>>
+    requires { IsUsable book.old }
+    ensures { IsUsable book.new }
+{
+    if !has_line(book, line) {
+        return None;
+    }
+    let Some(WireEnd::Link(_node, _link)) = book.receiver(line) else {
+        return None;
+    };
+    match book.ready_take(line) {
+        Ok(_token) => {
+            book.give_back(line);
+            DONE
+        }
+        Err(refusal) => Some(Err(refusal)),
+    }
+}
+
+fn host_take(book: &mut Book, line: u16) -> Option<Result<(), Refusal>>
+    requires { IsUsable book.old }
+    ensures { IsUsable book.new }
+{
+    if !has_line(book, line) {
+        return None;
+    }
+    let Some(WireEnd::Port(_port)) = book.receiver(line) else {
+        return None;
+    };
+    match book.host_take(line) {
+        Ok(_note) => DONE,
+        Err(refusal) => Some(Err(refusal)),
+    }
+}
+
+fn record(book: &mut Book) -> Option<Result<(), Refusal>>
+    requires { IsUsable book.old }
+    ensures { IsUsable book.new }
+{
+    if book.nodes() == 0 || !book.asked(0) {
+        return None;
+    }
+    book.record(0);
+    DONE
+}
+
+pub(crate) fn close(book: &mut Book, line: u16) -> Option<Result<(), Refusal>>
+    requires { IsUsable book.old }
+    ensures { IsUsable book.new }
+{
+    if !has_line(book, line) || !book.marker_ready(line) {
+        return None;
+    }
+    let process = taker(book, line);
+    if process > book.nodes() || !book.recorded(process) {
+        return None;
+    }
+    book.close_line(line);
+    DONE
+}
+
+fn make(alloc: Global, book: &mut Book, call: Call) -> Option<Result<(), Refusal>>
+    requires { IsUsable book.old }
+    ensures { IsUsable book.new }
+{
+    match call {
+        Call::HandIn => match hand_in(book, b"x") {
+            Ok(_number) => DONE,
+            Err(refusal) => Some(Err(refusal)),
+        },
+        Call::ReadyTake(line) => ready_take(book, line),
+        Call::HostTake(line) => host_take(book, line),
+        Call::Begin => Some(book.begin(alloc)),
+        Call::Record => record(book),
+        Call::Close(line) => close(book, line),
+    }
+}
+
+fn play<R: AllocGlobal + Abort>(rt: &R, alloc: Global, story: &Story<'_>) -> Result<(), Fail> {
+    let (entries, took, rows) = *story;
+    let mut book = book_of(alloc, device(alloc, entries, took)?)?;
+    for row in rows {
+        let (call, answer, next) = *row;
+        let told = make(alloc, &mut book, call) == answer && book.next() == next;
+        assert!(rt; told, "{entries} entries, {call:?}");
+    }
+    Ok(())
+}
+
+#[test]
+fn takes_of_a_snapshot_use_what_is_kept(rt: HostRuntime) -> Result<(), Fail> {
+    for story in STORIES {
+        play(&rt, rt.alloc(), story)?;
+    }
+    Ok(())
+}
