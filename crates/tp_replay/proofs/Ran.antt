@@ -1,5 +1,5 @@
 -- A run of a node, of as many steps as it could make.
-use Rattle.std.proofs.Common.{◌≡◌, ℕ, zero, suc, ◌+◌, ◌*◌, ◌<◌, ◌≤◌, inl, inr, List, [], length, refl, sym, ap, subst, ◌∙◌, arith, Some, None, slice_get}
+use Rattle.std.proofs.Common.{◌≡◌, ℕ, zero, suc, ◌+◌, ◌*◌, ◌<◌, ◌≤◌, inl, inr, List, [], length, set, refl, sym, ap, subst, ◌∙◌, arith, Some, None, slice_get}
 use Rattle.std.specs.List.{AllByRecursion}
 use Rattle.std.specs.Option.{option_map}
 use Rattle.std.specs.Vec.{with_item}
@@ -10,9 +10,10 @@ use Rattle.tp_model.specs.declared.entry.Entry.TheVariants.{Run}
 use Rattle.tp_model.specs.declared.limits.TheConstants.{MAX_STEPS}
 use Rattle.tp_model.specs.NodeState.{NodeState}
 use Rattle.tp_model.specs.Node.{t414, node_step}
-use Rattle.tp_model.specs.Network.{steps, has_wire, sent}
+use Rattle.tp_model.specs.Network.{Network, steps, has_wire, sent}
 use Rattle.tp_model.specs.Entries.{next}
 use Rattle.tp_law_network.proofs.Local.{steps_links}
+use Rattle.tp_law_network.proofs.Partial.{slice_get-set_same}
 use Rattle.tp_law_machine.proofs.LinkLaws.{has_four_links}
 use Rattle.tp_node.specs.NodeContents.{NodeContents}
 use Rattle.tp_port.specs.Sends.{on_lines}
@@ -20,11 +21,11 @@ use Rattle.tp_port.specs.Room.{HasRoom}
 use Rattle.tp_port.proofs.Lists.{set_back}
 use Rattle.tp_port.proofs.Sending.{all_known}
 use Rattle.tp_replay.specs.declared.network.FlatNetwork.TheInside.{Inside}
-use Rattle.tp_replay.specs.Answers.{Leaves}
+use Rattle.tp_replay.specs.Answers.{Leaves, RanUpTo}
 use Rattle.tp_replay.specs.Flat.{IsFlat}
 use Rattle.tp_replay.specs.Inside.{state_of, IsInside}
 use Rattle.tp_replay.proofs.Applied.{room, node_inside, node_next, still_thawed}
-use Rattle.tp_replay.proofs.Impossible.{steps_fewer}
+use Rattle.tp_replay.proofs.Impossible.{steps_fewer, run_short}
 use Rattle.tp_replay.proofs.Steps.{Made, node_after, run_step}
 
 -- ## The fields behind it
@@ -71,14 +72,6 @@ module _ (n : Inside) (I : IsInside n) (i : ℕ) (node new : NodeContents) (ther
     pub ran_next : 0 < count → next t414 (state_of n) (Run i count) ≡ Some (state_of (record n { nodes = with_item n.nodes i new; lines = lines }))
     ran_next some = node_next n I (Run i count) n.lines i node new there kept tokens (step some) lines on
 
-    -- what a run leaves that was cut short
-    pub ran_leaves : (max : ℕ) → count < max → Leaves (state_of n) (Run i max) (state_of (record n { nodes = with_item n.nodes i new; lines = lines }))
-    ran_leaves max fewer = go count refl
-      where
-        go : (k : ℕ) → count ≡ k → Leaves (state_of n) (Run i max) (state_of (record n { nodes = with_item n.nodes i new; lines = lines }))
-        go zero none = inl (ran_none none)
-        go (suc k) some = inr (record { made = count; fewer = fewer; is = ran_next (omega arith) })
-
     pub ran_inside : IsInside (record n { nodes = with_item n.nodes i new; lines = lines })
     ran_inside = go count refl
       where
@@ -86,6 +79,35 @@ module _ (n : Inside) (I : IsInside n) (i : ℕ) (node new : NodeContents) (ther
         go zero none = record { flat = subst IsFlat (sym (ran_none none)) I.flat; thawed = still_thawed n I i node new there kept }
         go (suc k) some = node_inside n I (Run i count) n.lines i node new there kept tokens (step (omega arith)) lines on tt
 
-  -- fewer steps than were asked for are all that it can make
-  pub ran_short : (max : ℕ) → node_step new.live ≡ None → count < max → steps t414 max node.live ≡ None
-  ran_short max none fewer = steps_fewer t414 count max node.live (new.live, tokens) ran none fewer
+    -- The run is all that it can make.
+    pub ran_upto : (max : ℕ) → count ≤ max → (count < max → node_step new.live ≡ None) → RanUpTo (state_of n) i max count (state_of (record n { nodes = with_item n.nodes i new; lines = lines }))
+    ran_upto max most all = record {
+      few = most;
+      before = node.live;
+      there = at;
+      behind = new.live;
+      stands = slice_get-map (λ node. node.live) (set n.nodes.items i new) i ∙ ap (option_map (λ node. node.live)) (slice_get-set_same n.nodes.items i new node there);
+      tokens = tokens;
+      made = ran;
+      none = ran_none;
+      some = ran_next;
+      all = all;
+    }
+
+-- ## What it is as an entry
+
+module _ (s : Network NodeState) (i most count : ℕ) (now : Network NodeState) (R : RanUpTo s i most count now) where
+  -- Where all steps were made, it is the entry.
+  pub ran_all : count ≡ most → 0 < most → next t414 s (Run i most) ≡ Some now
+  ran_all all some = subst (λ k. next t414 s (Run i k) ≡ Some now) all (R.some (omega (arith, all, some)))
+
+  -- Where fewer were made, the entry isn't possible.
+  pub ran_not : count < most → next t414 s (Run i most) ≡ None
+  ran_not fewer = run_short s i most R.before R.there (steps_fewer t414 count most R.before (R.behind, R.tokens) R.made (R.all fewer) fewer)
+
+  pub ran_cut : count < most → Leaves s (Run i most) now
+  ran_cut fewer = go count refl
+    where
+      go : (k : ℕ) → count ≡ k → Leaves s (Run i most) now
+      go zero none = inl (R.none none)
+      go (suc k) some = inr (record { made = count; fewer = fewer; is = R.some (omega (arith, some)) })

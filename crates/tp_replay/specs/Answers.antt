@@ -1,10 +1,11 @@
 -- What a call answers and leaves that applies an entry.
-use Rattle.std.specs.Prelude.{◌≡◌, ◌⊎◌, ◌<◌, ℕ, Option, Some, None, Result, Ok, Err}
+use Rattle.std.specs.Prelude.{◌≡◌, ◌⊎◌, ◌<◌, ◌≤◌, ℕ, List, Option, Some, None, Result, Ok, Err, slice_get}
 use Rattle.tp_model.specs.declared.entry.Entry.{Entry}
 use Rattle.tp_model.specs.declared.entry.Entry.TheVariants.{Run, Take, HostIn, Confirm}
 use Rattle.tp_model.specs.NodeState.{NodeState}
-use Rattle.tp_model.specs.Node.{t414}
-use Rattle.tp_model.specs.Network.{Network}
+use Rattle.tp_model.specs.declared.link.Token.{Token}
+use Rattle.tp_model.specs.Node.{t414, node_step}
+use Rattle.tp_model.specs.Network.{Network, steps}
 use Rattle.tp_model.specs.Entries.{next}
 use Rattle.tp_replay.specs.declared.fault.NotPossible.{NotPossible}
 
@@ -27,3 +28,17 @@ Leaves s (Run node count) now = (now ≡ s) ⊎ RanShort s node count now
 Leaves s (Take line token) now = now ≡ s
 Leaves s (HostIn port byte) now = now ≡ s
 Leaves s (Confirm port upto) now = now ≡ s
+
+-- A node ran for at most so many steps: `count` were made, fewer than that only where the node has no step then. Without a step
+-- the network is as it was.
+pub record RanUpTo (s : Network NodeState) (node most count : ℕ) (now : Network NodeState) : Type 0 where
+  pub few : count ≤ most
+  pub before : NodeState
+  pub there : slice_get s.nodes node ≡ Some before
+  pub behind : NodeState
+  pub stands : slice_get now.nodes node ≡ Some behind
+  pub tokens : List (ℕ × Token)
+  pub made : steps t414 count before ≡ Some (behind, tokens)
+  pub none : count ≡ 0 → now ≡ s
+  pub some : 0 < count → next t414 s (Run node count) ≡ Some now
+  pub all : count < most → node_step behind ≡ None

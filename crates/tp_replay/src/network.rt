@@ -1,10 +1,11 @@
 //! A network in one thread.
 
-ghost use Rattle.std.specs.Prelude.{◌≡◌, ◌≤◌, ◌+◌, ◌*◌, length, map};
+ghost use Rattle.std.specs.Prelude.{◌≡◌, ◌≤◌, ◌<◌, ◌+◌, ◌*◌, length, map, slice_get};
+ghost use Rattle.tp_model.specs.Network.{on_line};
 ghost use Rattle.tp_replay.specs.Flat.{IsFlat, AreThawed, network_of};
 
 use std::marker::Model;
-use tp_model::WireEnd;
+use tp_model::{Token, WireEnd};
 use tp_net::{Lines, port_line};
 use tp_node::Node;
 use tp_port::HostPort;
@@ -63,6 +64,14 @@ impl FlatNetwork {
         ensures { map (λ node. node.live) result.now ≡ self.now.nodes }
     {
         self.nodes.as_slice()
+    }
+
+    /// The token that comes next on a line.
+    pub fn front(&self, line: u16) -> Option<Token>
+        requires { line < length self.now.lines }
+        ensures { result ≡ slice_get (on_line self.now.lines line) 0 }
+    {
+        self.lines.front(line as usize)
     }
 
     /// The ports.

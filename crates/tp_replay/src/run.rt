@@ -1,11 +1,11 @@
 //! Runs of nodes.
 
-ghost use Rattle.std.specs.Prelude.{◌≡◌, ◌<◌, ◌≤◌, ◌&&◌, IsTrue, nat_lt, nat_le, OnErr};
+ghost use Rattle.std.specs.Prelude.{◌≡◌, ◌<◌, ◌≤◌, ◌&&◌, IsTrue, length, nat_lt, nat_le, OnErr};
 ghost use Rattle.tp_model.specs.declared.limits.TheConstants.{MAX_STEPS};
 ghost use Rattle.tp_model.specs.declared.entry.Entry.TheVariants.{Run};
 ghost use Rattle.tp_model.specs.Entries.{next};
 ghost use Rattle.tp_model.specs.Node.{t414};
-ghost use Rattle.tp_replay.specs.Answers.{Applies, Leaves};
+ghost use Rattle.tp_replay.specs.Answers.{Applies, Leaves, RanUpTo};
 
 use crate::fault::NotPossible;
 use crate::network::FlatNetwork;
@@ -15,22 +15,31 @@ use tp_net::link_line;
 use tp_port::send_all;
 
 impl FlatNetwork {
+    /// Runs a node for at most `most` steps; for fewer only where it has no step then. Answers how many it made.
+    pub fn run_upto(&mut self, node: u8, most: u16) -> u16
+        requires there { node < length self.old.nodes }
+        requires bound { most ≤ MAX_STEPS }
+        ensures ran { RanUpTo self.old node most result self.new }
+    {
+        let i = node as usize;
+        let mut sent = ArrayVec::new();
+        let ran = self.nodes[i].run(most, &mut sent);
+        send_all(&self.wires, &mut self.lines, link_line(i, 0), &sent);
+        ran.count()
+    }
+
     /// Has `node` make `count` steps. Where it can't, it has made as many as it can.
     pub(crate) fn run(&mut self, node: u8, count: u16) -> Result<(), NotPossible>
         ensures applies { Applies (next t414 self.old (Run node count)) result self.new }
         ensures err { OnErr result (Leaves self.old (Run node count) self.new) }
     {
-        let i = node as usize;
-        if i >= self.nodes.len() {
+        if node as usize >= self.nodes.len() {
             return Err(NotPossible);
         }
         if !is_count(count) {
             return Err(NotPossible);
         }
-        let mut sent = ArrayVec::new();
-        let ran = self.nodes[i].run(count, &mut sent);
-        send_all(&self.wires, &mut self.lines, link_line(i, 0), &sent);
-        if ran.count() == count {
+        if self.run_upto(node, count) == count {
             Ok(())
         } else {
             Err(NotPossible)
