@@ -12,7 +12,12 @@ use tp_turn::{TryFault, lone_node};
 /// What port 0 holds after `turns` turns of the node of `image` and the host: node, host, node, host .. A run has at most
 /// `quantum` steps. It is the output of `tp_turn::try_turns`, and takes no more memory for more turns. The images that are
 /// refused are those with which no device may be formatted.
-pub fn try_output(alloc: Global, image: &[u8], turns: u32, quantum: u16) -> Result<Vec<u8>, TryFault>
+pub fn try_output(
+    alloc: Global,
+    image: &[u8],
+    turns: u32,
+    quantum: u16,
+) -> Result<Vec<u8>, TryFault>
     requires { quantum ≤ MAX_STEPS }
     ensures { OutputAs (fresh_image image.now) turns quantum result }
 {

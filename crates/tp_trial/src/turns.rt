@@ -12,6 +12,7 @@ use tp_turn::{TAKES, TURN_ENTRIES};
 
 /// The line that the port receives, and the line that the node receives.
 const TO_PORT: u16 = 0;
+
 const TO_NODE: u16 = 4;
 
 impl Lone {
