@@ -23,7 +23,7 @@ use Rattle.tp_law_network.proofs.Room.{on_line-plain, datas-plain, acks-plain}
 use Rattle.tp_law_network.proofs.Sound.{end_waits_is, end_holds_is}
 use Rattle.tp_book.specs.Book.{BookValue, agreed}
 use Rattle.tp_book.specs.Calls.{front_of, with_ready, HasTaken}
-use Rattle.tp_book.specs.Refusals.{takeable_of, else_if, entry_refusal, ready_refusal, IsAnswer}
+use Rattle.tp_book.specs.Refusals.{takeable_of, else_if, needs_take, take_refusal, ready_refusal, IsAnswer}
 use Rattle.tp_book.specs.declared.refusal.Refusal.TheVariants.{NothingToTake, StoreBroken}
 use Rattle.tp_book.specs.Kept.{Keeps}
 
@@ -39,7 +39,7 @@ pub ready_some : {A : Type 0} (b : BookValue) (line : ℕ) (x : A) → IsAnswer 
 ready_some b line x = go (is_none (takeable_of (on_line b.state.lines line)))
   where
     go : (none : Bool)
-        → IsAnswer (entry_refusal b 1 (else_if (else_if None none NothingToTake) b.broken StoreBroken)) (Ok x)
+        → IsAnswer (take_refusal b (needs_take b line) (else_if (else_if None none NothingToTake) b.broken StoreBroken)) (Ok x)
         → none ≡ false
     go true h = absurd h
     go false h = refl

@@ -28,13 +28,13 @@ record-requires-clause-there c =
 pub returns-then-asked-clause-done : goal.returns-then-asked-clause-done
 returns-then-asked-clause-done c =
     let asked : is_asked c.args.book.now.state.snapshot c.args.number ≡ true = search rules in
-    subst (λ m. Done c.args.number (Records c.args.number) (moment c.args.book.now c.args.node.now) (moment c.record.new.self m)) (sym c.freeze.ensures)
+    subst (λ m. Done c.args.number (Records c.args.number) (moment c.args.book.now c.args.node.now) (moment c.record.new.self m)) (sym c.freeze.ensures.frozen)
     (recorded_done c.args.book.now c.record.new.self c.args.number c.args.node.now asked c.record.ensures.book c.requires.is c.record.ensures.act)
 
 pub returns-then-asked-clause-is : goal.returns-then-asked-clause-is
 returns-then-asked-clause-is c =
     let asked : is_asked c.args.book.now.state.snapshot c.args.number ≡ true = search rules in
-    subst (IsNodeOf c.record.new.self c.args.number) (sym c.freeze.ensures)
+    subst (IsNodeOf c.record.new.self c.args.number) (sym c.freeze.ensures.frozen)
     (recorded_is c.args.book.now c.record.new.self c.args.number c.args.node.now asked c.record.ensures.book c.requires.is)
 
 pub returns-else-asked-clause-done : goal.returns-else-asked-clause-done
