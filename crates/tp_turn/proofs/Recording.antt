@@ -15,7 +15,7 @@ use Rattle.tp_book.specs.Marked.{after_record}
 use Rattle.tp_book.proofs.Stood.{one_act}
 use Rattle.tp_turn.specs.Books.{Grew}
 use Rattle.tp_turn.specs.Moments.{moment, IsNodeOf, Added, Done}
-use Rattle.tp_turn.specs.Settled.{Records}
+use Rattle.tp_turn.specs.Settled.{frozen_now, Records}
 use Rattle.tp_turn.proofs.Adding.{added_none}
 
 -- who is asked hasn't recorded
@@ -63,7 +63,7 @@ record_agreed b node = refl
 
 module _ (b new : BookValue) (number : ℕ) (n : NodeContents) (asked : is_asked b.state.snapshot number ≡ true) (is : new ≡ after_record b number) (N : IsNodeOf b number n) where
   abbrev m : NodeContents
-  m = record n { frozen = Some n.live }
+  m = frozen_now n
 
   nodes : agreed new.state ≡ agreed b.state
   nodes = ap (λ x. agreed x.state) is ∙ record_agreed b number
@@ -114,6 +114,6 @@ unasked_done b number n unasked N =
       did = record {
         are = sym (ap (λ test. cond test (Record number ∷ []) []) unasked);
         added = nothing;
-        node = sym (ap (λ test. cond test (record n { frozen = Some n.live }) n) unasked);
+        node = sym (ap (λ test. cond test (frozen_now n) n) unasked);
       };
     }

@@ -1,5 +1,5 @@
 -- The open part of a node's turn.
-use Rattle.std.specs.Prelude.{◌≡◌, ◌<◌, ℕ, if◌then◌else◌, List, [], ◌∷◌, length, Some, Result, Ok, Err}
+use Rattle.std.specs.Prelude.{◌≡◌, ◌<◌, ℕ, true, if◌then◌else◌, List, [], ◌∷◌, length, replicate, Some, Result, Ok, Err}
 use Rattle.tp_model.specs.Acts.{Act, Record}
 use Rattle.tp_node.specs.NodeContents.{NodeContents}
 use Rattle.tp_snap.specs.Needs.{is_asked}
@@ -14,10 +14,14 @@ use Rattle.tp_turn.specs.Fronts.{OnLink}
 abbrev pub record_acts : BookValue → ℕ → List Act
 record_acts b number = if is_asked b.state.snapshot number then Record number ∷ [] else []
 
+-- the node, frozen as it is now: all its pages are shared
+abbrev pub frozen_now : NodeContents → NodeContents
+frozen_now node = record node { frozen = Some node.live; shared = replicate (length node.shared) true }
+
 -- it is then kept as it is
 abbrev pub recorded_node : BookValue → ℕ → NodeContents → NodeContents
 recorded_node b number node =
-    if is_asked b.state.snapshot number then record node { frozen = Some node.live } else node
+    if is_asked b.state.snapshot number then frozen_now node else node
 
 -- The node records where it is asked to.
 pub record Records (number : ℕ) (s : Moment) (acts : List Act) (t : Moment) : Type 0 where
