@@ -34,4 +34,4 @@ pub returns-in-Ok-clause-age : goal.returns-in-Ok-clause-age
 returns-in-Ok-clause-age g c =
     let t = c.args.head.now.topology in
     let wanted : c.cut_length-wanted.result ≡ cut_length t = c.cut_length-wanted.ensures.value ∙ ap cut_length c.topology.ensures.value in
-    front_age t c.area_start-start.result _ _ (sym (c.cut_front.ensures.is t wanted) ∙ c.in-Ok.is)
+    front_age t c.area_start-start.result c.in_ok-bytes.bytes _ (sym (c.cut_front.ensures.is t wanted) ∙ c.in-Ok.is)

@@ -1,2 +1,0 @@
-pub mod Lone
-pub mod Output
