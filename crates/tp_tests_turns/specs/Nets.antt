@@ -16,10 +16,16 @@ pub record HasNodes (b : BookValue) (nodes : List NodeContents) : Type 0 where
   pub free : b.runs ≡ replicate (length nodes) false
   pub each : (i : ℕ) (node : NodeContents) → slice_get nodes i ≡ Some node → IsNodeOf b i node
 
--- what images spell, and nothing frozen
-abbrev pub spelt : List (List ℕ) → List (Option NodeState × Option NodeState)
-spelt images = map (λ image. (node_of image, None)) images
+-- what an image spells, and nothing frozen
+abbrev pub spelt_one : List ℕ → Option NodeState × Option NodeState
+spelt_one image = (node_of image, None)
 
--- the nodes as they are, and as they are frozen
+abbrev pub spelt : List (List ℕ) → List (Option NodeState × Option NodeState)
+spelt images = map spelt_one images
+
+-- a node as it is, and as it is frozen
+abbrev pub seen_one : NodeContents → Option NodeState × Option NodeState
+seen_one node = (Some node.live, node.frozen)
+
 abbrev pub seen : List NodeContents → List (Option NodeState × Option NodeState)
-seen nodes = map (λ node. (Some node.live, node.frozen)) nodes
+seen nodes = map seen_one nodes
