@@ -12,6 +12,6 @@ mod filled_areas;
 mod format_faults;
 #[cfg(test)]
 mod opened_books;
-mod possible;
+pub mod possible;
 #[cfg(test)]
 mod reserve;
