@@ -1,14 +1,12 @@
 //! What a checkpoint puts into the other area, and the calls that put it there and switch to it.
 
-ghost use Rattle.std.specs.Prelude.{◌≡◌, ◌+◌, ◌-◌, ◌≤◌, [], ◌∷◌, true, map, OnOk};
-ghost use Rattle.std.specs.List.{AllByRecursion};
+ghost use Rattle.std.specs.Prelude.{◌≡◌, ◌<◌, ◌&&◌, true, length, OnOk};
 ghost use Rattle.std.specs.Option.{is_some};
-ghost use Rattle.tp_model.specs.declared.limits.TheConstants.{NUMBER_LIMIT};
-ghost use Rattle.tp_model.specs.CutImage.{is_port_of};
-ghost use Rattle.tp_model.specs.Spelling.{are_lines};
+ghost use Rattle.tp_model.specs.CutImage.{is_line_of, is_port_of};
+ghost use Rattle.tp_model.specs.Network.{on_line};
+ghost use Rattle.tp_model.specs.Spelling.{are_lines, has_record};
 ghost use Rattle.tp_port.specs.Parts.{port_of};
 ghost use Rattle.tp_area.specs.Other.{OtherIsClosed};
-ghost use Rattle.tp_area.specs.Tails.{IsTail, tail_parts};
 ghost use Rattle.tp_tests_opening.specs.TailOf.{AreTailOf};
 
 use crate::devices::{Held, replayed};
@@ -35,15 +33,15 @@ pub(crate) struct Cut<'a> {
 
 /// What is put for it: what a plain replay gives of the entries in it, its lines, and the entries outside it.
 #[derive(Drop)]
-pub(crate) struct Pieces<'a> {
+pub(crate) struct Pieces {
     held: Held,
     lines: Lines,
-    tail: &'a [(Entry, u64)],
+    tail: Vec<(Entry, u64)>,
 }
 
-impl<'a> Pieces<'a> {
+impl Pieces {
     /// The pieces of a cut over the device with `bytes`, which was just formatted.
-    pub(crate) fn of(alloc: Global, bytes: &[u8], cut: &Cut<'a>) -> Result<Pieces<'a>, Fail> {
+    pub(crate) fn of(alloc: Global, bytes: &[u8], cut: &Cut<'_>) -> Result<Pieces, Fail> {
         let held = replayed(alloc, bytes, cut.entries)?;
         let mut lines = Lines::new(alloc, 5)?;
         if let Some((line, token)) = cut.token {
@@ -54,13 +52,16 @@ impl<'a> Pieces<'a> {
         Ok(Pieces {
             held,
             lines,
-            tail: cut.tail,
+            tail: Vec::from_slice(alloc, cut.tail)?,
         })
     }
 }
 
 /// Whether the record of a line can hold what is on it, here one token at most.
-fn is_line(wire: Option<WireEnd>, lines: &Lines, line: usize) -> bool {
+fn is_line(wire: Option<WireEnd>, lines: &Lines, line: usize) -> bool
+    requires { line < length lines.now }
+    ensures { result ≡ true → (has_record (on_line lines.now line) && is_line_of wire (on_line lines.now line)) ≡ true }
+{
     match lines.front(line) {
         None => true,
         Some(Token::Marker) => false,
@@ -134,7 +135,7 @@ fn put_image<D: Disk>(
 fn put_rest<D: Disk>(
     store: &mut Store<D>,
     topology: &Topology,
-    pieces: &Pieces<'_>,
+    pieces: &Pieces,
 ) -> Result<(), StoreFault>
     requires closed { D.keeps → OtherIsClosed store.old.place (D.state store.old.disk) }
     ensures filled { OnOk result (is_some store.new.filled ≡ true) }
@@ -146,18 +147,18 @@ fn put_rest<D: Disk>(
         && ports.len() == 1
         && is_port(base, &ports[0])
         && are_lines(topology.wires(), &pieces.lines)
-        && are_behind(base, pieces.tail);
+        && are_behind(base, &pieces.tail);
     if !may_be_put {
         return Err(StoreFault::AreaFull);
     }
-    store.put_tail(topology, base, &pieces.lines, ports, pieces.tail)
+    store.put_tail(topology, base, &pieces.lines, ports, &pieces.tail)
 }
 
 /// Makes a checkpoint of pieces: the other area is closed, they are put there, and its gate is opened.
 pub(crate) fn switch<D: Disk>(
     store: &mut Store<D>,
     topology: &Topology,
-    pieces: &Pieces<'_>,
+    pieces: &Pieces,
 ) -> Result<(), StoreFault> {
     store.clear_other()?;
     let Some(image) = pieces.held.net.images.first() else {

@@ -26,15 +26,21 @@ enum Step<'a> {
 /// behind it, and the next number.
 type Look = (bool, u64, u64, usize, u64);
 
-/// The steps, and the checkpoint behind them; how many calls of the device opening takes then; how many calls closing the
-/// other area takes, and where the closed gate behind the tail stands; what opening says before and after it; all entries in
-/// the order in which they were made, before and after; and bytes of the device after it.
-struct Story<'a> {
-    steps: &'a [Step<'a>],
-    last: Cut<'a>,
+/// How many calls of the device opening makes, how many of a checkpoint close the other area, and where the closed gate
+/// behind its tail stands.
+#[derive(Clone, Copy)]
+struct Calls {
     opening: u64,
     clears: usize,
     behind: usize,
+}
+
+/// The steps, and the checkpoint behind them, with its calls; what opening says before and after it; all entries in the order
+/// in which they were made, before and after; and bytes of the device after it.
+struct Story<'a> {
+    steps: &'a [Step<'a>],
+    last: Cut<'a>,
+    calls: Calls,
     looks: [Look; 2],
     made: [&'a [&'a [Entry]]; 2],
     bytes: &'a [(usize, u8)],
@@ -80,9 +86,11 @@ const AFTER_A_GROUP: Story<'static> = Story {
         token: None,
         tail: &[(ROUND, 4)],
     },
-    opening: 11,
-    clears: 1,
-    behind: 12_553,
+    calls: Calls {
+        opening: 11,
+        clears: 1,
+        behind: 12_553,
+    },
     looks: [(false, 1, 0, 5, 5), (true, 2, 4, 1, 5)],
     made: [&[&LETTER, &[ROUND]], &[&LETTER, &[ROUND]]],
     bytes: &[(512, 0xA5), (16_896, 0xA5)],
@@ -96,9 +104,11 @@ const BEYOND_THE_GROUPS: Story<'static> = Story {
         token: Some((4, DATA)),
         tail: &[(HANDED, 5), (HANDED, 7), (TAKEN, 9), (GO, 10), (HANDED, 11)],
     },
-    opening: 11,
-    clears: 1,
-    behind: 12_617,
+    calls: Calls {
+        opening: 11,
+        clears: 1,
+        behind: 12_617,
+    },
     looks: [(false, 1, 0, 9, 9), (true, 2, 7, 5, 12)],
     made: [&[&LETTER, &MIXED], &[&LETTER, &MIXED, &[TAKEN, GO, HANDED]]],
     bytes: &[(512, 0xA5), (16_896, 0xA5)],
@@ -119,9 +129,11 @@ const OVER_OLD_GROUPS: Story<'static> = Story {
         token: None,
         tail: &[(GO, 44)],
     },
-    opening: 10,
-    clears: 3,
-    behind: 12_553,
+    calls: Calls {
+        opening: 10,
+        clears: 3,
+        behind: 12_553,
+    },
     looks: [(false, 3, 44, 1, 45), (true, 4, 44, 1, 45)],
     made: [&[&LETTER, &FORTY, &[GO]], &[&LETTER, &FORTY, &[GO]]],
     bytes: &[(29_417, 0xA5), (29_449, 0x00), (29_481, 0xA5)],
@@ -146,22 +158,22 @@ const PUTS: [(usize, usize); 13] = [
     (0, 1),
 ];
 
-impl Story<'_> {
+impl Calls {
     /// How many calls the checkpoint makes.
-    fn calls(&self) -> usize {
+    fn count(self) -> usize {
         self.clears.saturating_add(PUTS.len())
     }
 
     /// Whether a call is a sync.
-    fn is_sync(&self, call: usize) -> bool {
-        let calls = self.calls();
+    fn is_sync(self, call: usize) -> bool {
+        let calls = self.count();
         call.saturating_add(3) == calls
             || call.saturating_add(1) == calls
             || (self.clears == 3 && call == 2)
     }
 
     /// The bytes of the device that a call writes or syncs, as their place and length. A read, and what is no call, have none.
-    fn range(&self, call: usize) -> (usize, usize) {
+    fn range(self, call: usize) -> (usize, usize) {
         let (at, len) = match call.checked_sub(self.clears) {
             Some(9) => (self.behind, 1),
             Some(put) => PUTS.get(put).copied().unwrap_or((0, 0)),
@@ -206,12 +218,26 @@ impl Case {
 
 /// A device in front of the checkpoint and behind it, with what a plain replay of the entries gives; and what is put.
 #[derive(Drop)]
-struct Known<'a> {
+struct Known {
+    calls: Calls,
+    looks: [Look; 2],
     topology: Topology,
-    pieces: Pieces<'a>,
+    pieces: Pieces,
     start: Vec<u8>,
     end: Vec<u8>,
     held: [Held; 2],
+}
+
+/// Appends a group for each entry.
+fn append_each<R: Abort>(
+    rt: &R,
+    store: &mut Store<MemDisk>,
+    entries: &[Entry],
+) -> Result<(), StoreFault> {
+    for entry in entries {
+        append(rt, store, &[*entry])?;
+    }
+    Ok(())
 }
 
 /// Takes a step on a device, which was formatted with `first`.
@@ -224,11 +250,7 @@ fn take_step<R: AllocGlobal + Abort>(
 ) -> Result<(), Fail> {
     match *step {
         Step::Group(entries) => append(rt, store, entries)?,
-        Step::Each(entries) => {
-            for entry in entries {
-                append(rt, store, &[*entry])?;
-            }
-        }
+        Step::Each(entries) => append_each(rt, store, entries)?,
         Step::Switch(cut) => {
             let pieces = Pieces::of(rt.alloc(), first, &cut)?;
             switch(store, topology, &pieces)?;
@@ -237,8 +259,27 @@ fn take_step<R: AllocGlobal + Abort>(
     Ok(())
 }
 
-impl<'a> Known<'a> {
-    fn of<R: AllocGlobal + Abort>(rt: &R, story: &Story<'a>) -> Result<Known<'a>, Fail> {
+/// Takes steps on it, one after the other.
+fn grow<R: AllocGlobal + Abort>(
+    rt: &R,
+    store: &mut Store<MemDisk>,
+    topology: &Topology,
+    first: &[u8],
+    steps: &[Step<'_>],
+) -> Result<(), Fail> {
+    for step in steps {
+        take_step(rt, store, topology, first, step)?;
+    }
+    Ok(())
+}
+
+/// Whether the bytes of a device are those that ought to stand there.
+fn has_bytes(device: &[u8], bytes: &[(usize, u8)]) -> bool {
+    bytes.iter().all(|(at, byte)| device.get(*at) == Some(byte))
+}
+
+impl Known {
+    fn of<R: AllocGlobal + Abort>(rt: &R, story: &Story<'_>) -> Result<Known, Fail> {
         let alloc = rt.alloc();
         let first = fresh(alloc, AREA)?;
         let topology = Letter::new(alloc)?.topology;
@@ -249,13 +290,16 @@ impl<'a> Known<'a> {
             replayed(alloc, &first, after)?,
         ];
         let (_, mut store) = open_store(alloc, disk_of(alloc, &first)?)?;
-        for earlier in story.steps {
-            take_step(rt, &mut store, &topology, &first, earlier)?;
-        }
+        grow(rt, &mut store, &topology, &first, story.steps)?;
         let start = Vec::from_slice(alloc, store.disk.bytes())?;
         switch(&mut store, &topology, &pieces)?;
         let end = store.into_disk().crash();
+        if !has_bytes(&end, story.bytes) {
+            return Err(Fail::new("other bytes"));
+        }
         Ok(Known {
+            calls: story.calls,
+            looks: story.looks,
             topology,
             pieces,
             start,
@@ -307,52 +351,40 @@ fn is_broken(store: &mut Store<MemDisk>) -> bool {
 }
 
 /// Whether a checkpoint with a fault is told as failed, and the device then opens as it was, or as the checkpoint leaves it.
-fn is_whole(alloc: Global, story: &Story<'_>, known: &Known<'_>, case: Case) -> Result<bool, Fail> {
-    let range = story.range(case.call);
+fn is_whole(alloc: Global, known: &Known, case: Case) -> Result<bool, Fail> {
+    let range = known.calls.range(case.call);
     let torn = known.torn(alloc, case.torn, range)?;
-    let call = story.opening.saturating_add(case.call as u64);
+    let call = known.calls.opening.saturating_add(case.call as u64);
     let fault = case.ending.fault(known.torn(alloc, case.torn, range)?);
     let disk = disk_of(alloc, &known.start)?.with_fault(call, fault);
     let (_, mut store) = open_store(alloc, disk)?;
     let told = switch(&mut store, &known.topology, &known.pieces);
     let is_told = match told {
-        Ok(()) => case.call == story.calls(),
+        Ok(()) => case.call == known.calls.count(),
         Err(fault) => fault == StoreFault::DeviceFailed && is_broken(&mut store),
     };
     let mut bytes = store.into_disk().crash();
-    if story.is_sync(case.call) {
+    if known.calls.is_sync(case.call) {
         place(&mut bytes, range.0, &torn);
     }
-    let after = usize::from(case.opens(story.calls()));
-    Ok(is_told && is_as(alloc, &bytes, story.looks[after], &known.held[after])?)
-}
-
-/// Whether the bytes of a device are those that ought to stand there.
-fn has_bytes(device: &[u8], bytes: &[(usize, u8)]) -> bool {
-    bytes.iter().all(|(at, byte)| device.get(*at) == Some(byte))
+    let after = usize::from(case.opens(known.calls.count()));
+    Ok(is_told && is_as(alloc, &bytes, known.looks[after], &known.held[after])?)
 }
 
 /// Whether it does so however a call ends. Behind the last call none is reached.
-fn is_whole_at(
-    alloc: Global,
-    story: &Story<'_>,
-    known: &Known<'_>,
-    call: usize,
-) -> Result<bool, Fail> {
+fn is_whole_at(alloc: Global, known: &Known, call: usize) -> Result<bool, Fail> {
     for (ending, torn) in ENDINGS {
-        if !is_whole(alloc, story, known, Case { call, ending, torn })? {
+        if !is_whole(alloc, known, Case { call, ending, torn })? {
             return Ok(false);
         }
     }
     Ok(true)
 }
 
-fn play<R: AllocGlobal + Abort>(rt: &R, story: &Story<'_>) -> Result<(), Fail> {
-    let alloc = rt.alloc();
-    let known = Known::of(rt, story)?;
-    assert!(rt; has_bytes(&known.end, story.bytes));
-    for call in 0..story.calls().saturating_add(1) {
-        let told = is_whole_at(alloc, story, &known, call)?;
+/// Whether it does so in each call.
+fn play<R: AllocGlobal + Abort>(rt: &R, known: &Known) -> Result<(), Fail> {
+    for call in 0..known.calls.count().saturating_add(1) {
+        let told = is_whole_at(rt.alloc(), known, call)?;
         assert!(rt; told, "call {call}");
     }
     Ok(())
@@ -360,15 +392,15 @@ fn play<R: AllocGlobal + Abort>(rt: &R, story: &Story<'_>) -> Result<(), Fail> {
 
 #[test]
 fn a_checkpoint_is_there_or_it_is_not(rt: HostRuntime) -> Result<(), Fail> {
-    play(&rt, &AFTER_A_GROUP)
+    play(&rt, &Known::of(&rt, &AFTER_A_GROUP)?)
 }
 
 #[test]
 fn a_tail_reaches_the_next_number(rt: HostRuntime) -> Result<(), Fail> {
-    play(&rt, &BEYOND_THE_GROUPS)
+    play(&rt, &Known::of(&rt, &BEYOND_THE_GROUPS)?)
 }
 
 #[test]
 fn old_groups_are_not_read(rt: HostRuntime) -> Result<(), Fail> {
-    play(&rt, &OVER_OLD_GROUPS)
+    play(&rt, &Known::of(&rt, &OVER_OLD_GROUPS)?)
 }
