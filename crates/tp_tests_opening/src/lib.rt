@@ -5,6 +5,8 @@
 #[cfg(test)]
 mod append_faults;
 #[cfg(test)]
+mod copies;
+#[cfg(test)]
 mod devices;
 #[cfg(test)]
 mod filled_areas;
@@ -15,3 +17,5 @@ mod opened_books;
 pub mod possible;
 #[cfg(test)]
 mod reserve;
+#[cfg(test)]
+mod switch_faults;
