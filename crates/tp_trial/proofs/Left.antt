@@ -1,9 +1,8 @@
 -- What stands in front of a line and isn't taken can't be taken: it is a Marker, or Data for a port that has no room.
 use Rattle.std.proofs.Common.{◌≡◌, ℕ, zero, suc, ◌+◌, ◌*◌, ◌<◌, ◌≤◌, true, false, inl, inr, List, [], ◌∷◌, ◌++◌, cond, length, get_or, refl, sym, ap, ◌∙◌, arith, Option, Some, None, slice_get}
-use Rattle.std.specs.Prelude.{IsSome, is_some, nat_lt, nat_le}
+use Rattle.std.specs.Prelude.{IsSome, nat_le}
 use Rattle.std.specs.Option.{option_map}
-use Rattle.std.proofs.lemmas.Bool.{cases_eq, cases_Bool, lt-ltb, leb-false}
-use Rattle.std.proofs.lemmas.Option.{slice_get-get_or}
+use Rattle.std.proofs.lemmas.Bool.{cases_Bool, lt-ltb, leb-false}
 use Rattle.tp_model.specs.declared.link.Token.{Token}
 use Rattle.tp_model.specs.declared.link.Token.TheVariants.{Data, Ack, Marker}
 use Rattle.tp_model.specs.declared.wire.WireEnd.{WireEnd}
@@ -60,7 +59,7 @@ there_in [] i below = absurd (omega (arith, below))
 there_in (x ∷ xs) zero below = (x, refl)
 there_in (x ∷ xs) (suc i) below = there_in xs i (omega (arith, below))
 
-some_is : {A : Type 0} (o : Option A) → IsSome o → (x : A) × (o ≡ Some x)
+pub some_is : {A : Type 0} (o : Option A) → IsSome o → (x : A) × (o ≡ Some x)
 some_is None some = cc
 some_is (Some x) some = (x, refl)
 

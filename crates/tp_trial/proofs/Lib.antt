@@ -1,3 +1,4 @@
 pub mod Left
 pub mod Kept
 pub mod Made
+pub mod Acts

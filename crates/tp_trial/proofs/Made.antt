@@ -1,12 +1,11 @@
 -- Acts one after another.
-use Rattle.std.proofs.Common.{◌≡◌, ℕ, zero, suc, ◌+◌, ◌*◌, ◌%◌, ◌<◌, ◌≤◌, Bool, true, false, List, [], ◌∷◌, ◌++◌, length, map, refl, sym, ap, subst, ◌∙◌, arith, add-one, Some, None, length-append}
-use Rattle.std.specs.Prelude.{◌==◌}
+use Rattle.std.proofs.Common.{◌≡◌, ℕ, ◌+◌, ◌*◌, ◌<◌, ◌≤◌, List, [], ◌++◌, length, map, refl, sym, ap, subst, ◌∙◌, arith, add-one, Some, None, length-append}
 use Rattle.std.proofs.lemmas.List.{map-append}
 use Rattle.tp_model.specs.declared.entry.Entry.{Entry}
 use Rattle.tp_model.specs.declared.entry.Entry.TheVariants.{Take}
 use Rattle.tp_model.specs.NodeState.{NodeState}
 use Rattle.tp_model.specs.Node.{t414}
-use Rattle.tp_model.specs.Network.{Network, back, line_of, receiver}
+use Rattle.tp_model.specs.Network.{Network, back}
 use Rattle.tp_model.specs.Order.{after}
 use Rattle.tp_law_network.proofs.Reorder.{after_front}
 use Rattle.tp_trial.specs.Lone.{LoneValue, IsLone, Made}
