@@ -51,7 +51,7 @@ ack_there (Ack ∷ ts) e = omega arith
 ack_there (Marker ∷ ts) e = cc
 
 -- what isn't possible can't be
-not_both : {A : Type 0} (o : Option A) (x : A) → o ≡ None → o ≡ Some x → ⊥
+pub not_both : {A : Type 0} (o : Option A) (x : A) → o ≡ None → o ≡ Some x → ⊥
 not_both o x none some = cc
 
 there_in : {A : Type 0} (xs : List A) (i : ℕ) → i < length xs → (x : A) × (slice_get xs i ≡ Some x)
