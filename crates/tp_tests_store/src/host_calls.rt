@@ -40,6 +40,15 @@ const STORIES: &[Story<'static>] = &[
             (Call::HandIn(b"c"), Some(Err(PortFull)), (4098, 4096, 0)),
         ],
     ),
+    // A port where nothing is pending has room for 4,096 bytes in one offer.
+    (
+        None,
+        &[
+            (Call::HandIn(&[0; 4097]), Some(Err(PortFull)), (2, 0, 0)),
+            (Call::HandIn(&[0; 4096]), Some(Ok(4098)), (4098, 4096, 0)),
+            (Call::HandIn(b"c"), Some(Err(PortFull)), (4098, 4096, 0)),
+        ],
+    ),
     // Confirmed outputs go.
     (
         None,

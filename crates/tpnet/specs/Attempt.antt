@@ -2,8 +2,8 @@
 use Rattle.std.specs.Prelude.{◌≡◌, ℕ, List, Option, Some, None, IsSome, Result, Ok, Err}
 use Rattle.std.specs.Io.KnownBytes.{Appends}
 use Rattle.tp_model.specs.NodeState.{NodeState}
-use Rattle.tp_turn.specs.declared.trial.Tried.{Tried}
-use Rattle.tp_turn.specs.Tried.{fresh_image, IsTried}
+use Rattle.tp_trial.specs.Output.{IsOutput}
+use Rattle.tp_turn.specs.Tried.{fresh_image}
 use Rattle.tpnet.specs.declared.refusal.Refusal.{Refusal}
 use Rattle.tp_turn.specs.declared.trial.TryFault.TheVariants.{BadImage, Memory}
 use Rattle.tpnet.specs.declared.refusal.Refusal.TheVariants.{Trial, DeviceFailed}
@@ -13,9 +13,9 @@ use Rattle.tpnet.specs.declared.commands.TheConstants.{TRY_QUANTUM}
 pub record Shows (image : List ℕ) (turns : ℕ) (was now : Option (List ℕ)) : Type 0 where
   pub node : NodeState
   pub is : fresh_image image ≡ Some node
-  pub tried : Tried
-  pub tried_is : IsTried node turns TRY_QUANTUM tried
-  pub shown : Appends was now tried.output.items
+  pub output : List ℕ
+  pub tried : IsOutput node turns TRY_QUANTUM output
+  pub shown : Appends was now output
 
 -- The answer: an image that is none is refused, and nothing was written then, nor where memory was wanting.
 abbrev pub Answers : List ℕ → ℕ → Option (List ℕ) → Option (List ℕ) → Result (Unit {0}) Refusal → Type 0

@@ -9,7 +9,7 @@ ghost use Rattle.tpnet.specs.Front.{AppendsFront};
 use crate::refusal::Refusal;
 use std::alloc::Global;
 use std::io::{ErrorKind, Write};
-use tp_turn::try_turns;
+use tp_trial::try_output;
 
 /// The most steps of a run, where a node is tried.
 pub const TRY_QUANTUM: u16 = 16;
@@ -54,12 +54,13 @@ pub fn print_help<O: Write, E: Write>(text: &str, out: &mut O, err: &mut E) -> u
     }
 }
 
-/// Runs the node of an image for `turns` turns, its own and the host's in turns, and shows what its port puts out.
+/// Runs the node of an image for `turns` turns, its own and the host's in turns, and shows what its port puts out. It takes no
+/// more memory for more turns.
 fn attempt<O: Write>(alloc: Global, image: &[u8], turns: u32, out: &mut O) -> Result<(), Refusal>
     ensures { Answers image.now turns (O.contents out.old) (O.contents out.new) result }
 {
-    match try_turns(alloc, image, turns, TRY_QUANTUM) {
-        Ok(tried) => put(out, tried.output.as_slice()),
+    match try_output(alloc, image, turns, TRY_QUANTUM) {
+        Ok(output) => put(out, output.as_slice()),
         Err(fault) => Err(Refusal::Trial(fault)),
     }
 }

@@ -74,7 +74,7 @@ fn push_topology(
         NetFault::Syntax(0) => (0, "a node or a port is missing"),
         NetFault::Syntax(line) => (
             line as usize,
-            "it has to be `node NAME PAGES`, `port NAME` or `wire END END`, with new names and 4 to 256 pages",
+            "it has to be `node NAME PAGES`, `port NAME` or `wire END END`: a NAME is new and has 1 to 16 letters, digits and -, a letter first; PAGES are 4 to 256; an END is a port's name, or a node's with .0 to .3 behind it",
         ),
         NetFault::TwoWires => (
             line_of_fault(alloc, bytes, fault),
@@ -92,7 +92,7 @@ fn push_topology(
     };
     let line = match str::from_utf8(nth_line(bytes, number)) {
         Ok(line) => line,
-        Err(_) => "(a line that is no UTF-8)",
+        Err(_) => "(no text: is this file the topology? --help has the order of the words)",
     };
     if number == 0 {
         write!(text, "  {path}: {reason}\n")
@@ -158,6 +158,10 @@ fn push_network<R: Files + AllocGlobal>(
         Ok(bytes) => bytes,
         Err(error) => {
             push_file(text, topology, &error)?;
+            write!(
+                text,
+                "  It was named as the topology: --help has the order of the words.\n"
+            )?;
             return Ok(true);
         }
     };
@@ -197,14 +201,12 @@ fn push_format<R: Files + AllocGlobal>(
             text,
             "  {device}: it is there already\n  Name another file, or leave out --new to write over it.\n"
         ),
-        _ => {
+        Some(error) => push_file(text, device, error),
+        None => {
             if push_network(rt, text, topology, images, new.area)? {
                 return Ok(());
             }
-            match system {
-                Some(error) => push_file(text, device, error),
-                None => push_rest(text),
-            }
+            push_rest(text)
         }
     }
 }
@@ -272,6 +274,21 @@ fn push_node<D: Disk>(
     }
 }
 
+/// Says what is wrong with the head of a device of `size` bytes whose areas have `area` bytes each by its head.
+fn push_head(text: &mut String, size: u64, area: u64) -> Result<(), AllocError> {
+    let needed = area.saturating_mul(2).saturating_add(HEAD_BYTES as u64);
+    if size < needed {
+        return write!(
+            text,
+            "  the device has {size} bytes, and its head says areas of {area}, for which it needs {needed}\n"
+        );
+    }
+    write!(
+        text,
+        "  its numbers of nodes, ports and pages, or its wires, break a rule: docs/FORMATS.md, section 4\n"
+    )
+}
+
 /// Says what is wrong at a place of a device.
 fn push_damage<D: Disk>(
     alloc: Global,
@@ -287,13 +304,7 @@ fn push_damage<D: Disk>(
     let start = place.start;
     write!(text, ", from {start} on\n")?;
     match place.record {
-        Record::Head => {
-            let area = layout.area;
-            write!(
-                text,
-                "  the device has {size} bytes, and its head says areas of {area}: docs/FORMATS.md, section 4\n"
-            )
-        }
+        Record::Head => push_head(text, size, layout.area),
         Record::Image { pages, .. } => push_node(alloc, text, disk, start, pages),
         Record::Front => write!(
             text,

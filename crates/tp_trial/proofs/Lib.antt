@@ -1,0 +1,5 @@
+pub mod Left
+pub mod Kept
+pub mod Made
+pub mod Acts
+pub mod OneWay
