@@ -1,0 +1,85 @@
+-- A flusher that begins over a device that was opened.
+use Rattle.std.proofs.Common.{◌≡◌, ℕ, ◌+◌, List, [], ◌∷◌, ◌++◌, length, refl, sym, ap, subst, ◌∙◌, Ok, Bool, false, arith}
+use Rattle.std.proofs.lemmas.List.{length-map}
+use Rattle.std.specs.Option.{option_map}
+use Rattle.std.specs.Result.{result_ok}
+use Rattle.tp_model.specs.declared.entry.Entry.{Entry}
+use Rattle.tp_model.specs.NodeState.{NodeState}
+use Rattle.tp_model.specs.Node.{t414}
+use Rattle.tp_model.specs.Network.{Network}
+use Rattle.tp_model.specs.Snapshot.{MarkedNetwork}
+use Rattle.tp_model.specs.Areas.{next_number}
+use Rattle.tp_model.specs.DiskHistory.{State}
+use Rattle.tp_model.specs.Opening.{Opened, held_of, next_of, verdict}
+use Rattle.tp_model.specs.WriteOrder.{Resting}
+use Rattle.tp_model.specs.DeviceAreas.{device_areas}
+use Rattle.tp_model.specs.Runs.{World, Reopens, Leaves, reopened}
+use Rattle.tp_law_device.proofs.Verdicts.{verdict_leads}
+use Rattle.tp_law_runs.proofs.Walks.{run_then}
+use Rattle.tp_area.specs.declared.place.Place.{Place}
+use Rattle.tp_flush.specs.Known.{Began, Reached}
+use Rattle.tp_flush.specs.Flushing.{Keeps, position}
+
+next_of_held : (o : Opened) → next_of o ≡ next_number (held_of o)
+next_of_held o = ap (λ n. o.base + n) (sym (length-map o.kept (λ e. e.0)))
+
+-- a run leads to the world that goes on from what was opened
+pub first_reached : (start : Network NodeState) (before : World NodeState) (bytes : List ℕ) → Began start before bytes → (o : Opened) → verdict bytes ≡ Ok o
+    → Reached start (reopened before bytes (held_of o) o.now)
+unfolding verdict
+first_reached start before bytes B o is =
+    let R = B.reached in
+    let w : World NodeState = reopened before bytes (held_of o) o.now in
+    let leaves : Leaves t414 device_areas before.disk bytes (held_of o) o.now = record {
+      may = B.may;
+      reads = ap (λ r. option_map held_of (result_ok r)) is;
+      is = verdict_leads bytes o is;
+    } in
+    record {
+      first = R.first;
+      events = R.events ++ Reopens bytes (held_of o) o.now ∷ [];
+      formatted = R.formatted;
+      run = run_then t414 device_areas R.first before w R.events (Reopens bytes (held_of o) o.now ∷ []) R.run (w, (leaves, refl), refl);
+    }
+
+-- the world of what was told of a book, over a device that was opened and synced
+abbrev pub begun : World NodeState → MarkedNetwork NodeState → ℕ → List Entry → List ℕ → ℕ → World NodeState
+begun before net base journal bytes next = record {
+  net = net;
+  base = base;
+  journal = journal;
+  disk = record { bytes = bytes; unsynced = [] };
+  at = Resting;
+  backlog = [];
+  stored = next;
+  mark = next;
+  seen = before.seen;
+}
+
+module _ (before : World NodeState) (net : MarkedNetwork NodeState) (base : ℕ) (journal : List Entry) (o : Opened) (bytes : List ℕ) (next : ℕ)
+    (net_is : net ≡ (reopened before bytes (held_of o) o.now).net) (base_is : base ≡ o.base) (journal_is : journal ≡ (reopened before bytes (held_of o) o.now).journal) (next_is : next ≡ next_of o) where
+  pub begun_is : begun before net base journal bytes next ≡ reopened before bytes (held_of o) o.now
+  begun_is = λ i. record {
+    net = net_is i;
+    base = base_is i;
+    journal = journal_is i;
+    disk = record { bytes = bytes; unsynced = [] };
+    at = Resting;
+    backlog = [];
+    stored = (next_is ∙ next_of_held o) i;
+    mark = (next_is ∙ next_of_held o) i;
+    seen = before.seen;
+  }
+
+  pub first_keeps : (keeps : Type 0) (start : Network NodeState) (s : State) (place : Place) (broken : Bool) (mark : ℕ) → s.now.bytes ≡ bytes → place.next ≡ next → broken ≡ false → mark ≡ next
+      → (keeps → verdict s.now.bytes ≡ Ok o) → (keeps → s.now.unsynced ≡ [])
+      → Keeps keeps start before (record { world = begun before net base journal bytes next; opened = bytes }) s place broken mark
+  first_keeps keeps start s place broken mark are at unbroken marked read synced = record {
+    next = at;
+    cut = omega (arith, base_is, next_is);
+    ends = omega (arith, base_is, next_is, next_of_held o, ap (λ (n : MarkedNetwork NodeState). length n.entries) net_is);
+    mark = marked;
+    at = ap position (sym unbroken);
+    disk = λ k. λ i. record { bytes = sym are i; unsynced = sym (synced k) i };
+    reached = λ k began. subst (Reached start) (sym begun_is) (first_reached start before bytes began o (ap verdict (sym are) ∙ read k));
+  }

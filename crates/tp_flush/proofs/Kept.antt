@@ -1,0 +1,93 @@
+-- What the flusher keeps as it looks at the book, and as it raises the mark.
+use Rattle.std.proofs.Common.{◌≡◌, ℕ, ◌+◌, ◌<◌, ◌≤◌, true, List, ◌++◌, length, sym, ap, subst, ◌∙◌, Bool, arith, length-drop}
+use Rattle.std.specs.Prelude.{◌-◌, drop, max}
+use Rattle.std.specs.List.{AllByRecursion}
+use Rattle.tp_model.specs.declared.entry.Entry.{Entry}
+use Rattle.tp_model.specs.declared.limits.TheConstants.{NUMBER_LIMIT}
+use Rattle.tp_model.specs.EntryBytes.{is_in_range}
+use Rattle.tp_model.specs.NodeState.{NodeState}
+use Rattle.tp_model.specs.Node.{t414}
+use Rattle.tp_model.specs.Network.{Network}
+use Rattle.tp_model.specs.Snapshot.{MarkedNetwork}
+use Rattle.tp_model.specs.DiskHistory.{State}
+use Rattle.tp_model.specs.WriteOrder.{Resting}
+use Rattle.tp_model.specs.DeviceAreas.{device_areas}
+use Rattle.tp_model.specs.Runs.{World}
+use Rattle.tp_model.specs.Walks.{Leads, Walks}
+use Rattle.tp_area.specs.declared.place.Place.{Place}
+use Rattle.tp_law_runs.proofs.Walks.{run_then, still_walks}
+use Rattle.tp_flush.specs.Known.{Known, Reached}
+use Rattle.tp_flush.specs.Flushing.{Flushing, IsBacklog, Keeps, Looked, Walked}
+use Rattle.tp_shared.specs.declared.told.Told.{Told}
+use Rattle.tp_shared.specs.Told.{IsFirst, Since}
+use Rattle.tp_flush.proofs.Looks.{base_is, copied, entries_stay, looks, raised, raises}
+
+-- a run goes on
+pub reached_then : (start : Network NodeState) (w v : World NodeState) → Reached start w → Leads t414 device_areas w v → Reached start v
+reached_then start w v R L = record {
+  first = R.first;
+  events = R.events ++ L.events;
+  formatted = R.formatted;
+  run = run_then t414 device_areas R.first w v R.events L.events R.run L.run;
+}
+
+-- a look is a piece of a run, where the device is known
+pub looked_walks : (a b : Flushing) → a.world.disk ≡ a.state.now → Looked a b → Walked a b
+looked_walks a b was L =
+    subst (λ (s : State). Walks t414 device_areas a.world b.world a.state s) (sym L.state) (still_walks t414 device_areas a.world b.world a.state L.led (L.disk ∙ was))
+
+module _ (keeps : Type 0) (start : Network NodeState) (before : World NodeState) where
+  abbrev pub raised_known : Known → Known
+  raised_known k = record { world = raised k.world; opened = k.opened }
+
+  pub raise_keeps : (k : Known) (s : State) (place : Place) (broken : Bool) (mark : ℕ) → Keeps keeps start before k s place broken mark
+      → Keeps keeps start before (raised_known k) s place broken (max mark place.next)
+  raise_keeps k s place broken mark K = record {
+    next = K.next;
+    cut = K.cut;
+    ends = K.ends;
+    mark = ap (λ m. max m place.next) K.mark ∙ ap (max k.world.mark) K.next;
+    at = K.at;
+    disk = K.disk;
+    reached = λ kept began. reached_then start k.world (raised k.world) (K.reached kept began) (raises k.world);
+  }
+
+  abbrev pub copied_known : Known → Told → Known
+  copied_known k told = record { world = copied k.world told; opened = k.opened }
+
+  pub copy_keeps : (k : Known) (s : State) (place : Place) (broken : Bool) (mark : ℕ) → Keeps keeps start before k s place broken mark
+      → (old now : Told) → IsFirst old k.world → Since old now → k.world.at ≡ Resting → Keeps keeps start before (copied_known k now) s place broken mark
+  copy_keeps k s place broken mark K old now told since rests =
+      let base : now.base ≡ k.world.base = base_is k.world old now told since in
+      record {
+        next = K.next;
+        cut = omega (arith, K.cut, base);
+        ends = omega (arith, K.cut, K.ends, base, length-drop (k.world.stored - now.base) now.net.entries, entries_stay k.world old now told since);
+        mark = K.mark;
+        at = K.at;
+        disk = K.disk;
+        reached = λ kept began. reached_then start k.world (copied k.world now) (K.reached kept began) (looks k.world old now told since rests);
+      }
+
+  -- where the copy begins
+  pub copy_from : (k : Known) (s : State) (place : Place) (broken : Bool) (mark : ℕ) → Keeps keeps start before k s place broken mark
+      → (told : Told) → IsFirst told k.world → (told.base ≤ place.next) × (place.next ≤ told.base + length told.net.entries)
+  copy_from k s place broken mark K told F =
+      let entries : length told.net.entries ≡ length k.world.net.entries = ap (λ (n : MarkedNetwork NodeState). length n.entries) F.net in
+      (omega (arith, F.base, K.cut, K.next), omega (arith, F.base, K.ends, K.next, entries))
+
+  -- what was copied is the backlog
+  pub copied_backlog : (k : Known) (s : State) (place : Place) (broken : Bool) (mark : ℕ) → Keeps keeps start before k s place broken mark
+      → (old now : Told) → IsFirst old k.world → Since old now → now.base + length now.net.entries < NUMBER_LIMIT
+      → (entries : List Entry) (upto : ℕ) → (entries ≡ drop (place.next - now.base) now.net.entries) × (upto ≡ now.base + length now.net.entries)
+      → AllByRecursion (λ e. is_in_range e ≡ true) entries → IsBacklog (copied k.world now) entries upto
+  copied_backlog k s place broken mark K old now told since numbers entries upto are each =
+      let base : now.base ≡ k.world.base = base_is k.world old now told since in
+      let grew : length k.world.net.entries ≤ length now.net.entries = entries_stay k.world old now told since in
+      let count : length entries ≡ length now.net.entries - (place.next - now.base) = ap length are.0 ∙ length-drop (place.next - now.base) now.net.entries in
+      record {
+        same = are.0 ∙ ap (λ n. drop (n - now.base) now.net.entries) K.next;
+        each = each;
+        reaches = omega (arith, are.1, count, base, grew, K.cut, K.ends, K.next);
+        numbers = omega (arith, count, base, grew, numbers, K.cut, K.ends, K.next);
+      }

@@ -1,0 +1,6 @@
+mod Looks
+mod Kept
+mod Appends
+mod Begins
+mod Turns
+mod Endings

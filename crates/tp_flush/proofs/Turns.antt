@@ -1,0 +1,26 @@
+-- Pieces of runs, one behind the other, and what a crash leaves on the way.
+use Rattle.std.proofs.Common.{◌≡◌}
+use Rattle.tp_model.specs.NodeState.{NodeState}
+use Rattle.tp_model.specs.Node.{t414, t414_ends}
+use Rattle.tp_model.specs.Network.{Network}
+use Rattle.tp_model.specs.DiskHistory.{LeavesOnly}
+use Rattle.tp_model.specs.DeviceAreas.{device_areas}
+use Rattle.tp_model.specs.Walks.{RecoversTo}
+use Rattle.tp_law_machine.proofs.LinkLaws.{has_four_links, never_marks}
+use Rattle.tp_law_device.proofs.Holds.{areas_keep}
+use Rattle.tp_law_runs.proofs.Walks.{no_step, still_walks, walks_recover, walks_then}
+use Rattle.tp_flush.specs.Known.{Reached}
+use Rattle.tp_flush.specs.Flushing.{Flushing, Walked}
+
+-- nothing is done
+pub walked_nowhere : (a : Flushing) → a.world.disk ≡ a.state.now → Walked a a
+walked_nowhere a was = still_walks t414 device_areas a.world a.world a.state (no_step t414 device_areas a.world) was
+
+pub walked_then : (a b c : Flushing) → Walked a b → Walked b c → Walked a c
+walked_then a b c first then = walks_then t414 device_areas a.world b.world c.world a.state b.state c.state first then
+
+-- whatever a crash leaves on the way
+pub walked_recovers : (start : Network NodeState) (a b : Flushing) → Reached start a.world → Walked a b
+    → LeavesOnly a.state b.state (RecoversTo t414 device_areas start b.world.journal a.world.mark)
+walked_recovers start a b R W =
+    walks_recover t414 device_areas has_four_links never_marks (areas_keep t414 t414_ends) start R.events R.first a.world R.formatted R.run b.world a.state b.state W

@@ -1,0 +1,64 @@
+use Rattle.std.proofs.Common.{refl, sym, subst, ap, ◌∙◌, arith}
+use Rattle.std.specs.Prelude.{max}
+use Rattle.tp_mark.specs.Seen.{RaiserValue}
+use Rattle.tp_model.specs.DiskHistory.{State}
+use Rattle.tp_model.specs.Node.{t414}
+use Rattle.tp_model.specs.DeviceAreas.{device_areas}
+use Rattle.tp_model.specs.Walks.{Leads}
+use Rattle.tp_shared.specs.Told.{IsFirst}
+use Rattle.tp_flush.specs.Known.{Known}
+use Rattle.tp_flush.specs.Flushing.{Flushing, Keeps, Looked}
+use Rattle.tp_flush.proofs.Kept.{raise_keeps}
+use Rattle.tp_flush.proofs.Looks.{raises}
+use Rattle.tp_flush.proofs.flusher.Flusher.raise.Given as given
+use Rattle.tp_flush.proofs.flusher.Flusher.raise.Goals as goal
+
+pub raise-requires : goal.raise-requires
+raise-requires g c = c.self.invariant.1 ∙ sym c.mark.ensures
+
+kept : (g : given.Over) (c : goal.After-raised g)
+    → Keeps g.D.Disk.keeps g.J.Naming.formatted g.J.Naming.before c.of-parts.result.known (g.D.Disk.state c.self.inside.parts.store.disk) c.self.inside.parts.store.place c.self.inside.parts.store.broken c.raise.new.raiser.at
+kept g c =
+    let p = c.self.inside.parts in
+    let s : State = g.D.Disk.state p.store.disk in
+    subst (λ (k : Known). Keeps g.D.Disk.keeps g.J.Naming.formatted g.J.Naming.before k s p.store.place p.store.broken c.raise.new.raiser.at) (sym c.of-parts.ensures)
+    (subst (Keeps g.D.Disk.keeps g.J.Naming.formatted g.J.Naming.before (record { world = record p.whole.known.world { mark = max p.whole.known.world.mark p.whole.known.world.stored }; opened = p.whole.known.opened }) s p.store.place p.store.broken)
+    (sym (ap (λ (r : RaiserValue). r.at) c.raise.ensures))
+    (raise_keeps g.D.Disk.keeps g.J.Naming.formatted g.J.Naming.before p.whole.known s p.store.place p.store.broken p.raiser.at c.self.invariant.3))
+
+pub invariant_of-self : goal.invariant_of-self
+invariant_of-self g c =
+    let p = c.self.inside.parts in
+    let F = c.self.invariant.2 in (
+      c.self.invariant.0,
+      ap (λ (r : RaiserValue). r.mark) c.raise.ensures ∙ c.self.invariant.1,
+      subst (λ (k : Known). IsFirst p.key.value k.world) (sym c.of-parts.ensures) (record { net = F.net; base = F.base; journal = F.journal }),
+      kept g c,
+    )
+
+pub returns-clause-mark : goal.returns-clause-mark
+returns-clause-mark g c = c.raised.ensures ∙ (kept g c).mark
+
+pub returns-clause-reaches : goal.returns-clause-reaches
+returns-clause-reaches g c =
+    omega (arith, c.raised.ensures, ap (λ (r : RaiserValue). r.at) c.raise.ensures, c.self.invariant.3.next, ap (λ (v : Flushing). v.world.stored) c.self.view_is)
+
+pub returns-clause-looked : goal.returns-clause-looked
+returns-clause-looked g c =
+    let p = c.self.inside.parts in
+    let s : State = g.D.Disk.state p.store.disk in
+    let size = g.D.Disk.size_of p.store.disk in
+    let failures = g.D.Disk.failures_of p.store.disk in
+    let from : Flushing = record { world = p.whole.known.world; state = s; size = size; failures = failures; opened = p.whole.known.opened } in
+    let to : Flushing = record { world = c.of-parts.result.known.world; state = s; size = size; failures = failures; opened = c.of-parts.result.known.opened } in
+    let looked : Looked from to = record {
+      led = subst (λ (k : Known). Leads t414 device_areas p.whole.known.world k.world) (sym c.of-parts.ensures) (raises p.whole.known.world);
+      at = ap (λ (k : Known). k.world.at) c.of-parts.ensures;
+      stored = ap (λ (k : Known). k.world.stored) c.of-parts.ensures;
+      disk = ap (λ (k : Known). k.world.disk) c.of-parts.ensures;
+      state = refl;
+      size = refl;
+      failures = refl;
+      opened = ap (λ (k : Known). k.opened) c.of-parts.ensures;
+    } in
+    subst (λ (v : Flushing). Looked v to) c.self.view_is looked

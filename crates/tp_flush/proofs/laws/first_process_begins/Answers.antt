@@ -1,0 +1,11 @@
+use Rattle.std.proofs.Common.{[], refl}
+use Rattle.tp_model.specs.Node.{t414}
+use Rattle.tp_law_device.proofs.Formatted.{formatted_starts}
+use Rattle.tp_law_device.specs.FormattedWorld.{formatted_world}
+use Rattle.tp_flush.proofs.laws.first_process_begins.Goals as goal
+
+pub returns : goal.returns
+returns c = λ t area images start bytes W left may. record {
+  reached = record { first = formatted_world start bytes; events = []; formatted = formatted_starts t414 t area images start bytes W; run = refl };
+  may = may;
+}

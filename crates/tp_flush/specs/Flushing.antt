@@ -1,0 +1,67 @@
+-- What contracts see of the flusher, what it keeps, and what it did.
+use Rattle.std.specs.Prelude.{◌≡◌, ◌<◌, ◌≤◌, ℕ, ◌+◌, Bool, true, if◌then◌else◌, List, length}
+use Rattle.std.specs.List.{AllByRecursion}
+use Rattle.tp_model.specs.declared.entry.Entry.{Entry}
+use Rattle.tp_model.specs.declared.limits.TheConstants.{NUMBER_LIMIT}
+use Rattle.tp_model.specs.EntryBytes.{is_in_range}
+use Rattle.tp_model.specs.NodeState.{NodeState}
+use Rattle.tp_model.specs.Node.{t414}
+use Rattle.tp_model.specs.Network.{Network}
+use Rattle.tp_model.specs.DiskHistory.{State}
+use Rattle.tp_model.specs.WriteOrder.{Position, Resting, Broken}
+use Rattle.tp_model.specs.DeviceAreas.{device_areas}
+use Rattle.tp_model.specs.Runs.{World}
+use Rattle.tp_model.specs.Walks.{Leads, Walks}
+use Rattle.tp_area.specs.declared.place.Place.{Place}
+use Rattle.tp_flush.specs.Known.{Known, Began, Reached}
+
+-- The world as the flusher knows it; what has become of its device, how many bytes that has, and how many of its calls have
+-- failed; and the bytes that this process opened.
+pub record Flushing : Type 0 where
+  pub world : World NodeState
+  pub state : State
+  pub size : ℕ
+  pub failures : ℕ
+  pub opened : List ℕ
+
+-- between two of its calls the flusher rests, or a call of the device has failed
+abbrev pub position : Bool → Position NodeState
+position broken = if broken then Broken else Resting
+
+-- What the flusher keeps of the world, beside the mark: the place of its store is the world's number; what was copied of the
+-- book ends where the book did then; and the world is reached by a run, whose device is the flusher's.
+pub record Keeps (keeps : Type 0) (start : Network NodeState) (before : World NodeState) (known : Known) (state : State) (place : Place) (broken : Bool) (raised : ℕ) : Type 0 where
+  pub next : place.next ≡ known.world.stored
+  pub cut : known.world.base ≤ known.world.stored
+  pub ends : known.world.stored + length known.world.backlog ≤ known.world.base + length known.world.net.entries
+  pub mark : raised ≡ known.world.mark
+  pub at : known.world.at ≡ position broken
+  pub disk : keeps → known.world.disk ≡ state.now
+  pub reached : keeps → Began start before known.opened → Reached start known.world
+
+-- Each moment of the device since is that of a world on the way of one run.
+abbrev pub Walked : Flushing → Flushing → Type 0
+Walked old new = Walks t414 device_areas old.world new.world old.state new.state
+
+-- No call of the device was made, and nothing was stored.
+pub record Looked (old new : Flushing) : Type 0 where
+  pub led : Leads t414 device_areas old.world new.world
+  pub at : new.world.at ≡ old.world.at
+  pub stored : new.world.stored ≡ old.world.stored
+  pub disk : new.world.disk ≡ old.world.disk
+  pub state : new.state ≡ old.state
+  pub size : new.size ≡ old.size
+  pub failures : new.failures ≡ old.failures
+  pub opened : new.opened ≡ old.opened
+
+-- The process and its device are the same.
+pub record IsSameProcess (old new : Flushing) : Type 0 where
+  pub opened : new.opened ≡ old.opened
+  pub size : new.size ≡ old.size
+
+-- The backlog was copied: these entries, whose bytes and numbers are in their ranges, and which end below this number.
+pub record IsBacklog (w : World NodeState) (entries : List Entry) (upto : ℕ) : Type 0 where
+  pub same : entries ≡ w.backlog
+  pub each : AllByRecursion (λ e. is_in_range e ≡ true) entries
+  pub reaches : upto ≡ w.stored + length entries
+  pub numbers : w.stored + length entries < NUMBER_LIMIT

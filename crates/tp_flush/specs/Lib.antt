@@ -1,0 +1,4 @@
+pub mod Known
+pub mod Flushing
+pub mod Ends
+pub mod Refused

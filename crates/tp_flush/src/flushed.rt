@@ -1,0 +1,12 @@
+//! What a turn of the flusher did.
+
+use tp_book::Copied;
+
+/// The mark, which is the number that the turn raised it to; up to which number the book's entries were copied; and whether the
+/// store switched to its other area.
+#[derive(Drop)]
+pub struct Flushed {
+    pub mark: u64,
+    pub copied: Copied,
+    pub switched: bool,
+}

@@ -1,0 +1,112 @@
+//! The flusher.
+
+ghost use Rattle.std.specs.Prelude.{◌≡◌, Ok, false};
+ghost use Rattle.tp_model.specs.DiskHistory.{IsSynced};
+ghost use Rattle.tp_model.specs.Opening.{held_of, next_of, verdict};
+ghost use Rattle.tp_model.specs.Runs.{reopened};
+ghost use Rattle.tp_shared.specs.Told.{IsFirst};
+ghost use Rattle.tp_flush.specs.Known.{Began, Reached};
+ghost use Rattle.tp_flush.specs.Flushing.{position};
+
+use crate::whole::Whole;
+use std::marker::{Model, PhantomData};
+use tp_area::Store;
+use tp_disk::Disk;
+use tp_mark::Raiser;
+use tp_recover::Opened;
+use tp_shared::{Naming, Told};
+use tp_token::Key;
+
+/// The flusher's store, what it was told of the book, the mark's raiser, and the world as it knows it.
+#[derive(Drop)]
+pub(crate) struct Parts<D: Disk> {
+    pub(crate) store: Store<D>,
+    pub(crate) key: Key<Told>,
+    pub(crate) raiser: Raiser,
+    pub(crate) whole: Whole,
+}
+
+/// What brings the book's entries to the device of one process, and raises its mark. Contracts see the world as it knows it, what
+/// has become of its device, and the bytes that the process opened.
+#[derive(Drop)]
+pub struct Flusher<J: Naming, D: Disk> {
+    pub(crate) parts: Parts<D>,
+    of: PhantomData<J>,
+}
+
+impl<J: Naming, D: Disk> Model for Flusher<J, D> {
+    ghost use Rattle.std.specs.Prelude.{◌≡◌};
+    ghost use Rattle.tp_shared.specs.Told.{IsFirst};
+    ghost use Rattle.tp_flush.specs.Flushing.{Flushing, Keeps};
+
+    ghost Value = { Flushing };
+
+    ghost view = { λ f. record { world = f.parts.whole.known.world; state = D.state f.parts.store.disk; size = D.size_of f.parts.store.disk; failures = D.failures_of f.parts.store.disk; opened = f.parts.whole.known.opened } };
+
+    ghost invariant = { λ f. (f.parts.key.name ≡ J.flusher) × (f.parts.raiser.mark ≡ J.mark) × IsFirst f.parts.key.value f.parts.whole.known.world × Keeps D.keeps J.formatted J.before f.parts.whole.known (D.state f.parts.store.disk) f.parts.store.place f.parts.store.broken f.parts.raiser.at };
+}
+
+impl<J: Naming, D: Disk> Flusher<J, D> {
+    /// The flusher over a store, where `opened`, `store`, `key` and `raiser` come from one opening: the store is the one over the
+    /// device that was opened, the key's book goes on from it, and the mark has its next number.
+    pub fn new(opened: &Opened, store: Store<D>, key: Key<Told>, raiser: Raiser) -> Flusher<J, D>
+        requires name { key.name ≡ J.flusher }
+        requires told { IsFirst key.value (reopened J.before (D.state store.disk).now.bytes (held_of opened.now) opened.now.now) }
+        requires unbroken { store.broken ≡ false }
+        requires next { store.place.next ≡ next_of opened.now }
+        requires raiser { raiser ≡ record { mark = J.mark; at = next_of opened.now } }
+        requires read { D.keeps → verdict (D.state store.disk).now.bytes ≡ Ok opened.now }
+        requires synced { D.keeps → IsSynced (D.state store.disk) }
+        ensures world { result.world ≡ reopened J.before (D.state store.disk).now.bytes (held_of opened.now) opened.now.now }
+        ensures opened { result.opened ≡ (D.state store.disk).now.bytes }
+        ensures device { (result.state ≡ D.state store.disk) × (result.size ≡ D.size_of store.disk) × (result.failures ≡ D.failures_of store.disk) }
+    {
+        let _ = opened;
+        let both = (store, key);
+        let whole = Whole::of(&both);
+        let (store, key) = both;
+        Flusher {
+            parts: Parts {
+                store,
+                key,
+                raiser,
+                whole,
+            },
+            of: PhantomData,
+        }
+    }
+
+    /// What every flusher keeps: a run leads to its world, from the device that was formatted, and its device is that world's. It
+    /// does nothing.
+    pub fn known(&self)
+        ensures reached { D.keeps → Began J.formatted J.before self.now.opened → Reached J.formatted self.now.world }
+        ensures disk { D.keeps → self.now.world.disk ≡ self.now.state.now }
+    {
+        let _ = &self.parts;
+    }
+
+    /// The mark's number, as the flusher raised it.
+    pub fn mark(&self) -> u64
+        ensures { result ≡ self.now.world.mark }
+    {
+        self.parts.raiser.raised()
+    }
+
+    /// Whether a call of the device has failed. The device must then be opened again.
+    pub fn is_broken(&self) -> bool
+        ensures { self.now.world.at ≡ position result }
+    {
+        self.parts.store.broken
+    }
+
+    /// The device. It has to be opened again before it is written.
+    pub fn into_disk(self) -> D
+        ensures state { D.state result ≡ self.state }
+        ensures size { D.size_of result ≡ self.size }
+        ensures failures { D.failures_of result ≡ self.failures }
+    {
+        let Flusher { parts, .. } = self;
+        let Parts { store, .. } = parts;
+        store.into_disk()
+    }
+}

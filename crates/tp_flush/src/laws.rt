@@ -1,0 +1,21 @@
+//! Laws of processes, one after the other. The functions do nothing; their contracts are the laws.
+
+ghost use Rattle.std.specs.Prelude.{ℕ, List};
+ghost use Rattle.tp_model.specs.NodeState.{NodeState};
+ghost use Rattle.tp_model.specs.Network.{Network};
+ghost use Rattle.tp_model.specs.Topology.{Topology};
+ghost use Rattle.tp_model.specs.Disk.{MayBe};
+ghost use Rattle.tp_model.specs.Runs.{World};
+ghost use Rattle.tp_law_device.specs.FormattedWorld.{formatted_world, WasFormatted};
+ghost use Rattle.tp_flush.specs.Known.{Began, Reached};
+
+/// The first process begins with a device that was formatted: whatever a crash leaves of it from then on.
+pub fn first_process_begins()
+    ensures { (t : Topology) (area : ℕ) (images : List (List ℕ)) (start : Network NodeState) (bytes : List ℕ) → WasFormatted t area images start bytes
+        → (left : List ℕ) → MayBe (formatted_world start bytes).disk left → Began start (formatted_world start bytes) left }
+{}
+
+/// What one process ends with, or what a crash leaves of it, is what the next one begins with.
+pub fn next_process_begins()
+    ensures { (start : Network NodeState) (w : World NodeState) (left : List ℕ) → Reached start w → MayBe w.disk left → Began start w left }
+{}

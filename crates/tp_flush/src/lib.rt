@@ -1,0 +1,20 @@
+//! The flusher: it copies what the book journalled, appends it to the store, and raises the durable mark.
+#![tactic(auto)]
+
+mod appending;
+mod copying;
+mod fault;
+mod flushed;
+mod flusher;
+mod laws;
+mod raising;
+mod snapshot;
+mod turn;
+mod whole;
+
+pub use fault::FlushFault;
+pub use flushed::Flushed;
+pub use flusher::Flusher;
+pub use laws::{first_process_begins, next_process_begins};
+pub use turn::FLUSHER;
+pub use whole::Whole;

@@ -1,0 +1,25 @@
+//! The flusher raises the mark.
+
+ghost use Rattle.std.specs.Prelude.{◌≡◌, ◌≤◌};
+ghost use Rattle.tp_flush.specs.Flushing.{Looked};
+
+use crate::flusher::Flusher;
+use crate::whole::Whole;
+use tp_disk::Disk;
+use tp_shared::{Naming, Shared};
+
+impl<J: Naming, D: Disk> Flusher<J, D> {
+    /// Raises the mark to the number that the synced gates reach. Answers the mark.
+    pub(crate) fn raise(&mut self, shared: &Shared<J>) -> u64
+        ensures mark { result ≡ self.new.world.mark }
+        ensures reaches { self.old.world.stored ≤ result }
+        ensures looked { Looked self.old self.new }
+    {
+        let Flusher { parts, .. } = self;
+        shared
+            .mark()
+            .raise(&mut parts.raiser, parts.store.place.next);
+        parts.whole = Whole::of(&*parts);
+        parts.raiser.raised()
+    }
+}

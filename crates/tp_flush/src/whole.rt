@@ -1,0 +1,30 @@
+//! What contracts alone see of the flusher.
+
+ghost use Rattle.std.specs.Prelude.{◌≡◌};
+ghost use Rattle.std.specs.Borrow.{ftrue};
+ghost use Rattle.tp_flush.specs.Known.{Known};
+
+use std::marker::Model;
+
+/// The world as the flusher knows it, and the bytes that this process opened. It has no bytes.
+#[derive(Drop)]
+pub struct Whole {
+    pub ghost known: { Known },
+}
+
+impl Model for Whole {
+    ghost also_owns = { λ _. ftrue };
+}
+
+impl Whole {
+    ghost use Rattle.std.specs.Prelude.{◌≡◌};
+    ghost use Rattle.tp_flush.specs.Known.{Known};
+
+    // What the contract names. A caller names it by what it lends as `_value`.
+    pub(crate) fn of<T>(_value: &T) -> Whole
+        ghost known: { Known }
+        ensures { result.known ≡ known }
+    {
+        Whole {}
+    }
+}
