@@ -1,2 +1,3 @@
+pub mod Crosses
 pub mod Frames
 pub mod Pools

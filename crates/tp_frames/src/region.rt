@@ -22,14 +22,20 @@ pub(crate) struct Region {
 impl Model for Region {
     ghost use Rattle.std.specs.Prelude.{◌≡◌, ℕ, List};
     ghost use Rattle.core.specs.Mem.Slots.{slots_items, slots_ptr, slots_len, lease_ptr, lease_len, lease_heap, IsFull};
+    ghost use base.Fml.{ftrue};
 
     ghost Value = { List (List ℕ) };
+
+    ghost also_owns = { λ _. ftrue };
+
+    ghost also_shares = { λ _ _ _. ftrue };
 
     ghost view = { λ r. slots_items r.slots };
 
     ghost invariant = { λ r. IsFull r.slots × (lease_ptr r.lease ≡ slots_ptr r.slots) × (lease_len r.lease ≡ slots_len r.slots) × (lease_heap r.lease ≡ r.alloc) };
 }
 
+// Its places hold bytes, and any thread may free its block.
 unsafe impl Send for Region {}
 
 impl Region {
@@ -41,11 +47,7 @@ impl Region {
         let like = Vec::from_elem(alloc, [0; PAGE_BYTES], count)?;
         let (mut slots, lease) = unsafe { reserve(&alloc, &like) }?;
         fill(&mut slots);
-        Ok(Region {
-            slots,
-            lease,
-            alloc,
-        })
+        Ok(enclose(slots, lease, alloc))
     }
 
     /// How many frames there are.
@@ -93,7 +95,20 @@ impl Drop for Region {
     }
 }
 
-ghost use Rattle.core.specs.Mem.Slots.{slots_items, slots_ptr, slots_len, IsFull};
+ghost use Rattle.core.specs.Mem.Slots.{slots_items, slots_ptr, slots_len, lease_ptr, lease_len, lease_heap, IsFull};
+
+/// Makes a region of full places and the right to free them.
+fn enclose(slots: Slots<Frame>, lease: Lease<Frame, Global>, alloc: Global) -> Region
+    requires full { IsFull slots }
+    requires leased { (lease_ptr lease ≡ slots_ptr slots) × (lease_len lease ≡ slots_len slots) × (lease_heap lease ≡ alloc) }
+    ensures { result ≡ slots_items slots }
+{
+    Region {
+        slots,
+        lease,
+        alloc,
+    }
+}
 
 /// Fills the places of a region.
 fn fill(slots: &mut Slots<Frame>)

@@ -21,6 +21,7 @@ pub mod Opens
 pub mod ReadAreas
 pub mod ReadCuts
 pub mod ReadGroups
+pub mod ReadNodes
 pub mod Receipts
 pub mod Replays
 pub mod Spare

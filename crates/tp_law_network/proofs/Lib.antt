@@ -5,8 +5,10 @@ pub mod InPlace
 pub mod Lines
 pub mod Local
 pub mod Marks
+pub mod Numbers
 pub mod Partial
 pub mod Plain
+pub mod PortsKeep
 pub mod Reorder
 pub mod Room
 pub mod Sound

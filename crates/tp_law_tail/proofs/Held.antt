@@ -39,7 +39,7 @@ use Rattle.tp_law_runs.proofs.Invariant.{Inv}
 use Rattle.tp_law_device.proofs.AreaReads.{area_parts}
 use Rattle.tp_law_device.proofs.ReadAreas.{opens_stand}
 use Rattle.tp_law_device.proofs.Opens.{reads_of, found_in}
-use Rattle.tp_law_tail.proofs.ReadNodes.{read_of_bytes}
+use Rattle.tp_law_device.proofs.ReadNodes.{read_of_bytes}
 use Rattle.tp_model.specs.KeptRun.{HasByte, ActKeeps, IsKept}
 use Rattle.tp_law_tail.specs.CutSpelt.{CutSpelt}
 use Rattle.tp_law_tail.proofs.Kept.{cut_keeps, keeps_after}

@@ -18,7 +18,6 @@ pub mod Pieces
 pub mod Places
 pub mod Ports
 pub mod Ranges
-pub mod ReadNodes
 pub mod RunRoom
 pub mod Switch
 pub mod Switching

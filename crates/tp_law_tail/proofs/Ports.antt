@@ -1,22 +1,18 @@
 -- What a port of a cut has counted and holds, each entry keeps.
-use Rattle.std.proofs.Common.{◌≡◌, ℕ, ◌+◌, ◌-◌, ◌<◌, ◌≤◌, inl, inr, true, List, [], ◌∷◌, ◌++◌, length, set, drop, sym, ap, subst, ◌∙◌, arith, Option, Some, None, slice_get, length-append, length-drop}
+use Rattle.std.proofs.Common.{◌≡◌, ℕ, ◌+◌, ◌-◌, ◌<◌, ◌≤◌, true, List, [], ◌∷◌, ◌++◌, length, drop, subst, arith, Some, slice_get, length-append, length-drop}
 use Rattle.std.specs.Prelude.{nat_lt, nat_le, ◌&&◌}
-use Rattle.std.specs.Option.{option_map}
-use Rattle.std.proofs.lemmas.Bool.{cases_eq, ltb-true, leb-true, le-leb, and_parts, and_from}
+use Rattle.std.proofs.lemmas.Bool.{ltb-true, leb-true, le-leb, and_parts, and_from}
 use Rattle.tp_model.specs.declared.link.Token.{Token}
 use Rattle.tp_model.specs.declared.link.Token.TheVariants.{Data, Ack, Marker}
-use Rattle.tp_model.specs.declared.wire.WireEnd.{WireEnd}
-use Rattle.tp_model.specs.declared.wire.WireEnd.TheVariants.{Link, Port as AtPort}
 use Rattle.tp_model.specs.declared.entry.Entry.{Entry}
-use Rattle.tp_model.specs.declared.entry.Entry.TheVariants.{Run, Take, HostIn, Confirm}
-use Rattle.tp_model.specs.declared.limits.TheConstants.{MAX_STEPS, MAX_HELD}
+use Rattle.tp_model.specs.declared.limits.TheConstants.{MAX_HELD}
 use Rattle.tp_model.specs.NodeState.{NodeState}
 use Rattle.tp_model.specs.Node.{t414, took}
-use Rattle.tp_model.specs.Network.{steps, Port, Network, Own, OfNode, OfHost, own, put, receiver, has_wire, sent}
-use Rattle.tp_model.specs.Entries.{process, of_node, of_port, receives, port_took, handed_in, confirmed, acked, first_only, in_flight, does, next}
+use Rattle.tp_model.specs.Network.{Port, Network}
+use Rattle.tp_model.specs.Entries.{port_took, handed_in, confirmed, acked, first_only, in_flight, next}
 use Rattle.tp_model.specs.CutImage.{is_port_of}
-use Rattle.tp_law_network.proofs.Local.{step_of, own_host, port_step}
-use Rattle.tp_law_network.proofs.Partial.{map_some, cond_some, slice_get-set_same, slice_get-set_other}
+use Rattle.tp_law_network.proofs.Partial.{cond_some}
+use Rattle.tp_law_network.proofs.PortsKeep.{ports_keep}
 
 -- A port has counted no more than so many entries, and holds no more than it has room for.
 pub record PortFits (base : ℕ) (port : Port) : Type 0 where
@@ -90,72 +86,9 @@ confirmed_fits n upto port after F e =
 
 -- ## Each entry
 
--- a process's ports, where it is the host
-abbrev FitIn : ℕ → Own NodeState → Type 0
-FitIn n (OfNode node) = Unit {0}
-FitIn n (OfHost ports) = PortsFit n ports
-
-record OwnFits (n : ℕ) (state : Own NodeState) : Type 0 where
-  is : FitIn n state
-
-fits_more : (n : ℕ) (ports : List Port) → PortsFit n ports → PortsFit (n + 1) ports
-fits_more n ports all p port at =
-    let F = all p port at in
-    record { inputs = omega (arith, F.inputs); confirmed_low = omega (arith, F.confirmed_low); pending = F.pending; outputs = F.outputs }
-
-node_fits : (n i : ℕ) (given : Option (NodeState × List (ℕ × Token))) (r : Own NodeState × List (ℕ × Token)) → option_map (of_node i) given ≡ Some r → OwnFits n r.0
-node_fits n i given r e = let Q = map_some (of_node i) given r e in subst (λ y. OwnFits n y.0) Q.2 (record { is = tt })
-
-host_fits : (n N p : ℕ) (ports : List Port) (change : Port → Option (Port × List Token)) (r : Own NodeState × List (ℕ × Token)) → PortsFit n ports
-    → ((port : Port) (after : Port × List Token) → PortFits n port → change port ≡ Some after → PortFits (n + 1) after.0)
-    → of_port N p ports change ≡ Some r → OwnFits (n + 1) r.0
-host_fits n N p ports change r all each e =
-    let S = port_step N p ports change r e in
-    subst (λ y. OwnFits (n + 1) y.0) S.is (record {
-      is = λ q port at. elim (cases_eq q p) [
-        | inl same ↦
-            let there = slice_get-set_same ports p S.changed.0 S.port S.at in
-            let at_p : slice_get (set ports p S.changed.0) p ≡ Some port = ap (slice_get (set ports p S.changed.0)) (sym same) ∙ at in
-            let is : S.changed.0 ≡ port = cc (there, at_p) in
-            subst (PortFits (n + 1)) is (each S.port S.changed (all p S.port S.at) S.change_is)
-        | inr other ↦ fits_more n ports all q port (sym (slice_get-set_other ports p q S.changed.0 other) ∙ at)
-      ];
-    })
-
-receives_fits : (n N : ℕ) (end : Option WireEnd) (token : Token) (was : Own NodeState) (r : Own NodeState × List (ℕ × Token)) → OwnFits n was → receives t414 N end token was ≡ Some r → OwnFits (n + 1) r.0
-unfolding receives
-receives_fits n N (Some (Link i k)) token (OfNode node) r fits e = node_fits (n + 1) i (took node k token) r e
-receives_fits n N (Some (AtPort p)) token (OfHost ports) r fits e = host_fits n N p ports (port_took token) r fits.is (took_fits n token) e
-receives_fits n N (Some (Link i k)) token (OfHost ports) r fits e = cc
-receives_fits n N (Some (AtPort p)) token (OfNode node) r fits e = cc
-receives_fits n N None token (OfNode node) r fits e = cc
-receives_fits n N None token (OfHost ports) r fits e = cc
-
-does_fits : (n : ℕ) (s : Network NodeState) (e : Entry) (was : Own NodeState) (r : Own NodeState × List (ℕ × Token)) → OwnFits n was → does t414 s.wires (length s.nodes) e was ≡ Some r → OwnFits (n + 1) r.0
-unfolding does
-does_fits n s (Run i k) (OfNode node) r fits e =
-    let C = cond_some (nat_lt 0 k && nat_le k MAX_STEPS) (option_map (of_node i) (steps t414 k node)) r e in
-    node_fits (n + 1) i (steps t414 k node) r C.1
-does_fits n s (Run i k) (OfHost ports) r fits e = cc
-does_fits n s (Take l t) was r fits e = receives_fits n (length s.nodes) (receiver s.wires l) t was r fits e
-does_fits n s (HostIn p b) (OfHost ports) r fits e = host_fits n (length s.nodes) p ports (handed_in b) r fits.is (handed_fits n b) e
-does_fits n s (HostIn p b) (OfNode node) r fits e = cc
-does_fits n s (Confirm p upto) (OfHost ports) r fits e = host_fits n (length s.nodes) p ports (confirmed upto) r fits.is (confirmed_fits n upto) e
-does_fits n s (Confirm p upto) (OfNode node) r fits e = cc
-
-own_fits : (n : ℕ) (s : Network NodeState) (p : ℕ) (was : Own NodeState) → PortsFit n s.ports → own s p ≡ Some was → OwnFits n was
-own_fits n s p (OfNode node) all e = record { is = tt }
-own_fits n s p (OfHost ports) all e = record { is = subst (PortsFit n) (own_host s p ports e).1 all }
-
-put_fits : (n : ℕ) (s : Network NodeState) (p : ℕ) (now : Own NodeState) → PortsFit n s.ports → OwnFits n now → PortsFit n (put s p now).ports
-unfolding put
-put_fits n s p (OfNode node) all fits = all
-put_fits n s p (OfHost ports) all fits = fits.is
+fits_more : (n : ℕ) (port : Port) → PortFits n port → PortFits (n + 1) port
+fits_more n port F = record { inputs = omega (arith, F.inputs); confirmed_low = omega (arith, F.confirmed_low); pending = F.pending; outputs = F.outputs }
 
 -- One entry more counts for one more.
 pub ports_next : (n : ℕ) (s : Network NodeState) (e : Entry) (t : Network NodeState) → PortsFit n s.ports → next t414 s e ≡ Some t → PortsFit (n + 1) t.ports
-ports_next n s e t all h =
-    let S = step_of t414 s e t h in
-    subst (λ u. PortsFit (n + 1) u.ports) S.makes
-    (put_fits (n + 1) (record s { lines = sent (has_wire s.wires) S.out S.sends }) (process s e) S.now (fits_more n s.ports all)
-    (does_fits n s e S.was (S.now, S.sends) (own_fits n s (process s e) S.was all S.own_was) S.change))
+ports_next n s e t all h = ports_keep t414 PortFits (record { more = fits_more; took = took_fits; handed = handed_fits; confirmed_so = confirmed_fits }) n s e t all h

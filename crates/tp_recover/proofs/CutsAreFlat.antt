@@ -1,5 +1,5 @@
 -- A network that a cut image can hold can be replayed from.
-use Rattle.std.proofs.Common.{◌≡◌, ℕ, ◌+◌, ◌<◌, ◌≤◌, inl, inr, true, List, [], ◌∷◌, length, take, drop, subst, ◌∙◌, arith, length-drop, length-take, Ok}
+use Rattle.std.proofs.Common.{◌≡◌, ℕ, ◌+◌, ◌<◌, ◌≤◌, inl, inr, true, List, [], ◌∷◌, length, take, drop, ◌∙◌, arith, length-drop, length-take, Ok}
 use Rattle.std.specs.Prelude.{◌==◌, ◌&&◌, nat_le}
 use Rattle.std.specs.List.{AllByRecursion}
 use Rattle.std.proofs.lemmas.Bool.{and_parts, leb-true, cases_lt}
@@ -9,16 +9,15 @@ use Rattle.tp_model.specs.Node.{t414_ends}
 use Rattle.tp_model.specs.Image.{page_count, node_of}
 use Rattle.tp_model.specs.Network.{Port, Network}
 use Rattle.tp_model.specs.Sound.{Ends}
-use Rattle.tp_model.specs.Topology.{Topology, node_count, line_count, is_topology}
+use Rattle.tp_model.specs.Topology.{Topology, node_count, is_topology}
 use Rattle.tp_model.specs.Journal.{image_length}
-use Rattle.tp_model.specs.CutImage.{is_port_of, node_with, or_damaged, nodes_in, lines_in, ports_in}
-use Rattle.tp_model.specs.Flight.{flights_in}
+use Rattle.tp_model.specs.CutImage.{is_port_of, node_with, or_damaged, nodes_in}
 use Rattle.tp_model.specs.Spelling.{IsCut}
-use Rattle.tp_model.specs.Opening.{base_of, has_front, network_of, nodes_place, lines_place, ports_place, cut_in}
+use Rattle.tp_model.specs.Opening.{base_of, has_front, nodes_place, cut_in}
 use Rattle.tp_law_machine.specs.NodeOfBytes.{IsNodeOfBytes}
-use Rattle.tp_law_machine.proofs.Images.{node_of_bytes}
-use Rattle.tp_law_machine.proofs.Numbers.{AreBytes, are_bytes-take, are_bytes-drop}
+use Rattle.tp_law_machine.proofs.Numbers.{AreBytes}
 use Rattle.tp_law_machine.proofs.Partial.{all_at}
+use Rattle.tp_law_device.proofs.ReadNodes.{read_of_bytes}
 use Rattle.tp_law_device.proofs.Faults.{bind_ok, or_damaged_ok, tested}
 use Rattle.tp_law_device.proofs.ReadCuts.{cut_read}
 use Rattle.tp_node.proofs.Images.{node_of-short}
@@ -103,31 +102,6 @@ pub read_is_cut : (E : Ends NodeState) (t : Topology) (at : ℕ) (content : List
 read_is_cut E t at content s topology bytes front is =
     let shape = has_shape t topology in
     (cut_read E t at content s shape.lines bytes (read_long E t at content s shape.some_nodes is) front is).cut
-
-nodes_of_bytes : (at : ℕ) (pages xs : List ℕ) (nodes : List NodeState) → AreBytes xs → nodes_in at pages xs ≡ Ok nodes → AllByRecursion IsNodeOfBytes nodes
-unfolding nodes_in
-nodes_of_bytes at [] xs nodes h is = let none : [] ≡ nodes = cc in subst (AllByRecursion IsNodeOfBytes) none tt
-nodes_of_bytes at (pages ∷ more) xs nodes h is =
-    let long = image_length pages in
-    let first = bind_ok (or_damaged at (node_with pages xs)) _ nodes is in
-    let rest = bind_ok (nodes_in (at + long) more (drop long xs)) _ nodes first.2 in
-    let found = tested (λ n. page_count n.memory == pages) (node_of (take long xs)) first.0 (or_damaged_ok at (node_with pages xs) first.0 first.1) in
-    let all : first.0 ∷ rest.0 ≡ nodes = let both = rest.2 in cc in
-    subst (AllByRecursion IsNodeOfBytes) all
-    (node_of_bytes (take long xs) first.0 (are_bytes-take long xs h) found.0, nodes_of_bytes (at + long) more (drop long xs) rest.0 (are_bytes-drop long xs h) rest.1)
-
--- Its nodes are of bytes, as the content is.
-pub read_of_bytes : (E : Ends NodeState) (t : Topology) (at : ℕ) (content : List ℕ) (s : Network NodeState) → AreBytes content → cut_in E t at content ≡ Ok s → AllByRecursion IsNodeOfBytes s.nodes
-unfolding cut_in
-read_of_bytes E t at content s h is =
-    let a = bind_ok (nodes_in (at + nodes_place) t.pages (drop nodes_place content)) _ s is in
-    let b = bind_ok (lines_in (at + lines_place t) t.wires (drop (lines_place t) content)) _ s a.2 in
-    let c = bind_ok (ports_in (base_of content) (at + ports_place t) t.ports (drop (ports_place t) content)) _ s b.2 in
-    let network = network_of t a.0 b.0 c.0 in
-    let d = bind_ok (flights_in E network (at + lines_place t) 0 (line_count t)) _ s c.2 in
-    let same : network ≡ s = let both = d.2 in cc in
-    subst (λ (n : Network NodeState). AllByRecursion IsNodeOfBytes n.nodes) same
-    (nodes_of_bytes (at + nodes_place) t.pages (drop nodes_place content) a.0 (are_bytes-drop nodes_place content h) a.1)
 
 -- It can be replayed from, and each of its ports has counted no more than its entries.
 pub record CanReplay (base : ℕ) (s : Network NodeState) : Type 0 where

@@ -56,16 +56,16 @@ name_last (s ∷ ss) t = name_last ss t
 pub sealed_none : (names : ℕ → ℕ) (b : BookValue) → Sealed names [] b
 sealed_none names b i s e = cc
 
-pub sealed_more : (ss : List NodeSeal) (t : NodeSeal) (b : BookValue) → Sealed (name_of ss) ss b → IsSealOf t.seal.name t.seal.value.state t.seal.name b (length ss) → Sealed (name_of (ss ++ t ∷ [])) (ss ++ t ∷ []) b
+pub sealed_more : (ss : List NodeSeal) (t : NodeSeal) (b : BookValue) → Sealed (name_of ss) ss b → IsSealOf t.seal.name t.seal.value.state t.frozen t.seal.name b (length ss) → Sealed (name_of (ss ++ t ∷ [])) (ss ++ t ∷ []) b
 sealed_more ss t b S T i s e = elim (cases_eq i (length ss)) [
   | inl last ↦
       let is : t ≡ s = same_some t s (sym (at_end ss t i last) ∙ e) in
-      subst (λ x. IsSealOf (name_of (ss ++ t ∷ []) i) x.seal.value.state x.seal.name b i) is
-      (subst (λ k. IsSealOf (name_of (ss ++ t ∷ []) k) t.seal.value.state t.seal.name b k) (sym last)
-      (subst (λ n. IsSealOf n t.seal.value.state t.seal.name b (length ss)) (sym (name_last ss t)) T))
+      subst (λ (x : NodeSeal). IsSealOf (name_of (ss ++ t ∷ []) i) x.seal.value.state x.frozen x.seal.name b i) is
+      (subst (λ k. IsSealOf (name_of (ss ++ t ∷ []) k) t.seal.value.state t.frozen t.seal.name b k) (sym last)
+      (subst (λ n. IsSealOf n t.seal.value.state t.frozen t.seal.name b (length ss)) (sym (name_last ss t)) T))
   | inr other ↦
       let within : i < length ss = (let b = within_end ss t s i e in omega (arith, b, other)) in
-      subst (λ n. IsSealOf n s.seal.value.state s.seal.name b i) (sym (name_before ss t i within)) (S i s (sym (before_end ss t i within) ∙ e))
+      subst (λ n. IsSealOf n s.seal.value.state s.frozen s.seal.name b i) (sym (name_before ss t i within)) (S i s (sym (before_end ss t i within) ∙ e))
 ]
 
 -- ## Cells
@@ -146,7 +146,7 @@ pub celled_start : (cell : ℕ) (names : ℕ → ℕ) (seals : List NodeSeal) (n
 celled_start cell names seals n m places same named C = subst (λ k. Celled cell names k places) same (celled_named cell (name_of seals) names n places named C)
 
 pub sealed_named : (names others : ℕ → ℕ) (ss : List NodeSeal) (b : BookValue) → ((i : ℕ) → others i ≡ names i) → Sealed names ss b → Sealed others ss b
-sealed_named names others ss b same S i s e = subst (λ n. IsSealOf n s.seal.value.state s.seal.name b i) (sym (same i)) (S i s e)
+sealed_named names others ss b same S i s e = subst (λ n. IsSealOf n s.seal.value.state s.frozen s.seal.name b i) (sym (same i)) (S i s e)
 
 -- ## All of them
 
@@ -171,10 +171,10 @@ module _ (b : BookValue) where
 
   pub dealt_more : (ss new : List NodeSeal) (d e : Dealt) (t : NodeSeal) (p : Place) (count index : ℕ) → IsDealt b ss d count → new ≡ ss ++ t ∷ [] → index ≡ count
       → e.p0.items ≡ given 0 index p d.p0.items → e.p1.items ≡ given 1 index p d.p1.items → e.p2.items ≡ given 2 index p d.p2.items → e.p3.items ≡ given 3 index p d.p3.items
-      → IsSealOf t.seal.name t.seal.value.state t.seal.name b count → IsIn t.seal.name count (suc count) p → IsDealt b new e (suc count)
+      → IsSealOf t.seal.name t.seal.value.state t.frozen t.seal.name b count → IsIn t.seal.name count (suc count) p → IsDealt b new e (suc count)
   dealt_more ss new d e t p count index D is at e0 e1 e2 e3 S P = record {
     many = let l = ap length is ∙ length-append ss (t ∷ []) in let m = D.many in omega (arith, l, m);
-    sealed = subst (λ xs. Sealed (name_of xs) xs b) (sym is) (sealed_more ss t b D.sealed (subst (IsSealOf t.seal.name t.seal.value.state t.seal.name b) (sym D.many) S));
+    sealed = subst (λ xs. Sealed (name_of xs) xs b) (sym is) (sealed_more ss t b D.sealed (subst (IsSealOf t.seal.name t.seal.value.state t.frozen t.seal.name b) (sym D.many) S));
     zeroth = cell_more 0 ss new t p d.p0.items e.p0.items count (omega arith) (sym D.many) is (subst (λ i. e.p0.items ≡ given 0 i p d.p0.items) at e0) D.zeroth P;
     first = cell_more 1 ss new t p d.p1.items e.p1.items count (omega arith) (sym D.many) is (subst (λ i. e.p1.items ≡ given 1 i p d.p1.items) at e1) D.first P;
     second = cell_more 2 ss new t p d.p2.items e.p2.items count (omega arith) (sym D.many) is (subst (λ i. e.p2.items ≡ given 2 i p d.p2.items) at e2) D.second P;

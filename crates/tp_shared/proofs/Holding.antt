@@ -1,89 +1,29 @@
 -- What a hold of the book's lock does for a node.
-use Rattle.std.proofs.Common.{◌≡◌, ℕ, true, false, cond, inl, inr, List, [], ◌∷◌, length, set, sym, ap, subst, ◌∙◌, Some, slice_get, eq-eqb, ne_eqb}
-use Rattle.std.specs.Prelude.{Result, Ok, Err, is_ok}
-use Rattle.std.proofs.lemmas.Bool.{cases_eq}
-use Rattle.std.proofs.lemmas.List.{append-nil}
+use Rattle.std.proofs.Common.{◌≡◌, ℕ, Bool, true, false, cond, inl, inr, List, [], ◌∷◌, length, set, refl, sym, ap, subst, ◌∙◌, Option, Some, None, slice_get}
+use Rattle.std.specs.Prelude.{◌==◌, ◌+◌, ◌*◌, Result, Ok, Err, is_ok, IfErr}
+use Rattle.std.specs.List.{AllByRecursion}
 use Rattle.tp_law_network.proofs.Local.{process_same}
-use Rattle.tp_model.specs.declared.link.Token.{Token}
 use Rattle.tp_model.specs.declared.entry.Entry.{Entry}
 use Rattle.tp_model.specs.declared.entry.Entry.TheVariants.{Run, Take, HostIn, Confirm}
 use Rattle.tp_model.specs.NodeState.{NodeState}
-use Rattle.tp_model.specs.Node.{t414}
-use Rattle.tp_model.specs.Network.{Network, steps}
-use Rattle.tp_port.specs.Sends.{on_lines}
-use Rattle.tp_book.specs.declared.refusal.Refusal.{Refusal}
-use Rattle.tp_book.specs.Book.{BookValue, agreed}
-use Rattle.tp_book.specs.Calls.{with_run, without_run, after_run, with_journalled, RunIsAgreed}
+use Rattle.tp_model.specs.Network.{Network, back}
+use Rattle.tp_model.specs.Acts.{Act, Journal}
+use Rattle.tp_model.specs.Runs.{is_trim}
 use Rattle.tp_port.proofs.Lists.{set_back}
+use Rattle.tp_node.specs.NodeContents.{NodeContents}
+use Rattle.tp_book.specs.Acts.{run_acts}
+use Rattle.tp_book.specs.declared.refusal.Refusal.{Refusal}
+use Rattle.tp_book.specs.declared.refusal.Refusal.TheVariants.{JournalFull, StoreBroken, Memory, NothingToTake, SnapshotRunning, PortFull}
+use Rattle.tp_book.specs.Book.{BookValue}
+use Rattle.tp_book.specs.Calls.{with_run, without_run}
+use Rattle.tp_book.specs.Refusals.{else_if, is_journal_full, reserve_refusal, IsAnswer}
+use Rattle.tp_turn.specs.Moments.{Moment, entries_in, Added}
+use Rattle.tp_turn.specs.Fronts.{IsStop, OnWire}
+use Rattle.tp_turn.specs.Stages.{Breaks, Opens}
 use Rattle.tp_shared.specs.Agreement.{Agreement}
-use Rattle.tp_shared.specs.Acts.{Added, Acted}
-use Rattle.tp_shared.specs.Entries.{Takes, TakesOf, run_entries}
-use Rattle.tp_shared.proofs.Growing.{grown_like}
-
--- ## A run
-
-pub acted_run : (b new : BookValue) (number count : ℕ) (was now : NodeState) (tokens : List (ℕ × Token)) → new ≡ after_run b number count tokens
-    → slice_get (agreed b.state) number ≡ Some was → steps t414 count was ≡ Some (now, tokens) → RunIsAgreed b new number count tokens
-    → Acted (λ entries. entries ≡ run_entries number count) number (record { node = now; reserved = false }) b new
-acted_run b new number count was now tokens is_new there made A = elim (cases_eq count 0) [ inl none ↦ without none | inr some ↦ with_some some ]
-  where
-    without : count ≡ 0 → Acted (λ entries. entries ≡ run_entries number count) number (record { node = now; reserved = false }) b new
-    without none =
-        let is : new ≡ without_run b number =
-        is_new ∙ ap (λ test. cond test (without_run b number) (with_journalled (without_run b number) (Run number count) b.state.ports (on_lines number tokens))) (eq-eqb count 0 none) in
-        record {
-          grown = record {
-            entries = [];
-            are = sym (ap (λ test. cond test [] (Run number count ∷ [])) (eq-eqb count 0 none));
-            start = ap (λ x. x.state.start) is;
-            entries_are = ap (λ x. x.state.entries) is ∙ sym (append-nil b.state.entries);
-            history = ap (λ x. x.history) is ∙ sym (append-nil b.history);
-            base = ap (λ x. x.base) is;
-            ready = ap (λ x. x.ready) is;
-          };
-          nodes = A was now there made;
-          runs = ap (λ x. x.runs) is;
-        }
-
-    with_some : (count ≡ 0 → ⊥) → Acted (λ entries. entries ≡ run_entries number count) number (record { node = now; reserved = false }) b new
-    with_some some =
-        let is : new ≡ with_journalled (without_run b number) (Run number count) b.state.ports (on_lines number tokens) =
-        is_new ∙ ap (λ test. cond test (without_run b number) (with_journalled (without_run b number) (Run number count) b.state.ports (on_lines number tokens))) (ne_eqb count 0 some) in
-        record {
-          grown = record {
-            entries = Run number count ∷ [];
-            are = sym (ap (λ test. cond test [] (Run number count ∷ [])) (ne_eqb count 0 some));
-            start = ap (λ x. x.state.start) is;
-            entries_are = ap (λ x. x.state.entries) is;
-            history = ap (λ x. x.history) is;
-            base = ap (λ x. x.base) is;
-            ready = ap (λ x. x.ready) is;
-          };
-          nodes = A was now there made;
-          runs = ap (λ x. x.runs) is;
-        }
-
--- ## Takes, and a reservation
-
--- without one
-pub acted_free : (Are : List Entry → Type 0) (b new : BookValue) (number : ℕ) (n : NodeState) → slice_get b.runs number ≡ Some false → Added Are number n b new → Acted Are number (record { node = n; reserved = false }) b new
-acted_free Are b new number n free A = record { grown = A.grown; nodes = A.nodes; runs = A.runs ∙ sym (set_back b.runs number false free) }
-
--- with one
-pub acted_reserved : (Are : List Entry → Type 0) (b mid new : BookValue) (number : ℕ) (n : NodeState) → Added Are number n b mid → new ≡ with_run mid number → Acted Are number (record { node = n; reserved = true }) b new
-acted_reserved Are b mid new number n A is = record {
-  grown = record {
-    entries = A.grown.entries;
-    are = A.grown.are;
-    start = ap (λ x. x.state.start) is ∙ A.grown.start;
-    entries_are = ap (λ x. x.state.entries) is ∙ A.grown.entries_are;
-    history = ap (λ x. x.history) is ∙ A.grown.history;
-    base = ap (λ x. x.base) is ∙ A.grown.base;
-    ready = ap (λ x. x.ready) is ∙ A.grown.ready;
-  };
-  nodes = ap (λ x. agreed x.state) is ∙ A.nodes;
-  runs = ap (λ x. x.runs) is ∙ ap (λ runs. set runs number true) A.runs;
-}
+use Rattle.tp_shared.specs.Acts.{Grown, Acted}
+use Rattle.tp_shared.specs.Entries.{Takes, TakesOf, IsTurnRefusal, run_entries}
+use Rattle.tp_shared.proofs.Untrimmed.{AreTurnActs, untrimmed, taken, settles_turn, breaks_turn}
 
 -- ## Whose entries
 
@@ -99,11 +39,139 @@ pub takes_of_like : (s t : Network NodeState) (number : ℕ) (r : Result ℕ Ref
 takes_of_like s t number (Ok count) es w n takes = (takes.0, takes_like s t number es w n takes.1)
 takes_of_like s t number (Err e) es w n takes = takes_like s t number es w n takes
 
-pub acted_like : (One Other : List Entry → Type 0) (number : ℕ) (a : Agreement) (b new : BookValue) → ((es : List Entry) → One es → Other es) → Acted One number a b new → Acted Other number a b new
-acted_like One Other number a b new like A = record { grown = grown_like One Other b new like A.grown; nodes = A.nodes; runs = A.runs }
+pub grown_like : (One Other : List Entry → Type 0) (b new : BookValue) → ((es : List Entry) → One es → Other es) → Grown One b new → Grown Other b new
+grown_like One Other b new like G = record {
+  acts = G.acts;
+  none = G.none;
+  did = G.did;
+  are = like (entries_in G.acts) G.are;
+  start = G.start;
+  entries_are = G.entries_are;
+  history = G.history;
+  base = G.base;
+  ready = G.ready;
+}
 
--- takes that were broken off, with what was answered
-pub acted_answer : (number : ℕ) (n : NodeState) (b new : BookValue) (r : Result ℕ Refusal) (e : Refusal) → r ≡ Err e → slice_get b.runs number ≡ Some false → Added (Takes b.state.start number) number n b new
-    → Acted (TakesOf b.state.start number r) number (record { node = n; reserved = is_ok r }) b new
-acted_answer number n b new r e is free A =
-    subst (λ x. Acted (TakesOf b.state.start number x) number (record { node = n; reserved = is_ok x }) b new) (sym is) (acted_free (Takes b.state.start number) b new number n free A)
+pub acted_like : (One Other : List Entry → Type 0) (number : ℕ) (a : Agreement) (b new : BookValue) → ((es : List Entry) → One es → Other es) → Acted One number a b new → Acted Other number a b new
+acted_like One Other number a b new like A = record { grown = grown_like One Other b new like A.grown; nodes = A.nodes; runs = A.runs; recorded = A.recorded; frozen = A.frozen }
+
+-- ## A turn is opened
+
+module _ (Are : List Entry → Type 0) (number : ℕ) (acts : List Act) (b mid : BookValue) (n : NodeContents) (A : Added number n.live acts b mid) (turns : AreTurnActs acts) (are : Are (entries_in acts)) where
+  grown : Grown Are b mid
+  grown = record {
+    acts = acts;
+    none = untrimmed acts turns;
+    did = A.did;
+    are = are;
+    start = A.grew.start;
+    entries_are = A.grew.entries_are;
+    history = A.grew.history;
+    base = A.grew.base;
+    ready = A.grew.ready;
+  }
+
+  -- no run is reserved
+  pub acted_free : slice_get b.runs number ≡ Some false → Acted Are number (record { node = n.live; frozen = n.frozen; reserved = false }) b mid
+  acted_free free = record {
+    grown = grown;
+    nodes = A.nodes;
+    runs = A.grew.runs ∙ sym (set_back b.runs number false free);
+    recorded = A.recorded;
+    frozen = A.frozen;
+  }
+
+  -- one is
+  pub acted_reserved : Acted Are number (record { node = n.live; frozen = n.frozen; reserved = true }) b (with_run mid number)
+  acted_reserved = record {
+    grown = record {
+      acts = acts;
+      none = untrimmed acts turns;
+      did = A.did;
+      are = are;
+      start = A.grew.start;
+      entries_are = A.grew.entries_are;
+      history = A.grew.history;
+      base = A.grew.base;
+      ready = A.grew.ready;
+    };
+    nodes = A.nodes;
+    runs = ap (λ runs. set runs number true) A.grew.runs;
+    recorded = A.recorded;
+    frozen = A.frozen;
+  }
+
+pub acted_opens : (number : ℕ) (r : Result ℕ Refusal) (s t : Moment) → slice_get s.book.runs number ≡ Some false → Opens number r s t
+    → Acted (TakesOf s.book.state.start number r) number (record { node = t.node.live; frozen = t.node.frozen; reserved = is_ok r }) s.book t.book
+acted_opens number (Ok takes) s t free O =
+    let D = O.settled in
+    let b = O.between in
+    let turns = settles_turn number s b D.acts D.did.did in
+    subst (λ (m : Moment). Acted (TakesOf s.book.state.start number (Ok takes)) number (record { node = m.node.live; frozen = m.node.frozen; reserved = true }) s.book m.book) (sym O.is)
+    (acted_reserved (TakesOf s.book.state.start number (Ok takes)) number D.acts s.book b.book b.node D.added turns (sym D.did.many, taken s.book.state.start number D.acts turns D.added.own))
+acted_opens number (Err e) s t free D =
+    let turns = breaks_turn number e s t D.acts D.did in
+    acted_free (TakesOf s.book.state.start number (Err e)) number D.acts s.book t.book t.node D.added turns (taken s.book.state.start number D.acts turns D.added.own) free
+
+-- ## Why it is refused
+
+stop_refused : (line : ℕ) (e : Refusal) (b : BookValue) → IsStop line e b → IsTurnRefusal e
+stop_refused line JournalFull b h = tt
+stop_refused line StoreBroken b h = tt
+stop_refused line Memory b h = tt
+stop_refused line NothingToTake b h = absurd h
+stop_refused line SnapshotRunning b h = absurd h
+stop_refused line PortFull b h = absurd h
+
+wire_refused : (number : ℕ) (o : Option ℕ) (e : Refusal) (s t : Moment) (acts : List Act) → OnWire number o (Err e) s acts t → IsTurnRefusal e
+wire_refused number None e s t acts D = let bad = D.0 in cc
+wire_refused number (Some line) e s t acts D = stop_refused line e t.book D.ends.1
+
+answer_refused : (why : Option Refusal) (e : Refusal) → ((reason : Refusal) → why ≡ Some reason → IsTurnRefusal reason) → IsAnswer {A = Unit {0}} why (Err e) → IsTurnRefusal e
+answer_refused None e each h = subst IsTurnRefusal (sym h) tt
+answer_refused (Some reason) e each h = subst IsTurnRefusal (sym h) (each reason refl)
+
+reserve_reason : (broken full : Bool) (reason : Refusal) → else_if (else_if None broken StoreBroken) full JournalFull ≡ Some reason → IsTurnRefusal reason
+reserve_reason true full reason e = let is : StoreBroken ≡ reason = cc in subst IsTurnRefusal is tt
+reserve_reason false true reason e = let is : JournalFull ≡ reason = cc in subst IsTurnRefusal is tt
+reserve_reason false false reason e = cc
+
+breaks_refused : (number : ℕ) (e : Refusal) (s t : Moment) (acts : List Act) → Breaks number e s acts t → IsTurnRefusal e
+breaks_refused number e s t acts (inl D) =
+    let r = D.did.other_did in
+    wire_refused number (back r.between.book.state.start (4 * number + D.link)) e r.between t r.second r.other_did
+breaks_refused number e s t acts (inr D) = answer_refused (reserve_refusal t.book) e (λ reason. reserve_reason t.book.broken (is_journal_full t.book 1) reason) D.answer
+
+pub opens_refused : (number : ℕ) (r : Result ℕ Refusal) (s t : Moment) → Opens number r s t → IfErr r IsTurnRefusal
+opens_refused number (Ok takes) s t O = tt
+opens_refused number (Err e) s t D = breaks_refused number e s t D.acts D.did
+
+-- ## A run
+
+run_taken : (number count : ℕ) (none : Bool) → AllByRecursion (λ act. is_trim act ≡ false) (cond none [] (Journal (Run number count) ∷ []))
+run_taken number count true = tt
+run_taken number count false = (refl, tt)
+
+run_listed : (number count : ℕ) (none : Bool) → entries_in (cond none [] (Journal (Run number count) ∷ [])) ≡ cond none [] (Run number count ∷ [])
+run_listed number count true = refl
+run_listed number count false = refl
+
+pub acted_run : (b new : BookValue) (number count : ℕ) (n : NodeContents) → Added number n.live (run_acts number count) (without_run b number) new
+    → Acted (λ entries. entries ≡ run_entries number count) number (record { node = n.live; frozen = n.frozen; reserved = false }) b new
+acted_run b new number count n A = record {
+  grown = record {
+    acts = run_acts number count;
+    none = run_taken number count (count == 0);
+    did = A.did;
+    are = run_listed number count (count == 0);
+    start = A.grew.start;
+    entries_are = A.grew.entries_are;
+    history = A.grew.history;
+    base = A.grew.base;
+    ready = A.grew.ready;
+  };
+  nodes = A.nodes;
+  runs = A.grew.runs;
+  recorded = A.recorded;
+  frozen = A.frozen;
+}

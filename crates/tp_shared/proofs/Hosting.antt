@@ -1,35 +1,74 @@
 -- What the host does to a book.
-use Rattle.std.proofs.Common.{◌≡◌, ℕ, Bool, true, false, cond, List, [], ◌∷◌, map, refl, sym, ap, ◌∙◌}
-use Rattle.std.specs.Prelude.{nat_le}
+use Rattle.std.proofs.Common.{◌≡◌, ℕ, Bool, true, false, cond, List, [], ◌∷◌, ◌++◌, map, length, refl, sym, ap, ◌∙◌, Option, Some, None}
+use Rattle.std.specs.Prelude.{nat_le, is_some, Result, Ok, Err, IfErr}
+use Rattle.std.specs.List.{AllByRecursion}
 use Rattle.std.proofs.lemmas.List.{append-nil}
+use Rattle.tp_model.specs.declared.entry.Entry.{Entry}
 use Rattle.tp_model.specs.declared.entry.Entry.TheVariants.{HostIn, Confirm}
-use Rattle.tp_book.specs.Book.{BookValue, agreed}
+use Rattle.tp_model.specs.Node.{t414}
+use Rattle.tp_model.specs.Acts.{Act, Begin, Journal, happens, acted}
+use Rattle.tp_model.specs.Runs.{is_trim}
+use Rattle.tp_snap.specs.Needs.{has_recorded_in}
+use Rattle.tp_book.specs.declared.refusal.Refusal.{Refusal}
+use Rattle.tp_book.specs.declared.refusal.Refusal.TheVariants.{JournalFull, StoreBroken, Memory, NothingToTake, SnapshotRunning, PortFull}
+use Rattle.tp_book.specs.Acts.{input_acts, confirm_acts}
+use Rattle.tp_book.specs.Book.{BookValue, agreed, world_of}
 use Rattle.tp_book.specs.Host.{after_input, after_confirm, with_confirmed, port_in}
-use Rattle.tp_shared.specs.Acts.{Hosted}
-use Rattle.tp_shared.specs.Entries.{confirm_entries}
+use Rattle.tp_model.specs.Journal.{is_full_for_snapshot}
+use Rattle.tp_model.specs.Snapshot.{Snapshot}
+use Rattle.tp_book.specs.Marked.{after_begin, begin_refusal}
+use Rattle.tp_book.specs.Refusals.{else_if, IsAnswer}
+use Rattle.tp_book.proofs.Stood.{one_act, no_act}
+use Rattle.tp_turn.specs.Moments.{entries_in}
+use Rattle.tp_turn.specs.Hosted.{HostAdded, HostDone, HostTurns}
+use Rattle.tp_turn.proofs.Fronted.{collected_recorded}
+use Rattle.tp_shared.specs.Acts.{Grown, Hosted}
+use Rattle.tp_shared.specs.Entries.{TakesOf, IsTurnRefusal, confirm_entries}
+use Rattle.tp_shared.proofs.Untrimmed.{untrimmed, taken, host_turns}
 
-pub hosted_input : (b new : BookValue) (port : ℕ) (bytes : List ℕ) → new ≡ after_input b port bytes → agreed new.state ≡ agreed b.state → Hosted (λ entries. entries ≡ map (HostIn port) bytes) b new
-hosted_input b new port bytes is same = record {
+-- ## Bytes handed in
+
+inputs_kept : (port : ℕ) (bytes : List ℕ) → AllByRecursion (λ act. is_trim act ≡ false) (input_acts port bytes)
+inputs_kept port [] = tt
+inputs_kept port (x ∷ xs) = (refl, inputs_kept port xs)
+
+inputs_listed : (port : ℕ) (bytes : List ℕ) → entries_in (input_acts port bytes) ≡ map (HostIn port) bytes
+inputs_listed port [] = refl
+inputs_listed port (x ∷ xs) = ap (λ es. HostIn port x ∷ es) (inputs_listed port xs)
+
+pub hosted_input : (b new : BookValue) (port : ℕ) (bytes : List ℕ) → new ≡ after_input b port bytes → agreed new.state ≡ agreed b.state → acted t414 (world_of b) (input_acts port bytes) ≡ Some (world_of new)
+    → Hosted (λ entries. entries ≡ map (HostIn port) bytes) b new
+hosted_input b new port bytes is same act = record {
   grown = record {
-    entries = map (HostIn port) bytes;
-    are = refl;
+    acts = input_acts port bytes;
+    none = inputs_kept port bytes;
+    did = act;
+    are = inputs_listed port bytes;
     start = ap (λ x. x.state.start) is;
-    entries_are = ap (λ x. x.state.entries) is;
-    history = ap (λ x. x.history) is;
+    entries_are = ap (λ x. x.state.entries) is ∙ ap (λ es. b.state.entries ++ es) (sym (inputs_listed port bytes));
+    history = ap (λ x. x.history) is ∙ ap (λ es. b.history ++ es) (sym (inputs_listed port bytes));
     base = ap (λ x. x.base) is;
     ready = ap (λ x. x.ready) is;
   };
   nodes = same;
   runs = ap (λ x. x.runs) is;
+  recorded = λ process. ap (λ x. has_recorded_in x.state.snapshot process) is;
+  frozen = ap (λ x. x.frozen) is;
 }
 
-pub hosted_confirm : (b new : BookValue) (port upto : ℕ) → new ≡ after_confirm b port upto → agreed new.state ≡ agreed b.state → Hosted (λ entries. entries ≡ confirm_entries b port upto) b new
-hosted_confirm b new port upto is same = go (nat_le upto (port_in b port).out_base) is
+-- ## Outputs confirmed
+
+pub hosted_confirm : (b new : BookValue) (port upto : ℕ) → new ≡ after_confirm b port upto → agreed new.state ≡ agreed b.state → acted t414 (world_of b) (confirm_acts b port upto) ≡ Some (world_of new)
+    → Hosted (λ entries. entries ≡ confirm_entries b port upto) b new
+hosted_confirm b new port upto is same act = go (nat_le upto (port_in b port).out_base) is act
   where
-    go : (before : Bool) → new ≡ cond before b (with_confirmed b port upto) → Hosted (λ entries. entries ≡ cond before [] (Confirm port upto ∷ [])) b new
-    go true e = record {
+    go : (before : Bool) → new ≡ cond before b (with_confirmed b port upto) → acted t414 (world_of b) (cond before [] (Journal (Confirm port upto) ∷ [])) ≡ Some (world_of new)
+        → Hosted (λ entries. entries ≡ cond before [] (Confirm port upto ∷ [])) b new
+    go true e act = record {
       grown = record {
-        entries = [];
+        acts = [];
+        none = tt;
+        did = act;
         are = refl;
         start = ap (λ x. x.state.start) e;
         entries_are = ap (λ x. x.state.entries) e ∙ sym (append-nil b.state.entries);
@@ -39,10 +78,14 @@ hosted_confirm b new port upto is same = go (nat_le upto (port_in b port).out_ba
       };
       nodes = same;
       runs = ap (λ x. x.runs) e;
+      recorded = λ process. ap (λ x. has_recorded_in x.state.snapshot process) e;
+      frozen = ap (λ x. x.frozen) e;
     }
-    go false e = record {
+    go false e act = record {
       grown = record {
-        entries = Confirm port upto ∷ [];
+        acts = Journal (Confirm port upto) ∷ [];
+        none = (refl, tt);
+        did = act;
         are = refl;
         start = ap (λ x. x.state.start) e;
         entries_are = ap (λ x. x.state.entries) e;
@@ -52,4 +95,96 @@ hosted_confirm b new port upto is same = go (nat_le upto (port_in b port).out_ba
       };
       nodes = same;
       runs = ap (λ x. x.runs) e;
+      recorded = λ process. ap (λ x. has_recorded_in x.state.snapshot process) e ∙ collected_recorded b.state.snapshot _ process _;
+      frozen = ap (λ x. x.frozen) e;
     }
+
+-- ## Turns
+
+hosted_by : (Are : List Entry → Type 0) (acts : List Act) (b new : BookValue) → HostAdded acts b new → AllByRecursion (λ act. is_trim act ≡ false) acts → Are (entries_in acts) → Hosted Are b new
+hosted_by Are acts b new A none are = record {
+  grown = record {
+    acts = acts;
+    none = none;
+    did = A.did;
+    are = are;
+    start = A.grew.start;
+    entries_are = A.grew.entries_are;
+    history = A.grew.history;
+    base = A.grew.base;
+    ready = A.grew.ready;
+  };
+  nodes = A.nodes;
+  runs = A.grew.runs;
+  recorded = A.recorded;
+  frozen = A.frozen;
+}
+
+pub hosted_turn : (r : Result ℕ Refusal) (b new : BookValue) → HostDone (HostTurns r) b new → Hosted (TakesOf b.state.start (length b.state.start.nodes) r) b new
+hosted_turn (Ok takes) b new D =
+    let turns = host_turns (Ok takes) b new D.acts D.did in
+    hosted_by (TakesOf b.state.start (length b.state.start.nodes) (Ok takes)) D.acts b new D.added (untrimmed D.acts turns)
+    (sym D.did.many, taken b.state.start (length b.state.start.nodes) D.acts turns D.added.own)
+hosted_turn (Err e) b new D =
+    let turns = host_turns (Err e) b new D.acts D.did in
+    hosted_by (TakesOf b.state.start (length b.state.start.nodes) (Err e)) D.acts b new D.added (untrimmed D.acts turns) (taken b.state.start (length b.state.start.nodes) D.acts turns D.added.own)
+
+refused_by : (e : Refusal) (b new : BookValue) (acts : List Act) → HostTurns (Err e) b acts new → IsTurnRefusal e
+refused_by JournalFull b new acts D = tt
+refused_by StoreBroken b new acts D = tt
+refused_by Memory b new acts D = tt
+refused_by NothingToTake b new acts D = absurd D
+refused_by SnapshotRunning b new acts D = absurd D
+refused_by PortFull b new acts D = absurd D
+
+pub host_refused : (r : Result ℕ Refusal) (b new : BookValue) → HostDone (HostTurns r) b new → IfErr r IsTurnRefusal
+host_refused (Ok takes) b new D = tt
+host_refused (Err e) b new D = refused_by e b new D.acts D.did
+
+-- ## A snapshot begins
+
+-- a snapshot can begin where none runs
+pub idle_begun : (b : BookValue) → IsAnswer {A = Unit {0}} (begin_refusal b) (Ok tt) → b.state.snapshot ≡ None
+idle_begun b h = go b.state.snapshot b.broken (is_full_for_snapshot b.generation) h
+  where
+    go : (given : Option Snapshot) (broken full : Bool) → IsAnswer {A = Unit {0}} (else_if (else_if (else_if None (is_some given) SnapshotRunning) broken StoreBroken) full JournalFull) (Ok tt) → given ≡ None
+    go None broken full h = refl
+    go (Some snap) broken full h = absurd h
+
+pub begun_agreed : (b new : BookValue) → new ≡ after_begin b → agreed new.state ≡ agreed b.state
+unfolding agreed
+begun_agreed b new is = ap (λ x. agreed x.state) is
+
+pub begun_grown : (b new : BookValue) → new ≡ after_begin b → happens t414 (world_of b) Begin ≡ Some (world_of new) → Grown (λ entries. entries ≡ []) b new
+begun_grown b new is act = record {
+  acts = Begin ∷ [];
+  none = (refl, tt);
+  did = one_act (world_of b) (world_of new) Begin act;
+  are = refl;
+  start = ap (λ x. x.state.start) is;
+  entries_are = ap (λ x. x.state.entries) is ∙ sym (append-nil b.state.entries);
+  history = ap (λ x. x.history) is ∙ sym (append-nil b.history);
+  base = ap (λ x. x.base) is;
+  ready = ap (λ x. x.ready) is;
+}
+
+-- ## The store breaks
+
+pub hosted_broken : (b new : BookValue) → new ≡ record b { broken = true } → Hosted (λ entries. entries ≡ []) b new
+hosted_broken b new is = record {
+  grown = record {
+    acts = [];
+    none = tt;
+    did = no_act (world_of b) ∙ ap (λ x. Some (world_of x)) (sym is);
+    are = refl;
+    start = ap (λ x. x.state.start) is;
+    entries_are = ap (λ x. x.state.entries) is ∙ sym (append-nil b.state.entries);
+    history = ap (λ x. x.history) is ∙ sym (append-nil b.history);
+    base = ap (λ x. x.base) is;
+    ready = ap (λ x. x.ready) is;
+  };
+  nodes = ap (λ x. agreed x.state) is;
+  runs = ap (λ x. x.runs) is;
+  recorded = λ process. ap (λ x. has_recorded_in x.state.snapshot process) is;
+  frozen = ap (λ x. x.frozen) is;
+}

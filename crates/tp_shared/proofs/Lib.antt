@@ -1,9 +1,9 @@
-pub mod Growing
-pub mod Takeable
-pub mod Taking
+pub mod Untrimmed
+pub mod Telling
 pub mod Holding
 pub mod Sealing
 pub mod Writing
 pub mod Placing
 pub mod Dealing
+pub mod Opening
 pub mod Hosting

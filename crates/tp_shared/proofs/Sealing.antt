@@ -1,13 +1,19 @@
 -- Seals beside a book that grew, and its roll.
-use Rattle.std.proofs.Common.{◌≡◌, ℕ, zero, suc, ◌+◌, ◌<◌, inl, inr, List, [], ◌∷◌, ◌++◌, length, set, drop, refl, sym, ap, subst, ◌∙◌, arith, Some, slice_get, length-append}
+use Rattle.std.proofs.Common.{◌≡◌, ℕ, zero, suc, ◌+◌, ◌<◌, Bool, true, false, inl, inr, List, [], ◌∷◌, ◌++◌, length, set, drop, get_or, refl, sym, ap, subst, ◌∙◌, arith, Option, Some, None, slice_get, length-append}
+use Rattle.std.specs.Prelude.{IsSome, is_some}
 use Rattle.std.specs.List.{AllByRecursion, enumerate_from}
 use Rattle.std.proofs.lemmas.Bool.{cases_eq}
-use Rattle.std.proofs.lemmas.List.{drop_at}
+use Rattle.std.proofs.lemmas.List.{append-nil, drop_at}
 use mathlib.Core.List.{cons≢nil}
 use Rattle.tp_law_machine.proofs.Partial.{slice_get-set_same, slice_get-set_other}
 use Rattle.tp_token.specs.Sound.{Sound, item_of}
 use Rattle.tp_model.specs.declared.entry.Entry.{Entry}
+use Rattle.tp_model.specs.NodeState.{NodeState}
+use Rattle.tp_law_machine.specs.NodeOfBytes.{IsNodeOfBytes}
+use Rattle.tp_node.specs.NodeContents.{NodeContents}
+use Rattle.tp_snap.specs.Needs.{has_recorded_in}
 use Rattle.tp_book.specs.Book.{BookValue, agreed}
+use Rattle.tp_turn.specs.Moments.{IsNodeOf, entries_in}
 use Rattle.tp_shared.specs.Agreement.{Agreement}
 use Rattle.tp_shared.specs.Acts.{Grown, Acted, Hosted}
 use Rattle.tp_shared.specs.Gains.{Noted}
@@ -21,16 +27,29 @@ get_within [] i h = absurd (omega (arith, h))
 get_within (x ∷ xs) zero h = (x, refl)
 get_within (x ∷ xs) (suc i) h = get_within xs i (omega (arith, h))
 
-module _ (Are : List Entry → Type 0) (names : ℕ → ℕ) (seals : List NodeSeal) (b new : BookValue) (i : ℕ) (a : Agreement) (s : NodeSeal) (S : Sealed names seals b) (A : Acted Are i a b new) (below : i < length seals)
-    (named : s.seal.name ≡ names i) (shows : s.seal.value.state ≡ a) where
-  here : IsSealOf (names i) a s.seal.name new i
+-- whoever has a node that shows what its seal shows has the book's node
+pub node_of_seal : (name : ℕ) (a : Agreement) (flag : Bool) (seal_name : ℕ) (b : BookValue) (i : ℕ) (n : NodeContents) → IsSealOf name a flag seal_name b i → a.node ≡ n.live → a.frozen ≡ n.frozen → IsNodeOfBytes n.live → IsNodeOf b i n
+node_of_seal name a flag seal_name b i n S node frozen image = record {
+  there = S.node ∙ ap Some node;
+  image = image;
+  recorded = λ some. S.recorded (subst IsSome (sym frozen) some);
+  kept = λ here there h t. S.kept here there (frozen ∙ h) t;
+}
+
+module _ (Are : List Entry → Type 0) (names : ℕ → ℕ) (seals : List NodeSeal) (b new : BookValue) (i : ℕ) (n : NodeContents) (reserved : Bool) (s : NodeSeal) (S : Sealed names seals b)
+    (A : Acted Are i (record { node = n.live; frozen = n.frozen; reserved = reserved }) b new) (N : IsNodeOf new i n) (below : i < length seals)
+    (named : s.seal.name ≡ names i) (shows : s.seal.value.state ≡ record { node = n.live; frozen = n.frozen; reserved = reserved }) (flag : s.frozen ≡ is_some n.frozen) where
+  here : IsSealOf (names i) (record { node = n.live; frozen = n.frozen; reserved = reserved }) s.frozen s.seal.name new i
   here =
       let old = get_within seals i below in
       let was = S i old.0 old.1 in
       record {
         named = named;
-        node = ap (λ ns. slice_get ns i) A.nodes ∙ slice_get-set_same (agreed b.state) i a.node old.0.seal.value.state.node was.node;
-        reserved = ap (λ rs. slice_get rs i) A.runs ∙ slice_get-set_same b.runs i a.reserved old.0.seal.value.state.reserved was.reserved;
+        node = N.there;
+        recorded = N.recorded;
+        kept = N.kept;
+        reserved = ap (λ rs. slice_get rs i) A.runs ∙ slice_get-set_same b.runs i reserved old.0.seal.value.state.reserved was.reserved;
+        flag = flag;
       }
 
   some_same : (x y : NodeSeal) → Some x ≡ Some y → x ≡ y
@@ -42,14 +61,17 @@ module _ (Are : List Entry → Type 0) (names : ℕ → ℕ) (seals : List NodeS
     | inl same ↦
         let old = get_within seals i below in
         let is : s ≡ t = some_same s t (sym (slice_get-set_same seals i s old.0 old.1) ∙ ap (slice_get (set seals i s)) (sym same) ∙ e) in
-        subst (λ k. IsSealOf (names k) t.seal.value.state t.seal.name new k) (sym same)
-        (subst (λ x. IsSealOf (names i) x.seal.value.state x.seal.name new i) is (subst (λ x. IsSealOf (names i) x s.seal.name new i) (sym shows) here))
+        subst (λ k. IsSealOf (names k) t.seal.value.state t.frozen t.seal.name new k) (sym same)
+        (subst (λ (x : NodeSeal). IsSealOf (names i) x.seal.value.state x.frozen x.seal.name new i) is (subst (λ x. IsSealOf (names i) x s.frozen s.seal.name new i) (sym shows) here))
     | inr other ↦
         let was = S j t (sym (slice_get-set_other seals i j s other) ∙ e) in
         record {
           named = was.named;
-          node = ap (λ ns. slice_get ns j) A.nodes ∙ slice_get-set_other (agreed b.state) i j a.node other ∙ was.node;
-          reserved = ap (λ rs. slice_get rs j) A.runs ∙ slice_get-set_other b.runs i j a.reserved other ∙ was.reserved;
+          node = ap (λ ns. slice_get ns j) A.nodes ∙ slice_get-set_other (agreed b.state) i j n.live other ∙ was.node;
+          recorded = λ some. A.recorded j other ∙ was.recorded some;
+          kept = λ here there h t. was.kept here there h (sym (A.frozen j other) ∙ t);
+          reserved = ap (λ rs. slice_get rs j) A.runs ∙ slice_get-set_other b.runs i j reserved other ∙ was.reserved;
+          flag = was.flag;
         }
   ]
 
@@ -57,21 +79,57 @@ module _ (Are : List Entry → Type 0) (names : ℕ → ℕ) (seals : List NodeS
 pub sealed_still : (Are : List Entry → Type 0) (names : ℕ → ℕ) (seals : List NodeSeal) (b new : BookValue) → Sealed names seals b → Hosted Are b new → Sealed names seals new
 sealed_still Are names seals b new S H i s e =
     let was = S i s e in
-    record { named = was.named; node = ap (λ ns. slice_get ns i) H.nodes ∙ was.node; reserved = ap (λ rs. slice_get rs i) H.runs ∙ was.reserved }
+    record {
+      named = was.named;
+      node = ap (λ ns. slice_get ns i) H.nodes ∙ was.node;
+      recorded = λ some. H.recorded i ∙ was.recorded some;
+      kept = λ here there h t. was.kept here there h (ap (λ xs. get_or xs i None) (sym H.frozen) ∙ t);
+      reserved = ap (λ rs. slice_get rs i) H.runs ∙ was.reserved;
+      flag = was.flag;
+    }
+
+none_frozen : (given : Option NodeState) → (IsSome given → false ≡ true) → given ≡ None
+none_frozen None h = refl
+none_frozen (Some x) h = let bad : false ≡ true = h refl in cc
+
+-- where no snapshot runs no node is frozen, and so it is whatever the book then has frozen
+pub sealed_begun : (names : ℕ → ℕ) (seals : List NodeSeal) (b new : BookValue) → Sealed names seals b → b.state.snapshot ≡ None → agreed new.state ≡ agreed b.state → new.runs ≡ b.runs → Sealed names seals new
+sealed_begun names seals b new S idle nodes runs i s e =
+    let was = S i s e in
+    let none = none_frozen s.seal.value.state.frozen (λ some. ap (λ given. has_recorded_in given i) (sym idle) ∙ was.recorded some) in
+    record {
+      named = was.named;
+      node = ap (λ ns. slice_get ns i) nodes ∙ was.node;
+      recorded = λ some. let bad : false ≡ true = subst IsSome none some in cc;
+      kept = λ here there h t. let bad = sym none ∙ h in cc;
+      reserved = ap (λ rs. slice_get rs i) runs ∙ was.reserved;
+      flag = was.flag;
+    }
 
 -- ## The journal
 
 module _ (Are : List Entry → Type 0) (b new : BookValue) (G : Grown Are b new) (before : ℕ) (many : before ≡ length b.state.entries) where
-  pub entries_new : drop before new.state.entries ≡ G.entries
-  entries_new = ap (drop before) G.entries_are ∙ drop_at b.state.entries G.entries before (sym many)
+  pub entries_new : drop before new.state.entries ≡ entries_in G.acts
+  entries_new = ap (drop before) G.entries_are ∙ drop_at b.state.entries (entries_in G.acts) before (sym many)
+
+  -- the entries are those behind all that were there
+  pub all_after : (all now : List Entry) → now ≡ all ++ drop before new.state.entries → now ≡ all ++ entries_in G.acts
+  all_after all now is = is ∙ ap (λ es. all ++ es) entries_new
 
   pub tied_after : (first : ℕ) (all now : List Entry) → IsTied first all b → now ≡ all ++ drop before new.state.entries → IsTied first now new
   tied_after first all now T is =
-      let are : now ≡ all ++ G.entries = is ∙ ap (λ es. all ++ es) entries_new in
+      let are : now ≡ all ++ entries_in G.acts = is ∙ ap (λ es. all ++ es) entries_new in
       record {
-        are = are ∙ ap (λ es. es ++ G.entries) T.are ∙ sym G.history;
-        next = let n = T.next in let l = ap length are ∙ length-append all G.entries in let m = ap length G.entries_are ∙ length-append b.state.entries G.entries in let base = G.base in omega (arith, n, l, m, base);
+        are = are ∙ ap (λ es. es ++ entries_in G.acts) T.are ∙ sym G.history;
+        next = let n = T.next in let l = ap length are ∙ length-append all (entries_in G.acts) in let m = ap length G.entries_are ∙ length-append b.state.entries (entries_in G.acts) in let base = G.base in omega (arith, n, l, m, base);
       }
+
+-- nothing was journalled
+pub tied_still : (b new : BookValue) (first : ℕ) (all : List Entry) → Grown (λ entries. entries ≡ []) b new → IsTied first all b → IsTied first all new
+tied_still b new first all G T = record {
+  are = T.are ∙ sym (append-nil b.history) ∙ ap (λ es. b.history ++ es) (sym G.are) ∙ sym G.history;
+  next = let n = T.next in let l = ap length (G.entries_are ∙ ap (λ es. b.state.entries ++ es) G.are ∙ append-nil b.state.entries) in let base = G.base in omega (arith, n, l, base);
+}
 
 -- ## Slips
 
@@ -94,7 +152,7 @@ pub noted_by : (Are : List Entry → Type 0) (b new : BookValue) (old_stage new_
     → Sound (item_of roll_first old_stage.all) seat_old
     → Noted Are first old_stage new_stage seat_old seat_new
 noted_by Are b new old_stage new_stage first roll_first before seat_old seat_new G many f is seat sound = record {
-  entries = G.entries;
+  entries = entries_in G.acts;
   are = G.are;
   journal = is ∙ ap (λ es. old_stage.all ++ es) (entries_new Are b new G before many);
   seat = seat ∙ ap (λ n. seat_old ++ enumerate_from (n + length old_stage.all) (drop before new.state.entries)) f

@@ -1,5 +1,5 @@
 -- What entries are of which process.
-use Rattle.std.specs.Prelude.{◌≡◌, ℕ, Bool, true, false, ◌==◌, nat_le, if◌then◌else◌, List, [], ◌∷◌, length, Result, Ok, Err}
+use Rattle.std.specs.Prelude.{◌≡◌, ℕ, ◌==◌, nat_le, if◌then◌else◌, List, [], ◌∷◌, length, Result, Ok, Err}
 use Rattle.std.specs.List.{AllByRecursion}
 use Rattle.tp_model.specs.declared.entry.Entry.{Entry}
 use Rattle.tp_model.specs.declared.entry.Entry.TheVariants.{Run, Take, HostIn, Confirm}
@@ -9,6 +9,7 @@ use Rattle.tp_model.specs.Entries.{process}
 use Rattle.tp_book.specs.Book.{BookValue}
 use Rattle.tp_book.specs.Host.{port_in}
 use Rattle.tp_book.specs.declared.refusal.Refusal.{Refusal}
+use Rattle.tp_book.specs.declared.refusal.Refusal.TheVariants.{JournalFull, StoreBroken, Memory, NothingToTake, SnapshotRunning, PortFull}
 
 -- a Take of this process
 abbrev pub IsTakeBy : Network NodeState → ℕ → Entry → Type 0
@@ -25,16 +26,19 @@ Takes start number = AllByRecursion (IsTakeBy start number)
 abbrev pub CountedTakes : Network NodeState → ℕ → ℕ → List Entry → Type 0
 CountedTakes start number count entries = (length entries ≡ count) × Takes start number entries
 
--- how many tokens were taken, where at most one was
-abbrev pub taken : Result Bool Refusal → ℕ
-taken (Ok true) = 1
-taken (Ok false) = 0
-taken (Err e) = 0
-
 -- the entries of takes that were answered with their number, or broken off
 abbrev pub TakesOf : Network NodeState → ℕ → Result ℕ Refusal → List Entry → Type 0
 TakesOf start number (Ok count) = CountedTakes start number count
 TakesOf start number (Err e) = Takes start number
+
+-- A turn is refused where the journal is full, the store is broken, or memory is wanting.
+abbrev pub IsTurnRefusal : Refusal → Type 0
+IsTurnRefusal JournalFull = Unit {0}
+IsTurnRefusal StoreBroken = Unit {0}
+IsTurnRefusal Memory = Unit {0}
+IsTurnRefusal NothingToTake = ⊥
+IsTurnRefusal SnapshotRunning = ⊥
+IsTurnRefusal PortFull = ⊥
 
 -- a run's entry; none without a step
 abbrev pub run_entries : ℕ → ℕ → List Entry

@@ -1,9 +1,10 @@
 pub mod Agreement
 pub mod Entries
-pub mod Agrees
 pub mod Acts
 pub mod Seals
+pub mod Told
 pub mod Gains
+pub mod Receipted
 pub mod Cells
 pub mod Turned
 pub mod Parted

@@ -5,12 +5,14 @@ use Rattle.tp_model.specs.NodeState.{NodeState}
 use Rattle.tp_model.specs.Network.{Network}
 use Rattle.tp_shared.specs.Parted.{name_of, PartsValue}
 
--- What is picked is that of the parts: the names of the roll, the nodes and the mark, the number of the first entry, and a network
--- with the same wires and as many nodes.
-pub record Names (roll first : ℕ) (start : Network NodeState) (node : ℕ → ℕ) (mark : MarkName) (parts : PartsValue) : Type 0 where
+-- What is picked is that of the parts: the names of the roll, the nodes, the mark and what the flusher is told, the number of the
+-- first entry, and a network with the same wires and as many nodes and ports.
+pub record Names (roll first : ℕ) (start : Network NodeState) (node : ℕ → ℕ) (mark : MarkName) (flusher : ℕ) (parts : PartsValue) : Type 0 where
   pub roll_is : parts.roll ≡ roll
   pub first_is : parts.first ≡ first
   pub wires_are : parts.book.state.start.wires ≡ start.wires
   pub count_is : length parts.book.state.start.nodes ≡ length start.nodes
+  pub ports_are : length parts.book.state.ports ≡ length start.ports
   pub nodes_are : (i : ℕ) → node i ≡ name_of parts.seals i
   pub mark_is : parts.mark ≡ mark
+  pub flusher_is : parts.flusher ≡ flusher

@@ -23,14 +23,18 @@ pub record IsDealt (b : BookValue) (seals : List NodeSeal) (dealt : Dealt) (coun
   pub second : Celled 2 (name_of seals) count dealt.p2.items
   pub third : Celled 3 (name_of seals) count dealt.p3.items
 
--- The parts belong together: no take is made ready, there is a seal and a place for each node, and the roll has all entries.
-pub record AreParts (b : BookValue) (seals : List NodeSeal) (dealt : Dealt) (roll_first : ℕ) (all : List Entry) : Type 0 where
+-- The parts belong together: no take is made ready, there is a seal and a place for each node, and there is no entry yet that
+-- the roll would have. Both halves of what the flusher is told are of one name.
+pub record AreParts (b : BookValue) (seals : List NodeSeal) (dealt : Dealt) (roll_first : ℕ) (all : List Entry) (told_seal told_key : ℕ) : Type 0 where
   pub idle : b.ready ≡ None
   pub runs : length b.runs ≡ length b.state.start.nodes
   pub shares : IsDealt b seals dealt (length b.state.start.nodes)
   pub tied : IsTied roll_first all b
+  pub none : all ≡ []
+  pub twins : told_seal ≡ told_key
 
--- What contracts see of parts: the book, the seals, the name of the roll, the number of its first entry and its entries, and the mark.
+-- What contracts see of parts: the book, the seals, the name of the roll, the number of its first entry and its entries, the mark, and
+-- the name of what the flusher is told.
 pub record PartsValue : Type 0 where
   pub book : BookValue
   pub seals : List NodeSeal
@@ -38,3 +42,4 @@ pub record PartsValue : Type 0 where
   pub first : ℕ
   pub all : List Entry
   pub mark : MarkName
+  pub flusher : ℕ

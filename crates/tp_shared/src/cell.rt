@@ -1,12 +1,12 @@
 //! The nodes under one lock, and their turns.
 
-ghost use Rattle.std.specs.Prelude.{◌≡◌, ◌<◌, ◌≤◌, ◌%◌, Some, true, false, None, length, is_ok, MatchResult};
+ghost use Rattle.std.specs.Prelude.{◌≡◌, ◌<◌, ◌≤◌, ◌%◌, Some, true, false, length, is_ok, IfErr, MatchResult};
 ghost use Rattle.tp_law_machine.specs.NodeOfBytes.{IsNodeOfBytes};
 ghost use Rattle.tp_model.specs.Network.{steps};
 ghost use Rattle.tp_model.specs.Node.{t414};
 ghost use Rattle.tp_model.specs.declared.limits.TheConstants.{MAX_STEPS};
 ghost use Rattle.tp_shared.specs.Cells.{Celled};
-ghost use Rattle.tp_shared.specs.Entries.{Takes, TakesOf, run_entries};
+ghost use Rattle.tp_shared.specs.Entries.{IsTurnRefusal, Takes, TakesOf, run_entries};
 ghost use Rattle.tp_shared.specs.Gains.{Gained};
 ghost use Rattle.tp_shared.specs.Seals.{Shows};
 ghost use Rattle.tp_shared.specs.Turned.{Turned};
@@ -17,11 +17,11 @@ use crate::naming::Naming;
 use crate::node_turn::NodeTurn;
 use crate::place::Place;
 use crate::seat::Seat;
-use arrayvec::ArrayVec;
 use std::marker::{Model, PhantomData};
 use std::sync::{Mutex, Wait};
 use tp_book::Refusal;
-use tp_model::Token;
+use tp_node::Ran;
+use tp_turn::Stretch;
 
 /// Every fourth node, from the node `I` on.
 #[derive(Drop)]
@@ -49,13 +49,14 @@ fn begin<J: Naming, R: Wait>(
     place: &mut Place,
     seat: &mut Seat<J>,
     number: u8,
-) -> Result<usize, Refusal>
+) -> Result<u64, Refusal>
     requires there { number < length J.start.nodes }
     requires named { place.old.key.name ≡ J.node number }
     requires shows { Shows place.old false }
     ensures named { place.new.key.name ≡ place.old.key.name }
     ensures shows { Shows place.new (is_ok result) }
     ensures gained { Gained (TakesOf J.start number result) seat.old seat.new }
+    ensures refused { IfErr result IsTurnRefusal }
 {
     let mut held = book.lock(rt);
     held.begin(place, seat, number)
@@ -68,22 +69,22 @@ fn commit<J: Naming, R: Wait>(
     place: &mut Place,
     seat: &mut Seat<J>,
     number: u8,
-    count: u16,
-    tokens: &[(u8, Token)],
-)
+    stretch: Stretch,
+) -> Ran
     requires there { number < length J.start.nodes }
     requires named { place.old.key.name ≡ J.node number }
     requires reserved { place.old.key.value.state.reserved ≡ true }
-    requires few { count ≤ MAX_STEPS }
-    requires ran { steps t414 count place.old.key.value.state.node ≡ Some (place.old.node.live, tokens.now) }
-    requires image { IsNodeOfBytes place.old.node.live }
-    requires thawed { place.old.node.frozen ≡ None }
+    requires few { stretch.ran.count ≤ MAX_STEPS }
+    requires was { IsNodeOfBytes place.old.key.value.state.node }
+    requires ran { steps t414 stretch.ran.count place.old.key.value.state.node ≡ Some (place.old.node.live, stretch.sent.items) }
+    requires kept { place.old.node.frozen ≡ place.old.key.value.state.frozen }
+    ensures ran { result ≡ stretch.ran }
     ensures named { place.new.key.name ≡ place.old.key.name }
     ensures shows { Shows place.new false }
-    ensures gained { Gained (λ entries. entries ≡ run_entries number count) seat.old seat.new }
+    ensures gained { Gained (λ entries. entries ≡ run_entries number stretch.ran.count) seat.old seat.new }
 {
     let mut held = book.lock(rt);
-    held.commit(place, seat, number, count, tokens);
+    held.commit(place, seat, number, stretch)
 }
 
 // A turn of a node whose lock is held. The book's is let go while the node runs.
@@ -103,13 +104,13 @@ fn turn_of<J: Naming, G: Gate, R: Wait>(
     ensures named { place.new.key.name ≡ place.old.key.name }
     ensures shows { Shows place.new false }
     ensures turned { MatchResult result (λ turn. Turned J.start number quantum turn seat.old seat.new) (λ e. Gained (Takes J.start number) seat.old seat.new) }
+    ensures refused { IfErr result IsTurnRefusal }
 {
     gate.at(number, NODE_LOCKED);
     let taken = begin(rt, book, place, seat, number)?;
-    let mut sent = ArrayVec::new();
-    let ran = place.run(quantum, &mut sent);
+    let stretch = place.run(quantum);
     gate.at(number, RUN_DONE);
-    commit(rt, book, place, seat, number, ran.count(), sent.as_slice());
+    let ran = commit(rt, book, place, seat, number, stretch);
     gate.at(number, COMMITTED);
     Ok(NodeTurn { taken, ran })
 }
@@ -138,6 +139,7 @@ impl<const I: usize, J: Naming> Cell<I, J> {
         requires there { number < length J.start.nodes }
         requires here { number % 4 ≡ I }
         ensures turned { MatchResult result (λ turn. Turned J.start number quantum turn seat.old seat.new) (λ e. Gained (Takes J.start number) seat.old seat.new) }
+        ensures refused { IfErr result IsTurnRefusal }
     {
         let Cell { places, .. } = self;
         let place = &mut places[number as usize / 4];

@@ -1,11 +1,11 @@
 //! What the host does while the book's lock is held.
 
-ghost use Rattle.std.specs.Prelude.{◌≡◌, ◌<◌, ◌≤◌, ◌+◌, [], length, map, IfOk, OnErr};
+ghost use Rattle.std.specs.Prelude.{◌≡◌, ◌<◌, ◌≤◌, ◌+◌, [], Some, length, map, IfOk, IfErr, IsOk, OnErr};
 ghost use Rattle.tp_book.specs.Book.{next_number};
-ghost use Rattle.tp_book.specs.Host.{after_input, input_refusal, port_in, after_confirm, confirm_refusal};
+ghost use Rattle.tp_book.specs.Host.{after_input, input_refusal, port_in, accepted_of, after_confirm, confirm_refusal};
 ghost use Rattle.tp_book.specs.Refusals.{IsAnswer};
 ghost use Rattle.tp_model.specs.declared.entry.Entry.TheVariants.{HostIn};
-ghost use Rattle.tp_shared.specs.Entries.{confirm_entries};
+ghost use Rattle.tp_shared.specs.Entries.{IsTurnRefusal, TakesOf, confirm_entries};
 ghost use Rattle.tp_shared.specs.Gains.{Noted};
 
 use crate::locked::Locked;
@@ -14,6 +14,7 @@ use crate::receipt::Receipt;
 use crate::seat::Seat;
 use crate::write::write_new;
 use tp_book::Refusal;
+use tp_turn::host_turn;
 
 impl<J: Naming> Locked<J> {
     /// Journals bytes that the host hands to a port: all of them or, where it is refused, none. The receipt has the slips of
@@ -23,7 +24,9 @@ impl<J: Naming> Locked<J> {
         ensures answer { IsAnswer (input_refusal self.old.book port (length bytes.now)) result }
         ensures book { IfOk result (λ receipt. self.new.book ≡ after_input self.old.book port bytes.now) }
         ensures number { IfOk result (λ receipt. receipt.number ≡ next_number self.new.book) }
+        ensures position { IfOk result (λ receipt. receipt.position ≡ Some (accepted_of (port_in self.old.book port))) }
         ensures noted { IfOk result (λ receipt. Noted (λ entries. entries ≡ map (HostIn port) bytes.now) J.first self.old self.new [] receipt.seat) }
+        ensures nothing { length bytes.now ≡ 0 → IsOk result }
         ensures err { OnErr result (self.new ≡ self.old) }
     {
         let Locked { book, roll, .. } = self;
@@ -31,11 +34,9 @@ impl<J: Naming> Locked<J> {
         let given = book.host_in(port, bytes)?;
         let mut seat = Seat::new();
         write_new(book, before, roll, &mut seat.slips);
-        Ok(Receipt {
-            number: given.number(),
-            seat,
-        })
+        Ok(Receipt { given, seat })
     }
+
     /// Journals that the host has a port's outputs up to a position, which go. Up to a position that was confirmed before nothing is
     /// done. The receipt has the entry's slip, where there is one, and the next number as its own.
     pub fn confirm(&mut self, port: u8, upto: u64) -> Result<Receipt<J>, Refusal>
@@ -45,6 +46,7 @@ impl<J: Naming> Locked<J> {
         ensures book { IfOk result (λ receipt. self.new.book ≡ after_confirm self.old.book port upto) }
         ensures number { IfOk result (λ receipt. receipt.number ≡ next_number self.new.book) }
         ensures noted { IfOk result (λ receipt. Noted (λ entries. entries ≡ confirm_entries self.old.book port upto) J.first self.old self.new [] receipt.seat) }
+        ensures nothing { upto ≤ (port_in self.old.book port).out_base → IsOk result }
         ensures err { OnErr result (self.new ≡ self.old) }
     {
         let Locked { book, roll, .. } = self;
@@ -52,9 +54,20 @@ impl<J: Naming> Locked<J> {
         let given = book.confirm(port, upto)?;
         let mut seat = Seat::new();
         write_new(book, before, roll, &mut seat.slips);
-        Ok(Receipt {
-            number: given.number(),
-            seat,
-        })
+        Ok(Receipt { given, seat })
+    }
+    /// The host's turn: each of its ports in order takes at most three tokens of the line that comes to it, a Marker among them.
+    /// `seat` gets the slips of the entries, also where the turn broke off. Answers how many tokens were taken; a Marker isn't
+    /// counted.
+    pub fn host_turn(&mut self, seat: &mut Seat<J>) -> Result<u64, Refusal>
+        ensures noted { Noted (TakesOf J.start (length J.start.nodes) result) J.first self.old self.new seat.old seat.new }
+        ensures refused { IfErr result IsTurnRefusal }
+    {
+        let Locked { book, roll, .. } = self;
+        let before = book.entries().len();
+        let done = host_turn(book);
+        let Seat { slips, .. } = seat;
+        write_new(book, before, roll, slips);
+        done
     }
 }

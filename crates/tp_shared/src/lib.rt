@@ -2,6 +2,7 @@
 #![tactic(auto)]
 
 mod audit;
+mod backlog;
 mod cell;
 mod dealt;
 pub mod gate;
@@ -18,7 +19,8 @@ mod seal;
 mod seat;
 mod shared;
 mod shown;
-mod take;
+mod snapshot;
+mod told;
 mod write;
 
 pub use audit::gather;
@@ -35,3 +37,4 @@ pub use seal::NodeSeal;
 pub use seat::Seat;
 pub use shared::Shared;
 pub use shown::Shown;
+pub use told::Told;

@@ -1,78 +1,109 @@
 //! What lies under the book's lock.
 
-ghost use Rattle.std.specs.Prelude.{◌≡◌, ◌<◌, ◌≤◌, ℕ, Some, true, None, false, length, is_ok};
+ghost use Rattle.std.specs.Prelude.{◌≡◌, ◌<◌, ◌≤◌, ◌+◌, ◌*◌, Some, true, None, false, [], length, is_ok, IfErr};
 ghost use Rattle.tp_law_machine.specs.NodeOfBytes.{IsNodeOfBytes};
 ghost use Rattle.tp_model.specs.Network.{steps};
 ghost use Rattle.tp_model.specs.Node.{t414};
 ghost use Rattle.tp_model.specs.declared.limits.TheConstants.{MAX_STEPS};
-ghost use Rattle.tp_shared.specs.Entries.{TakesOf, run_entries};
+ghost use Rattle.tp_shared.specs.Entries.{IsTurnRefusal, TakesOf, run_entries};
 ghost use Rattle.tp_shared.specs.Gains.{Noted};
 ghost use Rattle.tp_shared.specs.Seals.{Shows, Sealed, IsTied};
+ghost use Rattle.tp_shared.specs.Told.{told_of};
 
-use crate::hold::{commit, take_and_reserve};
+use crate::hold::{begin, commit};
 use crate::naming::Naming;
 use crate::place::Place;
 use crate::seal::NodeSeal;
 use crate::seat::Seat;
 use crate::shown::Shown;
+use crate::told::Told;
 use crate::write::write_new;
 use std::marker::{Model, PhantomData};
 use tp_book::{Book, Refusal};
-use tp_model::{Entry, Token};
-use tp_token::{Roll, turn};
+use tp_model::Entry;
+use tp_node::Ran;
+use tp_token::{Roll, Seal, agree, turn};
+use tp_turn::Stretch;
 
-/// The book, the seal of each node, and the roll of all entries since the opening. Contracts see the book, and these entries.
+/// The book, the seal of each node, the roll of all entries since the opening, and the seal of what the flusher was told. Contracts
+/// see the book, and these entries.
 #[derive(Drop)]
 pub struct Locked<J: Naming> {
     pub(crate) book: Book,
     pub(crate) seals: Vec<NodeSeal>,
     pub(crate) roll: Roll<Entry>,
+    pub(crate) told: Seal<Told>,
     of: PhantomData<J>,
 }
 
 impl<J: Naming> Model for Locked<J> {
-    ghost use Rattle.std.specs.Prelude.{◌≡◌, None, length};
+    ghost use Rattle.std.specs.Prelude.{◌≡◌, ◌+◌, ◌*◌, None, length};
     ghost use Rattle.tp_shared.specs.Seals.{Stage, Sealed, IsTied};
+    ghost use Rattle.tp_shared.specs.Told.{Since, told_of};
 
     ghost Value = { Stage };
 
     ghost view = { λ l. record { book = l.book; all = l.roll.items } };
 
-    ghost invariant = { λ l. (l.book.ready ≡ None) × (length l.seals.items ≡ length J.start.nodes) × (length l.book.runs ≡ length J.start.nodes) × Sealed J.node l.seals.items l.book × (l.roll.name ≡ J.roll) × (l.roll.first ≡ J.first) × IsTied J.first l.roll.items l.book × (l.book.state.start.wires ≡ J.start.wires) × (length l.book.state.start.nodes ≡ length J.start.nodes) };
+    ghost invariant = { λ l. (l.book.ready ≡ None) × (length l.seals.items ≡ length J.start.nodes) × (length l.book.runs ≡ length J.start.nodes) × Sealed J.node l.seals.items l.book × (l.roll.name ≡ J.roll) × (l.roll.first ≡ J.first) × IsTied J.first l.roll.items l.book × (l.book.state.start.wires ≡ J.start.wires) × (length l.book.state.start.nodes ≡ length J.start.nodes) × (l.told.name ≡ J.flusher) × Since l.told.value (told_of J.before J.first (record { book = l.book; all = l.roll.items })) × (length J.start.wires ≡ 4 * length J.start.nodes + length J.start.ports) };
 }
 
 impl<J: Naming> Locked<J> {
-    /// A book, with a seal for each node and a roll of its entries.
-    pub(crate) fn new(book: Book, seals: Vec<NodeSeal>, roll: Roll<Entry>) -> Locked<J>
+    /// A book, with a seal for each node, a roll of its entries, of which there is none yet, and the seal of what the flusher was told.
+    pub(crate) fn new(
+        book: Book,
+        seals: Vec<NodeSeal>,
+        roll: Roll<Entry>,
+        told: Seal<Told>,
+    ) -> Locked<J>
         requires idle { book.ready ≡ None }
         requires count { (length seals.items ≡ length J.start.nodes) × (length book.runs ≡ length J.start.nodes) × (length book.state.start.nodes ≡ length J.start.nodes) }
-        requires wires { book.state.start.wires ≡ J.start.wires }
+        requires wires { (book.state.start.wires ≡ J.start.wires) × (length J.start.wires ≡ 4 * length J.start.nodes + length J.start.ports) }
         requires sealed { Sealed J.node seals.items book }
-        requires roll { (roll.name ≡ J.roll) × (roll.first ≡ J.first) }
+        requires roll { (roll.name ≡ J.roll) × (roll.first ≡ J.first) × (roll.items ≡ []) }
         requires tied { IsTied J.first roll.items book }
-        ensures { result ≡ record { book = book; all = roll.items } }
+        requires told { (told.name ≡ J.flusher) × (told.value ≡ told_of J.before J.first (record { book = book; all = [] })) }
+        ensures { result ≡ record { book = book; all = [] } }
     {
         Locked {
             book,
             seals,
             roll,
+            told,
             of: PhantomData,
         }
     }
 
-    /// A node takes what came in, and a run of it is reserved. Answers how many tokens it took.
+    /// The book.
+    pub fn book(&self) -> &Book
+        ensures { result.now ≡ self.now.book }
+    {
+        &self.book
+    }
+
+    /// All entries since the opening are the book's, under the numbers from the first on. It does nothing.
+    pub fn known(&self)
+        ensures tied { IsTied J.first self.now.all self.now.book }
+        ensures nodes { length self.now.book.state.start.nodes ≡ length J.start.nodes }
+        ensures ports { length self.now.book.state.ports ≡ length J.start.ports }
+    {
+        self.book.known();
+    }
+
+    /// Opens a node's turn: the node records, takes and closes, and a run of it is reserved. Answers how many tokens it took.
     pub(crate) fn begin(
         &mut self,
         place: &mut Place,
         seat: &mut Seat<J>,
         number: u8,
-    ) -> Result<usize, Refusal>
+    ) -> Result<u64, Refusal>
         requires there { number < length J.start.nodes }
         requires named { place.old.key.name ≡ J.node number }
         requires shows { Shows place.old false }
         ensures named { place.new.key.name ≡ place.old.key.name }
         ensures shows { Shows place.new (is_ok result) }
         ensures noted { Noted (TakesOf J.start number result) J.first self.old self.new seat.old seat.new }
+        ensures refused { IfErr result IsTurnRefusal }
     {
         let Locked {
             book,
@@ -82,36 +113,36 @@ impl<J: Naming> Locked<J> {
         } = self;
         let Place { node, key } = place;
         let here = &mut seals[number as usize];
-        let was = Shown::free(node);
-        turn(&mut here.seal, key, &was);
+        agree(&mut here.seal, key);
         let before = book.entries().len();
-        let done = take_and_reserve(book, node, number);
+        let done = begin(book, node, number);
         let now = Shown::with(node, done.is_ok());
         turn(&mut here.seal, key, &now);
+        here.frozen = node.is_frozen();
         let Seat { slips, .. } = seat;
         write_new(book, before, roll, slips);
         done
     }
 
-    /// A node's run is journalled. Its key still shows the node before the run.
+    /// What a node ran is journalled. Its key still shows the node before the run.
     pub(crate) fn commit(
         &mut self,
         place: &mut Place,
         seat: &mut Seat<J>,
         number: u8,
-        count: u16,
-        tokens: &[(u8, Token)],
-    )
+        stretch: Stretch,
+    ) -> Ran
         requires there { number < length J.start.nodes }
         requires named { place.old.key.name ≡ J.node number }
         requires reserved { place.old.key.value.state.reserved ≡ true }
-        requires few { count ≤ MAX_STEPS }
-        requires ran { steps t414 count place.old.key.value.state.node ≡ Some (place.old.node.live, tokens.now) }
-        requires image { IsNodeOfBytes place.old.node.live }
-        requires thawed { place.old.node.frozen ≡ None }
+        requires few { stretch.ran.count ≤ MAX_STEPS }
+        requires was { IsNodeOfBytes place.old.key.value.state.node }
+        requires ran { steps t414 stretch.ran.count place.old.key.value.state.node ≡ Some (place.old.node.live, stretch.sent.items) }
+        requires kept { place.old.node.frozen ≡ place.old.key.value.state.frozen }
+        ensures ran { result ≡ stretch.ran }
         ensures named { place.new.key.name ≡ place.old.key.name }
         ensures shows { Shows place.new false }
-        ensures noted { Noted (λ entries. entries ≡ run_entries number count) J.first self.old self.new seat.old seat.new }
+        ensures noted { Noted (λ entries. entries ≡ run_entries number stretch.ran.count) J.first self.old self.new seat.old seat.new }
     {
         let Locked {
             book,
@@ -121,13 +152,13 @@ impl<J: Naming> Locked<J> {
         } = self;
         let Place { node, key } = place;
         let here = &mut seals[number as usize];
-        let was = Shown::again(key);
-        turn(&mut here.seal, key, &was);
+        agree(&mut here.seal, key);
         let before = book.entries().len();
-        commit(book, &was, node, number, count, tokens);
+        let ran = commit(book, node, number, stretch);
         let now = Shown::free(node);
         turn(&mut here.seal, key, &now);
         let Seat { slips, .. } = seat;
         write_new(book, before, roll, slips);
+        ran
     }
 }

@@ -4,10 +4,12 @@ ghost use Rattle.std.specs.Prelude.{ℕ, []};
 ghost use Rattle.tp_mark.specs.Seen.{MarkName};
 ghost use Rattle.tp_model.specs.NodeState.{NodeState};
 ghost use Rattle.tp_model.specs.Network.{Network};
+ghost use Rattle.tp_model.specs.Runs.{World, fresh};
+ghost use Rattle.tp_model.specs.WriteOrder.{Resting};
 
 use std::marker::Brand;
 
-/// Which network, tokens and mark all that lies under locks belongs to. Each call of a program picks it.
+/// Which network, tokens, mark and history all that lies under locks belongs to. Each call of a program picks it.
 pub trait Naming {
     /// The name of the roll of all entries.
     ghost roll: { ℕ };
@@ -15,7 +17,7 @@ pub trait Naming {
     /// The number of the first entry after the opening.
     ghost first: { ℕ };
 
-    /// A network with the same wires and as many nodes.
+    /// A network with the same wires and as many nodes and ports.
     ghost start: { Network NodeState };
 
     /// The name of each node's twin.
@@ -23,6 +25,15 @@ pub trait Naming {
 
     /// The durable mark.
     ghost mark: { MarkName };
+
+    /// The name of the twin of what the flusher is told of the book.
+    ghost flusher: { ℕ };
+
+    /// The network of the images that the device was formatted with.
+    ghost formatted: { Network NodeState };
+
+    /// The world before this process opened the device.
+    ghost before: { World NodeState };
 }
 
 impl Naming for Brand {
@@ -35,4 +46,10 @@ impl Naming for Brand {
     ghost node = { λ i. i };
 
     ghost mark = { record { words = 1; slots = 0; views_name = 0; atom = 0; block = 0; offset = 0; slot_names = [] } };
+
+    ghost flusher = { 0 };
+
+    ghost formatted = { record { wires = []; nodes = []; ports = []; lines = [] } };
+
+    ghost before = { record { net = fresh (record { wires = []; nodes = []; ports = []; lines = [] }); base = 0; journal = []; disk = record { bytes = []; unsynced = [] }; at = Resting; backlog = []; stored = 0; mark = 0; seen = [] } };
 }

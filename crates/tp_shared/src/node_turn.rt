@@ -5,6 +5,6 @@ use tp_node::Ran;
 /// How many tokens a node took in its turn, and how it ran.
 #[derive(Drop)]
 pub struct NodeTurn {
-    pub taken: usize,
+    pub taken: u64,
     pub ran: Ran,
 }

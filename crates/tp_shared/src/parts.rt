@@ -1,24 +1,28 @@
 //! What is to be put under locks.
 
-ghost use Rattle.std.specs.Prelude.{◌≡◌, ◌<◌, ℕ, [], None, Some, false, length, slice_get, IfOk};
+ghost use Rattle.std.specs.Prelude.{◌≡◌, ◌<◌, ℕ, [], None, Some, false, length, map, slice_get, IfOk};
+ghost use Rattle.tp_law_machine.specs.NodeOfBytes.{IsNodeOfBytes};
+ghost use Rattle.tp_book.specs.Opened.{IsOpened, now_of, opened_book};
 ghost use Rattle.tp_book.specs.Book.{next_number};
 ghost use Rattle.tp_node.specs.NodeContents.{NodeContents};
 ghost use Rattle.tp_shared.specs.Parted.{IsDealt};
-ghost use Rattle.tp_shared.specs.Agrees.{Agrees};
+ghost use Rattle.tp_turn.specs.Moments.{IsNodeOf};
 
 use crate::dealt::Dealt;
 use crate::place::Place;
 use crate::seal::NodeSeal;
 use crate::shown::Shown;
+use crate::told::Told;
 use std::alloc::{AllocError, Global};
 use std::marker::Model;
-use tp_book::Book;
+use tp_book::{Book, NetState};
 use tp_mark::Mark;
 use tp_model::Entry;
 use tp_node::Node;
 use tp_token::{Key, Roll, Seal, pair, start, turn};
 
-/// A book, its nodes, their seals and keys, the roll of its entries, and the mark, before they are put under locks.
+/// A book, its nodes, their seals and keys, the roll of its entries, the mark, and both halves of what the flusher is told, before
+/// they are put under locks.
 #[derive(Drop)]
 pub struct Parts {
     pub(crate) book: Book,
@@ -26,6 +30,8 @@ pub struct Parts {
     pub(crate) dealt: Dealt,
     pub(crate) roll: Roll<Entry>,
     pub(crate) mark: Mark,
+    pub(crate) told: Seal<Told>,
+    pub(crate) key: Key<Told>,
 }
 
 impl Model for Parts {
@@ -33,16 +39,16 @@ impl Model for Parts {
 
     ghost Value = { PartsValue };
 
-    ghost view = { λ p. record { book = p.book; seals = p.seals.items; roll = p.roll.name; first = p.roll.first; all = p.roll.items; mark = p.mark } };
+    ghost view = { λ p. record { book = p.book; seals = p.seals.items; roll = p.roll.name; first = p.roll.first; all = p.roll.items; mark = p.mark; flusher = p.told.name } };
 
-    ghost invariant = { λ p. AreParts p.book p.seals.items p.dealt p.roll.first p.roll.items };
+    ghost invariant = { λ p. AreParts p.book p.seals.items p.dealt p.roll.first p.roll.items p.told.name p.key.name };
 }
 
 // A node's seal and key.
 fn ends_of(node: &Node) -> (Seal<Shown>, Key<Shown>)
     ensures names { result.0.name ≡ result.1.name }
-    ensures seal { result.0.value.state ≡ record { node = node.now.live; reserved = false } }
-    ensures key { result.1.value.state ≡ record { node = node.now.live; reserved = false } }
+    ensures seal { result.0.value.state ≡ record { node = node.now.live; frozen = node.now.frozen; reserved = false } }
+    ensures key { result.1.value.state ≡ record { node = node.now.live; frozen = node.now.frozen; reserved = false } }
 {
     let (mut seal, mut key) = pair::<Shown>();
     let shown = Shown::free(node);
@@ -53,7 +59,7 @@ fn ends_of(node: &Node) -> (Seal<Shown>, Key<Shown>)
 // Makes each node's seal and key, and deals the nodes to the cells.
 fn deal(alloc: Global, book: &Book, nodes: Vec<Node>) -> Result<(Vec<NodeSeal>, Dealt), AllocError>
     requires free { (i : ℕ) → i < length nodes.items → slice_get book.now.runs i ≡ Some false }
-    requires agree { (i : ℕ) (node : NodeContents) → slice_get nodes.items i ≡ Some node → Agrees book.now i node }
+    requires agree { (i : ℕ) (node : NodeContents) → slice_get nodes.items i ≡ Some node → IsNodeOf book.now i node }
     ensures dealt { IfOk result (λ d. IsDealt book.now d.0.items d.1 (length nodes.items)) }
 {
     let _book = book;
@@ -62,32 +68,57 @@ fn deal(alloc: Global, book: &Book, nodes: Vec<Node>) -> Result<(Vec<NodeSeal>, 
     for node in nodes {
         let index = seals.len();
         let (seal, key) = ends_of(&node);
-        seals.push(NodeSeal { index, seal })?;
+        let frozen = node.is_frozen();
+        seals.push(NodeSeal { frozen, seal })?;
         dealt.push(index, Place { node, key })?;
     }
     Ok((seals, dealt))
 }
 
 impl Parts {
+    /// The parts of the book of an opened device, and of the nodes of its network as it is.
+    pub fn opened(
+        alloc: Global,
+        state: &NetState,
+        book: Book,
+        nodes: Vec<Node>,
+        mark: Mark,
+    ) -> Result<Parts, AllocError>
+        requires opened { IsOpened state.now }
+        requires book { book ≡ opened_book state.now book.room }
+        requires nodes { map (λ n. n.live) nodes.items ≡ (now_of state.now).nodes }
+        requires each { (i : ℕ) (node : NodeContents) → slice_get nodes.items i ≡ Some node → IsNodeOfBytes node.live × (node.frozen ≡ None) }
+        ensures book { IfOk result (λ parts. parts.book ≡ book) }
+        ensures roll { IfOk result (λ parts. (parts.first ≡ next_number book) × (parts.all ≡ [])) }
+        ensures mark { IfOk result (λ parts. parts.mark ≡ mark) }
+    {
+        let _state = state;
+        book.known();
+        Parts::new(alloc, book, nodes, mark)
+    }
+
     /// The parts of a book that has just been started or opened, and of its nodes.
     pub fn new(alloc: Global, book: Book, nodes: Vec<Node>, mark: Mark) -> Result<Parts, AllocError>
         requires idle { book.ready ≡ None }
         requires opened { book.history ≡ [] }
         requires count { (length nodes.items ≡ length book.state.start.nodes) × (length book.runs ≡ length book.state.start.nodes) }
         requires free { (i : ℕ) → i < length nodes.items → slice_get book.runs i ≡ Some false }
-        requires agree { (i : ℕ) (node : NodeContents) → slice_get nodes.items i ≡ Some node → Agrees book i node }
+        requires agree { (i : ℕ) (node : NodeContents) → slice_get nodes.items i ≡ Some node → IsNodeOf book i node }
         ensures book { IfOk result (λ parts. parts.book ≡ book) }
         ensures roll { IfOk result (λ parts. (parts.first ≡ next_number book) × (parts.all ≡ [])) }
         ensures mark { IfOk result (λ parts. parts.mark ≡ mark) }
     {
         let (seals, dealt) = deal(alloc, &book, nodes)?;
         let roll = start::<Entry>(book.next());
+        let (told, key) = pair::<Told>();
         Ok(Parts {
             book,
             seals,
             dealt,
             roll,
             mark,
+            told,
+            key,
         })
     }
 }

@@ -4,13 +4,23 @@ ghost use Rattle.std.specs.Prelude.{◌≡◌};
 
 use crate::naming::Naming;
 use crate::seat::Seat;
+use std::marker::Model;
+use tp_book::Receipt as Given;
 
 /// What a host gets for what it handed in or confirmed: that is on the device once the mark is at least `number`. The slips of its
-/// entries are in `seat`. Nobody can copy it.
+/// entries are in `seat`. For bytes that it handed in, `position` is that of the first. Nobody can copy it.
 #[derive(Drop)]
 pub struct Receipt<J: Naming> {
-    pub(crate) number: u64,
+    pub(crate) given: Given,
     pub(crate) seat: Seat<J>,
+}
+
+impl<J: Naming> Model for Receipt<J> {
+    ghost use Rattle.tp_shared.specs.Receipted.{Receipted};
+
+    ghost Value = { Receipted };
+
+    ghost view = { λ r. record { number = r.given.number; position = r.given.position; seat = r.seat } };
 }
 
 impl<J: Naming> Receipt<J> {
@@ -18,7 +28,7 @@ impl<J: Naming> Receipt<J> {
     pub fn number(&self) -> u64
         ensures { result ≡ self.now.number }
     {
-        self.number
+        self.given.number()
     }
 
     /// The slips of its entries, for an audit.

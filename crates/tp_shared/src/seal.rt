@@ -3,9 +3,9 @@
 use crate::shown::Shown;
 use tp_token::Seal;
 
-/// The seal of a node, which lies beside the book.
+/// The seal of a node, which lies beside the book, and whether the node is frozen.
 #[derive(Drop)]
 pub struct NodeSeal {
-    pub(crate) index: usize,
+    pub(crate) frozen: bool,
     pub(crate) seal: Seal<Shown>,
 }

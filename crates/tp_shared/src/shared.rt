@@ -1,22 +1,38 @@
 //! All that threads share.
 
-ghost use Rattle.std.specs.Prelude.{◌≡◌, ◌<◌, ◌≤◌, length, MatchResult};
+ghost use Rattle.std.specs.Prelude.{◌≡◌, ◌<◌, ◌≤◌, [], length, IfErr, MatchResult};
 ghost use Rattle.tp_model.specs.declared.limits.TheConstants.{MAX_STEPS};
-ghost use Rattle.tp_shared.specs.Entries.{Takes};
+ghost use Rattle.tp_shared.specs.Entries.{IsTurnRefusal, Takes, TakesOf, CountedTakes};
 ghost use Rattle.tp_shared.specs.Gains.{Gained};
 ghost use Rattle.tp_shared.specs.Named.{Names};
+ghost use Rattle.tp_shared.specs.Told.{told_of};
 ghost use Rattle.tp_shared.specs.Turned.{Turned};
 
 use crate::cell::Cell;
-use crate::gate::Gate;
+use crate::gate::{COMMITTED, Gate};
 use crate::locked::Locked;
 use crate::naming::Naming;
 use crate::node_turn::NodeTurn;
 use crate::parts::Parts;
 use crate::seat::Seat;
+use crate::told::Told;
 use std::sync::{Mutex, Wait};
 use tp_book::Refusal;
 use tp_mark::Mark;
+use tp_token::{Key, turn};
+
+// The hold of the book's lock in the host's turn.
+fn host_hold<J: Naming, R: Wait>(
+    rt: &R,
+    book: &Mutex<Locked<J>>,
+    seat: &mut Seat<J>,
+) -> Result<u64, Refusal>
+    ensures gained { Gained (TakesOf J.start (length J.start.nodes) result) seat.old seat.new }
+    ensures refused { IfErr result IsTurnRefusal }
+{
+    let mut held = book.lock(rt);
+    held.host_turn(seat)
+}
 
 /// The book under its lock, the nodes under four others, node `i` in cell `i` mod 4, and the mark. Where a thread holds two
 /// locks, the first is a cell's, and the second the book's.
@@ -28,30 +44,44 @@ pub struct Shared<J: Naming> {
     c2: Mutex<Cell<2, J>>,
     c3: Mutex<Cell<3, J>>,
     mark: Mark,
+    nodes: u8,
+    ports: u8,
     pub ghost named: { mark ≡ J.mark },
+    pub ghost counted: { (nodes ≡ length J.start.nodes) × (ports ≡ length J.start.ports) },
 }
 
 impl<J: Naming> Shared<J> {
-    /// Puts `parts` under locks. The names are those of `parts`: whoever calls picks them.
-    pub fn start(parts: Parts) -> Shared<J>
-        requires { Names J.roll J.first J.start J.node J.mark parts }
+    /// Puts `parts` under locks. The names are those of `parts`: whoever calls picks them. The key is the flusher's, and shows what is
+    /// told of the book as it is.
+    pub fn start(parts: Parts) -> (Shared<J>, Key<Told>)
+        requires { Names J.roll J.first J.start J.node J.mark J.flusher parts }
+        ensures key { (result.1.name ≡ J.flusher) × (result.1.value ≡ told_of J.before J.first (record { book = parts.book; all = [] })) }
     {
+        let now = Told::first::<J>(&parts);
+        parts.book.known();
+        let nodes = parts.book.nodes() as u8;
+        let ports = parts.book.ports() as u8;
         let Parts {
             book,
             seals,
             dealt,
             roll,
             mark,
-            ..
+            mut told,
+            mut key,
         } = parts;
-        Shared {
-            book: Mutex::new(Locked::new(book, seals, roll)),
+        turn(&mut told, &mut key, &now);
+        let shared = Shared {
+            book: Mutex::new(Locked::new(book, seals, roll, told)),
             c0: Mutex::new(Cell::new(dealt.p0)),
             c1: Mutex::new(Cell::new(dealt.p1)),
             c2: Mutex::new(Cell::new(dealt.p2)),
             c3: Mutex::new(Cell::new(dealt.p3)),
             mark,
-        }
+            nodes,
+            ports,
+        };
+        (shared, key)
     }
 
     /// The book's lock.
@@ -66,10 +96,24 @@ impl<J: Naming> Shared<J> {
         &self.mark
     }
 
-    /// A turn of the node `number`: it takes what came in on its links 0 to 3, in order, at most three tokens of each; a run is
-    /// reserved; and the node runs for at most `quantum` steps while the book's lock is let go. `seat` gets the slips of these
-    /// entries. Where no run can be reserved, or memory or the store is wanting, nothing ran, and the slips of what was taken
-    /// are in `seat`.
+    /// How many nodes there are.
+    pub fn nodes(&self) -> u8
+        ensures { result ≡ length J.start.nodes }
+    {
+        self.nodes
+    }
+
+    /// How many ports there are.
+    pub fn ports(&self) -> u8
+        ensures { result ≡ length J.start.ports }
+    {
+        self.ports
+    }
+
+    /// A turn of the node `number`: it records where a snapshot asks it to; it takes what came in on its links 0 to 3, in order, at
+    /// most three tokens of each, a Marker among them; a run is reserved; and the node runs for at most `quantum` steps while the
+    /// book's lock is let go. `seat` gets the slips of the entries. Where no run can be reserved, or memory or the store is
+    /// wanting, nothing ran, and the slips of what was taken are in `seat`.
     pub fn turn<G: Gate, R: Wait>(
         &self,
         rt: &R,
@@ -81,6 +125,7 @@ impl<J: Naming> Shared<J> {
         requires quantum { quantum ≤ MAX_STEPS }
         requires there { number < length J.start.nodes }
         ensures turned { MatchResult result (λ turn. Turned J.start number quantum turn seat.old seat.new) (λ e. Gained (Takes J.start number) seat.old seat.new) }
+        ensures refused { IfErr result IsTurnRefusal }
     {
         match number % 4 {
             0 => self
@@ -100,6 +145,23 @@ impl<J: Naming> Shared<J> {
                 .lock(rt)
                 .turn(rt, gate, &self.book, seat, number, quantum),
         }
+    }
+
+    /// The host's turn: each of its ports in order takes at most three tokens of the line that comes to it, a Marker among them.
+    /// `seat` gets the slips of the entries, also where the turn broke off. Answers how many tokens were taken; a Marker isn't
+    /// counted.
+    pub fn host_turn<G: Gate, R: Wait>(
+        &self,
+        rt: &R,
+        gate: &G,
+        seat: &mut Seat<J>,
+    ) -> Result<u64, Refusal>
+        ensures turned { MatchResult result (λ takes. Gained (CountedTakes J.start (length J.start.nodes) takes) seat.old seat.new) (λ e. Gained (Takes J.start (length J.start.nodes)) seat.old seat.new) }
+        ensures refused { IfErr result IsTurnRefusal }
+    {
+        let done = host_hold(rt, &self.book, seat);
+        gate.at(self.nodes, COMMITTED);
+        done
     }
 
     /// What lies under the book's lock, once no thread shares it any more.

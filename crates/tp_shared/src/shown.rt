@@ -6,7 +6,6 @@ ghost use Rattle.tp_shared.specs.Agreement.{Agreement};
 
 use std::marker::Model;
 use tp_node::Node;
-use tp_token::Key;
 
 /// What the book's lock and a node's lock agree on of the node. It has no bytes: contracts alone see it.
 #[derive(Drop)]
@@ -29,33 +28,26 @@ impl Shown {
 
     /// The node as it is, with no run reserved.
     pub(crate) fn free(node: &Node) -> Shown
-        ensures { result.state ≡ record { node = node.now.live; reserved = false } }
+        ensures { result.state ≡ record { node = node.now.live; frozen = node.now.frozen; reserved = false } }
     {
         Shown::of(node)
     }
 
     // The node as it is, with a run reserved.
     fn reserved(node: &Node) -> Shown
-        ensures { result.state ≡ record { node = node.now.live; reserved = true } }
+        ensures { result.state ≡ record { node = node.now.live; frozen = node.now.frozen; reserved = true } }
     {
         Shown::of(node)
     }
 
     /// The node as it is, and whether a run of it is reserved.
     pub(crate) fn with(node: &Node, reserved: bool) -> Shown
-        ensures { result.state ≡ record { node = node.now.live; reserved = reserved } }
+        ensures { result.state ≡ record { node = node.now.live; frozen = node.now.frozen; reserved = reserved } }
     {
         if reserved {
             Shown::reserved(node)
         } else {
             Shown::free(node)
         }
-    }
-
-    /// What a key shows.
-    pub(crate) fn again(key: &Key<Shown>) -> Shown
-        ensures { result.state ≡ key.now.value.state }
-    {
-        Shown::of(key)
     }
 }

@@ -1,1 +1,2 @@
 pub mod EachPasses
+pub mod Spelt

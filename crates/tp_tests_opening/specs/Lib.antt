@@ -1,1 +1,2 @@
 pub mod CanCount
+pub mod TailOf

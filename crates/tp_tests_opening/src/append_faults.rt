@@ -16,7 +16,7 @@ const GATES: [(usize, usize); 2] = [(GROUPS, 80), (GROUPS + 80, 48)];
 
 /// What stands in the range of a write that isn't synced: one byte everywhere, what stood there, or what was written.
 #[derive(Clone, Copy)]
-enum Torn {
+pub(crate) enum Torn {
     Filled(u8),
     Old,
     New,
@@ -24,10 +24,21 @@ enum Torn {
 
 /// How a call of the device ends: the run stops before it, or within it, or the call fails.
 #[derive(Clone, Copy)]
-enum Ending {
+pub(crate) enum Ending {
     Before,
     Within,
     Fails,
+}
+
+impl Ending {
+    /// The fault of the call, where `torn` is what a write leaves.
+    pub(crate) fn fault(self, torn: Vec<u8>) -> PlannedFault {
+        match self {
+            Ending::Before => PlannedFault::StopsBefore,
+            Ending::Within => PlannedFault::StopsWithin { torn },
+            Ending::Fails => PlannedFault::Fails { torn },
+        }
+    }
 }
 
 /// Each ending with what is torn, and whether a gate is open that is torn so.
@@ -70,15 +81,6 @@ impl Case {
             (gate.saturating_add(1), body)
         } else {
             (gate, 1)
-        }
-    }
-
-    /// The fault of the call, where `torn` is what a write leaves.
-    fn fault(self, torn: Vec<u8>) -> PlannedFault {
-        match self.ending {
-            Ending::Before => PlannedFault::StopsBefore,
-            Ending::Within => PlannedFault::StopsWithin { torn },
-            Ending::Fails => PlannedFault::Fails { torn },
         }
     }
 }
@@ -179,7 +181,7 @@ fn append_both<R: Abort>(rt: &R, store: &mut Store<MemDisk>) -> usize {
 /// Whether the groups that were answered as stored are there, and the next one is, whole, exactly where its gate is open.
 fn is_whole<R: AllocGlobal + Abort>(rt: &R, known: &Known, case: Case) -> Result<bool, Fail> {
     let alloc = rt.alloc();
-    let fault = case.fault(known.torn(alloc, case)?);
+    let fault = case.ending.fault(known.torn(alloc, case)?);
     let mut store = known.store(alloc, case.call, fault)?;
     let took = append_both(rt, &mut store);
     let mut bytes = store.into_disk().crash();
@@ -261,7 +263,7 @@ fn go_on<R: AllocGlobal + Abort>(rt: &R, store: Store<MemDisk>) -> Result<Store<
 /// Whether a store stays broken after a call has failed, though the device works again, until the device is opened again.
 fn goes_on<R: AllocGlobal + Abort>(rt: &R, known: &Known, case: Case) -> Result<bool, Fail> {
     let alloc = rt.alloc();
-    let fault = case.fault(known.torn(alloc, case)?);
+    let fault = case.ending.fault(known.torn(alloc, case)?);
     let mut store = known.store(alloc, case.call, fault)?;
     let took = append_both(rt, &mut store);
     let broken = stays_broken(rt, &mut store)?;

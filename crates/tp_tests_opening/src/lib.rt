@@ -5,6 +5,8 @@
 #[cfg(test)]
 mod append_faults;
 #[cfg(test)]
+mod copies;
+#[cfg(test)]
 mod devices;
 #[cfg(test)]
 mod filled_areas;
@@ -12,6 +14,8 @@ mod filled_areas;
 mod format_faults;
 #[cfg(test)]
 mod opened_books;
-mod possible;
+pub mod possible;
 #[cfg(test)]
 mod reserve;
+#[cfg(test)]
+mod switch_faults;

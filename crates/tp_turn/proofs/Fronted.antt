@@ -15,7 +15,9 @@ use Rattle.tp_model.specs.Markers.{is_marker}
 use Rattle.tp_model.specs.Snapshot.{Snapshot, has_recorded, is_closed, with_closed, collected}
 use Rattle.tp_model.specs.Acts.{Journal, Close, happens}
 use Rattle.tp_law_machine.specs.NodeOfBytes.{IsNodeOfBytes}
-use Rattle.tp_node.specs.NodeContents.{NodeContents}
+use Rattle.tp_model.specs.NodeWrites.{took_ranges}
+use Rattle.tp_model.specs.SharedPages.{kept_behind}
+use Rattle.tp_node.specs.NodeContents.{NodeContents, kept_of}
 use Rattle.tp_law_machine.proofs.Partial.{slice_get-set_same}
 use Rattle.tp_port.proofs.Lists.{set_back}
 use Rattle.tp_snap.specs.Needs.{has_recorded_in}
@@ -39,6 +41,11 @@ front_marker [] e = cc
 front_marker (Data byte ∷ ts) e = cc
 front_marker (Ack ∷ ts) e = cc
 front_marker (Marker ∷ ts) e = refl
+
+-- a Marker is written nowhere
+marker_ranges : (node : NodeState) (link : ℕ) (token : Token) → token ≡ Marker → took_ranges node link token ≡ []
+unfolding took_ranges
+marker_ranges node link token is = rw is refl
 
 -- ## The node of a book
 
@@ -99,11 +106,11 @@ module _ (b r new : BookValue) (line number link : ℕ) (n m : NodeContents) (an
     marks = ap (λ x. x.marks) is_after;
   }
 
-  pub taken_done : is_marker (front_of b line) ≡ false → Done number (AtFront number line) (moment b n) (moment new m)
-  taken_done plainly = record {
+  pub taken_done : is_marker (front_of b line) ≡ false → kept_of m ≡ kept_behind (kept_of n) (took_ranges n.live link (front_of b line)) → Done number (AtFront number line) (moment b n) (moment new m)
+  taken_done plainly shared = record {
     acts = Journal (Take line (front_of b line)) ∷ [];
     added = added;
-    did = record { are = ap (λ a. a ∷ []) (sym (front_takes line (front_of b line) plainly)); added = added; kept = same };
+    did = record { are = ap (λ a. a ∷ []) (sym (front_takes line (front_of b line) plainly)); added = added; kept = same; link = link; goes = goes; shared = shared };
   }
 
   pub taken_is : IsNodeOfBytes m.live → IsNodeOf new number m
@@ -134,11 +141,19 @@ module _ (b new : BookValue) (line number : ℕ) (n : NodeContents) (is : new �
     marks = ap (λ x. x.marks) is;
   }
 
-  pub closed_done : is_first (on_line b.state.lines line) Marker ≡ true → happens t414 (world_of b) (Close line) ≡ Some (world_of new) → Done number (AtFront number line) (moment b n) (moment new n)
-  closed_done first act = record {
+  pub closed_done : (link : ℕ) → receiver b.state.start.wires line ≡ Some (Link number link) → is_first (on_line b.state.lines line) Marker ≡ true → happens t414 (world_of b) (Close line) ≡ Some (world_of new)
+      → Done number (AtFront number line) (moment b n) (moment new n)
+  closed_done link goes first act = record {
     acts = Close line ∷ [];
     added = closed_added act;
-    did = record { are = ap (λ token. front_act line token ∷ []) (sym (front_marker (on_line b.state.lines line) first)); added = closed_added act; kept = refl };
+    did = record {
+      are = ap (λ token. front_act line token ∷ []) (sym (front_marker (on_line b.state.lines line) first));
+      added = closed_added act;
+      kept = refl;
+      link = link;
+      goes = goes;
+      shared = ap (kept_behind (kept_of n)) (sym (marker_ranges n.live link (front_of b line) (front_marker (on_line b.state.lines line) first)));
+    };
   }
 
   pub closed_is : IsNodeOf new number n

@@ -1,6 +1,6 @@
 -- A node's turn in its stages.
 use Rattle.std.proofs.Common.{◌≡◌, ℕ, zero, suc, true, false, cond, inl, inr, List, [], ◌∷◌, set, get_or, refl, sym, ap, subst, ◌∙◌, Some, None, slice_get, eq-eqb, ne_eqb}
-use Rattle.std.specs.Prelude.{IsSome, Err}
+use Rattle.std.specs.Prelude.{Err}
 use Rattle.std.specs.List.{AllByRecursion}
 use Rattle.std.proofs.lemmas.Bool.{cases_eq}
 use Rattle.tp_model.specs.declared.link.Token.{Token}
@@ -12,7 +12,9 @@ use Rattle.tp_model.specs.Entries.{process}
 use Rattle.tp_model.specs.Acts.{Act, Journal, acted}
 use Rattle.tp_law_machine.proofs.Nodes.{node_steps}
 use Rattle.tp_law_machine.proofs.Partial.{slice_get-set_same}
-use Rattle.tp_node.specs.NodeContents.{NodeContents}
+use Rattle.tp_model.specs.NodeWrites.{node_ranges, kept_behind_steps}
+use Rattle.tp_model.specs.SharedPages.{LacksFrames}
+use Rattle.tp_node.specs.NodeContents.{NodeContents, kept_of}
 use Rattle.tp_node.specs.RunEnd.{RunEnd, IsWhy}
 use Rattle.tp_port.specs.Sends.{on_lines}
 use Rattle.tp_snap.specs.Needs.{has_recorded_in}
@@ -100,12 +102,13 @@ freed : (b : BookValue) (number : ℕ) → slice_get b.runs number ≡ Some fals
 freed b number free = ap (λ runs. record b { runs = runs }) (set_twice b.runs number false true free)
 
 pub turn_done : (number takes quantum : ℕ) (ran : RunEnd) (s o t : Moment) → slice_get s.book.runs number ≡ Some false → IsOpen number takes s o → Added number t.node.live (run_acts number ran.count) (without_run o.book number) t.book
-    → ran.max ≡ quantum → IsWhy ran.why quantum ran.count (IsSome o.node.frozen) t.node.live → t.node.frozen ≡ o.node.frozen → Done number (Then (SettlesWith number takes) (Runs number quantum ran)) s t
-turn_done number takes quantum ran s o t free O A max why kept =
+    → ran.max ≡ quantum → IsWhy ran.why quantum ran.count (LacksFrames (kept_of t.node) (node_ranges t.node.live)) t.node.live → t.node.frozen ≡ o.node.frozen
+    → kept_of t.node ≡ kept_behind_steps ran.count o.node.live (kept_of o.node) → Done number (Then (SettlesWith number takes) (Runs number quantum ran)) s t
+turn_done number takes quantum ran s o t free O A max why kept shared =
     let b = O.between in
     let there : slice_get b.book.runs number ≡ Some false = ap (λ runs. slice_get runs number) O.settled.added.grew.runs ∙ free in
     let book : without_run o.book number ≡ b.book = ap (λ (m : Moment). without_run m.book number) O.is ∙ freed b.book number there in
-    let frozen : o.node.frozen ≡ b.node.frozen = ap (λ (m : Moment). m.node.frozen) O.is in
+    let node : o.node ≡ b.node = ap (λ (m : Moment). m.node) O.is in
     let added : Added number t.node.live (run_acts number ran.count) b.book t.book = subst (λ x. Added number t.node.live (run_acts number ran.count) x t.book) book A in
     then_more number (SettlesWith number takes) (Runs number quantum ran) s b t O.settled
     (record {
@@ -115,7 +118,8 @@ turn_done number takes quantum ran s o t free O A max why kept =
         are = refl;
         added = added;
         max = max;
-        why = subst (λ frozen. IsWhy ran.why quantum ran.count (IsSome frozen) t.node.live) (sym kept) why;
-        kept = kept ∙ frozen;
+        why = why;
+        kept = kept ∙ ap (λ n. n.frozen) node;
+        shared = shared ∙ ap (λ n. kept_behind_steps ran.count n.live (kept_of n)) node;
       };
     })

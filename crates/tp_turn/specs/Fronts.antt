@@ -1,10 +1,14 @@
 -- What a node does at the front of a line, and why it leaves the line.
-use Rattle.std.specs.Prelude.{◌≡◌, ◌<◌, ℕ, ◌+◌, ◌*◌, true, false, List, [], ◌∷◌, Option, Some, None, IsSome, Result, Ok, Err}
+use Rattle.std.specs.Prelude.{◌≡◌, ◌<◌, ℕ, ◌+◌, ◌*◌, true, false, List, [], ◌∷◌, Option, Some, None, Result, Ok, Err}
 use Rattle.tp_model.specs.declared.link.Token.{Token}
 use Rattle.tp_model.specs.declared.link.Token.TheVariants.{Data, Ack, Marker}
 use Rattle.tp_model.specs.declared.entry.Entry.TheVariants.{Take}
-use Rattle.tp_model.specs.Network.{back, on_line, is_first}
+use Rattle.tp_model.specs.declared.wire.WireEnd.TheVariants.{Link}
+use Rattle.tp_model.specs.Network.{back, on_line, is_first, receiver}
+use Rattle.tp_model.specs.NodeWrites.{took_ranges}
+use Rattle.tp_model.specs.SharedPages.{LacksFrames, kept_behind}
 use Rattle.tp_model.specs.Acts.{Act, Journal, Close}
+use Rattle.tp_node.specs.NodeContents.{kept_of}
 use Rattle.tp_snap.specs.Needs.{has_recorded_in}
 use Rattle.tp_book.specs.declared.refusal.Refusal.{Refusal}
 use Rattle.tp_book.specs.declared.refusal.Refusal.TheVariants.{JournalFull, StoreBroken, Memory, NothingToTake, SnapshotRunning, PortFull}
@@ -25,23 +29,35 @@ front_act line (Data byte) = Journal (Take line (Data byte))
 front_act line Ack = Journal (Take line Ack)
 front_act line Marker = Close line
 
--- That was done, and the node stays frozen as it was, or not frozen.
+-- That was done, and the node stays frozen as it was, or not frozen. Just the pages that the token was written to are shared
+-- no more.
 pub record AtFront (number line : ℕ) (s : Moment) (acts : List Act) (t : Moment) : Type 0 where
   pub are : acts ≡ front_act line (front_of s.book line) ∷ []
   pub added : Added number t.node.live acts s.book t.book
   pub kept : t.node.frozen ≡ s.node.frozen
+  pub link : ℕ
+  pub goes : receiver s.book.state.start.wires line ≡ Some (Link number link)
+  pub shared : kept_of t.node ≡ kept_behind (kept_of s.node) (took_ranges s.node.live link (front_of s.book line))
 
 -- ## Why a line is left
 
--- The line is empty; a Marker is in front, and no snapshot runs in which the node has recorded; the node's memory has no
--- frame, though the journal has room; the journal is full.
+-- The token in front finds no frame, though the journal has room: the shared pages that it would be written to outnumber
+-- the free frames.
+pub record WantsFrame (number line : ℕ) (m : Moment) : Type 0 where
+  pub room : ready_refusal m.book line ≡ None
+  pub link : ℕ
+  pub goes : receiver m.book.state.start.wires line ≡ Some (Link number link)
+  pub wants : LacksFrames (kept_of m.node) (took_ranges m.node.live link (front_of m.book line))
+
+-- The line is empty; a Marker is in front, and no snapshot runs in which the node has recorded; the token in front finds no
+-- frame; the journal is full.
 abbrev pub IsLeft : ℕ → ℕ → Left → Moment → Type 0
 IsLeft number line left.NoWire m = ⊥
 IsLeft number line left.Enough m = ⊥
 IsLeft number line left.Empty m = on_line m.book.state.lines line ≡ []
 IsLeft number line left.Marked m =
     (is_first (on_line m.book.state.lines line) Marker ≡ true) × (has_recorded_in m.book.state.snapshot number ≡ false)
-IsLeft number line left.NoFrame m = (ready_refusal m.book line ≡ None) × IsSome m.node.frozen
+IsLeft number line left.NoFrame m = WantsFrame number line m
 IsLeft number line left.PortFull m = ⊥
 IsLeft number line left.JournalFull m = ready_refusal m.book line ≡ Some JournalFull
 

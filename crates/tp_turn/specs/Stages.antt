@@ -1,11 +1,13 @@
 -- A node's turn: its open part, then a run, whose entry the book gets once the node has run.
-use Rattle.std.specs.Prelude.{◌≡◌, ◌≤◌, ◌⊎◌, ℕ, List, Some, None, IsSome, Result, Ok, Err}
+use Rattle.std.specs.Prelude.{◌≡◌, ◌≤◌, ◌⊎◌, ℕ, List, Some, None, Result, Ok, Err}
 use Rattle.tp_model.specs.declared.limits.TheConstants.{MAX_STEPS}
 use Rattle.tp_model.specs.declared.link.Token.{Token}
 use Rattle.tp_model.specs.Node.{t414}
 use Rattle.tp_model.specs.Network.{steps}
 use Rattle.tp_model.specs.Acts.{Act}
-use Rattle.tp_node.specs.NodeContents.{NodeContents}
+use Rattle.tp_model.specs.NodeWrites.{node_ranges, kept_behind_steps}
+use Rattle.tp_model.specs.SharedPages.{LacksFrames}
+use Rattle.tp_node.specs.NodeContents.{NodeContents, kept_of}
 use Rattle.tp_node.specs.RunEnd.{RunEnd, IsWhy}
 use Rattle.tp_book.specs.declared.refusal.Refusal.{Refusal}
 use Rattle.tp_book.specs.Acts.{run_acts}
@@ -49,13 +51,15 @@ pub record HasRunOn (b : BookValue) (number count : ℕ) (tokens : List (ℕ × 
   pub made : steps t414 count before.live ≡ Some (node.live, tokens)
   pub kept : node.frozen ≡ before.frozen
 
--- The node ran on as far as it may, and that is one entry; none without a step.
+-- The node ran on as far as it may, and that is one entry; none without a step. It ended for want of a frame only before a
+-- step that would write shared pages which outnumber the free frames. Just the pages that were written are shared no more.
 pub record Runs (number quantum : ℕ) (ran : RunEnd) (s : Moment) (acts : List Act) (t : Moment) : Type 0 where
   pub are : acts ≡ run_acts number ran.count
   pub added : Added number t.node.live acts s.book t.book
   pub max : ran.max ≡ quantum
-  pub why : IsWhy ran.why quantum ran.count (IsSome t.node.frozen) t.node.live
+  pub why : IsWhy ran.why quantum ran.count (LacksFrames (kept_of t.node) (node_ranges t.node.live)) t.node.live
   pub kept : t.node.frozen ≡ s.node.frozen
+  pub shared : kept_of t.node ≡ kept_behind_steps ran.count s.node.live (kept_of s.node)
 
 -- ## A whole turn
 

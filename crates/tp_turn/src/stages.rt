@@ -1,9 +1,12 @@
 //! A node's turn in its stages, so that the book may be let go while the node runs.
 
-ghost use Rattle.std.specs.Prelude.{◌≡◌, ◌≤◌, Some, None, true, false, IsSome, slice_get};
+ghost use Rattle.std.specs.Prelude.{◌≡◌, ◌≤◌, Some, None, true, false, slice_get};
 ghost use Rattle.tp_model.specs.declared.limits.TheConstants.{MAX_STEPS};
 ghost use Rattle.tp_model.specs.Network.{steps};
 ghost use Rattle.tp_model.specs.Node.{t414};
+ghost use Rattle.tp_model.specs.NodeWrites.{node_ranges, kept_behind_steps};
+ghost use Rattle.tp_model.specs.SharedPages.{LacksFrames};
+ghost use Rattle.tp_node.specs.NodeContents.{kept_of};
 ghost use Rattle.tp_node.specs.RunEnd.{IsWhy};
 ghost use Rattle.tp_book.specs.Acts.{run_acts};
 ghost use Rattle.tp_book.specs.Calls.{without_run};
@@ -45,12 +48,14 @@ pub fn open_turn(book: &mut Book, node: &mut Node, number: u8) -> Result<u64, Re
     Ok(takes)
 }
 
-/// Lets a node run for at most `quantum` steps. No book is needed.
+/// Lets a node run for at most `quantum` steps. No book is needed. It ends for want of a frame only before a step that would
+/// write shared pages which outnumber the free frames; that step isn't counted.
 pub fn run_node(node: &mut Node, quantum: u16) -> Stretch
     ensures asked { result.ran.max ≡ quantum }
     ensures steps { steps t414 result.ran.count node.old.live ≡ Some (node.new.live, result.sent.items) }
-    ensures why { IsWhy result.ran.why quantum result.ran.count (IsSome node.old.frozen) node.new.live }
+    ensures why { IsWhy result.ran.why quantum result.ran.count (LacksFrames (kept_of node.new) (node_ranges node.new.live)) node.new.live }
     ensures kept { node.new.frozen ≡ node.old.frozen }
+    ensures shared { kept_of node.new ≡ kept_behind_steps result.ran.count node.old.live (kept_of node.old) }
 {
     let mut sent = ArrayVec::new();
     let ran = node.run(quantum, &mut sent);

@@ -23,7 +23,7 @@ recorded-requires c =
 pub returns-then-marker_ready-clause-answer : goal.returns-then-marker_ready-clause-answer
 returns-then-marker_ready-clause-answer c =
     let first : is_first (on_line c.args.book.now.state.lines c.args.line) Marker ≡ true = search rules in
-    closed_done c.args.book.now c.close_line.new.self c.args.line c.args.number c.args.node.now c.close_line.ensures.book c.requires.is first c.close_line.ensures.act
+    closed_done c.args.book.now c.close_line.new.self c.args.line c.args.number c.args.node.now c.close_line.ensures.book c.requires.is c.args.link c.requires.goes first c.close_line.ensures.act
 
 pub returns-then-marker_ready-clause-is : goal.returns-then-marker_ready-clause-is
 returns-then-marker_ready-clause-is c = closed_is c.args.book.now c.close_line.new.self c.args.line c.args.number c.args.node.now c.close_line.ensures.book c.requires.is
@@ -47,7 +47,7 @@ returns-in-Ok-take-clause-answer c =
     let front = takeable_front (on_line c.args.book.now.state.lines c.args.line) some in
     let did = rw c.in-Ok.ensures.ok.1 at (takes_ok _ _ _ _ _ c.in-Ok-take.sent c.in-Ok-take.ensures.takes) in
     taken_done c.args.book.now c.ready_take.new.self c.commit_take-note.new.self c.args.line c.args.number c.args.link c.args.node.now c.take.new.self c.in-Ok-take.sent
-    c.in-Ok.ensures.ok.0 c.commit_take-note.ensures.book c.requires.goes c.requires.idle c.requires.is did c.commit_take-note.ensures.agreed c.commit_take-note.ensures.act c.take.ensures.kept front.2
+    c.in-Ok.ensures.ok.0 c.commit_take-note.ensures.book c.requires.goes c.requires.idle c.requires.is did c.commit_take-note.ensures.agreed c.commit_take-note.ensures.act c.take.ensures.kept front.2 (rw c.in-Ok.ensures.ok.1 at c.in-Ok-take.ensures.shared)
 
 pub returns-in-Ok-take-clause-is : goal.returns-in-Ok-take-clause-is
 returns-in-Ok-take-clause-is c =

@@ -1,50 +1,99 @@
-use Rattle.std.proofs.Common.{◌≡◌, ◌∙◌, length, ap, subst, arith, refl, Some, slice_get}
+use Rattle.std.proofs.Common.{◌≡◌, ◌∙◌, length, ap, sym, subst, arith, refl, Some, slice_get}
 use Rattle.std.specs.Prelude.{is_ok}
 use Rattle.std.proofs.lemmas.List.{length-set}
 use Rattle.std.proofs.lemmas.Option.{slice_get_read}
+use Rattle.tp_shared.specs.Agreement.{Agreement}
 use Rattle.tp_shared.specs.Entries.{TakesOf}
 use Rattle.tp_shared.specs.Seals.{Stage}
 use Rattle.tp_shared.specs.Gains.{Noted}
 use Rattle.tp_shared.proofs.Holding.{acted_like, takes_of_like}
-use Rattle.tp_shared.proofs.Sealing.{sealed_after, tied_after, noted_by}
+use Rattle.tp_shared.proofs.Sealing.{node_of_seal, sealed_after, tied_after, all_after, noted_by}
+use Rattle.tp_shared.proofs.Telling.{since_more}
 use Rattle.tp_shared.proofs.Writing.{as_many}
 use Rattle.tp_shared.proofs.locked.Locked.begin.Goals as goal
+
+pub agree-requires : goal.agree-requires
+agree-requires g c =
+    let inv = c.self.invariant in
+    let here = c.index_mut-here.result.now in
+    let at : slice_get c.self.inside.seals.items c.args.number ≡ Some here =
+    slice_get_read c.self.inside.seals.items (length c.self.inside.seals.items) c.args.number here refl (omega (arith, inv.1, c.requires.there)) c.index_mut-here.ensures.value in
+    let S = inv.3 c.args.number here at in
+    S.named ∙ sym c.requires.named
+
+pub turn-requires : goal.turn-requires
+turn-requires g c =
+    let inv = c.self.invariant in
+    let here = c.index_mut-here.result.now in
+    let at : slice_get c.self.inside.seals.items c.args.number ≡ Some here =
+    slice_get_read c.self.inside.seals.items (length c.self.inside.seals.items) c.args.number here refl (omega (arith, inv.1, c.requires.there)) c.index_mut-here.ensures.value in
+    let S = inv.3 c.args.number here at in
+    c.agree.ensures.names.0 ∙ S.named ∙ sym c.requires.named ∙ sym c.agree.ensures.names.1
+
+pub begin-done-requires-clause-free : goal.begin-done-requires-clause-free
+begin-done-requires-clause-free g c =
+    let b = c.self.inside.book in
+    let inv = c.self.invariant in
+    let here = c.index_mut-here.result.now in
+    let at : slice_get c.self.inside.seals.items c.args.number ≡ Some here =
+    slice_get_read c.self.inside.seals.items (length c.self.inside.seals.items) c.args.number here refl (omega (arith, inv.1, c.requires.there)) c.index_mut-here.ensures.value in
+    let S = inv.3 c.args.number here at in
+    S.reserved ∙ ap (λ (x : Agreement). Some x.reserved) (ap (λ x. x.state) c.agree.ensures.agreed ∙ c.requires.shows.shown)
+
+pub begin-done-requires-clause-is : goal.begin-done-requires-clause-is
+begin-done-requires-clause-is g c =
+    let b = c.self.inside.book in
+    let inv = c.self.invariant in
+    let here = c.index_mut-here.result.now in
+    let at : slice_get c.self.inside.seals.items c.args.number ≡ Some here =
+    slice_get_read c.self.inside.seals.items (length c.self.inside.seals.items) c.args.number here refl (omega (arith, inv.1, c.requires.there)) c.index_mut-here.ensures.value in
+    let S = inv.3 c.args.number here at in
+    let shown = ap (λ x. x.state) c.agree.ensures.agreed ∙ c.requires.shows.shown in
+    node_of_seal (g.J.Naming.node c.args.number) here.seal.value.state here.frozen here.seal.name b c.args.number c.args.place.now.node S
+    (ap (λ (x : Agreement). x.node) shown) (ap (λ (x : Agreement). x.frozen) shown) c.requires.shows.image
 
 pub invariant_of-self : goal.invariant_of-self
 invariant_of-self g c =
     let b = c.self.inside.book in
-    let new = c.take_and_reserve-done.new.book in
-    let node = c.take_and_reserve-done.new.node.live in
-    let done = is_ok c.take_and_reserve-done.result in
     let inv = c.self.invariant in
-    let Are = TakesOf b.state.start c.args.number c.take_and_reserve-done.result in
-    let A = c.take_and_reserve-done.ensures.acted in
-    let at : slice_get c.self.inside.seals.items c.args.number ≡ Some c.index_mut-here.result.now =
-    slice_get_read c.self.inside.seals.items (length c.self.inside.seals.items) c.args.number c.index_mut-here.result.now refl (omega (arith, inv.1, c.requires.there)) c.index_mut-here.ensures.value in
-    let named = (inv.3 c.args.number c.index_mut-here.result.now at).named in
+    let here = c.index_mut-here.result.now in
+    let at : slice_get c.self.inside.seals.items c.args.number ≡ Some here =
+    slice_get_read c.self.inside.seals.items (length c.self.inside.seals.items) c.args.number here refl (omega (arith, inv.1, c.requires.there)) c.index_mut-here.ensures.value in
+    let S = inv.3 c.args.number here at in
+    let new = c.begin-done.new.book in
+    let node = c.begin-done.new.node in
+    let done = is_ok c.begin-done.result in
+    let Are = TakesOf b.state.start c.args.number c.begin-done.result in
+    let A = c.begin-done.ensures.acted in
     let many = as_many c.entries-before.result.now b.state.entries c.entries-before.ensures.entries in (
       A.grown.ready ∙ inv.0,
       length-set c.self.inside.seals.items c.args.number _ ∙ inv.1,
       ap length A.runs ∙ length-set b.runs c.args.number _ ∙ inv.2,
-      sealed_after Are g.J.Naming.node c.self.inside.seals.items b new c.args.number (record { node = node; reserved = done })
-          (record { index = c.index_mut-here.result.now.index; seal = c.turn-2.new.seal }) inv.3 A
-          (omega (arith, inv.1, c.requires.there)) (c.turn-2.ensures.names.0 ∙ c.turn.ensures.names.0 ∙ named)
-          (ap (λ x. x.state) c.turn-2.ensures.seal ∙ c.with-now.ensures ∙ ap (λ r. record { node = node; reserved = r }) c.is_ok.ensures.value),
+      sealed_after Are g.J.Naming.node c.self.inside.seals.items b new c.args.number node done
+          (record { frozen = c.is_frozen-here.result; seal = c.turn.new.seal }) inv.3 A c.begin-done.ensures.is
+          (omega (arith, inv.1, c.requires.there)) (c.turn.ensures.names.0 ∙ c.agree.ensures.names.0 ∙ S.named)
+          (ap (λ x. x.state) c.turn.ensures.seal ∙ c.with-now.ensures ∙ ap (λ r. record { node = node.live; frozen = node.frozen; reserved = r }) c.is_ok.ensures.value)
+          c.is_frozen-here.ensures,
       c.write_new.ensures.names.0 ∙ inv.4,
       c.write_new.ensures.first ∙ inv.5,
       tied_after Are b new A.grown (length c.entries-before.result.now) many g.J.Naming.first c.self.inside.roll.items c.write_new.new.roll.items inv.6 c.write_new.ensures.roll,
       ap (λ s. s.wires) A.grown.start ∙ inv.7,
       ap (λ s. length s.nodes) A.grown.start ∙ inv.8,
+      inv.9,
+      since_more Are g.J.Naming.before g.J.Naming.first c.self.inside.told.value b new c.self.inside.roll.items c.write_new.new.roll.items A.grown
+          (all_after Are b new A.grown (length c.entries-before.result.now) many c.self.inside.roll.items c.write_new.new.roll.items c.write_new.ensures.roll) inv.10,
+      inv.11,
     )
 
 pub returns-clause-noted : goal.returns-clause-noted
 returns-clause-noted g c =
     let b = c.self.inside.book in
-    let new = c.take_and_reserve-done.new.book in
+    let new = c.begin-done.new.book in
     let inv = c.self.invariant in
-    let Are = TakesOf g.J.Naming.start c.args.number c.take_and_reserve-done.result in
-    let A = acted_like (TakesOf b.state.start c.args.number c.take_and_reserve-done.result) Are c.args.number (record { node = c.take_and_reserve-done.new.node.live; reserved = is_ok c.take_and_reserve-done.result }) b new
-    (λ es. takes_of_like g.J.Naming.start b.state.start c.args.number c.take_and_reserve-done.result es inv.7 inv.8) c.take_and_reserve-done.ensures.acted in
+    let Are = TakesOf g.J.Naming.start c.args.number c.begin-done.result in
+    let node = c.begin-done.new.node in
+    let A = acted_like (TakesOf b.state.start c.args.number c.begin-done.result) Are c.args.number (record { node = node.live; frozen = node.frozen; reserved = is_ok c.begin-done.result }) b new
+    (λ es. takes_of_like g.J.Naming.start b.state.start c.args.number c.begin-done.result es inv.7 inv.8) c.begin-done.ensures.acted in
     let many = as_many c.entries-before.result.now b.state.entries c.entries-before.ensures.entries in
     let old_stage : Stage = record { book = b; all = c.self.inside.roll.items } in
     let new_stage : Stage = record { book = new; all = c.write_new.new.roll.items } in

@@ -1,49 +1,104 @@
-use Rattle.std.proofs.Common.{◌≡◌, ◌∙◌, List, length, ap, subst, arith, refl, Some, slice_get}
-use Rattle.std.specs.Prelude.{false}
+use Rattle.std.proofs.Common.{◌≡◌, ◌∙◌, List, [], length, ap, sym, subst, arith, refl, Some, slice_get}
+use Rattle.std.specs.Prelude.{false, is_some}
 use Rattle.std.proofs.lemmas.List.{length-set}
 use Rattle.std.proofs.lemmas.Option.{slice_get_read}
 use Rattle.tp_model.specs.declared.entry.Entry.{Entry}
+use Rattle.tp_node.specs.NodeContents.{NodeContents}
 use Rattle.tp_shared.specs.Entries.{run_entries}
 use Rattle.tp_shared.specs.Seals.{Stage}
 use Rattle.tp_shared.specs.Gains.{Noted}
-use Rattle.tp_shared.proofs.Sealing.{sealed_after, tied_after, noted_by}
+use Rattle.tp_shared.proofs.Sealing.{node_of_seal, sealed_after, tied_after, all_after, noted_by}
+use Rattle.tp_shared.proofs.Telling.{since_more}
 use Rattle.tp_shared.proofs.Writing.{as_many}
 use Rattle.tp_shared.proofs.locked.Locked.commit.Goals as goal
+
+pub agree-requires : goal.agree-requires
+agree-requires g c =
+    let inv = c.self.invariant in
+    let here = c.index_mut-here.result.now in
+    let at : slice_get c.self.inside.seals.items c.args.number ≡ Some here =
+    slice_get_read c.self.inside.seals.items (length c.self.inside.seals.items) c.args.number here refl (omega (arith, inv.1, c.requires.there)) c.index_mut-here.ensures.value in
+    let S = inv.3 c.args.number here at in
+    S.named ∙ sym c.requires.named
+
+pub turn-requires : goal.turn-requires
+turn-requires g c =
+    let inv = c.self.invariant in
+    let here = c.index_mut-here.result.now in
+    let at : slice_get c.self.inside.seals.items c.args.number ≡ Some here =
+    slice_get_read c.self.inside.seals.items (length c.self.inside.seals.items) c.args.number here refl (omega (arith, inv.1, c.requires.there)) c.index_mut-here.ensures.value in
+    let S = inv.3 c.args.number here at in
+    c.agree.ensures.names.0 ∙ S.named ∙ sym c.requires.named ∙ sym c.agree.ensures.names.1
+
+pub commit-ran-requires-clause-reserved : goal.commit-ran-requires-clause-reserved
+commit-ran-requires-clause-reserved g c =
+    let b = c.self.inside.book in
+    let inv = c.self.invariant in
+    let here = c.index_mut-here.result.now in
+    let at : slice_get c.self.inside.seals.items c.args.number ≡ Some here =
+    slice_get_read c.self.inside.seals.items (length c.self.inside.seals.items) c.args.number here refl (omega (arith, inv.1, c.requires.there)) c.index_mut-here.ensures.value in
+    let S = inv.3 c.args.number here at in
+    S.reserved ∙ ap Some (ap (λ x. x.state.reserved) c.agree.ensures.agreed ∙ c.requires.reserved)
+
+pub commit-ran-requires-clause-ran : goal.commit-ran-requires-clause-ran
+commit-ran-requires-clause-ran g c =
+    let b = c.self.inside.book in
+    let inv = c.self.invariant in
+    let here = c.index_mut-here.result.now in
+    let at : slice_get c.self.inside.seals.items c.args.number ≡ Some here =
+    slice_get_read c.self.inside.seals.items (length c.self.inside.seals.items) c.args.number here refl (omega (arith, inv.1, c.requires.there)) c.index_mut-here.ensures.value in
+    let S = inv.3 c.args.number here at in
+    let before : NodeContents = record { live = c.args.place.now.key.value.state.node; frozen = c.args.place.now.key.value.state.frozen; shared = []; spare = 0 } in
+    record {
+      before = before;
+      is = node_of_seal (g.J.Naming.node c.args.number) here.seal.value.state here.frozen here.seal.name b c.args.number before S
+          (ap (λ x. x.state.node) c.agree.ensures.agreed) (ap (λ x. x.state.frozen) c.agree.ensures.agreed) c.requires.was;
+      few = c.requires.few;
+      made = c.requires.ran;
+      kept = c.requires.kept;
+    }
 
 pub invariant_of-self : goal.invariant_of-self
 invariant_of-self g c =
     let b = c.self.inside.book in
-    let new = c.commit.new.book in
     let inv = c.self.invariant in
-    let Are = (λ (entries : List Entry). entries ≡ run_entries c.args.number c.args.count) in
-    let A = c.commit.ensures.acted in
-    let at : slice_get c.self.inside.seals.items c.args.number ≡ Some c.index_mut-here.result.now =
-    slice_get_read c.self.inside.seals.items (length c.self.inside.seals.items) c.args.number c.index_mut-here.result.now refl (omega (arith, inv.1, c.requires.there)) c.index_mut-here.ensures.value in
-    let named = (inv.3 c.args.number c.index_mut-here.result.now at).named in
+    let here = c.index_mut-here.result.now in
+    let at : slice_get c.self.inside.seals.items c.args.number ≡ Some here =
+    slice_get_read c.self.inside.seals.items (length c.self.inside.seals.items) c.args.number here refl (omega (arith, inv.1, c.requires.there)) c.index_mut-here.ensures.value in
+    let S = inv.3 c.args.number here at in
+    let new = c.commit-ran.new.book in
+    let node = c.args.place.now.node in
+    let Are = (λ (entries : List Entry). entries ≡ run_entries c.args.number c.args.stretch.ran.count) in
+    let A = c.commit-ran.ensures.acted in
+    let flag = S.flag ∙ ap (λ x. is_some x.state.frozen) c.agree.ensures.agreed ∙ ap is_some (sym c.requires.kept) in
     let many = as_many c.entries-before.result.now b.state.entries c.entries-before.ensures.entries in (
       A.grown.ready ∙ inv.0,
       length-set c.self.inside.seals.items c.args.number _ ∙ inv.1,
       ap length A.runs ∙ length-set b.runs c.args.number _ ∙ inv.2,
-      sealed_after Are g.J.Naming.node c.self.inside.seals.items b new c.args.number (record { node = c.args.place.now.node.live; reserved = false })
-          (record { index = c.index_mut-here.result.now.index; seal = c.turn-2.new.seal }) inv.3 A
-          (omega (arith, inv.1, c.requires.there)) (c.turn-2.ensures.names.0 ∙ c.turn.ensures.names.0 ∙ named) (ap (λ x. x.state) c.turn-2.ensures.seal ∙ c.free-now.ensures),
+      sealed_after Are g.J.Naming.node c.self.inside.seals.items b new c.args.number node false
+          (record { frozen = here.frozen; seal = c.turn.new.seal }) inv.3 A c.commit-ran.ensures.is
+          (omega (arith, inv.1, c.requires.there)) (c.turn.ensures.names.0 ∙ c.agree.ensures.names.0 ∙ S.named) (ap (λ x. x.state) c.turn.ensures.seal ∙ c.free-now.ensures) flag,
       c.write_new.ensures.names.0 ∙ inv.4,
       c.write_new.ensures.first ∙ inv.5,
       tied_after Are b new A.grown (length c.entries-before.result.now) many g.J.Naming.first c.self.inside.roll.items c.write_new.new.roll.items inv.6 c.write_new.ensures.roll,
       ap (λ s. s.wires) A.grown.start ∙ inv.7,
       ap (λ s. length s.nodes) A.grown.start ∙ inv.8,
+      inv.9,
+      since_more Are g.J.Naming.before g.J.Naming.first c.self.inside.told.value b new c.self.inside.roll.items c.write_new.new.roll.items A.grown
+          (all_after Are b new A.grown (length c.entries-before.result.now) many c.self.inside.roll.items c.write_new.new.roll.items c.write_new.ensures.roll) inv.10,
+      inv.11,
     )
 
 pub returns-clause-noted : goal.returns-clause-noted
 returns-clause-noted g c =
     let b = c.self.inside.book in
-    let new = c.commit.new.book in
+    let new = c.commit-ran.new.book in
     let inv = c.self.invariant in
-    let Are = (λ (entries : List Entry). entries ≡ run_entries c.args.number c.args.count) in
+    let Are = (λ (entries : List Entry). entries ≡ run_entries c.args.number c.args.stretch.ran.count) in
     let many = as_many c.entries-before.result.now b.state.entries c.entries-before.ensures.entries in
     let old_stage : Stage = record { book = b; all = c.self.inside.roll.items } in
     let new_stage : Stage = record { book = new; all = c.write_new.new.roll.items } in
     subst (λ stage. Noted Are g.J.Naming.first stage new_stage c.args.seat.now c.write_new.new.slips.items) c.self.view_is
     (subst (λ seat. Noted Are g.J.Naming.first old_stage new_stage seat c.write_new.new.slips.items) c.seat.view_is
     (noted_by Are b new old_stage new_stage g.J.Naming.first c.self.inside.roll.first (length c.entries-before.result.now) c.seat.inside.slips.items c.write_new.new.slips.items
-    c.commit.ensures.acted.grown many inv.5 c.write_new.ensures.roll c.write_new.ensures.slips c.write_new.ensures.sound))
+    c.commit-ran.ensures.acted.grown many inv.5 c.write_new.ensures.roll c.write_new.ensures.slips c.write_new.ensures.sound))

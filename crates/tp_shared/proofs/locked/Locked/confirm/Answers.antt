@@ -2,9 +2,13 @@ use Rattle.std.proofs.Common.{◌≡◌, ◌∙◌, List, length, ap}
 use Rattle.tp_model.specs.declared.entry.Entry.{Entry}
 use Rattle.tp_shared.specs.Entries.{confirm_entries}
 use Rattle.tp_shared.proofs.Hosting.{hosted_confirm}
-use Rattle.tp_shared.proofs.Sealing.{sealed_still, tied_after}
+use Rattle.tp_shared.proofs.Sealing.{sealed_still, tied_after, all_after}
+use Rattle.tp_shared.proofs.Telling.{since_more}
 use Rattle.tp_shared.proofs.Writing.{as_many}
 use Rattle.tp_shared.proofs.locked.Locked.confirm.Goals as goal
+
+pub invariant_of-self : goal.invariant_of-self
+invariant_of-self g c = rw c.in_err-given.ensures.err c.self.invariant
 
 pub invariant_of-self-2 : goal.invariant_of-self-2
 invariant_of-self-2 g c =
@@ -12,7 +16,7 @@ invariant_of-self-2 g c =
     let new = c.confirm.new.self in
     let inv = c.self.invariant in
     let Are = (λ (entries : List Entry). entries ≡ confirm_entries b c.args.port c.args.upto) in
-    let H = hosted_confirm b new c.args.port c.args.upto c.in_ok-given.ensures.ok c.in_ok-given.ensures.agreed in
+    let H = hosted_confirm b new c.args.port c.args.upto c.in_ok-given.ensures.ok c.in_ok-given.ensures.agreed c.in_ok-given.ensures.acts in
     let many = as_many c.entries-before.result.now b.state.entries c.entries-before.ensures.entries in (
       H.grown.ready ∙ inv.0,
       inv.1,
@@ -23,4 +27,8 @@ invariant_of-self-2 g c =
       tied_after Are b new H.grown (length c.entries-before.result.now) many g.J.Naming.first c.self.inside.roll.items c.write_new.new.roll.items inv.6 c.write_new.ensures.roll,
       ap (λ s. s.wires) H.grown.start ∙ inv.7,
       ap (λ s. length s.nodes) H.grown.start ∙ inv.8,
+      inv.9,
+      since_more Are g.J.Naming.before g.J.Naming.first c.self.inside.told.value b new c.self.inside.roll.items c.write_new.new.roll.items H.grown
+          (all_after Are b new H.grown (length c.entries-before.result.now) many c.self.inside.roll.items c.write_new.new.roll.items c.write_new.ensures.roll) inv.10,
+      inv.11,
     )

@@ -1,6 +1,6 @@
 use Rattle.std.proofs.Common.{ap, sym, ◌∙◌, length, arith}
 use Rattle.tp_shared.specs.Parted.{name_of}
-use Rattle.tp_shared.proofs.Dealing.{celled_start}
+use Rattle.tp_shared.proofs.Dealing.{celled_start, sealed_named}
 use Rattle.tp_shared.proofs.shared.Shared.start.Goals as goal
 
 pub new-requires-3 : goal.new-requires-3
@@ -30,3 +30,17 @@ new-requires-9 g c = (
   celled_start 3 g.J.Naming.node c.parts.inside.seals.items (length c.parts.inside.book.state.start.nodes) (length g.J.Naming.start.nodes) c.parts.inside.dealt.p3.items
       (ap (λ v. length v.book.state.start.nodes) c.parts.view_is ∙ c.requires.count_is) (λ i. c.requires.nodes_are i ∙ sym (ap (λ v. name_of v.seals i) c.parts.view_is)) c.parts.invariant.shares.third,
 )
+
+pub new-requires-clause-sealed : goal.new-requires-clause-sealed
+new-requires-clause-sealed g c =
+    sealed_named (name_of c.parts.inside.seals.items) g.J.Naming.node c.parts.inside.seals.items c.parts.inside.book
+    (λ i. c.requires.nodes_are i ∙ sym (ap (λ v. name_of v.seals i) c.parts.view_is)) c.parts.invariant.shares.sealed
+
+pub new-requires-clause-wires : goal.new-requires-clause-wires
+new-requires-clause-wires g c =
+    let wires = ap (λ v. v.book.state.start.wires) c.parts.view_is ∙ c.requires.wires_are in
+    let shaped = c.known.ensures.shaped in
+    let all = ap length wires in
+    let nodes = ap (λ v. length v.book.state.start.nodes) c.parts.view_is ∙ c.requires.count_is in
+    let ports = ap (λ v. length v.book.state.ports) c.parts.view_is ∙ c.requires.ports_are in
+    (wires, omega (arith, shaped.count, shaped.wires, all, nodes, ports))

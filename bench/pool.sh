@@ -1,0 +1,19 @@
+#!/bin/bash
+# 100,000 commands of a pool of frames beside a plain list of them, under the address sanitizer of `rt try`, outside the gate.
+# usage: bench/pool.sh
+set -e
+top=$(cd "$(dirname "$0")/.." && pwd)
+work=$(mktemp -d /tmp/bench-pool-XXXX)
+trap 'rm -rf "$work"' EXIT
+
+mkdir -p "$work/crates/bench_pool/src"
+for crate in tp_model tp_frames; do
+    mkdir "$work/crates/$crate"
+    cp -r "$top/crates/$crate/src" "$top/crates/$crate/specs" "$top/crates/$crate/proofs" "$work/crates/$crate"
+done
+grep -E '^tp_(model|frames):' "$top/crates.txt" > "$work/crates.txt"
+echo "bench_pool: tp_frames" >> "$work/crates.txt"
+cp "$top/HANDLES" "$work"
+cp "$top/bench/pool.rattle" "$work/crates/bench_pool/src/main.rt"
+cd "$work/crates/bench_pool"
+exec rt try --steps 1000 --seconds 100

@@ -1,0 +1,4 @@
+pub mod Answers
+pub mod Offers
+pub mod Outputs
+pub mod Receipts

@@ -1,0 +1,10 @@
+use Rattle.tp_turn.specs.Moments.{moment}
+use Rattle.tp_shared.proofs.Holding.{acted_opens, opens_refused}
+use Rattle.tp_shared.proofs.hold.begin.Goals as goal
+
+pub returns-clause-acted : goal.returns-clause-acted
+returns-clause-acted c =
+    acted_opens c.args.number c.open_turn.result (moment c.args.book.now c.args.node.now) (moment c.open_turn.new.book c.open_turn.new.node) c.requires.free c.open_turn.ensures.opens
+
+pub returns-clause-refused : goal.returns-clause-refused
+returns-clause-refused c = opens_refused c.args.number c.open_turn.result (moment c.args.book.now c.args.node.now) (moment c.open_turn.new.book c.open_turn.new.node) c.open_turn.ensures.opens

@@ -1,0 +1,23 @@
+use Rattle.std.proofs.Common.{◌≡◌, List, sym, ap, subst, ◌∙◌}
+use Rattle.tp_model.specs.declared.entry.Entry.{Entry}
+use Rattle.tp_shared.specs.Told.{Since, told_of}
+use Rattle.tp_shared.proofs.Telling.{since_none}
+use Rattle.tp_shared.proofs.locked.Locked.new.Goals as goal
+
+pub invariant_of-result : goal.invariant_of-result
+invariant_of-result g c =
+    let now = told_of g.J.Naming.before g.J.Naming.first (record { book = c.args.book; all = c.args.roll.items }) in
+    let is : c.args.told.value ≡ now = c.requires.told.1 ∙ ap (λ (es : List Entry). told_of g.J.Naming.before g.J.Naming.first (record { book = c.args.book; all = es })) (sym c.requires.roll.2) in (
+      c.requires.idle,
+      c.requires.count.0,
+      c.requires.count.1,
+      c.requires.sealed,
+      c.requires.roll.0,
+      c.requires.roll.1,
+      c.requires.tied,
+      c.requires.wires.0,
+      c.requires.count.2,
+      c.requires.told.0,
+      subst (λ t. Since t now) (sym is) (since_none now),
+      c.requires.wires.1,
+    )

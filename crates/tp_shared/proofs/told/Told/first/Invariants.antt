@@ -1,0 +1,6 @@
+use Rattle.std.proofs.Common.{[]}
+use Rattle.tp_shared.specs.Told.{told_of}
+use Rattle.tp_shared.proofs.told.Told.first.Given as goal
+
+abbrev pub ghost-of : goal.ghost-of
+ghost-of g a = told_of g.J.Naming.before g.J.Naming.first (record { book = a._value.now.book; all = [] })

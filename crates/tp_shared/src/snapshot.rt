@@ -1,0 +1,30 @@
+//! What else is done while the book's lock is held: a snapshot begins, and the store breaks.
+
+ghost use Rattle.std.specs.Prelude.{◌≡◌, true, IfOk, OnErr};
+ghost use Rattle.tp_book.specs.Marked.{after_begin, begin_refusal};
+ghost use Rattle.tp_book.specs.Refusals.{IsAnswer};
+
+use crate::locked::Locked;
+use crate::naming::Naming;
+use std::alloc::Global;
+use tp_book::Refusal;
+
+impl<J: Naming> Locked<J> {
+    /// Begins a snapshot: the host records its ports, and a Marker goes onto each of their wired lines. Each node is then asked
+    /// to record.
+    pub fn begin_snapshot(&mut self, alloc: Global) -> Result<(), Refusal>
+        ensures answer { IsAnswer (begin_refusal self.old.book) result }
+        ensures ok { IfOk result (λ done. self.new ≡ record self.old { book = after_begin self.old.book }) }
+        ensures err { OnErr result (self.new ≡ self.old) }
+    {
+        self.book.begin(alloc)?;
+        Ok(())
+    }
+
+    /// Nothing is journalled from now on.
+    pub fn break_store(&mut self)
+        ensures { self.new ≡ record self.old { book = record self.old.book { broken = true } } }
+    {
+        self.book.break_store();
+    }
+}

@@ -1,0 +1,52 @@
+//! What the flusher is told of the book.
+
+ghost use Rattle.std.specs.Prelude.{◌≡◌, ℕ, List, []};
+ghost use Rattle.std.specs.Borrow.{ftrue};
+ghost use Rattle.tp_model.specs.NodeState.{NodeState};
+ghost use Rattle.tp_model.specs.Snapshot.{MarkedNetwork};
+ghost use Rattle.tp_model.specs.declared.entry.Entry.{Entry};
+
+use crate::locked::Locked;
+use crate::naming::Naming;
+use crate::parts::Parts;
+use std::marker::Model;
+
+/// A network with its book, how many entries the kept cut holds, and the journal. It has no bytes: contracts alone see it.
+#[derive(Drop)]
+pub struct Told {
+    pub ghost net: { MarkedNetwork NodeState },
+    pub ghost base: { ℕ },
+    pub ghost journal: { List Entry },
+}
+
+impl Model for Told {
+    ghost also_owns = { λ _. ftrue };
+}
+
+impl Told {
+    ghost use Rattle.std.specs.Prelude.{◌≡◌, []};
+    ghost use Rattle.tp_shared.specs.Told.{told_of};
+    ghost use Rattle.tp_shared.specs.declared.told.Told.{Told};
+
+    // What the contract names. A caller names it by what it lends as `_value`.
+    fn of<T>(_value: &T) -> Told
+        ghost told: { Told }
+        ensures { result ≡ told }
+    {
+        Told {}
+    }
+
+    /// What is told of the book that lies under a lock.
+    pub(crate) fn now<J: Naming>(locked: &Locked<J>) -> Told
+        ensures { result ≡ told_of J.before J.first locked.now }
+    {
+        Told::of(locked)
+    }
+
+    /// What is first told of the book of parts.
+    pub(crate) fn first<J: Naming>(parts: &Parts) -> Told
+        ensures { result ≡ told_of J.before J.first (record { book = parts.now.book; all = [] }) }
+    {
+        Told::of(parts)
+    }
+}

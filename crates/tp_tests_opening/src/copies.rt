@@ -1,0 +1,170 @@
+//! What a checkpoint puts into the other area, and the calls that put it there and switch to it.
+
+ghost use Rattle.std.specs.Prelude.{◌≡◌, ◌<◌, ◌&&◌, true, length, OnOk};
+ghost use Rattle.std.specs.Option.{is_some};
+ghost use Rattle.tp_model.specs.CutImage.{is_line_of, is_port_of};
+ghost use Rattle.tp_model.specs.Network.{on_line};
+ghost use Rattle.tp_model.specs.Spelling.{are_lines, has_record};
+ghost use Rattle.tp_port.specs.Parts.{port_of};
+ghost use Rattle.tp_area.specs.Other.{OtherIsClosed};
+ghost use Rattle.tp_tests_opening.specs.TailOf.{AreTailOf};
+
+use crate::devices::{Held, replayed};
+use crate::possible::is_in_range;
+use std::alloc::Global;
+use std::test::Fail;
+use tp_area::{Store, StoreFault};
+use tp_disk::Disk;
+use tp_model::limits::{IMAGE_HEAD_BYTES, MAX_HELD, PAGE_BYTES};
+use tp_model::{Entry, Token, WireEnd};
+use tp_net::{Lines, Topology};
+use tp_port::PortParts;
+
+/// The pages of the node.
+const PAGES: usize = 4;
+
+/// A whole cut: the entries in it, and the token that is on a line then; and the entries outside it with their numbers.
+#[derive(Clone, Copy)]
+pub(crate) struct Cut<'a> {
+    pub(crate) entries: &'a [&'a [Entry]],
+    pub(crate) token: Option<(usize, Token)>,
+    pub(crate) tail: &'a [(Entry, u64)],
+}
+
+/// What is put for it: what a plain replay gives of the entries in it, its lines, and the entries outside it.
+#[derive(Drop)]
+pub(crate) struct Pieces {
+    held: Held,
+    lines: Lines,
+    tail: Vec<(Entry, u64)>,
+}
+
+impl Pieces {
+    /// The pieces of a cut over the device with `bytes`, which was just formatted.
+    pub(crate) fn of(alloc: Global, bytes: &[u8], cut: &Cut<'_>) -> Result<Pieces, Fail> {
+        let held = replayed(alloc, bytes, cut.entries)?;
+        let mut lines = Lines::new(alloc, 5)?;
+        if let Some((line, token)) = cut.token {
+            if line < 5 {
+                lines.push(line, token);
+            }
+        }
+        Ok(Pieces {
+            held,
+            lines,
+            tail: Vec::from_slice(alloc, cut.tail)?,
+        })
+    }
+}
+
+/// Whether the record of a line can hold what is on it, here one token at most.
+fn is_line(wire: Option<WireEnd>, lines: &Lines, line: usize) -> bool
+    requires { line < length lines.now }
+    ensures { result ≡ true → (has_record (on_line lines.now line) && is_line_of wire (on_line lines.now line)) ≡ true }
+{
+    match lines.front(line) {
+        None => true,
+        Some(Token::Marker) => false,
+        Some(_) => wire.is_some() && lines.len(line) == 1,
+    }
+}
+
+/// Whether the records of all lines can.
+fn are_lines(wires: &[Option<WireEnd>], lines: &Lines) -> bool
+    ensures { result ≡ true → are_lines wires.now lines.now ≡ true }
+{
+    for (line, wire) in wires.iter().enumerate() {
+        if line >= lines.count() || !is_line(*wire, lines, line) {
+            return false;
+        }
+    }
+    lines.count() == wires.len()
+}
+
+/// Whether the record of a port can hold it in a cut of `base` entries.
+fn is_port(base: u64, port: &PortParts) -> bool
+    ensures { result ≡ true → is_port_of base (port_of port.now) ≡ true }
+{
+    port.pending.len() <= MAX_HELD
+        && port.outputs.len() <= MAX_HELD
+        && port.in_base <= base
+        && port.out_base <= base
+        && port.outputs.len() as u64 <= base - port.out_base
+}
+
+/// Whether entries may stand behind a cut of `base` entries, in groups.
+fn are_behind(base: u64, tail: &[(Entry, u64)]) -> bool
+    ensures { result ≡ true → AreTailOf base tail.now }
+{
+    if base > 1_000 || tail.len() > 1_000 {
+        return false;
+    }
+    let mut least = 0;
+    for (i, (entry, number)) in tail.iter().enumerate() {
+        if *number < least || *number > base + i as u64 || !is_in_range(*entry) {
+            return false;
+        }
+        least = *number + 1;
+    }
+    true
+}
+
+/// Puts the image of the only node into the other area, piece by piece.
+fn put_image<D: Disk>(
+    store: &mut Store<D>,
+    topology: &Topology,
+    image: &[u8],
+) -> Result<(), StoreFault>
+    requires closed { D.keeps → OtherIsClosed store.old.place (D.state store.old.disk) }
+    ensures closed { D.keeps → OnOk result (OtherIsClosed store.new.place (D.state store.new.disk)) }
+{
+    if topology.pages().is_empty() || image.len() != IMAGE_HEAD_BYTES + PAGES * PAGE_BYTES {
+        return Err(StoreFault::AreaFull);
+    }
+    let (head, mut pages) = image.split_at(IMAGE_HEAD_BYTES);
+    store.put_piece(topology, 0, 0, head)?;
+    for page in 0..PAGES {
+        let (first, rest) = pages.split_at(PAGE_BYTES);
+        store.put_piece(topology, 0, page + 1, first)?;
+        pages = rest;
+    }
+    Ok(())
+}
+
+/// Puts all the rest there.
+fn put_rest<D: Disk>(
+    store: &mut Store<D>,
+    topology: &Topology,
+    pieces: &Pieces,
+) -> Result<(), StoreFault>
+    requires closed { D.keeps → OtherIsClosed store.old.place (D.state store.old.disk) }
+    ensures filled { OnOk result (is_some store.new.filled ≡ true) }
+{
+    let ports = pieces.held.net.ports.as_slice();
+    let base = pieces.held.next;
+    let may_be_put = store.place.generation < 1_000
+        && topology.port_count() == 1
+        && ports.len() == 1
+        && is_port(base, &ports[0])
+        && are_lines(topology.wires(), &pieces.lines)
+        && are_behind(base, &pieces.tail);
+    if !may_be_put {
+        return Err(StoreFault::AreaFull);
+    }
+    store.put_tail(topology, base, &pieces.lines, ports, &pieces.tail)
+}
+
+/// Makes a checkpoint of pieces: the other area is closed, they are put there, and its gate is opened.
+pub(crate) fn switch<D: Disk>(
+    store: &mut Store<D>,
+    topology: &Topology,
+    pieces: &Pieces,
+) -> Result<(), StoreFault> {
+    store.clear_other()?;
+    let Some(image) = pieces.held.net.images.first() else {
+        return Err(StoreFault::AreaFull);
+    };
+    put_image(store, topology, image)?;
+    put_rest(store, topology, pieces)?;
+    store.open_other()
+}

@@ -1,0 +1,121 @@
+//! Two workers, each with a seat of its own.
+
+ghost use Rattle.std.specs.Prelude.{◌≡◌, ◌<◌, ◌≤◌, ℕ, length, IfSome};
+ghost use Rattle.tp_model.specs.declared.limits.TheConstants.{MAX_STEPS};
+ghost use Rattle.tp_shared.specs.Named.{Names};
+ghost use Rattle.tp_token.specs.Sound.{shown, item_of};
+
+use std::marker::Brand;
+use std::sync::Wait;
+use std::thread::{Threads, join};
+use tp_shared::{Locked, Naming, NoGate, Parts, Seat, Shared};
+
+/// What turns did: the slips of their entries, how many tokens were taken and how many steps made, and whether one was refused.
+#[derive(Drop)]
+pub struct Work<J: Naming> {
+    pub seat: Seat<J>,
+    pub taken: usize,
+    pub steps: u32,
+    pub is_refused: bool,
+}
+
+/// Makes `count` turns of the node `number`. It ends at the first that is refused.
+pub fn work<J: Naming, R: Wait>(
+    rt: &R,
+    shared: &Shared<J>,
+    number: u8,
+    count: u32,
+    quantum: u16,
+) -> Work<J>
+    requires quantum { quantum ≤ MAX_STEPS }
+    requires there { number < length J.start.nodes }
+{
+    let mut work = Work {
+        seat: Seat::new(),
+        taken: 0,
+        steps: 0,
+        is_refused: false,
+    };
+    for _ in 0..count {
+        match shared.turn(rt, &NoGate, &mut work.seat, number, quantum) {
+            Ok(turn) => {
+                work.taken = work.taken.saturating_add(turn.taken);
+                work.steps = work
+                    .steps
+                    .saturating_add(u32::from(turn.ran.count()));
+            }
+            Err(_) => work.is_refused = true,
+        }
+    }
+    work
+}
+
+/// What is done with `other` is done too.
+fn join_work<J: Naming>(work: &mut Work<J>, other: Work<J>) {
+    let Work {
+        seat,
+        taken,
+        steps,
+        is_refused,
+    } = other;
+    work.seat.absorb(seat);
+    work.taken = work.taken.saturating_add(taken);
+    work.steps = work.steps.saturating_add(steps);
+    work.is_refused = work.is_refused || is_refused;
+}
+
+/// Two threads make `count` turns each, of the nodes 0 and 1 at the same time. Then each of these nodes makes four more, and node 0
+/// one. All slips are audited.
+pub fn work_of_both<J: Naming + Send + Sync, R: Threads + Wait + Sync>(
+    rt: &R,
+    shared: Shared<J>,
+    count: u32,
+    quantum: u16,
+) -> (Locked<J>, Work<J>)
+    requires quantum { quantum ≤ MAX_STEPS }
+    requires there { 1 < length J.start.nodes }
+    ensures few { length result.1.seat ≤ length result.0.all }
+    ensures each { length result.1.seat ≡ length result.0.all → (n : ℕ) → shown n result.1.seat ≡ item_of J.first result.0.all n }
+{
+    let lent = &shared;
+    let (mut all, other) = join(
+        rt,
+        move || work(rt, lent, 0, count, quantum),
+        move || work(rt, lent, 1, count, quantum),
+    );
+    join_work(&mut all, other);
+    for number in [0, 1, 0] {
+        join_work(&mut all, work(rt, lent, number, 4, quantum));
+    }
+    let mut locked = shared.into_locked();
+    locked.audit(&mut all.seat);
+    (locked, all)
+}
+
+/// How many tokens the nodes of `parts` took and how many steps they made, and whether a turn was refused.
+fn work_of_parts<J: Naming + Send + Sync, R: Threads + Wait + Sync>(
+    rt: &R,
+    parts: Parts,
+    count: u32,
+    quantum: u16,
+) -> (usize, u32, bool)
+    requires quantum { quantum ≤ MAX_STEPS }
+    requires there { 1 < length J.start.nodes }
+    requires names { Names J.roll J.first J.start J.node J.mark parts }
+{
+    let (_, done) = work_of_both(rt, Shared::<J>::start(parts), count, quantum);
+    (done.taken, done.steps, done.is_refused)
+}
+
+/// The same with new names.
+pub fn work_of_pair<R: Threads + Wait + Sync>(
+    rt: &R,
+    parts: Parts,
+    count: u32,
+    quantum: u16,
+) -> (usize, u32, bool)
+    requires quantum { quantum ≤ MAX_STEPS }
+    requires there { 1 < length parts.book.state.start.nodes }
+{
+    work_of_parts::<Brand, R>(rt, parts, count, quantum)
+}

@@ -1,0 +1,21 @@
+use Rattle.std.proofs.Common.{◌≡◌, ◌<◌, Some, length, slice_get, refl, ap, sym, subst, rules}
+use Rattle.std.proofs.lemmas.Option.{slice_get_read}
+use Rattle.tp_turn.specs.Moments.{IsNodeOf}
+use Rattle.tp_tests_turns.specs.Nets.{HasNodes}
+use Rattle.tp_tests_turns.proofs.Netting.{turned}
+use Rattle.tp_tests_turns.proofs.network.Net.settle.Goals as goal
+
+pub settle-requires-clause-is : goal.settle-requires-clause-is
+settle-requires-clause-is c =
+    let nodes = c.self.inside.nodes.items in
+    let there : c.args.number < length nodes = search rules in
+    c.self.invariant.each c.args.number c.index_mut.result.now (slice_get_read nodes (length nodes) c.args.number c.index_mut.result.now refl there (search rules))
+
+pub invariant_of-self : goal.invariant_of-self
+invariant_of-self c =
+    let nodes = c.self.inside.nodes.items in
+    let there : c.args.number < length nodes = search rules in
+    let at : slice_get nodes c.args.number ≡ Some c.index_mut.result.now =
+    slice_get_read nodes (length nodes) c.args.number c.index_mut.result.now refl there (search rules) in
+    rw c.from-place.ensures
+    (turned nodes c.args.number c.index_mut.result.now c.settle.new.node c.settle.ensures.done.acts c.self.inside.book c.settle.new.book at c.settle.ensures.done.added c.settle.ensures.is c.self.invariant)

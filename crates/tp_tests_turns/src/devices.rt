@@ -1,0 +1,59 @@
+//! Devices in memory, from which a network begins.
+
+use crate::machines::Chance;
+use arrayvec::ArrayVec;
+use std::alloc::Global;
+use std::test::Fail;
+use tp_area::format;
+use tp_disk::MemDisk;
+use tp_model::WireEnd;
+use tp_net::{MAX_LINES, Topology};
+
+/// The bytes of an area.
+const AREA: u64 = 64_000;
+
+/// A device that was just formatted.
+pub(crate) fn formatted(
+    alloc: Global,
+    topology: &Topology,
+    images: &[Vec<u8>],
+) -> Result<MemDisk, Fail> {
+    let mut disk = MemDisk::zeroed(alloc, 512 + 2 * AREA as usize)?;
+    // A topology keeps its rules: its page counts say so, which `format` asks.
+    let _rules = topology.pages();
+    format(alloc, &mut disk, topology, images, AREA)?;
+    Ok(disk)
+}
+
+/// The end with a number: the links of `nodes` nodes come first, and then the ports.
+fn end(nodes: u8, number: u8) -> WireEnd {
+    if number / 4 < nodes {
+        WireEnd::Link(number / 4, number % 4)
+    } else {
+        WireEnd::Port(number.saturating_sub(nodes.saturating_mul(4)))
+    }
+}
+
+/// A network of nodes of four pages, with wires between ends that are drawn.
+pub(crate) fn drawn_topology(chance: &mut Chance, nodes: u8, ports: u8) -> Option<Topology> {
+    let (nodes, ports) = (nodes.clamp(1, 8), ports.clamp(1, 3));
+    let ends = 4 * nodes + ports;
+    let mut drawn = [None; MAX_LINES];
+    for _tried in 0..2 * ends {
+        let one = chance.below(ends - 1);
+        let other = one + 1 + chance.below(ends - 1 - one);
+        if one / 4 < nodes && drawn[one as usize].is_none() && drawn[other as usize].is_none() {
+            drawn[one as usize] = Some(end(nodes, other));
+            drawn[other as usize] = Some(end(nodes, one));
+        }
+    }
+    let mut pages = ArrayVec::new();
+    for _node in 0..nodes {
+        pages.try_push(4).ok()?;
+    }
+    let mut wires = ArrayVec::new();
+    for wire in drawn.iter().take(ends as usize) {
+        wires.try_push(*wire).ok()?;
+    }
+    Topology::of_parts(pages, ports, wires)
+}

@@ -1,0 +1,3 @@
+pub mod Broken
+pub mod Made
+pub mod Seated

@@ -1,0 +1,22 @@
+use Rattle.std.proofs.Common.{◌≡◌, ℕ, List, Vec, Global, map, Some, subst, sym, ap, ◌∙◌}
+use Rattle.std.specs.List.{AllZip}
+use Rattle.tp_model.specs.Image.{node_at, node_of}
+use Rattle.tp_model.specs.NodeState.{NodeState}
+use Rattle.tp_work.proofs.Made.{each_spelt, made_more}
+use Rattle.tp_work.proofs.nodes.nodes_of.Goals as goal
+
+abbrev node_behind : Vec ℕ Global → NodeState
+node_behind image = node_at image.items
+
+pub node_in-requires : goal.node_in-requires
+node_in-requires c =
+    let images = c.deref-image-items.result.now in
+    let all : map (λ (image : Vec ℕ Global). node_of image.items) images ≡ map Some (map node_behind images) =
+    subst (λ (xs : List (Vec ℕ Global)). map (λ (image : Vec ℕ Global). node_of image.items) xs ≡ map Some (map node_behind xs)) (sym c.deref-image-items.ensures.value) c.requires.images in
+    let here = each_spelt node_behind (λ (image : Vec ℕ Global). node_of image.items) images c.loop-image.image-index c.image-item.result c.loop-image-test.true c.image-item.is all in
+    rw c.deref.ensures.value here
+
+pub loop-image-preserved : goal.loop-image-preserved
+loop-image-preserved c =
+    made_more c.args.spare node_behind c.deref-image-items.result.now c.loop-image.image-index c.image-item.result c.in_ok-node_in.field-0 c.loop-image.nodes.items c.push.new.self.items
+    c.loop-image-test.true c.image-item.is c.loop-image.invariant (rw c.deref.ensures.value at c.in_ok-node_in.ensures) c.in_ok-push.ensures.items

@@ -1,0 +1,13 @@
+-- Nodes of an opened device.
+use Rattle.std.specs.Prelude.{◌≡◌, ℕ, None}
+use Rattle.tp_law_machine.specs.NodeOfBytes.{IsNodeOfBytes}
+use Rattle.tp_model.specs.NodeState.{NodeState}
+use Rattle.tp_node.specs.FromImage.{HasFrames}
+use Rattle.tp_node.specs.NodeContents.{NodeContents}
+
+-- A node in this state, not frozen, with an image and as many spare frames as are wanted.
+pub record IsMade (spare : ℕ) (state : NodeState) (node : NodeContents) : Type 0 where
+  pub live : node.live ≡ state
+  pub thawed : node.frozen ≡ None
+  pub image : IsNodeOfBytes node.live
+  pub frames : HasFrames spare node

@@ -1,0 +1,43 @@
+//! Why a turn is refused.
+
+ghost use Rattle.std.specs.Prelude.{◌≡◌};
+ghost use Rattle.tp_work.specs.Turns.{fault_of};
+ghost use Rattle.tp_shared.specs.Entries.{IsTurnRefusal};
+
+use thiserror::Error;
+use tp_book::Refusal;
+
+/// After `Empty` nothing is changed. After the others the process is back in the ready queue; what it took before stays, and nothing
+/// ran.
+#[derive(Clone, Copy, Debug, PartialEq, Eq, Error)]
+pub enum TurnFault {
+    /// No process was in the ready queue.
+    #[error("Empty")]
+    Empty,
+    /// There is no room on the device for another entry, or no number.
+    #[error("JournalFull")]
+    JournalFull,
+    /// The store failed, and nothing is journalled until it is opened again.
+    #[error("StoreBroken")]
+    StoreBroken,
+    /// Memory was refused.
+    #[error("Memory")]
+    Memory,
+}
+
+impl TurnFault {
+    /// The fault of a turn that the book refused.
+    pub(crate) fn of(refusal: Refusal) -> TurnFault
+        requires { IsTurnRefusal refusal }
+        ensures { result ≡ fault_of refusal }
+    {
+        match refusal {
+            Refusal::JournalFull => TurnFault::JournalFull,
+            Refusal::StoreBroken => TurnFault::StoreBroken,
+            Refusal::Memory => TurnFault::Memory,
+            Refusal::NothingToTake | Refusal::SnapshotRunning | Refusal::PortFull => {
+                unreachable!()
+            }
+        }
+    }
+}

@@ -1,0 +1,83 @@
+//! A network in threads, and its turns.
+
+ghost use Rattle.std.specs.Prelude.{◌≡◌, ◌≤◌, ◌+◌, Some, length, IfOk, MatchResult};
+ghost use Rattle.tp_model.specs.declared.limits.TheConstants.{MAX_STEPS};
+ghost use Rattle.tp_work.specs.Turns.{Turned, Refused};
+
+use crate::fault::TurnFault;
+use crate::seat::Seat;
+use crate::turn::Turn;
+use std::sync::Wait;
+use tp_ready::ReadyQueue;
+use tp_shared::gate::NUMBER_TAKEN;
+use tp_shared::{Gate, Naming, NodeTurn, Shared};
+
+/// What threads share, the ready queue of all processes, how many steps a node's turn may have, and the gate that each turn
+/// passes.
+#[derive(Drop)]
+pub struct Net<J: Naming, G: Gate> {
+    pub(crate) shared: Shared<J>,
+    pub(crate) queue: ReadyQueue,
+    pub(crate) quantum: u16,
+    pub(crate) gate: G,
+    pub ghost processes: { queue.count ≡ length J.start.nodes + 1 },
+    pub ghost few: { quantum ≤ MAX_STEPS },
+}
+
+impl<J: Naming, G: Gate> Net<J, G> {
+    /// What threads share.
+    pub fn shared(&self) -> &Shared<J> {
+        &self.shared
+    }
+
+    /// A turn of the process that waits longest. It goes to the end of the ready queue, whatever its turn did, and `seat` gets the
+    /// slips of what was journalled.
+    pub fn turn<R: Wait>(&self, rt: &R, seat: &mut Seat<J>) -> Result<Turn, TurnFault>
+        requires queue { seat.old.hand ≡ Some self.now.queue }
+        ensures queue { seat.new.hand ≡ Some self.now.queue }
+        ensures turned { MatchResult result (λ turn. Turned J.start self.now.quantum turn seat.old.slips seat.new.slips) (λ fault. Refused J.start fault seat.old.slips seat.new.slips) }
+    {
+        let Seat { hand, slips } = seat;
+        let Some(taken) = self.queue.take(rt, hand) else {
+            return Err(TurnFault::Empty);
+        };
+        self.gate.at(taken.number(), NUMBER_TAKEN);
+        let done = self.turn_of(rt, slips, taken.number());
+        self.queue.put_back(rt, hand, taken);
+        done
+    }
+
+    // A turn of a process.
+    fn turn_of<R: Wait>(
+        &self,
+        rt: &R,
+        slips: &mut tp_shared::Seat<J>,
+        process: u8,
+    ) -> Result<Turn, TurnFault>
+        requires there { process ≤ length J.start.nodes }
+        ensures process { IfOk result (λ turn. turn.process ≡ process) }
+        ensures turned { MatchResult result (λ turn. Turned J.start self.now.quantum turn slips.old slips.new) (λ fault. Refused J.start fault slips.old slips.new) }
+    {
+        if process == self.shared.nodes() {
+            return match self.shared.host_turn(rt, &self.gate, slips) {
+                Ok(takes) => Ok(Turn {
+                    process,
+                    takes,
+                    ran: None,
+                }),
+                Err(refusal) => Err(TurnFault::of(refusal)),
+            };
+        }
+        match self
+            .shared
+            .turn(rt, &self.gate, slips, process, self.quantum)
+        {
+            Ok(NodeTurn { taken, ran }) => Ok(Turn {
+                process,
+                takes: taken,
+                ran: Some(ran),
+            }),
+            Err(refusal) => Err(TurnFault::of(refusal)),
+        }
+    }
+}

@@ -1,0 +1,37 @@
+//! The nodes of an opened device.
+
+ghost use Rattle.std.specs.Prelude.{◌≡◌, Some, IfOk};
+ghost use Rattle.std.specs.List.{AllZip};
+ghost use Rattle.tp_book.specs.Opened.{now_of, IsOpened};
+ghost use Rattle.tp_model.specs.Image.{node_at, node_of};
+ghost use Rattle.tp_work.specs.Nodes.{IsMade};
+
+use std::alloc::{AllocError, Global};
+use tp_book::NetState;
+use tp_law_machine::nodes_stay_nodes;
+use tp_node::Node;
+
+// The node that an image spells, with `spare` frames.
+fn node_in(alloc: Global, image: &[u8], spare: usize) -> Result<Node, AllocError>
+    requires { node_of image.now ≡ Some (node_at image.now) }
+    ensures { IfOk result (IsMade spare (node_at image.now)) }
+{
+    nodes_stay_nodes();
+    match Node::from_image(alloc, image, spare) {
+        Ok(node) => Ok(node),
+        Err(_) => Err(AllocError),
+    }
+}
+
+/// The nodes of an opened device, as the kept entries left them. Each has `spare` frames, but no more than it has pages, for pages
+/// that it writes while it is frozen.
+pub fn nodes_of(alloc: Global, state: &NetState, spare: usize) -> Result<Vec<Node>, AllocError>
+    requires { IsOpened state.now }
+    ensures { IfOk result (λ nodes. AllZip (IsMade spare) (now_of state.now).nodes nodes.items) }
+{
+    let mut nodes = Vec::new(alloc);
+    for image in &state.net.images {
+        nodes.push(node_in(alloc, image, spare)?)?;
+    }
+    Ok(nodes)
+}

@@ -1,0 +1,24 @@
+//! Seats of workers.
+
+ghost use Rattle.std.specs.Prelude.{◌≡◌};
+
+use tp_ready::Hand;
+use tp_shared::Naming;
+
+/// Where a worker makes turns: it takes one process at a time, and has the slips of what its turns journalled. Nobody can copy
+/// it.
+#[derive(Drop)]
+pub struct Seat<J: Naming> {
+    pub(crate) hand: Hand,
+    pub(crate) slips: tp_shared::Seat<J>,
+}
+
+impl<J: Naming> Seat<J> {
+    /// The slips of all that its turns journalled, for an audit.
+    pub fn into_slips(self) -> tp_shared::Seat<J>
+        ensures { result ≡ self.slips }
+    {
+        let Seat { slips, .. } = self;
+        slips
+    }
+}

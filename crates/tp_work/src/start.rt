@@ -1,0 +1,67 @@
+//! How a network in threads begins.
+
+ghost use Rattle.std.specs.Prelude.{◌≡◌, ◌<◌, ◌≤◌, [], All, IfOk, Some, map, vec_len};
+ghost use Rattle.tp_model.specs.declared.limits.TheConstants.{MAX_STEPS};
+ghost use Rattle.tp_shared.specs.Named.{Names};
+ghost use Rattle.tp_shared.specs.Told.{told_of};
+ghost use Rattle.tp_work.specs.declared.start.TheConstants.{MAX_SEATS};
+
+use crate::net::Net;
+use crate::seat::Seat;
+use std::alloc::{AllocError, Global};
+use std::sync::Wait;
+use tp_ready::{Hand, ReadyQueue};
+use tp_shared::{Gate, Naming, Parts, Shared, Told};
+use tp_token::Key;
+
+/// The most seats of a network.
+pub const MAX_SEATS: u8 = 32;
+
+// A seat without a slip for each hand.
+fn seats_of<J: Naming>(alloc: Global, hands: Vec<Hand>) -> Result<Vec<Seat<J>>, AllocError>
+    ensures count { IfOk result (λ seats. vec_len seats ≡ vec_len hands) }
+    ensures hands { IfOk result (λ seats. map (λ seat. seat.hand) seats.items ≡ hands.items) }
+    ensures slips { IfOk result (λ seats. All (λ seat. seat.slips ≡ []) seats.items) }
+{
+    let mut seats = Vec::new(alloc);
+    for hand in hands {
+        seats.push(Seat {
+            hand,
+            slips: tp_shared::Seat::new(),
+        })?;
+    }
+    Ok(seats)
+}
+
+impl<J: Naming, G: Gate + Drop> Net<J, G> {
+    /// Puts `parts` under locks, fills the ready queue with the numbers of all processes, the nodes' in order and then the
+    /// host's, and gives as many seats as `seats` says. A node's turn may have `quantum` steps. The key is the flusher's, and shows
+    /// what is told of the book as it is.
+    pub fn start<R: Wait>(
+        rt: &R,
+        alloc: Global,
+        parts: Parts,
+        quantum: u16,
+        seats: u8,
+        gate: G,
+    ) -> Result<(Net<J, G>, Vec<Seat<J>>, Key<Told>), AllocError>
+        requires names { Names J.roll J.first J.start J.node J.mark J.flusher parts }
+        requires quantum { (0 < quantum) × (quantum ≤ MAX_STEPS) }
+        requires seats { (0 < seats) × (seats ≤ MAX_SEATS) }
+        ensures quantum { IfOk result (λ started. started.0.quantum ≡ quantum) }
+        ensures count { IfOk result (λ started. vec_len started.1 ≡ seats) }
+        ensures seats { IfOk result (λ started. All (λ seat. (seat.hand ≡ Some started.0.queue) × (seat.slips ≡ [])) started.1.items) }
+        ensures key { IfOk result (λ started. (started.2.name ≡ J.flusher) × (started.2.value ≡ told_of J.before J.first (record { book = parts.book; all = [] }))) }
+    {
+        let (shared, key) = Shared::start(parts);
+        let (queue, hands) = ReadyQueue::start(rt, alloc, shared.nodes(), seats)?;
+        let seats = seats_of(alloc, hands)?;
+        let net = Net {
+            shared,
+            queue,
+            quantum,
+            gate,
+        };
+        Ok((net, seats, key))
+    }
+}
