@@ -21,5 +21,5 @@ pub use ports::host_turn;
 pub use settling::settle;
 pub use stages::{Stretch, Turn, commit_turn, node_turn, open_turn, run_node};
 pub use take::TAKES;
-pub use trial::{Tried, TryFault, try_turns};
+pub use trial::{ONE_WIRE, Tried, TryFault, lone_node, try_turns};
 pub use turn::TURN_ENTRIES;

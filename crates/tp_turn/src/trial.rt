@@ -16,7 +16,7 @@ use tp_node::{ImageFault, Node, has_idle_links};
 use tp_port::PortParts;
 
 /// Line 0 leads to the port, line 4 to the link, and links 1 to 3 have no wire.
-const ONE_WIRE: [Option<WireEnd>; 5] = [
+pub const ONE_WIRE: [Option<WireEnd>; 5] = [
     Some(WireEnd::Port(0)),
     None,
     None,
@@ -43,7 +43,7 @@ pub enum TryFault {
 }
 
 /// The node of an image whose links are idle.
-fn lone_node(alloc: Global, image: &[u8]) -> Result<Node, TryFault>
+pub fn lone_node(alloc: Global, image: &[u8]) -> Result<Node, TryFault>
     ensures { ReadsFresh image.now result }
 {
     if !has_idle_links(image) {
