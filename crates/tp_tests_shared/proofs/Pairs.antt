@@ -120,7 +120,7 @@ module _ (n : NodeState) (idle : has_idle_links n ≡ true) where
 -- a node that was read of an image agrees with the book of two of it
 pub pair_agrees : (image : List ℕ) (node : NodeContents) (b : BookValue) → AreBytes image → ReadsImage (node_of image) (Ok node) → b ≡ first_book (pair_network (node_at image)) None
     → (i : ℕ) → i < 2 → Agrees b i node
-unfolding node_of, agreed, after
+unfolding node_of agreed after
 pair_agrees image node b bytes reads is i small =
     let read : node_of image ≡ Some node.live = image_read (node_of image) node reads in
     let same : node_at image ≡ node.live = (cond_some (is_node (node_at image) && bytes_eq (take 172 image) (image_head (node_at image))) (node_at image) node.live read).1 in
@@ -134,3 +134,14 @@ pair_agrees image node b bytes reads is i small =
     both zero h = refl
     both (suc zero) h = refl
     both (suc (suc i)) h = absurd (omega (arith, h))
+
+-- so does each of two
+pub pairs_agree : (image : List ℕ) (first second node : NodeContents) (b : BookValue) → AreBytes image → ReadsImage (node_of image) (Ok first) → ReadsImage (node_of image) (Ok second) → b ≡ first_book (pair_network (node_at image)) None
+    → (i : ℕ) → slice_get (first ∷ second ∷ []) i ≡ Some node → Agrees b i node
+pairs_agree image first second node b bytes one two is zero e =
+    let same : first ≡ node = cc in
+    subst (Agrees b 0) same (pair_agrees image first b bytes one is 0 (omega arith))
+pairs_agree image first second node b bytes one two is (suc zero) e =
+    let same : second ≡ node = cc in
+    subst (Agrees b 1) same (pair_agrees image second b bytes two is 1 (omega arith))
+pairs_agree image first second node b bytes one two is (suc (suc i)) e = absurd (cc)

@@ -52,12 +52,7 @@ fn network(alloc: Global, image: &[u8]) -> Result<NetParts, AllocError>
 }
 
 /// The parts of a book and of two nodes of `image`, before they are put under locks.
-fn parts_of(
-    alloc: Global,
-    image: &[u8],
-    first: Node,
-    second: Node,
-) -> Result<Parts, AllocError>
+fn parts_of(alloc: Global, image: &[u8], first: Node, second: Node) -> Result<Parts, AllocError>
     requires idle { has_idle_links (node_at image.now) ≡ true }
     requires first { ReadsImage (node_of image.now) (Ok first) }
     requires second { ReadsImage (node_of image.now) (Ok second) }

@@ -20,7 +20,7 @@ pub struct Work<J: Naming> {
 }
 
 /// Makes `count` turns of the node `number`. It ends at the first that is refused.
-pub fn work<J: Naming, R: Wait>(
+pub fn make_turns<J: Naming, R: Wait>(
     rt: &R,
     shared: &Shared<J>,
     number: u8,
@@ -40,9 +40,7 @@ pub fn work<J: Naming, R: Wait>(
         match shared.turn(rt, &NoGate, &mut work.seat, number, quantum) {
             Ok(turn) => {
                 work.taken = work.taken.saturating_add(turn.taken);
-                work.steps = work
-                    .steps
-                    .saturating_add(u32::from(turn.ran.count()));
+                work.steps = work.steps.saturating_add(u32::from(turn.ran.count()));
             }
             Err(_) => work.is_refused = true,
         }
@@ -51,7 +49,7 @@ pub fn work<J: Naming, R: Wait>(
 }
 
 /// What is done with `other` is done too.
-fn join_work<J: Naming>(work: &mut Work<J>, other: Work<J>) {
+fn add_work<J: Naming>(work: &mut Work<J>, other: Work<J>) {
     let Work {
         seat,
         taken,
@@ -80,12 +78,12 @@ pub fn work_of_both<J: Naming + Send + Sync, R: Threads + Wait + Sync>(
     let lent = &shared;
     let (mut all, other) = join(
         rt,
-        move || work(rt, lent, 0, count, quantum),
-        move || work(rt, lent, 1, count, quantum),
+        move || make_turns(rt, lent, 0, count, quantum),
+        move || make_turns(rt, lent, 1, count, quantum),
     );
-    join_work(&mut all, other);
+    add_work(&mut all, other);
     for number in [0, 1, 0] {
-        join_work(&mut all, work(rt, lent, number, 4, quantum));
+        add_work(&mut all, make_turns(rt, lent, number, 4, quantum));
     }
     let mut locked = shared.into_locked();
     locked.audit(&mut all.seat);
