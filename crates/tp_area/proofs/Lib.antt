@@ -19,3 +19,4 @@ pub mod Filling
 pub mod FilledPlace
 pub mod Switching
 pub mod Roomy
+pub mod CheckpointWalks

@@ -5,3 +5,4 @@ pub mod Puts
 pub mod Formatting
 pub mod Other
 pub mod Tails
+pub mod Checkpointed

@@ -7,15 +7,24 @@ ghost use Rattle.tp_model.specs.EntryBytes.{IsSpelt};
 ghost use Rattle.tp_model.specs.Journal.{entry_room, is_roomy, room};
 ghost use Rattle.tp_model.specs.Topology.{Topology};
 ghost use Rattle.tp_model.specs.NodeState.{NodeState};
-ghost use Rattle.tp_model.specs.Disk.{MayBe};
+ghost use Rattle.tp_model.specs.Disk.{IsWithin, MayBe};
 ghost use Rattle.tp_model.specs.DiskHistory.{IsSynced, State};
 ghost use Rattle.tp_model.specs.Areas.{Held};
+ghost use Rattle.tp_model.specs.DeviceAreas.{device_areas};
+ghost use Rattle.tp_model.specs.Node.{t414};
 ghost use Rattle.tp_model.specs.Opening.{Opened, held_of, verdict};
+ghost use Rattle.tp_model.specs.Runs.{HasCut, World, copy_of};
+ghost use Rattle.tp_model.specs.StoreCalls.{Called, put_calls};
+ghost use Rattle.tp_model.specs.Walks.{Walks};
+ghost use Rattle.tp_model.specs.WholeCut.{WholeCut};
+ghost use Rattle.tp_model.specs.WriteOrder.{Resting};
 ghost use Rattle.tp_area.specs.declared.place.Place.{Place};
 ghost use Rattle.tp_area.specs.Appended.{append_refusal};
 ghost use Rattle.tp_area.specs.Crashes.{OpensTo, RestsAs};
+ghost use Rattle.tp_area.specs.Checkpointed.{checkpointed};
+ghost use Rattle.tp_area.specs.Other.{Cleared, Switched, other_gate};
 ghost use Rattle.tp_area.specs.Places.{place_at, place_in};
-ghost use Rattle.tp_area.specs.Tails.{tail_refusal};
+ghost use Rattle.tp_area.specs.Tails.{TailParts, TailPut, tail_pieces, tail_refusal};
 
 /// A device that opens says the place of its next group. So whoever opens a device has what `Store::new` asks.
 pub fn open_devices_say_their_place()
@@ -36,4 +45,17 @@ pub fn entries_with_room_fit()
         → entry_room * (length o.kept + count) ≤ room o.head.topology o.head.area → append_refusal false (place_at o) count ≡ None }
     ensures put { (t : Topology) (place : Place) (entries : List (Entry × ℕ)) → is_roomy t place.area ≡ true → AllByRecursion (λ e. IsSpelt e.0 e.1) entries
         → entry_room * length entries ≤ room t place.area → tail_refusal false place t entries ≡ None }
+{}
+
+/// One behind the other, the calls of a checkpoint are a piece of a run without an opening, from a world on in which the flusher
+/// rests and a cut is whole: the other area is cleared, pieces of images are put there, then the rest, and its gate is opened.
+/// The run copies the cut with its tail before the rest is put, and trims the book behind the last sync. Where the area holds the
+/// copy then, the device stands for it, the cut is the kept one, and all entries are stored.
+pub fn checkpoints_walk()
+    ensures { (w : World NodeState) (o : Opened) (cut : WholeCut) (nodes : List NodeState) (t : Topology) (p : TailParts) (pieces : List (ℕ × List ℕ)) (rested cleared put filled switched : State)
+        → w.at ≡ Resting → w.disk ≡ rested.now → HasCut w.net cut nodes → verdict rested.now.bytes ≡ Ok o → RestsAs (held_of o) rested → Cleared (place_at o) rested cleared
+        → AllByRecursion (λ piece. IsWithin (device_areas.spare cleared.now.bytes) (piece.0, length piece.1)) pieces → Called (put_calls pieces) cleared put
+        → AllByRecursion (λ piece. IsWithin (device_areas.spare put.now.bytes) (piece.0, length piece.1)) (tail_pieces (other_gate (place_at o) + 1) t (o.generation + 1) p)
+        → TailPut (place_at o) t p put filled → device_areas.other filled.now.bytes ≡ Some (other_gate (place_at o), copy_of w.net w.base cut nodes) → Switched (place_at o) filled switched
+        → Walks t414 device_areas w (checkpointed w cut nodes switched) rested switched × RestsAs (copy_of w.net w.base cut nodes) switched }
 {}

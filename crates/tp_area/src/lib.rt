@@ -17,6 +17,9 @@ mod tail;
 
 pub use fault::{FormatFault, StoreFault};
 pub use formatting::format;
-pub use laws::{entries_with_room_fit, open_devices_say_their_place, resting_devices_open_alike};
+pub use laws::{
+    checkpoints_walk, entries_with_room_fit, open_devices_say_their_place,
+    resting_devices_open_alike,
+};
 pub use place::Place;
 pub use store::Store;

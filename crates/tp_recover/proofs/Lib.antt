@@ -15,3 +15,4 @@ pub mod CutsAreFlat
 pub mod HeldPorts
 pub mod ReplayedCuts
 pub mod Ages
+pub mod BookRoom

@@ -1,11 +1,11 @@
 -- What tests of all elements say of each.
-use Rattle.std.proofs.Common.{◌≡◌, ℕ, zero, suc, List, [], ◌∷◌, Bool, true, map, sym, ap, subst, ◌∙◌, arith, Option, Some, None}
+use Rattle.std.proofs.Common.{◌≡◌, ℕ, zero, suc, List, [], ◌∷◌, Bool, true, map, sym, ap, subst, ◌∙◌, arith, Some}
 use Rattle.std.specs.Prelude.{slice_get}
 use Rattle.std.specs.List.{AllByRecursion, list_all}
 use Rattle.std.proofs.lemmas.Bool.{and_parts, ltb-true}
 use Rattle.std.proofs.lemmas.List.Folds.{list_all-map}
 use Rattle.tp_model.specs.NodeState.{NodeState}
-use Rattle.tp_model.specs.Network.{Network, Port}
+use Rattle.tp_model.specs.Network.{Network}
 use Rattle.tp_port.specs.Ports.{PortValue}
 use Rattle.tp_replay.specs.Flat.{CanCount}
 use Rattle.tp_tests_opening.specs.CanCount.{can_count}

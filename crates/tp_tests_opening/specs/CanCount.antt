@@ -1,5 +1,5 @@
 -- A port that can count one more byte.
-use Rattle.std.specs.Prelude.{ℕ, Bool, nat_lt, ◌^◌, ◌-◌}
+use Rattle.std.specs.Prelude.{Bool, nat_lt, ◌^◌, ◌-◌}
 use Rattle.tp_model.specs.Network.{Port}
 
 abbrev pub can_count : Port → Bool

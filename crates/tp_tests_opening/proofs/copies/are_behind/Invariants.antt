@@ -1,5 +1,5 @@
 -- where the entries from here on may stand there, all may
-use Rattle.std.proofs.Common.{◌≡◌, ◌+◌, ◌≤◌, drop, length, map}
+use Rattle.std.proofs.Common.{◌+◌, ◌≤◌, drop, map}
 use Rattle.std.specs.List.{AllByRecursion}
 use Rattle.tp_model.specs.EntryBytes.{IsSpelt}
 use Rattle.tp_model.specs.Numbers.{AreNumbered}

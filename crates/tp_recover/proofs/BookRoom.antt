@@ -1,0 +1,43 @@
+-- What a book gives finds room on its device.
+use Rattle.std.proofs.Common.{◌≡◌, ℕ, ◌+◌, ◌*◌, ◌≤◌, ◌<◌, true, false, List, [], ◌∷◌, length, sym, subst, arith, Some, None, Ok}
+use Rattle.std.specs.List.{AllByRecursion}
+use Rattle.std.specs.Prelude.{nat_le}
+use Rattle.std.proofs.lemmas.Bool.{and_parts}
+use Rattle.tp_model.specs.declared.entry.Entry.{Entry}
+use Rattle.tp_model.specs.EntryBytes.{IsSpelt}
+use Rattle.tp_model.specs.Journal.{entry_room, is_roomy, room}
+use Rattle.tp_model.specs.Node.{t414, t414_ends}
+use Rattle.tp_model.specs.Opening.{Opened, opening, verdict}
+use Rattle.tp_law_device.proofs.Heads.{head_parts}
+use Rattle.tp_law_device.proofs.Opens.{reads_of}
+use Rattle.tp_book.specs.Joined.{FitsRoom}
+use Rattle.tp_area.specs.declared.place.Place.{Place}
+use Rattle.tp_area.specs.Appended.{append_refusal}
+use Rattle.tp_area.specs.Places.{place_at}
+use Rattle.tp_area.specs.Tails.{tail_refusal}
+use Rattle.tp_area.proofs.Roomy.{group_fits_room, tail_fits_room}
+
+-- a device that opens has room for an entry
+opened_roomy : (bytes : List ℕ) (o : Opened) → opening t414 t414_ends bytes ≡ Ok o → is_roomy o.head.topology o.head.area ≡ true
+opened_roomy bytes o is =
+    let H = head_parts bytes o.head (reads_of t414 t414_ends bytes o is).head in
+    (and_parts (nat_le (512 + 2 * o.head.area) (length bytes)) (is_roomy o.head.topology o.head.area) H.room).1
+
+pub book_group : (bytes : List ℕ) (o : Opened) (floor entries count : ℕ) → AllByRecursion (λ byte. byte < 256) bytes → verdict bytes ≡ Ok o
+    → FitsRoom (Some (room o.head.topology o.head.area)) floor entries → floor ≤ length o.kept → 1 ≤ count → length o.kept + count ≤ entries
+    → append_refusal false (place_at o) count ≡ None
+book_group bytes o floor entries count are is fits low some high =
+    let most = fits (omega (arith, low, some, high)) in
+    group_fits_room bytes o count are is some (omega (arith, most, high))
+
+few_bytes : (most : ℕ) (tail : List (Entry × ℕ)) → FitsRoom (Some most) 0 (length tail) → entry_room * length tail ≤ most
+few_bytes most [] fits = omega arith
+few_bytes most (e ∷ es) fits = fits (omega arith)
+
+pub book_tail : (bytes : List ℕ) (o : Opened) (place : Place) (tail : List (Entry × ℕ)) → verdict bytes ≡ Ok o → place.area ≡ o.head.area → AllByRecursion (λ e. IsSpelt e.0 e.1) tail
+    → FitsRoom (Some (room o.head.topology o.head.area)) 0 (length tail) → tail_refusal false place o.head.topology tail ≡ None
+unfolding verdict
+book_tail bytes o place tail is area spelt fits =
+    let t = o.head.topology in
+    tail_fits_room t place tail (subst (λ n. is_roomy t n ≡ true) (sym area) (opened_roomy bytes o is)) spelt
+    (subst (λ n. entry_room * length tail ≤ room t n) (sym area) (few_bytes (room t o.head.area) tail fits))

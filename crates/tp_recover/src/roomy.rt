@@ -1,0 +1,24 @@
+//! Room for what a book gives.
+
+ghost use Rattle.std.specs.Prelude.{◌≡◌, ◌+◌, ◌<◌, ◌≤◌, ℕ, List, length, false, Some, None, Ok};
+ghost use Rattle.std.specs.List.{AllByRecursion};
+ghost use Rattle.tp_model.specs.declared.entry.Entry.{Entry};
+ghost use Rattle.tp_model.specs.EntryBytes.{IsSpelt};
+ghost use Rattle.tp_model.specs.Journal.{room};
+ghost use Rattle.tp_model.specs.Opening.{Opened, verdict};
+ghost use Rattle.tp_book.specs.Joined.{FitsRoom};
+ghost use Rattle.tp_area.specs.declared.place.Place.{Place};
+ghost use Rattle.tp_area.specs.Appended.{append_refusal};
+ghost use Rattle.tp_area.specs.Places.{place_at};
+ghost use Rattle.tp_area.specs.Tails.{tail_refusal};
+
+/// What a book gives finds room in the store over its device, where the book is bound to the device's room
+/// (`Opened::journal_room`): the store refuses neither a group of the next entries, behind those that the device holds, nor the
+/// tail of a whole cut as too long. The function does nothing; its contract is the law.
+pub fn books_find_room()
+    ensures appended { (bytes : List ℕ) (o : Opened) (floor entries count : ℕ) → AllByRecursion (λ byte. byte < 256) bytes → verdict bytes ≡ Ok o
+        → FitsRoom (Some (room o.head.topology o.head.area)) floor entries → floor ≤ length o.kept → 1 ≤ count → length o.kept + count ≤ entries
+        → append_refusal false (place_at o) count ≡ None }
+    ensures put { (bytes : List ℕ) (o : Opened) (place : Place) (tail : List (Entry × ℕ)) → verdict bytes ≡ Ok o → place.area ≡ o.head.area → AllByRecursion (λ e. IsSpelt e.0 e.1) tail
+        → FitsRoom (Some (room o.head.topology o.head.area)) 0 (length tail) → tail_refusal false place o.head.topology tail ≡ None }
+{}
