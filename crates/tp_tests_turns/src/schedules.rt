@@ -9,8 +9,8 @@ use std::test::Fail;
 use tp_book::Refusal;
 use tp_disk::MemDisk;
 
-/// How many schedules are played, and where the numbers begin. `tools/schedules` plays more.
-const SCHEDULES: u16 = 40;
+/// How many schedules are played, and where the numbers begin.
+const SCHEDULES: u16 = 3_000;
 
 const SEED: u64 = 1;
 
