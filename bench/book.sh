@@ -1,6 +1,7 @@
 #!/bin/bash
 # What a snapshot and the entries beside it cost a book, by how many nodes and entries it has, in one run, outside the gate.
 # usage: bench/book.sh [ROUNDS]     5 rounds by default. The devices have no wire, so a cut is whole once all nodes have recorded
+# The commits of a run and of a take are timed on devices with one wire, by a program that isn't proved and that stops at faults
 set -e
 top=$(cd "$(dirname "$0")/.." && pwd)
 rounds=${1:-5}
@@ -36,3 +37,16 @@ few, many = best[16, 64], best[16, 100000]
 print("100,000 entries beside 64: inputs %.2f, begin %.2f, inputs while it runs %.2f, record %.2f, whole %.2f" % tuple(
     b / max(a, 1) for a, b in zip(few, many)))
 PY
+
+mkdir -p "$work/crates/bench_entries/src"
+cp "$top/bench/entries.rattle" "$work/crates/bench_entries/src/main.rt"
+echo "bench_entries: tp_model tp_net tp_book tp_disk tp_node tp_recover tp_turn" >> "$work/crates.txt"
+git -C "$work" init -q
+echo "entries  commit of a run  commit of a take   (ns, best of 50 books)"
+for entries in 64 100000; do
+    device=$work/wired-$entries
+    cp "$work/16-$entries" "$device"
+    printf '\x80' | dd of="$device" bs=1 seek=56 conv=notrunc 2> /dev/null
+    times=$(cd "$work/crates/bench_entries" && rt try --seconds 300 --data "device=$device" -- device | grep '^[0-9]')
+    echo "$entries $times"
+done
