@@ -8,7 +8,7 @@ use Rattle.tp_book.specs.declared.refusal.Refusal.TheVariants as refusal
 use Rattle.tp_host.specs.declared.fault.OfferFault.{OfferFault}
 use Rattle.tp_host.specs.declared.fault.OfferFault.TheVariants.{Already, Gap, PortFull, JournalFull, StoreBroken, Memory}
 
--- Why so many bytes can't be handed to a port: where there are any, the store is broken, the port has no room for them, the
+-- Why `count` bytes can't be handed to a port: where there are any, the store is broken, the port has no room for them, the
 -- journal has none, told in this order.
 abbrev pub bytes_fault : BookValue → ℕ → ℕ → Option OfferFault
 bytes_fault b port count =

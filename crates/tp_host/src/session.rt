@@ -15,6 +15,7 @@ use tp_mark::Pass;
 use tp_shared::{Naming, Receipt, Shared};
 
 /// What the host does at one port of a network in threads.
+#[derive(Drop)]
 pub struct Session<'a, J: Naming> {
     shared: &'a Shared<J>,
     port: u8,
@@ -57,7 +58,7 @@ impl<'a, J: Naming> Session<'a, J> {
         receipt.number() <= self.shared.mark().load(pass)
     }
 
-    /// The outputs of the port from the position `from` on that are shown: those whose entries the mark that `pass` loads is above.
+    /// The outputs of the port from the position `from` on that are shown: the mark that `pass` loads is above their entries.
     pub fn shown<R: Wait>(
         &self,
         rt: &R,

@@ -1,5 +1,5 @@
 -- Nodes that are made of images.
-use Rattle.std.proofs.Common.{◌≡◌, ◌∙◌, ◌<◌, ◌+◌, ℕ, List, [], ◌∷◌, ◌++◌, map, length, take, Option, Some, get_or, sym, ap, subst}
+use Rattle.std.proofs.Common.{◌≡◌, ◌∙◌, ◌<◌, ◌≤◌, ◌+◌, ℕ, List, [], ◌∷◌, ◌++◌, map, length, take, take_all, Option, Some, None, zero, suc, slice_get, get_or, refl, sym, ap, subst}
 use Rattle.std.specs.List.{AllZip}
 use Rattle.std.specs.Prelude.{Ok}
 use Rattle.std.proofs.lemmas.List.{get_or-map, length-map, map_more}
@@ -35,3 +35,39 @@ made_more spare f xs i x node old new below is made here are =
     subst (λ ys. AllZip (IsMade spare) (map f (take (i + 1) xs)) ys) (sym are)
     (subst (λ ys. AllZip (IsMade spare) ys (old ++ node ∷ [])) (sym (map_more f xs i x below ∙ ap (λ y. map f (take i xs) ++ f y ∷ []) (sym is)))
     (all_zipped_more (IsMade spare) (map f (take i xs)) old (f x) node made here))
+
+-- ## All of them
+
+-- the nodes of the images in front of a place that is behind them all
+pub made_all : {X : Type 0} (spare : ℕ) (f : X → NodeState) (xs all : List X) (i : ℕ) (nodes : List NodeContents) → length xs ≤ i → xs ≡ all → AllZip (IsMade spare) (map f (take i xs)) nodes
+    → AllZip (IsMade spare) (map f all) nodes
+made_all spare f xs all i nodes past is made = subst (λ ys. AllZip (IsMade spare) (map f ys) nodes) (take_all i xs past ∙ is) made
+
+-- they are in these states
+pub made_live : (spare : ℕ) (states : List NodeState) (nodes : List NodeContents) → AllZip (IsMade spare) states nodes → map (λ (node : NodeContents). node.live) nodes ≡ states
+made_live spare [] [] made = refl
+made_live spare [] (node ∷ nodes) made = absurd made
+made_live spare (state ∷ states) [] made = absurd made
+made_live spare (state ∷ states) (node ∷ nodes) made =
+    ap (λ first. first ∷ map (λ (other : NodeContents). other.live) nodes) made.0.live ∙ ap (λ rest. state ∷ rest) (made_live spare states nodes made.1)
+
+-- what each of them is
+abbrev Stands : ℕ → NodeContents → Type 0
+Stands spare node = IsNodeOfBytes node.live × (node.frozen ≡ None) × HasFrames spare node
+
+stands : (spare : ℕ) (states : List NodeState) (nodes : List NodeContents) → AllZip (IsMade spare) states nodes → (i : ℕ) (node : NodeContents) → slice_get nodes i ≡ Some node → Stands spare node
+stands spare [] [] made i node at = cc
+stands spare [] (first ∷ nodes) made i node at = absurd made
+stands spare (state ∷ states) [] made i node at = absurd made
+stands spare (state ∷ states) (first ∷ nodes) made zero node at =
+    let same : first ≡ node = cc in
+    subst (Stands spare) same (made.0.image, made.0.thawed, made.0.frames)
+stands spare (state ∷ states) (first ∷ nodes) made (suc i) node at = stands spare states nodes made.1 i node at
+
+pub made_each : (spare : ℕ) (states : List NodeState) (nodes : List NodeContents) → AllZip (IsMade spare) states nodes → (i : ℕ) (node : NodeContents) → slice_get nodes i ≡ Some node
+    → IsNodeOfBytes node.live × (node.frozen ≡ None)
+made_each spare states nodes made i node at = let s = stands spare states nodes made i node at in (s.0, s.1)
+
+pub made_frames : (spare : ℕ) (states : List NodeState) (nodes : List NodeContents) → AllZip (IsMade spare) states nodes → (i : ℕ) (node : NodeContents) → slice_get nodes i ≡ Some node
+    → HasFrames spare node
+made_frames spare states nodes made i node at = let s = stands spare states nodes made i node at in s.2

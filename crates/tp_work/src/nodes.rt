@@ -1,9 +1,11 @@
 //! The nodes of an opened device.
 
-ghost use Rattle.std.specs.Prelude.{◌≡◌, Some, IfOk};
-ghost use Rattle.std.specs.List.{AllZip};
+ghost use Rattle.std.specs.Prelude.{◌≡◌, ℕ, Some, None, map, slice_get, IfOk};
 ghost use Rattle.tp_book.specs.Opened.{now_of, IsOpened};
+ghost use Rattle.tp_law_machine.specs.NodeOfBytes.{IsNodeOfBytes};
 ghost use Rattle.tp_model.specs.Image.{node_at, node_of};
+ghost use Rattle.tp_node.specs.FromImage.{HasFrames};
+ghost use Rattle.tp_node.specs.NodeContents.{NodeContents};
 ghost use Rattle.tp_work.specs.Nodes.{IsMade};
 
 use std::alloc::{AllocError, Global};
@@ -27,7 +29,9 @@ fn node_in(alloc: Global, image: &[u8], spare: usize) -> Result<Node, AllocError
 /// that it writes while it is frozen.
 pub fn nodes_of(alloc: Global, state: &NetState, spare: usize) -> Result<Vec<Node>, AllocError>
     requires { IsOpened state.now }
-    ensures { IfOk result (λ nodes. AllZip (IsMade spare) (now_of state.now).nodes nodes.items) }
+    ensures live { IfOk result (λ nodes. map (λ node. node.live) nodes.items ≡ (now_of state.now).nodes) }
+    ensures each { IfOk result (λ nodes. (i : ℕ) (node : NodeContents) → slice_get nodes.items i ≡ Some node → IsNodeOfBytes node.live × (node.frozen ≡ None)) }
+    ensures frames { IfOk result (λ nodes. (i : ℕ) (node : NodeContents) → slice_get nodes.items i ≡ Some node → HasFrames spare node) }
 {
     let mut nodes = Vec::new(alloc);
     for image in &state.net.images {

@@ -1,8 +1,9 @@
-use Rattle.std.proofs.Common.{◌≡◌, ℕ, List, Vec, Global, map, Some, subst, sym, ap, ◌∙◌}
+use Rattle.std.proofs.Common.{◌≡◌, ℕ, List, Vec, Global, map, Some, subst, sym, ap, ◌∙◌, take_all}
 use Rattle.std.specs.List.{AllZip}
 use Rattle.tp_model.specs.Image.{node_at, node_of}
 use Rattle.tp_model.specs.NodeState.{NodeState}
-use Rattle.tp_work.proofs.Made.{each_spelt, made_more}
+use Rattle.tp_node.specs.NodeContents.{NodeContents}
+use Rattle.tp_work.proofs.Made.{each_spelt, made_more, made_live, made_each, made_frames, made_all}
 use Rattle.tp_work.proofs.nodes.nodes_of.Goals as goal
 
 abbrev node_behind : Vec ℕ Global → NodeState
@@ -20,3 +21,18 @@ pub loop-image-preserved : goal.loop-image-preserved
 loop-image-preserved c =
     made_more c.args.spare node_behind c.deref-image-items.result.now c.loop-image.image-index c.image-item.result c.in_ok-node_in.field-0 c.loop-image.nodes.items c.push.new.self.items
     c.loop-image-test.true c.image-item.is c.loop-image.invariant (rw c.deref.ensures.value at c.in_ok-node_in.ensures) c.in_ok-push.ensures.items
+
+pub returns-clause-live : goal.returns-clause-live
+returns-clause-live c =
+    made_live c.args.spare (map node_behind c.args.state.now.net.images.items) c.loop-image.nodes.items
+    (made_all c.args.spare node_behind c.deref-image-items.result.now c.args.state.now.net.images.items c.loop-image.image-index c.loop-image.nodes.items c.loop-image-test.false c.deref-image-items.ensures.value c.loop-image.invariant)
+
+pub returns-clause-each : goal.returns-clause-each
+returns-clause-each c =
+    made_each c.args.spare (map node_behind c.args.state.now.net.images.items) c.loop-image.nodes.items
+    (made_all c.args.spare node_behind c.deref-image-items.result.now c.args.state.now.net.images.items c.loop-image.image-index c.loop-image.nodes.items c.loop-image-test.false c.deref-image-items.ensures.value c.loop-image.invariant)
+
+pub returns-clause-frames : goal.returns-clause-frames
+returns-clause-frames c =
+    made_frames c.args.spare (map node_behind c.args.state.now.net.images.items) c.loop-image.nodes.items
+    (made_all c.args.spare node_behind c.deref-image-items.result.now c.args.state.now.net.images.items c.loop-image.image-index c.loop-image.nodes.items c.loop-image-test.false c.deref-image-items.ensures.value c.loop-image.invariant)
