@@ -13,7 +13,7 @@ use Rattle.tp_model.specs.Order.{after}
 use Rattle.tp_model.specs.Sound.{Sound}
 use Rattle.tp_model.specs.Markers.{plain, markers, plain_network}
 use Rattle.tp_book.specs.Book.{agreed}
-use Rattle.tp_book.specs.Kept.{Keeps}
+use Rattle.tp_book.specs.Kept.{Keeps, AreInRange}
 use Rattle.tp_port.specs.Counted.{IsCounted}
 use Rattle.tp_book.specs.declared.journal.Journal.TheInside.{Inside}
 use Rattle.tp_book.specs.declared.parts.NetParts.{NetParts}
@@ -114,6 +114,7 @@ module _ (b : Inside) (parts : NetParts) (start : b.start.network ≡ network_of
     numbers = omega (arith, no_entries);
     counted = λ p port at. fresh_counted (0 + vec_len b.entries) (length s.ports) p port (ap (λ given. slice_get given p) (sym (these_ports ∙ F.ports)) ∙ at);
     numbered = subst (λ given. AreNumbered 0 0 (map (λ n. n.number) given)) (sym entries) tt;
+    ranged = subst (λ given. AreInRange (map (λ n. n.entry) given)) (sym entries) tt;
     rising = λ p ns at. fresh_rising (0 + vec_len b.entries) (vec_len parts.ports) p ns (ap (λ given. slice_get given p) (sym (ap (map (λ q. q.marks)) ports ∙ map-replicate (λ q. q.marks) (vec_len parts.ports) fresh_port)) ∙ at);
   }
 

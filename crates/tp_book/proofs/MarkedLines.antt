@@ -1,15 +1,12 @@
 -- A journal's fields, where Markers are sent or taken.
-use Rattle.std.proofs.Common.{◌≡◌, ℕ, ◌+◌, ◌*◌, ◌<◌, ◌≤◌, true, List, [], length, map, set, drop, refl, sym, ap, subst, ◌∙◌, arith, length-set}
-use Rattle.std.specs.Prelude.{vec_len}
+use Rattle.std.proofs.Common.{◌≡◌, ℕ, ◌≤◌, true, List, length, map, set, drop, sym, ap, subst, ◌∙◌, arith, length-set}
 use Rattle.std.proofs.lemmas.List.{length-map}
 use Rattle.tp_model.specs.declared.link.Token.{Token}
 use Rattle.tp_model.specs.declared.link.Token.TheVariants.{Marker}
 use Rattle.tp_model.specs.Network.{has_wire, is_first, on_line, sent}
 use Rattle.tp_model.specs.Markers.{markers, plain}
-use Rattle.tp_model.specs.Snapshot.{host_markers, node_markers}
 use Rattle.tp_law_network.proofs.Lines.{length_sent}
 use Rattle.tp_law_cuts.proofs.Marks.{AreMarkers, sent_markers, taken_marker}
-use Rattle.tp_law_cuts.proofs.Sending.{host_markers_all, node_markers_all}
 use Rattle.tp_port.specs.Room.{HasRoom}
 use Rattle.tp_port.proofs.Sending.{room_before}
 use Rattle.tp_book.specs.declared.journal.Journal.TheInside.{Inside}
@@ -28,6 +25,7 @@ module _ (b : Inside) (B : IsJournal b) where
     numbers = B.numbers;
     counted = B.counted;
     numbered = B.numbered;
+    ranged = B.ranged;
     rising = B.rising;
   }
 

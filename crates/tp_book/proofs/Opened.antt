@@ -27,7 +27,7 @@ use Rattle.tp_port.proofs.OpenedPorts.{opened_ports}
 use Rattle.tp_book.specs.declared.state.NetState.{NetState}
 use Rattle.tp_book.specs.declared.journal.Journal.TheInside.{Inside}
 use Rattle.tp_book.specs.Book.{agreed, nodes_in}
-use Rattle.tp_book.specs.Kept.{Keeps}
+use Rattle.tp_book.specs.Kept.{Keeps, AreInRange}
 use Rattle.tp_port.specs.Counted.{AreCounted}
 use Rattle.tp_port.specs.Parts.{port_of}
 use Rattle.tp_port.specs.Ports.{opened_port}
@@ -145,6 +145,7 @@ module _ (b : Inside) (s : NetState) (O : IsOpened s) (cut : b.start.network ≡
     counted = subst (λ given. AreCounted (b.base + vec_len b.entries) given) (sym these_ports)
         (subst (λ n. AreCounted n (now_of s).ports) (omega (arith, entry_count, base, O.next)) O.counted);
     numbered = subst (λ given. AreNumbered 0 given (map (λ n. n.number) b.entries.items)) (sym base) (subst (λ given. AreNumbered 0 s.base (map (λ n. n.number) given)) (sym entries) O.numbered);
+    ranged = subst AreInRange (sym these_entries) O.ranged;
     rising = λ p ns at. opened_rising (b.base + vec_len b.entries) (now_of s).ports p ns (ap (λ given. slice_get given p) (sym these_marks) ∙ at);
   }
 

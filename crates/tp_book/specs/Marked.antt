@@ -1,5 +1,5 @@
 -- What the acts of a snapshot do to a book.
-use Rattle.std.specs.Prelude.{ℕ, List, length, get_or, set, drop, replicate, Option, Some, None, is_some, slice_get}
+use Rattle.std.specs.Prelude.{ℕ, List, length, set, drop, replicate, Option, Some, None, is_some, slice_get}
 use Rattle.std.specs.Option.{option_map}
 use Rattle.tp_model.specs.declared.link.Token.{Token}
 use Rattle.tp_model.specs.Network.{has_wire, process_at, receiver, on_line, sent}

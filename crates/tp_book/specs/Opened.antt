@@ -15,6 +15,7 @@ use Rattle.tp_book.specs.Parts.{network_of}
 use Rattle.tp_port.specs.Ports.{opened_port}
 use Rattle.tp_port.specs.Counted.{AreCounted}
 use Rattle.tp_book.specs.Start.{IsNetwork}
+use Rattle.tp_book.specs.Kept.{AreInRange}
 use Rattle.tp_book.specs.Book.{BookValue}
 
 -- the kept cut's network, and the network after the kept entries
@@ -31,8 +32,8 @@ kept_of s = map (λ n. n.entry) s.kept.items
 abbrev pub numbers_of : NetState → List ℕ
 numbers_of s = map (λ n. n.number) s.kept.items
 
--- What opening leaves: the kept entries lead from the kept cut's network to the one that is there, which is sound and has no
--- Markers under way; each node's image spells it; each port holds what it has room for, and has counted no more than there are
+-- What opening leaves: the kept entries are in the range of their bytes, and lead from the kept cut's network to the one that is
+-- there, which is sound and has no Markers under way; each node's image spells it; each port holds what it has room for, and has counted no more than there are
 -- entries; the number of the next entry and the generation are in their ranges.
 pub record IsOpened (s : NetState) : Type 0 where
   pub history : after t414 (cut_of s) (kept_of s) ≡ Some (now_of s)
@@ -40,6 +41,7 @@ pub record IsOpened (s : NetState) : Type 0 where
   pub shaped : IsNetwork (now_of s)
   pub lines : length (now_of s).lines ≡ length (now_of s).wires
   pub unmarked : map plain (now_of s).lines ≡ (now_of s).lines
+  pub ranged : AreInRange (kept_of s)
   pub numbered : AreNumbered 0 s.base (numbers_of s)
   pub next : s.next ≡ s.base + vec_len s.kept
   pub few : s.next < NUMBER_LIMIT

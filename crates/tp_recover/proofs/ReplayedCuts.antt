@@ -27,13 +27,14 @@ use Rattle.tp_model.specs.CutImage.{or_damaged}
 use Rattle.tp_model.specs.Replay.{Replay, with_entry, is_number, after_row, after_rows, replay_from}
 use Rattle.tp_model.specs.Spelling.{IsCut}
 use Rattle.tp_law_machine.specs.NodeOfBytes.{IsNodeOfBytes}
-use Rattle.tp_law_network.proofs.Partial.{map_some, cond_some}
+use Rattle.tp_law_network.proofs.Partial.{all_append, map_some, cond_some}
 use Rattle.tp_law_device.proofs.Faults.{bind_ok, or_damaged_ok}
 use Rattle.tp_law_device.proofs.Replays.{entry_found}
 use Rattle.tp_port.specs.declared.parts.PortParts.{PortParts}
 use Rattle.tp_book.specs.declared.state.NetState.{NetState}
 use Rattle.tp_port.specs.Counted.{AreCounted}
 use Rattle.tp_port.specs.Parts.{port_of}
+use Rattle.tp_book.specs.Kept.{AreInRange}
 use Rattle.tp_book.specs.Opened.{cut_of, now_of, IsOpened}
 use Rattle.tp_replay.specs.Flat.{IsFlat, TakesByte}
 use Rattle.tp_replay.specs.History.{IsHistory}
@@ -54,6 +55,7 @@ pub record IsReplayed (r : Replay NodeState) : Type 0 where
   pub counted : AreCounted r.next r.now.ports
   pub held : EachPort IsHeld r.now.ports
   pub few : r.next < NUMBER_LIMIT
+  pub ranged : AllByRecursion (λ (e : Entry × ℕ). is_in_range e.0 ≡ true) r.kept
 
 replayed_first : (t : Topology) (base : ℕ) (s : Network NodeState) → is_topology t ≡ true → IsCut t414_ends t base s → AllByRecursion IsNodeOfBytes s.nodes → IsReplayed (replay_from s base)
 replayed_first t base s topology C bytes = record {
@@ -62,39 +64,42 @@ replayed_first t base s topology C bytes = record {
   counted = cut_counted t414_ends t base s C;
   held = cut_held t414_ends t base s C;
   few = C.base_fits;
+  ranged = tt;
 }
 
--- an entry that was read takes a byte
-entry_takes : (row : List ℕ) (entry : Entry × ℕ) → entry_at row ≡ Some entry → TakesByte entry.0
+-- an entry that was read is in the range of its bytes
+entry_ranged : (row : List ℕ) (entry : Entry × ℕ) → entry_at row ≡ Some entry → is_in_range entry.0 ≡ true
 unfolding entry_at
-entry_takes row entry e =
+entry_ranged row entry e =
     let read = entry_of (u8_at row 0) (u8_at row 1) (u16_at row 2) (u32_at row 4) in
     let found = cond_some (is_spelt read (number_at row) && bytes_eq row (entry_bytes read (number_at row))) (Some (read, number_at row)) entry e in
     let spelt = and_parts (is_spelt read (number_at row)) (bytes_eq row (entry_bytes read (number_at row))) found.0 in
     let ranged = and_parts (is_in_range read) (nat_lt (number_at row) NUMBER_LIMIT) spelt.0 in
     let same : read ≡ entry.0 = let one = found.1 in cc in
-    subst TakesByte same (takes read ranged.0)
-  where
-    takes : (e : Entry) → is_in_range e ≡ true → TakesByte e
-    takes (Run node count) h = tt
-    takes (Take line (Data byte)) h = ltb-true byte 256 (and_parts (nat_lt line ENTRY_LINES) (nat_lt byte 256) h).1
-    takes (Take line Ack) h = tt
-    takes (Take line Marker) h = tt
-    takes (HostIn port byte) h = tt
-    takes (Confirm port upto) h = tt
+    subst (λ (x : Entry). is_in_range x ≡ true) same ranged.0
 
-replayed_entry : (r : Replay NodeState) (entry : Entry × ℕ) (now : Network NodeState) → IsReplayed r → TakesByte entry.0 → is_number r entry.1 ≡ true → next t414 r.now entry.0 ≡ Some now
+-- so it takes a byte
+ranged_takes : (e : Entry) → is_in_range e ≡ true → TakesByte e
+ranged_takes (Run node count) h = tt
+ranged_takes (Take line (Data byte)) h = ltb-true byte 256 (and_parts (nat_lt line ENTRY_LINES) (nat_lt byte 256) h).1
+ranged_takes (Take line Ack) h = tt
+ranged_takes (Take line Marker) h = tt
+ranged_takes (HostIn port byte) h = tt
+ranged_takes (Confirm port upto) h = tt
+
+replayed_entry : (r : Replay NodeState) (entry : Entry × ℕ) (now : Network NodeState) → IsReplayed r → is_in_range entry.0 ≡ true → is_number r entry.1 ≡ true → next t414 r.now entry.0 ≡ Some now
     → IsReplayed (with_entry r entry now)
-replayed_entry r entry now R takes number step =
+replayed_entry r entry now R one number step =
     let low = and_parts (nat_le r.least entry.1) (nat_le entry.1 r.next && nat_lt r.next (NUMBER_LIMIT - 1)) number in
     let last = and_parts (nat_le entry.1 r.next) (nat_lt r.next (NUMBER_LIMIT - 1)) low.1 in
     let room = ltb-true r.next (NUMBER_LIMIT - 1) last.1 in
     record {
-      flat = flat_next r.now entry.0 now R.flat takes step;
+      flat = flat_next r.now entry.0 now R.flat (ranged_takes entry.0 one) step;
       unmarked = λ line. markers_next r.now entry.0 now R.flat step line ∙ R.unmarked line;
       counted = counted_next r.next r.now entry.0 now R.counted step;
       held = held_next r.now entry.0 now R.held step;
       few = omega (arith, room);
+      ranged = all_append (λ (e : Entry × ℕ). is_in_range e.0 ≡ true) r.kept (entry ∷ []) R.ranged (one, tt);
     }
 
 replayed_row : (r v : Replay NodeState) (row : List ℕ) → IsReplayed r → after_row t414 r row ≡ Some v → IsReplayed v
@@ -103,7 +108,7 @@ replayed_row r v row R is =
     let entry = found.0 in
     let tested = cond_some (is_number r entry.1) (option_map (with_entry r entry) (next t414 r.now entry.0)) v found.2 in
     let stepped = map_some (with_entry r entry) (next t414 r.now entry.0) v tested.1 in
-    subst IsReplayed stepped.2 (replayed_entry r entry stepped.0 R (entry_takes row entry found.1) tested.0 stepped.1)
+    subst IsReplayed stepped.2 (replayed_entry r entry stepped.0 R (entry_ranged row entry found.1) tested.0 stepped.1)
 
 replayed_rows : (r v : Replay NodeState) (rows : List (ℕ × List ℕ)) → IsReplayed r → after_rows t414 r rows ≡ Ok v → IsReplayed v
 unfolding after_rows
@@ -111,6 +116,11 @@ replayed_rows r v [] R is = subst IsReplayed (let same = is in cc) R
 replayed_rows r v (row ∷ rows) R is =
     let first = bind_ok (or_damaged row.0 (after_row t414 r row.1)) (λ more. after_rows t414 more rows) v is in
     replayed_rows first.0 v rows (replayed_row r first.0 row.1 R (or_damaged_ok row.0 (after_row t414 r row.1) first.0 first.1)) first.2
+
+-- the entries without their numbers
+ranged_entries : (es : List (Entry × ℕ)) → AllByRecursion (λ (e : Entry × ℕ). is_in_range e.0 ≡ true) es → AreInRange (map (λ (e : Entry × ℕ). e.0) es)
+ranged_entries [] all = tt
+ranged_entries (e ∷ es) all = (all.0, ranged_entries es all.1)
 
 -- What is replayed from a cut is flat, without Markers and counted; each port holds what it has room for, and a number is left.
 pub replayed_holds : (t : Topology) (base : ℕ) (s : Network NodeState) (rows : List (ℕ × List ℕ)) (r : Replay NodeState) → is_topology t ≡ true → IsCut t414_ends t base s
@@ -145,6 +155,7 @@ replayed_opened t base s rows r o topology C bytes is cut now kept base_is next_
       next = omega (arith, next_is, history.next, base_is, ap length kept, length-map o.kept.items numbered, o.kept.ok.0);
       few = omega (arith, next_is, R.few);
       age = age;
+      ranged = subst AreInRange (sym entries) (ranged_entries r.kept R.ranged);
       counted = subst (λ x. AreCounted o.next x.ports) (sym now) (subst (λ n. AreCounted n r.now.ports) (sym next_is) R.counted);
       pending = λ k d below. let part = parts_held o.net.ports.items held k d below in omega (arith, part.pending, (get_or o.net.ports.items k d).pending.ok.0);
       outputs = λ k d below. let part = parts_held o.net.ports.items held k d below in omega (arith, part.outputs, (get_or o.net.ports.items k d).outputs.ok.0);

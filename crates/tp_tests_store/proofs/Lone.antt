@@ -18,6 +18,7 @@ use Rattle.tp_book.specs.declared.state.NetState.{NetState}
 use Rattle.tp_port.specs.Counted.{IsCounted, AreCounted}
 use Rattle.tp_book.specs.Parts.{network_of}
 use Rattle.tp_book.specs.Start.{IsNetwork}
+use Rattle.tp_book.specs.Kept.{AreInRange}
 use Rattle.tp_book.specs.Opened.{IsOpened, cut_of, now_of, opened_book}
 
 no_wire : (x : ℕ) → receiver lone_network.wires x ≡ None
@@ -64,6 +65,7 @@ lone_opened s is cut kept base next generation pending outputs = record {
   shaped = subst IsNetwork (sym is) (record { wires = refl; few_nodes = omega arith; few_ports = omega arith });
   lines = ap (λ net. length net.lines) is ∙ sym (ap (λ net. length net.wires) is);
   unmarked = ap (λ net. map plain net.lines) is ∙ sym (ap (λ net. net.lines) is);
+  ranged = subst (λ given. AreInRange (map (λ n. n.entry) given)) (sym kept) tt;
   numbered = subst (λ ns. AreNumbered 0 s.base (map (λ n. n.number) ns)) (sym kept) tt;
   next = omega (arith, base, next, s.kept.ok.0, ap length kept);
   few = omega (arith, next);

@@ -7,6 +7,8 @@ use Rattle.tp_law_machine.proofs.Nodes.{carries, node_took}
 use Rattle.tp_turn.proofs.Possible.{can_take}
 use Rattle.tp_node.proofs.Answered.{takes_ok}
 use Rattle.tp_turn.proofs.Leads.{takeable_front, ready_some, has_taken, take_done, take_agrees}
+use Rattle.std.proofs.Common.{rules}
+use Rattle.tp_turn.proofs.RefusedSo.{ready_refused_so}
 use Rattle.tp_turn.proofs.take.take_one.Goals as goal
 
 pub take-requires : goal.take-requires
@@ -40,3 +42,8 @@ returns-in-Ok-take-clause-agrees c =
       image = (node_took c.args.node.now.live c.args.link (front_of c.args.book.now c.args.line) (c.take.new.self.live, on_link c.args.link c.in-Ok-take.sent) c.requires.agrees.image carried did).0;
       thawed = c.take.ensures.kept ∙ c.requires.agrees.thawed;
     }
+
+pub returns-in-Err : goal.returns-in-Err
+returns-in-Err c =
+    let so = ready_refused_so _ c.args.book.now c.args.line c.in-Err.refusal c.in-Err.ensures.answer in
+    search (rules, so)
