@@ -27,6 +27,7 @@ pub trait Gate {
 }
 
 /// A gate that does nothing.
+#[derive(Drop)]
 pub struct NoGate;
 
 impl Gate for NoGate {
