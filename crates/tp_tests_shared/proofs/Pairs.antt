@@ -1,6 +1,6 @@
 -- The network of two nodes of an image is sound before its first entry, and a book of it begins there.
 use Rattle.std.proofs.Common.{◌≡◌, ℕ, zero, suc, ◌%◌, ◌<◌, true, false, List, [], ◌∷◌, refl, sym, ap, subst, ◌∙◌, arith, Option, Some, None, slice_get}
-use Rattle.std.specs.Prelude.{Ok, ◌&&◌, bytes_eq, take}
+use Rattle.std.specs.Prelude.{Ok, IsSome, ◌&&◌, bytes_eq, take}
 use Rattle.std.specs.List.{list_all}
 use Rattle.std.proofs.lemmas.Bool.{and_parts}
 use Rattle.std.proofs.lemmas.Option.{cond_some}
@@ -21,7 +21,7 @@ use Rattle.tp_node.specs.FromImage.{ReadsImage}
 use Rattle.tp_node.proofs.Answered.{image_read, image_thawed}
 use Rattle.tp_book.specs.Book.{BookValue, agreed}
 use Rattle.tp_book.specs.Start.{IsFresh, IsNetwork, first_book}
-use Rattle.tp_shared.specs.Agrees.{Agrees}
+use Rattle.tp_turn.specs.Moments.{IsNodeOf}
 use Rattle.tp_tests_shared.specs.Pair.{pair_network}
 
 module _ (n : NodeState) (idle : has_idle_links n ≡ true) where
@@ -119,7 +119,7 @@ module _ (n : NodeState) (idle : has_idle_links n ≡ true) where
 
 -- a node that was read of an image agrees with the book of two of it
 pub pair_agrees : (image : List ℕ) (node : NodeContents) (b : BookValue) → AreBytes image → ReadsImage (node_of image) (Ok node) → b ≡ first_book (pair_network (node_at image)) None
-    → (i : ℕ) → i < 2 → Agrees b i node
+    → (i : ℕ) → i < 2 → IsNodeOf b i node
 unfolding node_of agreed after
 pair_agrees image node b bytes reads is i small =
     let read : node_of image ≡ Some node.live = image_read (node_of image) node reads in
@@ -127,7 +127,8 @@ pair_agrees image node b bytes reads is i small =
     record {
       there = ap (λ (x : BookValue). slice_get (agreed x.state) i) is ∙ both i small ∙ ap Some same;
       image = node_of_bytes image node.live bytes read;
-      thawed = image_thawed (node_of image) node reads;
+      recorded = λ some. let bad : false ≡ true = subst IsSome (image_thawed (node_of image) node reads) some in cc;
+      kept = λ here there h t. let bad = sym (image_thawed (node_of image) node reads) ∙ h in cc;
     }
   where
     both : (i : ℕ) → i < 2 → slice_get (node_at image ∷ node_at image ∷ []) i ≡ Some (node_at image)
@@ -137,11 +138,11 @@ pair_agrees image node b bytes reads is i small =
 
 -- so does each of two
 pub pairs_agree : (image : List ℕ) (first second node : NodeContents) (b : BookValue) → AreBytes image → ReadsImage (node_of image) (Ok first) → ReadsImage (node_of image) (Ok second) → b ≡ first_book (pair_network (node_at image)) None
-    → (i : ℕ) → slice_get (first ∷ second ∷ []) i ≡ Some node → Agrees b i node
+    → (i : ℕ) → slice_get (first ∷ second ∷ []) i ≡ Some node → IsNodeOf b i node
 pairs_agree image first second node b bytes one two is zero e =
     let same : first ≡ node = cc in
-    subst (Agrees b 0) same (pair_agrees image first b bytes one is 0 (omega arith))
+    subst (IsNodeOf b 0) same (pair_agrees image first b bytes one is 0 (omega arith))
 pairs_agree image first second node b bytes one two is (suc zero) e =
     let same : second ≡ node = cc in
-    subst (Agrees b 1) same (pair_agrees image second b bytes two is 1 (omega arith))
+    subst (IsNodeOf b 1) same (pair_agrees image second b bytes two is 1 (omega arith))
 pairs_agree image first second node b bytes one two is (suc (suc i)) e = absurd (cc)

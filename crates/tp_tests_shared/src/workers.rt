@@ -14,7 +14,7 @@ use tp_shared::{Locked, Naming, NoGate, Parts, Seat, Shared};
 #[derive(Drop)]
 pub struct Work<J: Naming> {
     pub seat: Seat<J>,
-    pub taken: usize,
+    pub taken: u64,
     pub steps: u32,
     pub is_refused: bool,
 }
@@ -96,12 +96,13 @@ fn work_of_parts<J: Naming + Send + Sync, R: Threads + Wait + Sync>(
     parts: Parts,
     count: u32,
     quantum: u16,
-) -> (usize, u32, bool)
+) -> (u64, u32, bool)
     requires quantum { quantum ≤ MAX_STEPS }
     requires there { 1 < length J.start.nodes }
-    requires names { Names J.roll J.first J.start J.node J.mark parts }
+    requires names { Names J.roll J.first J.start J.node J.mark J.flusher parts }
 {
-    let (_, done) = work_of_both(rt, Shared::<J>::start(parts), count, quantum);
+    let (shared, _key) = Shared::<J>::start(parts);
+    let (_, done) = work_of_both(rt, shared, count, quantum);
     (done.taken, done.steps, done.is_refused)
 }
 
@@ -111,7 +112,7 @@ pub fn work_of_pair<R: Threads + Wait + Sync>(
     parts: Parts,
     count: u32,
     quantum: u16,
-) -> (usize, u32, bool)
+) -> (u64, u32, bool)
     requires quantum { quantum ≤ MAX_STEPS }
     requires there { 1 < length parts.book.state.start.nodes }
 {
