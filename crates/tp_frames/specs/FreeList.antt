@@ -3,7 +3,7 @@ use Rattle.std.specs.Prelude.{◌≡◌, ◌+◌, ◌<◌, ◌^◌, ℕ, List, [
 use Rattle.std.specs.Int.{from_le_bytes, w32}
 use Rattle.tp_model.specs.Frames.{Frames, frame, owned, free_in}
 
--- The frames that so many owners have, with the bytes of the region.
+-- The frames with their numbers of owners, with the bytes of the region.
 abbrev pub frames_of : List ℕ → List (List ℕ) → Frames
 frames_of [] bytes = []
 frames_of (count ∷ counts) [] = []

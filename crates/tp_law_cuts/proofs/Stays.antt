@@ -41,7 +41,7 @@ entries_grow M w v Trim t e = absurd (true≢false t)
 
 -- ## The counts, once all have recorded
 
--- a snapshot runs in which all have recorded, after so many entries of theirs
+-- a snapshot runs in which all have recorded, after a number of entries of each
 pub record HasCounts (given : Option Snapshot) (counts : List ℕ) : Type 0 where
   pub snap : Snapshot
   pub runs : given ≡ Some snap

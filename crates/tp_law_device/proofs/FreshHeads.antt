@@ -106,7 +106,7 @@ module _ (t : Topology) (L : HasShape t) (area : ℕ) where
       (λ i. all_wires (nodes i) (ports i) (map end_of_byte (bytes i))) ∙ ap (all_wires N t.ports) (links_back t L) ∙ wires_back t L in
       λ i. record { topology = record { pages = pages i; ports = ports i; wires = wires i }; area = size i }
 
--- A device with these first bytes has this head.
+-- A device whose first bytes are a head's has this head.
 pub head_of-head_bytes : (t : Topology) (area : ℕ) (bytes : List ℕ) → is_topology t ≡ true → fits (length bytes) t area ≡ true → area < 2 ^ 64 → take 512 bytes ≡ head_bytes t area
     → head_of bytes ≡ Ok (record { topology = t; area = area })
 head_of-head_bytes t area bytes topology room low is =

@@ -100,7 +100,7 @@ module _ (M : Machine NodeState) (E : Ends NodeState) (bytes : List ℕ) (o : Op
   parts : AreaParts M E o.head o.second content o
   parts = area_parts M E o.head o.second content o R.area
 
-  -- so many bytes of the content lie in front of its first closed gate
+  -- how many bytes of the content lie in front of its first closed gate
   abbrev count : ℕ
   count = before M E o.head o.second content o parts wires_are
 

@@ -32,7 +32,7 @@ use Rattle.tp_law_device.proofs.SpeltCuts.{pages_of}
 
 -- ## Bytes of a part
 
--- a number's bytes are those of which it is read
+-- a number's bytes are those that it is read from
 pub u64_bytes-u64_at : (xs : List ℕ) (at : ℕ) → AreBytes xs → at + 8 ≤ length xs → u64_bytes (u64_at xs at) ≡ take 8 (drop at xs)
 u64_bytes-u64_at xs at h room =
     let part = drop at xs in

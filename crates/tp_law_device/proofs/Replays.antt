@@ -23,7 +23,7 @@ use Rattle.tp_law_device.proofs.Faults.{bind_ok, or_damaged_ok}
 
 -- ## What a replay keeps
 
--- of a replay from a network behind so many entries
+-- of a replay from a network behind `base` entries
 pub record Replays {Node : Type 0} (M : Machine Node) (s : Network Node) (base : ℕ) (r : Replay Node) : Type 0 where
   pub least : r.least ≤ r.next
   pub next : r.next ≡ base + length r.kept

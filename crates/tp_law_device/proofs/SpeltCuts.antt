@@ -134,7 +134,7 @@ lines_spelt at (wire ∷ wires) (line ∷ lines) rest h =
 
 -- ## Ports
 
--- what a port of a cut of so many entries has
+-- what a port of a cut of `base` entries has
 record IsPort (base : ℕ) (port : Port) : Type 0 where
   pending : length port.pending ≤ 4096
   outputs : length port.outputs ≤ 4096
@@ -219,7 +219,7 @@ flights_hold E s at line (suc count) each =
 
 -- ## The cut
 
--- a network that is read back of a cut image, as that of a cut of so many entries
+-- a network that is read back of a cut image, as that of a cut of `base` entries
 pub record ReadsBack (E : Ends NodeState) (t : Topology) (base : ℕ) (s : Network NodeState) : Type 0 where
   pub wires : s.wires ≡ t.wires
   pub nodes : AllByRecursion IsReadBack s.nodes

@@ -22,7 +22,7 @@ formatted_world start bytes = record {
   seen = [];
 }
 
--- These bytes are a device that was formatted with these images, for a topology, in areas of a length for which there is
+-- The bytes are a device that was formatted with the images, for a topology, in areas of a length for which there is
 -- room and a field.
 pub record WasFormatted (t : Topology) (area : ℕ) (images : List (List ℕ)) (start : Network NodeState) (bytes : List ℕ) : Type 0 where
   pub topology : is_topology t ≡ true

@@ -156,7 +156,7 @@ pub fn histories_hold()
 {}
 
 /// Over any number of checkpoints, crashes and openings: the base of the kept cut is the number of entries in it since the start,
-/// and these with the entries since are an order of the whole journal, got by swapping independent neighbours. So it is of a
+/// and they and the entries since are an order of the whole journal, got by swapping independent neighbours. So it is of a
 /// cut that is whole; and there is a whole cut exactly where a snapshot runs, all have recorded and each Marker was taken.
 pub fn cuts_are_orders()
     ensures kept { (start : Network NodeState) (events : List (Event NodeState)) (first last : World NodeState)

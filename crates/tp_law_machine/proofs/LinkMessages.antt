@@ -44,7 +44,7 @@ advanced_inside memory t small inside more =
       omega arith,
     )
 
--- A message, or an end's, fits a memory of so many bytes, and its numbers are words; what the end holds is a byte.
+-- A message, or an end's, fits a memory of `n` bytes, and its numbers are words; what the end holds is a byte.
 pub record Fits (n : ℕ) (t : Transfer) : Type 0 where
   pub is : (memory : List ℕ) → length memory ≡ n → is_under_way memory t ≡ true
   pub words : IsTransfer t

@@ -63,7 +63,7 @@ changed_bytes memory to from count writes after h = go (copied memory to from co
 
 -- ## Memory
 
--- memory of so many bytes, which are whole words
+-- memory of `n` bytes, which are whole words
 pub record Holds (n : ℕ) (memory : List ℕ) : Type 0 where
   pub long : length memory ≡ n
   pub whole : n % 4 ≡ 0

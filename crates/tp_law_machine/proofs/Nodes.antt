@@ -38,7 +38,7 @@ use Rattle.tp_law_machine.proofs.Processors.{IsCpu, halted_cpu, past_cpu, queued
 
 -- ## A whole node
 
--- its memory has so many bytes
+-- how many bytes its memory has
 pub record IsWhole (n : ℕ) (node : NodeState) : Type 0 where
   pub pages : (memory : List ℕ) → length memory ≡ n → is_memory memory ≡ true
   pub small : n ≤ 2 ^ 32

@@ -37,7 +37,7 @@ has_chosen = record choosing {
       (with_word 0x8000_01F4 0x8000_0003 choosing.memory)));
 }
 
--- A process waits for a byte of link 0, with these processes in its queue.
+-- A process waits for a byte of link 0, with the given processes in its queue.
 abbrev pub hears : Queue → NodeState
 hears low = record (node (record resting { low = low }) (with_word 0x8000_01F4 0x8000_0002 blank)) { inputs = inputs (Enabled 0x8000_0201) }
 

@@ -9,7 +9,7 @@ use Rattle.tp_model.specs.Opening.{Opened}
 use Rattle.tp_model.specs.DeviceAreas.{numbered}
 use Rattle.tp_law_machine.specs.OneNode.{one_node, one_before, one_byte, one_after}
 
--- area 0 is open, with the cut of the network before its first entry and with these bytes behind it
+-- area 0 is open, with the cut of the network before its first entry and with the given bytes behind it
 abbrev pub device_with : List ℕ → List ℕ
 device_with behind = padded 33280 (head_bytes one_node 16384 ++ (GATE_OPEN ∷ (front_bytes one_node 1 0 one_before ++ behind)))
 

@@ -23,7 +23,7 @@ use Rattle.tp_law_network.proofs.Reorder.{first_possible}
 
 -- ## One port
 
--- it has counted so many more bytes in, and so many more out
+-- it has counted `ins` bytes more in, and `outs` more out
 record Counts (ins outs : ℕ) (before later : Port) : Type 0 where
   in_more : accepted later ≡ accepted before + ins
   out_more : came_out later ≡ came_out before + outs

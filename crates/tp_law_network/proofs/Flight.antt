@@ -211,7 +211,7 @@ arrivals_own s (Take line token) wired = go (receiver s.wires line) (wired.links
     go (Some (Link i k)) links = (owner_of_link (length s.nodes) i k (links i k refl).0 (links i k refl).1, tt)
     go (Some (AtPort p)) links = (owner_of_port (length s.nodes) p, tt)
 
--- port p takes these tokens
+-- the tokens that port p takes
 pub of_port_moves : {Node : Type 0} {E : Ends Node} (N p : ℕ) (ports : List Port) (ms : List Token) (f : Port → Option (Port × List Token)) (change : Own Node × List (ℕ × Token))
     → ((port : Port) (after : Port × List Token) → f port ≡ Some after → PortMoves port ms after)
     → of_port N p ports f ≡ Some change → Moves E N N (OfHost ports) (map (λ t. (4 * N + p, t)) ms) change

@@ -39,7 +39,7 @@ end_holds-port E s line h = ap (λ o. holds_at E o line) (own-port s line h)
 
 -- ## Flights
 
--- the test was passed by each of so many lines
+-- the test was passed by each of `count` lines
 pub flights_found : {Node : Type 0} (E : Ends Node) (s : Network Node) (at line count : ℕ) → flights_in E s at line count ≡ Ok tt
     → (k : ℕ) → line ≤ k → k < line + count → is_in_one_place E s k (back s k) ≡ true
 unfolding flights_in

@@ -14,7 +14,7 @@ use Rattle.tp_law_network.proofs.Reorder.{after_front, front_possible, same_behi
 use Rattle.tp_law_cuts.proofs.Stays.{HasCounts}
 use Rattle.tp_law_runs.proofs.Orders.{order_behind}
 
--- What is held leads where the first entries of the journal lead, as many as its number says, and these are no fewer
+-- What is held leads where the first entries of the journal lead, as many as its number says, and they are no fewer
 -- than `least`.
 pub record Stands {Node : Type 0} (M : Machine Node) (start : Network Node) (journal : List Entry) (least : ℕ) (h : Held Node) : Type 0 where
   pub first : List Entry

@@ -69,7 +69,7 @@ module _ {Node : Type 0} (M : Machine Node) (four : HasFourLinks M) where
           no_less = omega (arith, K.reach, ap length K.all, length-append K.front (K.durable ++ (w.backlog ++ K.rest)), length-append K.durable (w.backlog ++ K.rest));
         }
 
-    -- a book that starts at a network, with these entries behind a cut of so many, agrees with journal and device
+    -- a book that starts at a network, with the entries behind a cut of `base`, agrees with journal and device
     abbrev Goes : Network Node → List Entry → ℕ → List Entry → Type 0
     Goes kept entries base backlog =
         (after M kept entries ≡ after M start w.journal) × HasOrder M start w.journal kept entries base

@@ -1,4 +1,4 @@
--- The small format in use: contents of which each of its functions answers something, and a run that stores an entry.
+-- The small format in use: contents from which each of its functions answers something, and a run that stores an entry.
 use Rattle.std.specs.Prelude.{◌≡◌, ℕ, List, [], ◌∷◌, ◌++◌, replicate, Some, None}
 use Rattle.tp_model.specs.declared.entry.Entry.TheVariants.{HostIn}
 use Rattle.tp_model.specs.declared.limits.TheConstants.{GATE_OPEN, GATE_CLOSED}

@@ -40,7 +40,7 @@ cut_back E t base s C = record {
   base_fits = C.base_fits;
 }
 
--- what is written into an area of so many bytes
+-- what is written into an area of `area` bytes
 pub record AreaSpelling (t : Topology) (area generation base : ℕ) (s : Network NodeState) (tail : List (Entry × ℕ)) (now : Network NodeState) : Type 0 where
   pub content : List ℕ
   pub long : length content ≡ area - 1

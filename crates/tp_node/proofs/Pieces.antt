@@ -5,7 +5,7 @@ use Rattle.std.proofs.lemmas.List.{append-nil, append_assoc, length-append, leng
 use Rattle.std.proofs.lemmas.Grind.{flat_map-append}
 use borrow.Rule.Slice.PartMut.{put_mid}
 
--- pieces of n bytes each make so many bytes
+-- how many bytes pieces of n bytes each make
 pub length-pieces : {X : Type 0} (f : X → List ℕ) (n : ℕ) → ((x : X) → length (f x) ≡ n) → (xs : List X) → length (flat_map f xs) ≡ n * length xs
 length-pieces f n each [] = omega arith
 length-pieces f n each (x ∷ xs) =

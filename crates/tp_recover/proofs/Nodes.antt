@@ -25,7 +25,7 @@ only_if-cond : (test : NodeState → Bool) (t : Bool) (n : NodeState) → test n
 only_if-cond test true n is = ap (λ b. cond b (Some n) None) is
 only_if-cond test false n is = refl
 
--- a node of so many bytes has so many pages
+-- how many pages a node of a number of bytes has
 node_of-pages : (pages : ℕ) (bytes : List ℕ) → length bytes ≡ image_length pages → only_if (λ n. nat_eq (page_count n.memory) pages) (node_of bytes) ≡ node_of bytes
 unfolding node_of node_at
 node_of-pages pages bytes len =
@@ -94,7 +94,7 @@ pub nodes_in-end : (at place i : ℕ) (pages xs : List ℕ) (items : List NodeSt
 nodes_in-end at place i pages xs items le so_far =
     so_far ∙ ap (behind items) (nodes_in-none place (drop i pages) (drop place xs) (drop_all i pages le)) ∙ ap Ok (append-nil items)
 
--- the place behind so many images, and the room for one more
+-- the place behind a number of images, and the room for one more
 pub place_more : (at place i : ℕ) (pages : List ℕ) → i < length pages → place ≡ at + sum_by image_length (take i pages)
     → place + image_length (get_or pages i 0) ≡ at + sum_by image_length (take (i + 1) pages)
 place_more at place i pages lt is = omega (arith, sum_by_more image_length pages i 0 lt)

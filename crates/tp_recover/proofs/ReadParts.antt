@@ -56,7 +56,7 @@ imaged_all i pages nodes le are = subst (λ ps. HaveImages ps nodes) (take_all i
 
 -- ## Ports
 
--- A port that was read is one of a cut of so many entries.
+-- A port that was read is one of a cut of `base` entries.
 pub port_reached : (base : ℕ) (bytes : List ℕ) (port : Port) → port_with base bytes ≡ Some port → is_port_of base port ≡ true
 port_reached base bytes port is =
     let found = tested (λ p. bytes_eq (take PORT_BYTES bytes) (port_bytes p) && is_port_of base p) (Some (port_at bytes)) port is in

@@ -134,7 +134,7 @@ pub parts_held : (parts : List PortParts) → EachPort IsHeld (map port_of parts
 parts_held parts held k d below =
     held k (port_of (get_or parts k d)) (slice_get-map port_of parts k ∙ ap (option_map port_of) (slice_get-get_or parts k d below))
 
--- A state of these parts is what opening leaves: the cut, the network that the replay led to, and the entries with their numbers.
+-- A state of the parts is what opening leaves: the cut, the network that the replay led to, and the entries with their numbers.
 pub replayed_opened : (t : Topology) (base : ℕ) (s : Network NodeState) (rows : List (ℕ × List ℕ)) (r : Replay NodeState) (o : NetState) → is_topology t ≡ true → IsCut t414_ends t base s
     → AllByRecursion IsNodeOfBytes s.nodes → after_rows t414 (replay_from s base) rows ≡ Ok r → cut_of o ≡ s → now_of o ≡ r.now → map numbered o.kept.items ≡ r.kept → o.base ≡ base → o.next ≡ r.next
     → o.generation < NUMBER_LIMIT → map (λ image. node_of image.items) o.net.images.items ≡ map (λ node. Some node) (now_of o).nodes → IsOpened o

@@ -21,7 +21,7 @@ use Rattle.tp_replay.specs.History.{IsHistory}
 
 -- ## Numbers
 
--- the least number that may follow these
+-- the least number that may follow them
 abbrev behind : ℕ → List ℕ → ℕ
 behind least [] = least
 behind least (n ∷ ns) = behind (n + 1) ns

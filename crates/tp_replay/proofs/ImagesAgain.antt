@@ -1,4 +1,4 @@
--- Images of a flat network's nodes spell these nodes again.
+-- Images of a flat network's nodes spell its nodes again.
 use Rattle.std.proofs.Common.{◌≡◌, ℕ, zero, suc, List, [], ◌∷◌, Vec, Global, map, refl, sym, ap, ◌∙◌, Some, slice_get}
 use Rattle.std.proofs.lemmas.Simd.{map-map}
 use Rattle.tp_model.specs.NodeState.{NodeState}
@@ -8,7 +8,7 @@ use Rattle.tp_law_machine.specs.NodeOfBytes.{IsNodeOfBytes}
 use Rattle.tp_law_machine.proofs.Images.{node_at-image, node_of-image}
 use Rattle.tp_replay.specs.Flat.{IsFlat}
 
--- each of these nodes has an image
+-- each of the nodes has an image
 abbrev HaveImages : List NodeState → Type 0
 HaveImages nodes = (i : ℕ) (node : NodeState) → slice_get nodes i ≡ Some node → IsNodeOfBytes node
 
@@ -26,7 +26,7 @@ node_at-images (node ∷ nodes) all =
     let rest = node_at-images nodes (λ i other at. all (suc i) other at) in
     λ j. first j ∷ rest j
 
--- vectors that hold these images
+-- vectors that hold the images
 pub images_spelt : (images : List (Vec ℕ Global)) (s : Network NodeState) → IsFlat s → map (λ bytes. bytes.items) images ≡ map image s.nodes
     → map (λ bytes. node_of bytes.items) images ≡ map Some s.nodes
 images_spelt images s F are =

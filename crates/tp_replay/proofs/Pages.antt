@@ -6,7 +6,7 @@ use Rattle.tp_model.specs.Image.{image}
 use Rattle.tp_node.specs.NodeContents.{NodeContents}
 use Rattle.tp_mem.specs.Contents.{page_of}
 
--- so many and so many more
+-- a number of pages and a number more
 take_both : (n m : ℕ) (xs : List ℕ) → take (n + m) xs ≡ take n xs ++ take m (drop n xs)
 take_both n m xs = sym (take-append-drop n (take (n + m) xs)) ∙ ap (λ ys. ys ++ drop n (take (n + m) xs)) (take-take n (n + m) xs (omega arith)) ∙ ap (λ ys. take n xs ++ ys) (drop-take n m xs)
 

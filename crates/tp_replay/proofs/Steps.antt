@@ -26,7 +26,7 @@ without_front lines line = set lines line (drop 1 (on_line lines line))
 abbrev pub on_port : ℕ → List Token → List (ℕ × Token)
 on_port line tokens = map (λ token. (line, token)) tokens
 
--- the network behind what a node, or a port, did that sent these tokens
+-- the network behind what a node, or a port, did, with the tokens that it sent
 abbrev pub node_after : Network NodeState → List (List Token) → ℕ → NodeState → List (ℕ × Token) → Network NodeState
 node_after s lines i node tokens = record s { nodes = set s.nodes i node; lines = sent (has_wire s.wires) lines (on_lines i tokens) }
 

@@ -29,7 +29,7 @@ Leaves s (Take line token) now = now ≡ s
 Leaves s (HostIn port byte) now = now ≡ s
 Leaves s (Confirm port upto) now = now ≡ s
 
--- A node ran for at most so many steps: `count` were made, fewer than that only where the node has no step then. Without a step
+-- A node ran for at most `most` steps: `count` were made, fewer than that only where the node has no step then. Without a step
 -- the network is as it was.
 pub record RanUpTo (s : Network NodeState) (node most count : ℕ) (now : Network NodeState) : Type 0 where
   pub few : count ≤ most

@@ -120,7 +120,7 @@ const STORIES: &[Story<'static>] = &[
     ),
 ];
 
-/// An entry's bytes: the node sends its letter, and the host hands in bytes, the first of which the node may take.
+/// An entry's bytes: the node sends its letter, and the host hands in bytes, and the node may take the first.
 fn entry_bytes(number: u8, took: bool) -> [u8; 16] {
     let mut bytes = [3, 0, 0x78, 0, 0, 0, 0, 0, 0, 0, 0, 0, 0, 0, 0, 0];
     if number == 0 {

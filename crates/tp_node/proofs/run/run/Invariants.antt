@@ -9,7 +9,7 @@ use Rattle.tp_node.specs.StateWith.{state_with}
 use Rattle.tp_node.proofs.Room.{room}
 use Rattle.tp_node.proofs.run.run.Given as goal
 
--- so many steps lead here, what they sent is in order, what may still leave has its place, and what is kept is as they leave it
+-- the steps that were made lead here, what they sent is in order, what may still leave has its place, and what is kept is as they leave it
 pub record Runs (count : ℕ) (before now : NodeState) (sent : List (ℕ × Token)) (was now_kept : Kept) : Type 0 where
   pub steps : steps t414 count before ≡ Some (now, sent)
   pub places : length sent + room now ≤ 8

@@ -8,7 +8,7 @@ use Rattle.tp_node.specs.NodeContents.{frozen_state}
 use Rattle.tp_node.specs.StateWith.{state_with}
 use Rattle.tp_node.proofs.node.Node.frozen_head.Goals as goal
 
--- what was written is the head of the frozen node, whose memory has so many pages
+-- what was written is the head of the frozen node, whose memory has `pages` pages
 is_head : (head : Head) (memory : Option (List ℕ)) (pages : ℕ) (out rest : List ℕ) → rest ≡ [] → IfSome memory (λ kept. length kept ≡ PAGE_BYTES * pages)
     → ((kept : List ℕ) → page_count kept ≡ pages → out ≡ image_head (state_with head kept) ++ rest)
     → IfSome (frozen_state (Some head) memory) (λ node. out ≡ image_head node)
