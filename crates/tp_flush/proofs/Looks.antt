@@ -52,7 +52,7 @@ acts_keep_entries (act ∷ acts) w v none e =
 
 -- ## The flusher looks at the book, and raises the mark
 
--- the world once the backlog was copied of a book of which this was told
+-- the world once the backlog was copied of the book that was told of
 abbrev pub copied : World NodeState → Told → World NodeState
 copied w told = record w { net = told.net; base = told.base; journal = told.journal; backlog = drop (w.stored - told.base) told.net.entries }
 

@@ -14,7 +14,7 @@ use Rattle.tp_model.specs.Entries.{process, of_node, of_port, receives, port_too
 use Rattle.tp_law_network.proofs.Local.{step_of, own_host, port_step}
 use Rattle.tp_law_network.proofs.Partial.{map_some, cond_some, slice_get-set_same, slice_get-set_other}
 
--- Each change of a port keeps what holds of it after so many entries, for one more.
+-- Each change of a port keeps what holds of it after `n` entries, for one more.
 pub record EachKeeps (Holds : ℕ → Port → Type 0) : Type 0 where
   pub more : (n : ℕ) (port : Port) → Holds n port → Holds (n + 1) port
   pub took : (n : ℕ) (token : Token) (port : Port) (after : Port × List Token) → Holds n port → port_took token port ≡ Some after → Holds (n + 1) after.0

@@ -49,7 +49,7 @@ impl<J: Naming> Model for Locked<J> {
 }
 
 impl<J: Naming> Locked<J> {
-    /// A book, with a seal for each node, a roll of its entries, of which there is none yet, and the seal of what the flusher was told.
+    /// A book, with a seal for each node, a roll without an entry yet, and the seal of what the flusher was told.
     pub(crate) fn new(
         book: Book,
         seals: Vec<NodeSeal>,

@@ -6,7 +6,7 @@ use Rattle.tp_model.specs.declared.limits.TheConstants.{NUMBER_LIMIT}
 use Rattle.tp_model.specs.EntryBytes.{IsSpelt}
 use Rattle.tp_model.specs.Numbers.{AreNumbered}
 
--- they are spelt, and numbered behind a cut of so many entries
+-- they are spelt, and numbered behind a cut of `base` entries
 pub record AreTailOf (base : ℕ) (tail : List (Entry × ℕ)) : Type 0 where
   pub spelt : AllByRecursion (λ e. IsSpelt e.0 e.1) tail
   pub numbers : AreNumbered 0 base (map (λ e. e.1) tail)

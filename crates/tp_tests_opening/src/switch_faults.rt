@@ -205,7 +205,7 @@ struct Case {
 }
 
 impl Case {
-    /// Whether the other area is open then, in a checkpoint of so many calls: the gate is written by the last but one.
+    /// Whether the other area is open then, in a checkpoint of as many calls as are given: the gate is written by the last but one.
     fn opens(self, calls: usize) -> bool {
         let is_open = matches!(self.torn, Torn::Filled(0xA5) | Torn::New);
         let from = match self.ending {

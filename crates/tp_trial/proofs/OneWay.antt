@@ -78,7 +78,7 @@ module _ (s v : Network NodeState) (line : ℕ) (token : Token) (h : next t414 s
       full_end (receiver s.wires line) refl
       (ap (λ ts. is_full_for (port_there s.ports (receiver s.wires line)) (get_or ts 0 Marker)) (sym stands) ∙ full)
 
--- the tokens that leave nothing which can be taken, up to so many
+-- the tokens that leave nothing which can be taken, up to a number
 same_takes : (line most : ℕ) (s t u : Network NodeState) (xs ys : List Token) → length xs ≤ most → length ys ≤ most → after t414 s (map (λ token. Take line token) xs) ≡ Some t → after t414 s (map (λ token. Take line token) ys) ≡ Some u
     → (length xs < most → IsLeft t line) → (length ys < most → IsLeft u line) → xs ≡ ys
 unfolding after

@@ -23,7 +23,7 @@ pub record IsLone (t : LoneValue) : Type 0 where
   pub ports : length t.network.ports ≡ 1
   pub counted : AreCounted t.entries t.network.ports
 
--- An act was done, of at most so many entries, which were counted.
+-- An act of at most `most` entries was done, and they were counted.
 pub record Made (act : Network NodeState → List Entry → Network NodeState → Type 0) (most : ℕ) (old new : LoneValue) : Type 0 where
   pub entries : List Entry
   pub few : length entries ≤ most
