@@ -4,3 +4,4 @@ mod Appends
 mod Begins
 mod Turns
 mod Endings
+pub mod Settling

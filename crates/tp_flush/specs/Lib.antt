@@ -2,3 +2,4 @@ pub mod Known
 pub mod Flushing
 pub mod Ends
 pub mod Refused
+pub mod Settled
