@@ -7,3 +7,10 @@ pub mod Placing
 pub mod Dealing
 pub mod Opening
 pub mod Hosting
+pub mod Frozen
+pub mod Cuts
+pub mod Thawing
+pub mod Staying
+pub mod Resealing
+pub mod Copying
+pub mod Trims
