@@ -1,8 +1,8 @@
 pub mod Untrimmed
 pub mod Telling
 pub mod Holding
-pub mod Sealing
 pub mod Writing
+pub mod Sealing
 pub mod Placing
 pub mod Dealing
 pub mod Opening
