@@ -1,5 +1,5 @@
 -- What is copied of a whole cut.
-use Rattle.std.proofs.Common.{◌≡◌, ℕ, zero, suc, ◌+◌, Bool, true, false, List, [], ◌∷◌, ◌++◌, take, refl, ap, ◌∙◌, arith, Option, Some, None, slice_get}
+use Rattle.std.proofs.Common.{◌≡◌, ℕ, zero, suc, ◌+◌, Bool, true, List, [], ◌∷◌, ◌++◌, take, refl, ap, ◌∙◌, arith, Option, Some, None, slice_get}
 use Rattle.std.specs.Prelude.{Result, Ok, Err, IfOk, IfSome}
 use Rattle.tp_book.proofs.Stood.{no_act}
 use Rattle.tp_shared.specs.Copied.{has_copy}

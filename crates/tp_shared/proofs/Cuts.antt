@@ -1,9 +1,9 @@
 -- A whole cut under the book's lock.
-use Rattle.std.proofs.Common.{◌≡◌, ℕ, zero, suc, true, false, List, [], ◌∷◌, set, take, sym, ap, subst, ◌∙◌, Some}
+use Rattle.std.proofs.Common.{◌≡◌, ℕ, true, false, List, [], ◌∷◌, ap, subst, ◌∙◌, Some}
 use Rattle.std.specs.List.{AllByRecursion}
 use Rattle.tp_model.specs.NodeState.{NodeState}
 use Rattle.tp_model.specs.Node.{t414}
-use Rattle.tp_model.specs.Snapshot.{MarkedNetwork, has_recorded}
+use Rattle.tp_model.specs.Snapshot.{MarkedNetwork}
 use Rattle.tp_model.specs.WholeCut.{WholeCut}
 use Rattle.tp_model.specs.Acts.{Act, happens, acted}
 use Rattle.tp_model.specs.Runs.{is_trim, HasCut}

@@ -1,12 +1,12 @@
 -- The image of a node that recorded, under the book's lock.
-use Rattle.std.proofs.Common.{◌≡◌, ◌≢◌, ℕ, zero, suc, ◌+◌, ◌-◌, ◌*◌, ◌<◌, true, false, cond, List, [], ◌∷◌, length, get_or, take, drop, refl, sym, ap, subst, ◌∙◌, arith, Option, Some, None, slice_get}
-use Rattle.std.specs.Prelude.{◌==◌, IfSome, is_some, slice_range}
+use Rattle.std.proofs.Common.{◌≡◌, ◌≢◌, ℕ, zero, suc, ◌+◌, ◌-◌, ◌*◌, ◌<◌, true, cond, List, [], ◌∷◌, length, get_or, take, drop, refl, sym, ap, ◌∙◌, arith, Option, Some, None, slice_get}
+use Rattle.std.specs.Prelude.{IfSome, is_some, slice_range}
 use Rattle.std.specs.Option.{option_map}
 use Rattle.std.proofs.lemmas.Bool.{ne_eqb}
 use Rattle.tp_model.specs.declared.limits.TheConstants.{PAGE_BYTES}
 use Rattle.tp_model.specs.NodeState.{NodeState}
 use Rattle.tp_model.specs.Node.{t414}
-use Rattle.tp_model.specs.Network.{Network, OfNode, OfHost, own}
+use Rattle.tp_model.specs.Network.{OfNode, OfHost, own}
 use Rattle.tp_model.specs.Snapshot.{Snapshot, MarkedNetwork, has_recorded}
 use Rattle.tp_model.specs.FrozenAs.{IsFrozenAs}
 use Rattle.tp_law_machine.proofs.LinkLaws.{has_four_links}
@@ -39,15 +39,14 @@ module _ (w : MarkedNetwork NodeState) (H : Holds t414 w) (i : ℕ) (below : i <
   image_there snap runs recorded =
       let K = running t414 w H snap runs in
       let N = within K.mid.nodes i (omega (arith, below, mid_nodes t414 has_four_links w H.base snap K)) in
-      let apart : i ≢ length K.mid.nodes = λ e. omega (arith, e, below, mid_nodes t414 has_four_links w H.base snap K) in
-      (
+      let apart : i ≢ length K.mid.nodes = λ e. omega (arith, e, below, mid_nodes t414 has_four_links w H.base snap K) in (
         N.0,
         node_there (get_or w.frozen i None) N.0
-        (ap (λ b. cond b (Some (OfHost snap.ports)) (option_map OfNode (get_or w.frozen i None))) (sym (ne_eqb i (length w.live.nodes) (λ e. omega (arith, e, below))))
-        ∙ ap (λ b. cond b (as_recorded (length w.live.nodes) snap w.frozen i) (own w.live i)) (sym recorded)
-        ∙ sym (K.owns i)
-        ∙ own-node K.mid i apart
-        ∙ ap (option_map OfNode) N.1),
+            (ap (λ b. cond b (Some (OfHost snap.ports)) (option_map OfNode (get_or w.frozen i None))) (sym (ne_eqb i (length w.live.nodes) (λ e. omega (arith, e, below))))
+            ∙ ap (λ b. cond b (as_recorded (length w.live.nodes) snap w.frozen i) (own w.live i)) (sym recorded)
+            ∙ sym (K.owns i)
+            ∙ own-node K.mid i apart
+            ∙ ap (option_map OfNode) N.1),
       )
 
 -- what is kept of a node that has recorded is its image
@@ -67,9 +66,11 @@ kept_frozen b i node H below recorded kept =
 pub page_frozen : (o : Option NodeState) (net : MarkedNetwork NodeState) (i page pages : ℕ) (out : List ℕ) → is_some o ≡ true → IfSome o (λ node. out ≡ slice_range node.memory (PAGE_BYTES * page) (PAGE_BYTES * page + PAGE_BYTES))
     → IfSome o (λ node. length node.memory ≡ PAGE_BYTES * pages) → page < pages → ((node : NodeState) → o ≡ Some node → IsFrozenAs net i node) → IsFrozenPage net i page out
 page_frozen None net i page pages out some is long low frozen = cc
-page_frozen (Some node) net i page pages out some is long low frozen = record {
-  node = node;
-  frozen = frozen node refl;
-  there = omega (arith, long, low);
-  is = is ∙ ap (λ n. take n (drop (PAGE_BYTES * page) node.memory)) (omega arith);
-}
+page_frozen (Some node) net i page pages out some is long low frozen =
+    let size : PAGE_BYTES * page + PAGE_BYTES - PAGE_BYTES * page ≡ PAGE_BYTES = omega arith in
+    record {
+      node = node;
+      frozen = frozen node refl;
+      there = omega (arith, long, low);
+      is = is ∙ ap (λ n. take n (drop (PAGE_BYTES * page) node.memory)) size;
+    }

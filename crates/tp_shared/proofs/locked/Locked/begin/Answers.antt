@@ -88,11 +88,11 @@ invariant_of-self g c =
       floor_after Are b new A.grown g.J.Naming.first inv.13,
       thaws_set c.self.inside.told.value c.self.inside.seals.items c.args.number (record { frozen = c.is_frozen-here.result; seal = c.turn.new.seal }) inv.14
           (λ thawed.
-              c.is_frozen-here.ensures
-              ∙ ap is_some (c.begin-done.ensures.stays (thawed_recorded g.J.Naming.before g.J.Naming.first c.self.inside.told.value c.self.inside.seals.items (record { book = b; all = c.self.inside.roll.items }) thawed inv.10 c.args.number))
-              ∙ ap (λ (x : Agreement). is_some x.frozen) (sym (ap (λ x. x.state) c.agree.ensures.agreed ∙ c.requires.shows.shown))
-              ∙ sym S.flag
-              ∙ thawed_at c.self.inside.told.value c.self.inside.seals.items c.args.number here thawed at),
+          c.is_frozen-here.ensures
+          ∙ ap is_some (c.begin-done.ensures.stays (thawed_recorded g.J.Naming.before g.J.Naming.first c.self.inside.told.value c.self.inside.seals.items (record { book = b; all = c.self.inside.roll.items }) thawed inv.10 c.args.number))
+          ∙ ap (λ (x : Agreement). is_some x.frozen) (sym (ap (λ x. x.state) c.agree.ensures.agreed ∙ c.requires.shows.shown))
+          ∙ sym S.flag
+          ∙ thawed_at c.self.inside.told.value c.self.inside.seals.items c.args.number here thawed at),
     )
 
 pub returns-clause-noted : goal.returns-clause-noted

@@ -1,7 +1,6 @@
-use Rattle.std.proofs.Common.{◌≡◌, ◌∙◌, sym, ap, subst}
+use Rattle.std.proofs.Common.{◌∙◌, sym, subst}
 use Rattle.tp_shared.specs.Thawed.{Thaws}
 use Rattle.tp_shared.specs.Told.{Since, told_of}
-use Rattle.tp_shared.specs.declared.told.Told.{Told}
 use Rattle.tp_shared.proofs.locked.Locked.compare.Goals as goal
 
 pub invariant_of-self : goal.invariant_of-self
