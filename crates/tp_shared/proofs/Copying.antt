@@ -1,9 +1,12 @@
 -- What is copied of a whole cut.
-use Rattle.std.proofs.Common.{◌≡◌, ℕ, zero, suc, ◌+◌, Bool, true, List, [], ◌∷◌, ◌++◌, take, refl, ap, ◌∙◌, arith, Option, Some, None, slice_get}
-use Rattle.std.specs.Prelude.{Result, Ok, Err, IfOk, IfSome}
+use Rattle.std.proofs.Common.{◌≡◌, ℕ, zero, suc, ◌+◌, Bool, true, false, not, List, [], ◌∷◌, ◌++◌, take, refl, sym, ap, ◌∙◌, arith, Option, Some, None, slice_get}
+use Rattle.std.specs.Prelude.{◌&&◌, Result, Ok, Err, IfOk, IfSome, is_some}
+use Rattle.std.specs.List.{AllByRecursion, list_all}
+use Rattle.std.proofs.lemmas.Bool.{and_parts}
 use Rattle.tp_book.proofs.Stood.{no_act}
 use Rattle.tp_shared.specs.Copied.{has_copy}
 use Rattle.tp_shared.specs.Told.{Since}
+use Rattle.tp_shared.specs.declared.seal.NodeSeal.{NodeSeal}
 use Rattle.tp_shared.specs.declared.told.Told.{Told}
 
 pub take_some : {A : Type 0} (xs : List A) (i : ℕ) (x : A) → slice_get xs i ≡ Some x → take (i + 1) xs ≡ take i xs ++ x ∷ []
@@ -14,11 +17,20 @@ take_some (y ∷ ys) (suc i) x e = ap (λ n. take n (y ∷ ys)) (more i) ∙ ap 
     more : (n : ℕ) → suc n + 1 ≡ suc (n + 1)
     more n = omega arith
 
--- there is a copy
-pub copy_found : {A E : Type 0} (P : A → Type 0) (found : Result (Option A) E) → IfOk found (λ given. IfSome given P) → has_copy found ≡ true → (copy : A) × P copy
-copy_found P (Ok (Some copy)) all h = (copy, all)
-copy_found P (Ok None) all h = cc
-copy_found P (Err e) all h = cc
+-- there is a copy, and no node's pages are kept
+pub copy_found : {A E : Type 0} (P : A → Type 0) (found : Result (Option A) E) (thawed whole : Bool) → IfOk found (λ given. IfSome given P) → IfOk found (λ given. is_some given ≡ (thawed && whole)) → has_copy found ≡ true
+    → (copy : A) × P copy × (thawed ≡ true)
+copy_found P (Ok (Some copy)) thawed whole all some h = (copy, all, (and_parts thawed whole (sym some)).0)
+copy_found P (Ok None) thawed whole all some h = cc
+copy_found P (Err e) thawed whole all some h = cc
+
+unset : (b : Bool) → not b ≡ true → b ≡ false
+unset false e = refl
+unset true e = cc
+
+pub thawed_all : (seals : List NodeSeal) → list_all (λ s. not s.frozen) seals ≡ true → AllByRecursion (λ s. s.frozen ≡ false) seals
+thawed_all [] e = tt
+thawed_all (s ∷ ss) e = let P = and_parts (not s.frozen) (list_all (λ s. not s.frozen) ss) e in (unset s.frozen P.0, thawed_all ss P.1)
 
 -- whatever is told of pages
 pub since_flag : (t : Told) (flag : Bool) → Since (record t { thawed = flag }) t

@@ -1,6 +1,7 @@
 //! Pieces of the image of a node that recorded, while a snapshot runs.
 
-ghost use Rattle.std.specs.Prelude.{◌≡◌, ◌<◌, Some, None, true, false, length};
+ghost use Rattle.std.specs.Prelude.{◌≡◌, ◌<◌, ◌*◌, ◌&&◌, Some, None, true, false, is_some, length, nat_lt};
+ghost use Rattle.tp_model.specs.declared.limits.TheConstants.{PAGE_BYTES};
 ghost use Rattle.tp_model.specs.FrozenAs.{IsFrozenAs};
 ghost use Rattle.tp_model.specs.NodeState.{NodeState};
 ghost use Rattle.tp_book.specs.Book.{world_of};
@@ -113,7 +114,9 @@ pub(crate) fn head_of<J: Naming, R: Wait>(
     ensures shows { Shows place.new false }
     ensures name { key.new.name ≡ key.old.name }
     ensures since { Since key.old.value key.new.value }
+    ensures answer { result ≡ is_some place.old.node.frozen }
     ensures head { result ≡ true → IsFrozenHead key.new.value.net number out.new }
+    ensures none { result ≡ false → out.new ≡ out.old }
 {
     audit(rt, book, place, key, number);
     if !place.node.is_frozen() {
@@ -141,7 +144,9 @@ pub(crate) fn page_of<J: Naming, R: Wait>(
     ensures shows { Shows place.new false }
     ensures name { key.new.name ≡ key.old.name }
     ensures since { Since key.old.value key.new.value }
+    ensures answer { result ≡ is_some place.old.node.frozen && nat_lt (PAGE_BYTES * page) (length place.old.node.live.memory) }
     ensures page { result ≡ true → IsFrozenPage key.new.value.net number page out.new }
+    ensures none { result ≡ false → out.new ≡ out.old }
 {
     audit(rt, book, place, key, number);
     if !place.node.is_frozen() || page >= place.node.pages() {
