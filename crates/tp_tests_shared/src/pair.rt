@@ -65,17 +65,17 @@ fn parts_of(alloc: Global, image: &[u8], first: Node, second: Node) -> Result<Pa
     Parts::new(alloc, book, nodes, mark)
 }
 
-/// The same where `image` is one of a node whose links are idle, and there is memory.
-pub fn parts_of_pair(alloc: Global, image: &[u8]) -> Option<Parts>
+/// The same where `image` is one of a node whose links are idle, and there is memory. Each node has `spare` frames.
+pub fn parts_of_pair(alloc: Global, image: &[u8], spare: usize) -> Option<Parts>
     ensures { IfSome result (λ parts. length parts.book.state.start.nodes ≡ 2) }
 {
     if !has_idle_links(image) {
         return None;
     }
-    let Ok(first) = Node::from_image(alloc, image, 0) else {
+    let Ok(first) = Node::from_image(alloc, image, spare) else {
         return None;
     };
-    let Ok(second) = Node::from_image(alloc, image, 0) else {
+    let Ok(second) = Node::from_image(alloc, image, spare) else {
         return None;
     };
     parts_of(alloc, image, first, second).ok()

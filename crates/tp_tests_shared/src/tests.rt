@@ -1,5 +1,6 @@
 //! Turns of two nodes on two threads.
 
+use crate::checkpoint::checkpoint_of_pair;
 use crate::pair::parts_of_pair;
 use crate::workers::work_of_pair;
 use std::alloc::{AllocError, Global};
@@ -40,9 +41,25 @@ fn two_threads_make_turns_of_two_nodes(rt: HostRuntime) -> Result<(), Fail> {
     let alloc = rt.alloc();
     let image = image(alloc)?;
     for (count, quantum) in CASES {
-        let parts = parts_of_pair(alloc, &image).ok_or("parts")?;
+        let parts = parts_of_pair(alloc, &image, 0).ok_or("parts")?;
         let done = work_of_pair(&rt, parts, *count, *quantum);
         assert!(rt; done == (2, 6, false));
     }
+    Ok(())
+}
+
+/// Node 0 sends, and a snapshot begins. Node 0 records behind its run, node 1 as it was at the start; it then takes the letter, which
+/// is on its line in the cut, and runs, while its pages are still kept as they were.
+#[test]
+fn a_snapshot_is_copied_and_the_book_is_trimmed(rt: HostRuntime) -> Result<(), Fail> {
+    let alloc = rt.alloc();
+    let image = image(alloc)?;
+    let parts = parts_of_pair(alloc, &image, 4).ok_or("parts")?;
+    let done = checkpoint_of_pair(&rt, alloc, parts)?.ok_or("no copy")?;
+    assert!(rt; done.first.len() == image.len() && done.first != image);
+    assert!(rt; done.second == image);
+    assert!(rt; (done.running, done.early, done.kept, done.ended) == (true, false, false, true));
+    assert!(rt; (done.base, done.outside, done.upto, done.on_line) == (1, 3, 4, 1));
+    assert!(rt; done.again);
     Ok(())
 }

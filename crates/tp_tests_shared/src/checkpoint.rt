@@ -1,0 +1,187 @@
+//! A snapshot of two nodes to its end, as the flusher makes it.
+
+ghost use Rattle.std.specs.Prelude.{◌≡◌, ◌<◌, true, length, IfOk, IfSome};
+ghost use Rattle.tp_shared.specs.Named.{Names};
+
+use std::alloc::{AllocError, Global};
+use std::marker::Brand;
+use std::sync::Wait;
+use tp_model::limits::{IMAGE_HEAD_BYTES, PAGE_BYTES};
+use tp_shared::{Naming, NoGate, Parts, Seat, Shared, TailCopy, Told};
+use tp_token::Key;
+
+/// What came of a snapshot: both nodes' images as they recorded; whether it ran, whether there was a copy before the pages were let
+/// go, whether there were pages afterwards, and whether no snapshot ran behind the trim; how many entries the cut holds, how many stand
+/// outside it and up to which number, and how many tokens are on line 0 in the cut; and whether a snapshot could begin again.
+#[derive(Drop)]
+pub struct Checkpointed {
+    pub first: Vec<u8>,
+    pub second: Vec<u8>,
+    pub running: bool,
+    pub early: bool,
+    pub kept: bool,
+    pub ended: bool,
+    pub base: u64,
+    pub outside: usize,
+    pub upto: u64,
+    pub on_line: usize,
+    pub again: bool,
+}
+
+fn begin<J: Naming, R: Wait>(rt: &R, alloc: Global, shared: &Shared<J>) -> bool {
+    let mut held = shared.book().lock(rt);
+    held.begin_snapshot(alloc).is_ok()
+}
+
+fn is_running<J: Naming, R: Wait>(rt: &R, shared: &Shared<J>) -> bool {
+    let held = shared.book().lock(rt);
+    held.look().running
+}
+
+fn make_turn<J: Naming, R: Wait>(rt: &R, shared: &Shared<J>, seat: &mut Seat<J>, number: u8)
+    requires { number < length J.start.nodes }
+{
+    let _done = shared.turn(rt, &NoGate, seat, number, 9);
+}
+
+fn copy<J: Naming, R: Wait>(
+    rt: &R,
+    alloc: Global,
+    shared: &Shared<J>,
+    key: &mut Key<Told>,
+) -> Result<Option<TailCopy>, AllocError>
+    requires { key.old.name ≡ J.flusher }
+    ensures name { key.new.name ≡ key.old.name }
+    ensures thawed { IfOk result (λ found. IfSome found (λ copy. key.new.value.thawed ≡ true)) }
+{
+    let mut held = shared.book().lock(rt);
+    held.copy_tail(alloc, key)
+}
+
+fn trim<J: Naming, R: Wait>(rt: &R, shared: &Shared<J>, key: &mut Key<Told>)
+    requires name { key.old.name ≡ J.flusher }
+    requires thawed { key.old.value.thawed ≡ true }
+    ensures { key.new.name ≡ key.old.name }
+{
+    let mut held = shared.book().lock(rt);
+    held.trim(key);
+}
+
+// Adds a page of a node that recorded, where there is one.
+fn add_page<J: Naming, R: Wait>(
+    rt: &R,
+    shared: &Shared<J>,
+    key: &mut Key<Told>,
+    number: u8,
+    page: usize,
+    bytes: &mut Vec<u8>,
+) -> Result<(), AllocError>
+    requires name { key.old.name ≡ J.flusher }
+    requires there { number < length J.start.nodes }
+    ensures { key.new.name ≡ key.old.name }
+{
+    let mut out = [0; PAGE_BYTES];
+    if shared.frozen_page(rt, key, number, page, &mut out) {
+        bytes.extend_from_slice(&out)?;
+    }
+    Ok(())
+}
+
+// The image of a node of at most four pages, as it recorded. It is empty where no pages are kept.
+fn image_of<J: Naming, R: Wait>(
+    rt: &R,
+    alloc: Global,
+    shared: &Shared<J>,
+    key: &mut Key<Told>,
+    number: u8,
+) -> Result<Vec<u8>, AllocError>
+    requires name { key.old.name ≡ J.flusher }
+    requires there { number < length J.start.nodes }
+    ensures { key.new.name ≡ key.old.name }
+{
+    let mut bytes = Vec::new(alloc);
+    let mut head = [0; IMAGE_HEAD_BYTES];
+    if shared.frozen_head(rt, key, number, &mut head) {
+        bytes.extend_from_slice(&head)?;
+    }
+    add_page(rt, shared, key, number, 0, &mut bytes)?;
+    add_page(rt, shared, key, number, 1, &mut bytes)?;
+    add_page(rt, shared, key, number, 2, &mut bytes)?;
+    add_page(rt, shared, key, number, 3, &mut bytes)?;
+    add_page(rt, shared, key, number, 4, &mut bytes)?;
+    Ok(bytes)
+}
+
+// How many tokens are on line 0 of a copy.
+fn first_line(copy: &TailCopy) -> usize {
+    if copy.lines.count() == 0 {
+        return 0;
+    }
+    copy.lines.len(0)
+}
+
+/// Node 0 makes a turn, and a snapshot begins. Each node records, and makes turns until the cut is whole. None where there is no copy
+/// then.
+fn checkpoint<J: Naming, R: Wait>(
+    rt: &R,
+    alloc: Global,
+    shared: &Shared<J>,
+    key: &mut Key<Told>,
+) -> Result<Option<Checkpointed>, AllocError>
+    requires name { key.old.name ≡ J.flusher }
+    requires there { 1 < length J.start.nodes }
+{
+    let mut seat = Seat::new();
+    make_turn(rt, shared, &mut seat, 0);
+    begin(rt, alloc, shared);
+    make_turn(rt, shared, &mut seat, 0);
+    make_turn(rt, shared, &mut seat, 1);
+    let first = image_of(rt, alloc, shared, key, 0)?;
+    make_turn(rt, shared, &mut seat, 0);
+    let second = image_of(rt, alloc, shared, key, 1)?;
+    let running = is_running(rt, shared);
+    let early = copy(rt, alloc, shared, key)?.is_some();
+    shared.drop_frozen(rt, 0);
+    shared.drop_frozen(rt, 1);
+    let kept = !image_of(rt, alloc, shared, key, 1)?.is_empty();
+    let Some(copy) = copy(rt, alloc, shared, key)? else {
+        return Ok(None);
+    };
+    trim(rt, shared, key);
+    Ok(Some(Checkpointed {
+        first,
+        second,
+        running,
+        early,
+        kept,
+        ended: !is_running(rt, shared),
+        base: copy.base,
+        outside: copy.tail.entries().len(),
+        upto: copy.tail.upto(),
+        on_line: first_line(&copy),
+        again: begin(rt, alloc, shared),
+    }))
+}
+
+fn checkpoint_of_parts<J: Naming, R: Wait>(
+    rt: &R,
+    alloc: Global,
+    parts: Parts,
+) -> Result<Option<Checkpointed>, AllocError>
+    requires there { 1 < length J.start.nodes }
+    requires names { Names J.roll J.first J.start J.node J.mark J.flusher J.room parts }
+{
+    let (shared, mut key) = Shared::<J>::start(parts);
+    checkpoint(rt, alloc, &shared, &mut key)
+}
+
+/// A snapshot of two nodes under locks, to the trim.
+pub fn checkpoint_of_pair<R: Wait>(
+    rt: &R,
+    alloc: Global,
+    parts: Parts,
+) -> Result<Option<Checkpointed>, AllocError>
+    requires there { 1 < length parts.book.state.start.nodes }
+{
+    checkpoint_of_parts::<Brand, R>(rt, alloc, parts)
+}
