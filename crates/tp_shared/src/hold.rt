@@ -4,8 +4,10 @@ ghost use Rattle.std.specs.Prelude.{◌≡◌, Some, None, true, false, slice_ge
 ghost use Rattle.tp_snap.specs.Needs.{has_recorded_in};
 ghost use Rattle.tp_shared.specs.Acts.{Acted};
 ghost use Rattle.tp_shared.specs.Entries.{IsTurnRefusal, TakesOf, run_entries};
-ghost use Rattle.tp_turn.specs.Moments.{IsNodeOf};
-ghost use Rattle.tp_turn.specs.Stages.{HasRunOn};
+ghost use Rattle.tp_book.specs.Acts.{run_acts};
+ghost use Rattle.tp_book.specs.Calls.{without_run};
+ghost use Rattle.tp_turn.specs.Moments.{Added, IsNodeOf, moment};
+ghost use Rattle.tp_turn.specs.Stages.{HasRunOn, Opens};
 
 use tp_book::{Book, Refusal};
 use tp_node::{Node, Ran};
@@ -18,6 +20,7 @@ pub(crate) fn begin(book: &mut Book, node: &mut Node, number: u8) -> Result<u64,
     requires idle { book.old.ready ≡ None }
     requires is { IsNodeOf book.old number node.old }
     ensures acted { Acted (TakesOf book.old.state.start number result) number (record { node = node.new.live; frozen = node.new.frozen; reserved = is_ok result }) book.old book.new }
+    ensures opens { Opens number result (moment book.old node.old) (moment book.new node.new) }
     ensures is { IsNodeOf book.new number node.new }
     ensures stays { has_recorded_in book.old.state.snapshot number ≡ true → node.new.frozen ≡ node.old.frozen }
     ensures refused { IfErr result IsTurnRefusal }
@@ -32,6 +35,7 @@ pub(crate) fn commit(book: &mut Book, node: &Node, number: u8, stretch: Stretch)
     requires ran { HasRunOn book.old number stretch.ran.count stretch.sent.items node.now }
     ensures ran { result ≡ stretch.ran }
     ensures acted { Acted (λ entries. entries ≡ run_entries number stretch.ran.count) number (record { node = node.now.live; frozen = node.now.frozen; reserved = false }) book.old book.new }
+    ensures added { Added number node.now.live (run_acts number stretch.ran.count) (without_run book.old number) book.new }
     ensures is { IsNodeOf book.new number node.now }
 {
     commit_turn(book, node, number, stretch)

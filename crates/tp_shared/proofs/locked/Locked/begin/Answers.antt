@@ -2,6 +2,8 @@ use Rattle.std.proofs.Common.{◌≡◌, ◌∙◌, length, ap, sym, subst, arit
 use Rattle.std.specs.Prelude.{is_ok, is_some}
 use Rattle.std.proofs.lemmas.List.{length-set}
 use Rattle.std.proofs.lemmas.Option.{slice_get_read}
+use Rattle.tp_turn.specs.Moments.{IsNodeOf, moment}
+use Rattle.tp_turn.specs.Stages.{Opens}
 use Rattle.tp_shared.specs.Agreement.{Agreement}
 use Rattle.tp_shared.specs.Entries.{TakesOf}
 use Rattle.tp_shared.specs.Seals.{Stage}
@@ -111,3 +113,20 @@ returns-clause-noted g c =
     (subst (λ seat. Noted Are g.J.Naming.first old_stage new_stage seat c.write_new.new.slips.items) c.seat.view_is
     (noted_by Are b new old_stage new_stage g.J.Naming.first c.self.inside.roll.first (length c.entries-before.result.now) c.seat.inside.slips.items c.write_new.new.slips.items
     A.grown many inv.5 c.write_new.ensures.roll c.write_new.ensures.slips c.write_new.ensures.sound))
+
+pub returns-clause-is : goal.returns-clause-is
+returns-clause-is g c =
+    let b = c.self.inside.book in
+    let inv = c.self.invariant in
+    let here = c.index_mut-here.result.now in
+    let at : slice_get c.self.inside.seals.items c.args.number ≡ Some here =
+    slice_get_read c.self.inside.seals.items (length c.self.inside.seals.items) c.args.number here refl (omega (arith, inv.1, c.requires.there)) c.index_mut-here.ensures.value in
+    let S = inv.3 c.args.number here at in
+    let shown = ap (λ x. x.state) c.agree.ensures.agreed ∙ c.requires.shows.shown in
+    subst (λ stage. IsNodeOf stage.book c.args.number c.args.place.now.node) c.self.view_is
+    (node_of_seal (g.J.Naming.node c.args.number) here.seal.value.state here.frozen here.seal.name b c.args.number c.args.place.now.node S
+    (ap (λ (x : Agreement). x.node) shown) (ap (λ (x : Agreement). x.frozen) shown) c.requires.shows.image)
+
+pub returns-clause-opens : goal.returns-clause-opens
+returns-clause-opens g c =
+    subst (λ stage. Opens c.args.number c.begin-done.result (moment stage.book c.args.place.now.node) (moment c.begin-done.new.book c.begin-done.new.node)) c.self.view_is c.begin-done.ensures.opens

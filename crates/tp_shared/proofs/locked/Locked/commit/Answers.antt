@@ -4,6 +4,9 @@ use Rattle.std.proofs.lemmas.List.{length-set}
 use Rattle.std.proofs.lemmas.Option.{slice_get_read}
 use Rattle.tp_model.specs.declared.entry.Entry.{Entry}
 use Rattle.tp_node.specs.NodeContents.{NodeContents}
+use Rattle.tp_book.specs.Acts.{run_acts}
+use Rattle.tp_book.specs.Calls.{without_run}
+use Rattle.tp_turn.specs.Moments.{Added}
 use Rattle.tp_shared.specs.Entries.{run_entries}
 use Rattle.tp_shared.specs.Seals.{Stage}
 use Rattle.tp_shared.specs.Gains.{Noted}
@@ -107,3 +110,7 @@ returns-clause-noted g c =
     (subst (λ seat. Noted Are g.J.Naming.first old_stage new_stage seat c.write_new.new.slips.items) c.seat.view_is
     (noted_by Are b new old_stage new_stage g.J.Naming.first c.self.inside.roll.first (length c.entries-before.result.now) c.seat.inside.slips.items c.write_new.new.slips.items
     c.commit-ran.ensures.acted.grown many inv.5 c.write_new.ensures.roll c.write_new.ensures.slips c.write_new.ensures.sound))
+
+pub returns-clause-added : goal.returns-clause-added
+returns-clause-added g c =
+    subst (λ stage. Added c.args.number c.args.place.now.node.live (run_acts c.args.number c.args.stretch.ran.count) (without_run stage.book c.args.number) c.commit-ran.new.book) c.self.view_is c.commit-ran.ensures.added

@@ -1,4 +1,5 @@
 use Rattle.std.proofs.Common.{◌∙◌, length, ap, subst}
+use Rattle.tp_turn.specs.Hosted.{HostDone, HostTurns}
 use Rattle.tp_shared.specs.Acts.{Hosted}
 use Rattle.tp_shared.specs.Entries.{TakesOf}
 use Rattle.tp_shared.specs.Seals.{Stage}
@@ -55,3 +56,6 @@ returns-clause-noted g c =
 
 pub returns-clause-refused : goal.returns-clause-refused
 returns-clause-refused g c = host_refused c.host_turn-done.result c.self.inside.book c.host_turn-done.new.book c.host_turn-done.ensures
+
+pub returns-clause-did : goal.returns-clause-did
+returns-clause-did g c = subst (λ stage. HostDone (HostTurns c.host_turn-done.result) stage.book c.host_turn-done.new.book) c.self.view_is c.host_turn-done.ensures
