@@ -7,7 +7,7 @@ use Rattle.tp_model.specs.NodeState.{NodeState}
 use Rattle.tp_model.specs.Node.{t414, t414_ends}
 use Rattle.tp_model.specs.Network.{Machine, Network}
 use Rattle.tp_model.specs.Snapshot.{MarkedNetwork}
-use Rattle.tp_model.specs.Order.{Reorder}
+use Rattle.tp_model.specs.Order.{Reorder, same, swap}
 use Rattle.tp_model.specs.Areas.{next_number}
 use Rattle.tp_model.specs.Disk.{MayBe}
 use Rattle.tp_model.specs.DiskHistory.{State}
@@ -89,8 +89,8 @@ slips_stand before first stage key w slips F S T long sound =
     let net = ap (λ (n : MarkedNetwork NodeState). length n.entries) F.net in
     let next = T.next in
     let base = S.base in
-    let same = F.base in
-    let many : first ≡ length front = omega (arith, lengths, left, right, entries, kept, net, next, base, same, long) in
+    let begun = F.base in
+    let many : first ≡ length front = omega (arith, lengths, left, right, entries, kept, net, next, base, begun, long) in
     stand_in w.journal front stage.all more slips both (subst (λ n. Sound (item_of n stage.all) slips) many sound)
 
 -- ## What a crash leaves of them

@@ -10,4 +10,4 @@ returns-clause-stand g c k began =
     let w = c.args.self.now.world in
     slips_stand g.J.Naming.before g.J.Naming.first c.args.held.now c.self.inside.parts.key.value w c.args.receipt.now.seat
     (subst (λ (v : Flushing). IsFirst c.self.inside.parts.key.value v.world) c.self.view_is c.self.invariant.2)
-    c.compare.ensures.since c.audit_receipt.ensures.journal (length-journal g.J.Naming.formatted w (c.known.ensures.reached k began)) c.audit_receipt.ensures.sound
+    (subst (λ stage. Since c.self.inside.parts.key.value (told_of g.J.Naming.before g.J.Naming.first stage)) c.audit_receipt.ensures.same.0 c.compare.ensures.since) c.audit_receipt.ensures.journal (length-journal g.J.Naming.formatted w (c.known.ensures.reached k began)) c.audit_receipt.ensures.sound

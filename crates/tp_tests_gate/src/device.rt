@@ -1,0 +1,105 @@
+//! A device of sixteen nodes, in memory, opened.
+
+ghost use Rattle.std.specs.Prelude.{◌≡◌, IfOk};
+
+use std::alloc::{AllocError, Global};
+use std::test::Fail;
+use tp_area::format;
+use tp_book::Book;
+use tp_disk::MemDisk;
+use tp_mark::{Mark, Raiser};
+use tp_net::Topology;
+use tp_recover::{Opened, open};
+use tp_shared::Parts;
+use tp_work::nodes_of;
+
+/// Bytes of an area, and of the device.
+const AREA: u64 = 131_072;
+
+const SIZE: usize = 262_656;
+
+/// How many nodes there are.
+pub(crate) const NODES: u8 = 16;
+
+/// Sixteen nodes. Link 0 of the first goes to a port; no other link has a wire.
+const TEXT: &[u8] = b"node a 4\nnode b 4\nnode c 4\nnode d 4\nnode e 4\nnode f 4\nnode g 4\nnode i 4\nnode j 4\nnode k 4\nnode l 4\nnode m 4\nnode n 4\nnode o 4\nnode p 4\nnode q 4\nport h\nwire a.0 h\n";
+
+/// Bytes of a node's image: where they are, and which. Its process sends the letter A on link 0, waits for the acknowledge, and
+/// then goes round.
+const BYTES: &[(usize, &[u8])] = &[
+    (0, &[1, 0, 4, 0]),
+    (4, &[0x00, 0x01, 0x00, 0x80]),
+    (8, &[0x00, 0x02, 0x00, 0x80]),
+    (24, &[0, 0, 0, 0x80, 0, 0, 0, 0x80]),
+    (32, &[0, 0, 0, 0x80, 0, 0, 0, 0x80]),
+    (41, &[2]),
+    (172 + 0x2C, &[0, 0, 0, 0x80]),
+    (
+        172 + 0x100,
+        &[0x27, 0x2F, 0x2F, 0x2F, 0x2F, 0x2F, 0x6F, 0x40],
+    ),
+    (172 + 0x108, &[0x24, 0x41, 0xFE, 0x60, 0x0E]),
+];
+
+/// The process begins where it goes round, and so makes as many steps as a turn has.
+const ROUND: (usize, &[u8]) = (4, &[0x0B]);
+
+fn place(image: &mut [u8], at: usize, bytes: &[u8]) {
+    for (slot, byte) in image.iter_mut().skip(at).zip(bytes.iter()) {
+        *slot = *byte;
+    }
+}
+
+fn image(alloc: Global) -> Result<Vec<u8>, AllocError> {
+    let mut image = Vec::from_elem(alloc, 0u8, 172 + 4096)?;
+    for (at, bytes) in BYTES {
+        place(&mut image, *at, bytes);
+    }
+    Ok(image)
+}
+
+/// The first node sends a letter, and the others go round.
+fn images(alloc: Global) -> Result<Vec<Vec<u8>>, AllocError> {
+    let mut images = Vec::new(alloc);
+    images.push(image(alloc)?)?;
+    for _ in 1..NODES {
+        let mut round = image(alloc)?;
+        place(&mut round, ROUND.0, ROUND.1);
+        images.push(round)?;
+    }
+    Ok(images)
+}
+
+/// The device, freshly formatted.
+pub(crate) fn formatted(alloc: Global) -> Result<MemDisk, Fail> {
+    let topology = Topology::read(alloc, TEXT)?;
+    let _rules = topology.pages();
+    let images = images(alloc)?;
+    let mut disk = MemDisk::zeroed(alloc, SIZE)?;
+    format(alloc, &mut disk, &topology, &images, AREA)?;
+    Ok(disk)
+}
+
+/// The book and the nodes of what was opened, the raiser of their mark, and the number of the first entry.
+pub(crate) fn parts_of(alloc: Global, opened: Opened) -> Result<(Parts, Raiser, u64), AllocError>
+    ensures { IfOk result (λ made. (made.1.mark ≡ made.0.mark) × (made.2 ≡ made.0.first)) }
+{
+    let room = opened.journal_room();
+    let state = opened.into_state(alloc)?;
+    let book = Book::open(alloc, &state, Some(room))?;
+    let nodes = nodes_of(alloc, &state, 4)?;
+    let (mark, raiser, _) = Mark::start(alloc, state.next, 0)?;
+    let first = book.next();
+    let parts = Parts::opened(alloc, &state, book, nodes, mark)?;
+    Ok((parts, raiser, first))
+}
+
+/// The same of the device, freshly formatted and opened.
+pub(crate) fn parts_of_device(alloc: Global) -> Result<(Parts, Raiser, u64), Fail>
+    ensures { IfOk result (λ made. (made.1.mark ≡ made.0.mark) × (made.2 ≡ made.0.first)) }
+{
+    let mut disk = formatted(alloc)?;
+    let opened = open(alloc, &mut disk)?;
+    let made = parts_of(alloc, opened)?;
+    Ok(made)
+}

@@ -1,0 +1,115 @@
+//! Turns of two nodes really overlap: one is held after its run, and others go on.
+
+ghost use Rattle.std.specs.Prelude.{◌≡◌, ◌<◌, ◌≤◌, length};
+ghost use Rattle.tp_shared.specs.Named.{Names};
+
+use crate::device::parts_of_device;
+use crate::hold::Hold;
+use std::alloc::{AllocError, Global};
+use std::marker::Brand;
+use std::sync::Wait;
+use std::test::Fail;
+use std::thread::{Threads, join, map_vec};
+use tp_model::Entry;
+use tp_shared::gate::RUN_DONE;
+use tp_shared::{Naming, NoGate, Parts, Seat, Shared};
+
+/// The node that is held. No other of these is under its lock.
+const HELD: u8 = 1;
+
+const OTHERS: [u8; 11] = [2, 3, 4, 6, 7, 8, 10, 11, 12, 14, 15];
+
+/// How many steps a turn has.
+const QUANTUM: u16 = 9;
+
+/// How many threads make turns of other nodes.
+const TEAMS: &[usize] = &[1, 3, 15];
+
+/// A turn of a node, whatever it answers. Answers whether it was made.
+fn is_turned<J: Naming, R: Wait>(rt: &R, shared: &Shared<J>, number: u8) -> bool {
+    if number >= shared.nodes() {
+        return false;
+    }
+    let mut seat = Seat::new();
+    shared.turn(rt, &NoGate, &mut seat, number, QUANTUM).is_ok()
+}
+
+/// The turn that is held.
+fn turn_held<J: Naming, R: Wait>(rt: &R, shared: &Shared<J>, hold: &Hold) -> bool {
+    if HELD >= shared.nodes() {
+        return false;
+    }
+    let mut seat = Seat::new();
+    shared.turn(rt, hold, &mut seat, HELD, QUANTUM).is_ok()
+}
+
+/// Turns of other nodes, each in a thread of its own, while one is held, which is let go then. Answers whether it was there, and all
+/// of them were made.
+fn turn_others<J: Naming + Send + Sync, R: Threads + Wait + Sync>(
+    rt: &R,
+    numbers: Vec<u8>,
+    shared: &Shared<J>,
+    hold: &Hold,
+) -> bool {
+    let came = hold.wait();
+    let made = map_vec(rt, numbers, &|number| is_turned(rt, shared, number));
+    hold.open();
+    came && made.is_ok_and(|all| all.iter().all(|one| *one))
+}
+
+/// The nodes whose turns so many threads make.
+fn numbers_of(alloc: Global, count: usize) -> Result<Vec<u8>, AllocError> {
+    let mut numbers = Vec::new(alloc);
+    for place in 0..count {
+        numbers.push(OTHERS[place % OTHERS.len()])?;
+    }
+    Ok(numbers)
+}
+
+/// Whether the journal has so many runs, and that of the node which was held is the last one.
+fn is_last<J: Naming, R: Wait>(rt: &R, shared: &Shared<J>, count: usize) -> bool {
+    let held = shared.book().lock(rt);
+    let entries = held.book().entries();
+    let last = entries.last().map(|numbered| numbered.entry);
+    let runs = entries
+        .iter()
+        .filter(|numbered| matches!(numbered.entry, Entry::Run { .. }))
+        .count();
+    runs == count && matches!(last, Some(Entry::Run { node: HELD, count: QUANTUM }))
+}
+
+/// Turns of `numbers` while one is held. Answers whether all were made, and the run of the one that was held is the last in the journal.
+fn overlap<J: Naming + Send + Sync, R: Threads + Wait + Sync>(
+    rt: &R,
+    parts: Parts,
+    numbers: Vec<u8>,
+) -> bool
+    requires names { Names J.roll J.first J.start J.node J.mark J.flusher J.room parts }
+{
+    let count = numbers.len();
+    let (shared, _key) = Shared::<J>::start(parts);
+    let hold = Hold::new(HELD, RUN_DONE);
+    let (lent, gate) = (&shared, &hold);
+    let (held, others) = join(
+        rt,
+        move || turn_held(rt, lent, gate),
+        move || turn_others(rt, numbers, lent, gate),
+    );
+    held && others && hold.was_let_go() && is_last(rt, &shared, count + 1)
+}
+
+/// The same with new names.
+fn overlap_in<R: Threads + Wait + Sync>(rt: &R, parts: Parts, numbers: Vec<u8>) -> bool {
+    overlap::<Brand, R>(rt, parts, numbers)
+}
+
+#[test]
+fn others_make_turns_while_one_node_is_held(rt: HostRuntime) -> Result<(), Fail> {
+    let alloc = rt.alloc();
+    for count in TEAMS {
+        let (parts, _, _) = parts_of_device(alloc)?;
+        let numbers = numbers_of(alloc, *count)?;
+        assert!(rt; overlap_in(&rt, parts, numbers));
+    }
+    Ok(())
+}

@@ -1,0 +1,163 @@
+//! Workers that make turns together, and what they journalled.
+
+ghost use Rattle.std.specs.Prelude.{◌≡◌, ◌+◌, [], IsTrue, IfSome, IfOk, Some, All, length, ℕ};
+ghost use Rattle.tp_shared.specs.Seals.{Stage};
+ghost use Rattle.tp_tests_gate.specs.Made.{IsSum, made_by};
+ghost use Rattle.tp_token.specs.Sound.{item_of, shown};
+
+use std::alloc::AllocError;
+use std::sync::Wait;
+use std::sync::atomic::{AtomicU32, Ordering};
+use std::thread::{Threads, join, map_vec, yield_now};
+use tp_host::Session;
+use tp_shared::{Gate, Locked, Naming, Receipt, Seat as Slips};
+use tp_work::{Net, Seat, Turn};
+
+/// What a worker's turns journalled: their slips, and how many there are; none where a turn was refused, whose takes nobody counts.
+#[derive(Drop)]
+pub struct Work<J: Naming> {
+    slips: Slips<J>,
+    entries: Option<u64>,
+    pub ghost counted: { IfSome entries (λ count. count ≡ length slips) },
+}
+
+/// How many entries a turn made, where that is a number.
+fn entries_of(turn: &Turn) -> Option<u64>
+    ensures { IfSome result (λ count. count ≡ made_by turn.now) }
+{
+    match &turn.ran {
+        Some(ran) if ran.count() > 0 => turn.takes.checked_add(1),
+        _ => Some(turn.takes),
+    }
+}
+
+/// The sum of two numbers that are there.
+fn sum(one: Option<u64>, other: Option<u64>) -> Option<u64>
+    ensures { IfSome result (λ count. IsSum one other count) }
+{
+    one?.checked_add(other?)
+}
+
+impl<J: Naming> Work<J> {
+    /// Nothing yet.
+    pub fn new() -> Work<J>
+        ensures { result.slips ≡ [] }
+    {
+        Work {
+            slips: Slips::new(),
+            entries: Some(0),
+        }
+    }
+
+    /// That of a receipt of so many entries.
+    pub fn of_receipt(receipt: Receipt<J>, count: u64) -> Work<J>
+        requires { count ≡ length receipt.seat }
+    {
+        Work {
+            slips: receipt.into_seat(),
+            entries: Some(count),
+        }
+    }
+
+    /// Both together.
+    pub fn and(self, other: Work<J>) -> Work<J> {
+        let Work { mut slips, entries } = self;
+        let Work {
+            slips: more,
+            entries: count,
+        } = other;
+        slips.absorb(more);
+        Work {
+            slips,
+            entries: sum(entries, count),
+        }
+    }
+
+    /// Whether these are as many as all entries since the opening, whose first has the number `first`. Then of each number there is
+    /// the slip of the journal's entry, once.
+    pub fn are_all(self, held: &mut Locked<J>, first: u64) -> bool
+        requires { first ≡ J.first }
+        ensures same { held.new ≡ held.old }
+        ensures all { IsTrue result → (n : ℕ) → shown n self.slips ≡ item_of J.first held.old.all n }
+    {
+        let Work { mut slips, entries } = self;
+        held.known();
+        held.audit(&mut slips);
+        entries == Some(held.book().next() - first)
+    }
+}
+
+/// Makes at most `most` turns of the `turns` that a team draws.
+pub fn make_turns<J: Naming, G: Gate, R: Wait>(
+    rt: &R,
+    net: &Net<J, G>,
+    drawn: &AtomicU32,
+    turns: u32,
+    most: u32,
+    seat: Seat<J>,
+) -> Work<J>
+    requires { (seat.hand ≡ Some net.now.queue) × (seat.slips ≡ []) }
+{
+    let mut seat = seat;
+    let mut entries = Some(0);
+    for _ in 0..most {
+        if drawn.fetch_add(1, Ordering::SeqCst) >= turns {
+            break;
+        }
+        entries = match net.turn(rt, &mut seat) {
+            Ok(turn) => sum(entries, entries_of(&turn)),
+            Err(_) => None,
+        };
+        yield_now();
+    }
+    Work {
+        slips: seat.into_slips(),
+        entries,
+    }
+}
+
+/// What all of these did.
+fn together<J: Naming>(works: Vec<Work<J>>) -> Work<J> {
+    let mut all = Work::new();
+    for work in works {
+        all = all.and(work);
+    }
+    all
+}
+
+/// One worker ends after its first turn, and the others make the rest of `turns` together, each in a thread of its own.
+pub fn work_as_team<J: Naming + Send + Sync, G: Gate + Send + Sync, R: Threads + Wait + Sync>(
+    rt: &R,
+    net: &Net<J, G>,
+    turns: u32,
+    first: Seat<J>,
+    others: Vec<Seat<J>>,
+) -> Result<Work<J>, AllocError>
+    requires first { (first.hand ≡ Some net.now.queue) × (first.slips ≡ []) }
+    requires others { All (λ seat. (seat.hand ≡ Some net.now.queue) × (seat.slips ≡ [])) others.items }
+{
+    let drawn = AtomicU32::new(0);
+    let lent = &drawn;
+    let (first, others) = join(
+        rt,
+        move || -> Work<J>
+            requires { (first.hand ≡ Some net.now.queue) × (first.slips ≡ []) }
+        { make_turns(rt, net, lent, turns, 1, first) },
+        move || -> Result<Vec<Work<J>>, AllocError>
+            requires { All (λ seat. (seat.hand ≡ Some net.now.queue) × (seat.slips ≡ [])) others.items }
+        { map_vec(rt, others, &|seat| make_turns(rt, net, lent, turns, u32::MAX, seat)) },
+    );
+    Ok(first.and(together(others?)))
+}
+
+/// Hands pairs of bytes to a port, as many as `count` says, one after another.
+pub fn offer_pairs<J: Naming, R: Wait>(rt: &R, session: &Session<'_, J>, count: u64) -> Work<J> {
+    let mut all = Work::new();
+    for place in 0..count {
+        if let Ok(receipt) = session.offer(rt, place.wrapping_mul(2), b"ab") {
+            all = all.and(Work::of_receipt(receipt, 2));
+        }
+        yield_now();
+    }
+    all
+}
