@@ -1,8 +1,8 @@
 //! Groups appended to a device whose calls fail, or on which the run stops: what the device then opens as.
 
 use crate::devices::{
-    AREA, CALLS_OF_OPEN, GROUPS, Held, LETTER, MORE, append, disk_of, fresh, is_same, outputs,
-    place, replayed, what_is_held,
+    CALLS_OF_OPEN, Held, LETTER, MORE, append, disk_of, fresh, is_same, outputs, replayed,
+    what_is_held,
 };
 use std::alloc::{AllocError, Global};
 use std::process::Abort;
@@ -10,6 +10,7 @@ use std::test::Fail;
 use tp_area::{Store, StoreFault};
 use tp_disk::{Disk, MemDisk, PlannedFault};
 use tp_recover::open_store;
+use tp_tests_fixtures::{AREA, GROUPS, place};
 
 /// The two groups that are appended: the place of each gate, and how many bytes are written behind it.
 const GATES: [(usize, usize); 2] = [(GROUPS, 80), (GROUPS + 80, 48)];

@@ -1,8 +1,7 @@
 //! Formatting a device whose calls fail, or on which the run stops: what the device then opens as.
 
 use crate::devices::{
-    AREA, CALLS_OF_FORMAT, Held, LETTER, Letter, SECOND, SIZE, append, disk_of, fresh, is_same,
-    place, what_is_held,
+    CALLS_OF_FORMAT, Held, LETTER, Letter, append, disk_of, fresh, is_same, what_is_held,
 };
 use std::alloc::{AllocError, Global};
 use std::process::Abort;
@@ -10,6 +9,7 @@ use std::test::Fail;
 use tp_disk::{MemDisk, PlannedFault};
 use tp_model::OpenFault;
 use tp_recover::{Unopened, open, open_store};
+use tp_tests_fixtures::{AREA, SECOND, SIZE, place};
 
 /// Bytes of the head up to the last one of the node's page count that isn't 00, and up to the end of the wire, behind which all
 /// are 00.

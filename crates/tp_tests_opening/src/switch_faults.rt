@@ -2,9 +2,7 @@
 
 use crate::append_faults::{Ending, Torn};
 use crate::copies::{Cut, Pieces, switch};
-use crate::devices::{
-    AREA, Held, LETTER, Letter, SECOND, append, disk_of, fresh, is_same, place, replayed,
-};
+use crate::devices::{Held, LETTER, Letter, append, disk_of, fresh, is_same, replayed};
 use std::alloc::{AllocError, Global};
 use std::process::Abort;
 use std::test::Fail;
@@ -13,6 +11,7 @@ use tp_disk::{Disk, MemDisk};
 use tp_model::{Entry, Token};
 use tp_net::Topology;
 use tp_recover::{open, open_store};
+use tp_tests_fixtures::{AREA, SECOND, place};
 
 /// What is done with a device before the checkpoint: a group, a group for each entry, or an earlier checkpoint.
 #[derive(Clone, Copy)]

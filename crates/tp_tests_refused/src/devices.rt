@@ -5,21 +5,11 @@ use std::test::Fail;
 use tp_area::{FormatFault, format};
 use tp_disk::{Disk, MemDisk};
 use tp_net::Topology;
+use tp_tests_fixtures::{AREA, GROUPS, ONE_NODE, SIZE, idle, place};
 
-/// Bytes of the device and of an area.
-const SIZE: usize = 33_280;
-
-const AREA: u64 = 16_384;
-
-/// Where the first area's groups begin.
-const GROUPS: usize = 13_033;
-
-/// One node, whose link 0 goes to a port.
-const TEXT: &[u8] = b"node a 4\nport h\nwire a.0 h\n";
-
-/// The bytes of the device that aren't 00, with their places: the head, the first area's front, the image, and a group of two
-/// entries, by which the host hands in the letters x and y.
-const BYTES: [(usize, &[u8]); 8] = [
+/// The bytes of the device that aren't 00, with their places: the head, the first area's front, the image's head and the word of the
+/// interrupted process, and a group of two entries, by which the host hands in the letters x and y.
+const BYTES: [(usize, &[u8]); 9] = [
     (0, b"TPNET\0\0\x01\x01\x01"),
     (16, &[0, 0x40, 0, 0, 0, 0, 0, 0, 4]),
     (56, &[0x80]),
@@ -29,6 +19,7 @@ const BYTES: [(usize, &[u8]); 8] = [
         533 + 27,
         &[0x80, 0, 0, 0, 0x80, 0, 0, 0, 0x80, 0, 0, 0, 0x80],
     ),
+    (533 + 172 + 0x2F, &[0x80]),
     (13_033, &[0xA5, 0, 2]),
     (
         13_049,
@@ -38,21 +29,9 @@ const BYTES: [(usize, &[u8]); 8] = [
     ),
 ];
 
-/// Puts bytes at a place.
-fn place(bytes: &mut [u8], at: usize, piece: &[u8]) {
-    for (old, new) in bytes.iter_mut().skip(at).zip(piece) {
-        *old = *new;
-    }
-}
-
 /// The image of a node of four pages in which no process runs.
 pub(crate) fn image(alloc: Global) -> Option<Vec<u8>> {
-    let mut image = Vec::from_elem(alloc, 0u8, 172 + 4096).ok()?;
-    place(&mut image, 0, &[1, 0, 4]);
-    for queue in [27, 31, 35, 39] {
-        place(&mut image, queue, &[0x80]);
-    }
-    Some(image)
+    idle(alloc).ok()
 }
 
 fn images(alloc: Global) -> Option<Vec<Vec<u8>>> {
@@ -77,9 +56,9 @@ pub(crate) fn grown(alloc: Global) -> Result<Vec<u8>, AllocError> {
 #[test]
 fn a_device_is_formatted_again(rt: HostRuntime) -> Result<(), Fail> {
     let alloc = rt.alloc();
-    let topology = match Topology::read(alloc, TEXT) {
+    let topology = match Topology::read(alloc, ONE_NODE) {
         Ok(topology) => topology,
-        Err(_) => Topology::read(alloc, TEXT)?,
+        Err(_) => Topology::read(alloc, ONE_NODE)?,
     };
     let images = images(alloc).or_else(|| images(alloc)).ok_or("no images")?;
     let mut disk = match MemDisk::zeroed(alloc, SIZE) {
@@ -105,9 +84,9 @@ fn a_device_is_formatted_again(rt: HostRuntime) -> Result<(), Fail> {
 #[test]
 fn a_bad_image_stays_bad(rt: HostRuntime) -> Result<(), Fail> {
     let alloc = rt.alloc();
-    let topology = match Topology::read(alloc, TEXT) {
+    let topology = match Topology::read(alloc, ONE_NODE) {
         Ok(topology) => topology,
-        Err(_) => Topology::read(alloc, TEXT)?,
+        Err(_) => Topology::read(alloc, ONE_NODE)?,
     };
     let mut images = images(alloc).or_else(|| images(alloc)).ok_or("no images")?;
     for image in images.iter_mut() {
