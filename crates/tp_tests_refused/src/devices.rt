@@ -1,5 +1,6 @@
 //! A device in memory, and formatting it. What makes it ready is done again where memory was refused.
 
+use crate::topologies::read;
 use std::alloc::{AllocError, Global};
 use std::test::Fail;
 use tp_area::{FormatFault, format};
@@ -20,9 +21,9 @@ const BYTES: [(usize, &[u8]); 9] = [
         &[0x80, 0, 0, 0, 0x80, 0, 0, 0, 0x80, 0, 0, 0, 0x80],
     ),
     (533 + 172 + 0x2F, &[0x80]),
-    (13_033, &[0xA5, 0, 2]),
+    (GROUPS, &[0xA5, 0, 2]),
     (
-        13_049,
+        GROUPS + 16,
         &[
             3, 0, 0x78, 0, 0, 0, 0, 0, 0, 0, 0, 0, 0, 0, 0, 0, 3, 0, 0x79, 0, 0, 0, 0, 0, 1,
         ],
@@ -30,53 +31,87 @@ const BYTES: [(usize, &[u8]); 9] = [
 ];
 
 /// The image of a node of four pages in which no process runs.
-pub(crate) fn image(alloc: Global) -> Option<Vec<u8>> {
-    idle(alloc).ok()
+pub(crate) fn image(alloc: Global) -> Result<Vec<u8>, AllocError> {
+    match idle(alloc) {
+        Ok(image) => Ok(image),
+        Err(_) => idle(alloc),
+    }
 }
 
-fn images(alloc: Global) -> Option<Vec<Vec<u8>>> {
-    let mut images = Vec::new(alloc);
-    images.push(image(alloc)?).ok()?;
-    Some(images)
+/// A device of zeros.
+fn zeroed(alloc: Global) -> Result<Vec<u8>, AllocError> {
+    match Vec::from_elem(alloc, 0u8, SIZE) {
+        Ok(bytes) => Ok(bytes),
+        Err(_) => Vec::from_elem(alloc, 0u8, SIZE),
+    }
 }
 
 /// The bytes of the device with the group, though memory may be refused once.
 pub(crate) fn grown(alloc: Global) -> Result<Vec<u8>, AllocError> {
-    let mut bytes = match Vec::from_elem(alloc, 0u8, SIZE) {
-        Ok(bytes) => bytes,
-        Err(_) => Vec::from_elem(alloc, 0u8, SIZE)?,
-    };
+    let mut bytes = zeroed(alloc)?;
     for (at, piece) in BYTES {
         place(&mut bytes, at, piece);
     }
     Ok(bytes)
 }
 
+/// What is formatted, and the device.
+#[derive(Drop)]
+struct Given {
+    topology: Topology,
+    images: Vec<Vec<u8>>,
+    disk: MemDisk,
+}
+
+/// The node's image as the only one, where memory isn't refused.
+fn images_once(alloc: Global) -> Result<Vec<Vec<u8>>, AllocError> {
+    let mut images = Vec::new(alloc);
+    images.push(image(alloc)?)?;
+    Ok(images)
+}
+
+/// The images of the network.
+fn images(alloc: Global) -> Result<Vec<Vec<u8>>, AllocError> {
+    match images_once(alloc) {
+        Ok(images) => Ok(images),
+        Err(_) => images_once(alloc),
+    }
+}
+
+/// A device of zeros, though memory may be refused once.
+fn given(alloc: Global) -> Result<Given, Fail> {
+    Ok(Given {
+        topology: read(alloc, ONE_NODE)?,
+        images: images(alloc)?,
+        disk: MemDisk::of_bytes(zeroed(alloc)?),
+    })
+}
+
+impl Given {
+    fn format(&mut self, alloc: Global) -> Result<(), FormatFault> {
+        // A topology keeps its rules: its page counts say so, which `format` asks.
+        let _rules = self.topology.pages();
+        format(alloc, &mut self.disk, &self.topology, &self.images, AREA)
+    }
+
+    /// Whether the device has `bytes`, and no call of it failed.
+    fn has(&self, bytes: &[u8]) -> bool {
+        self.disk.failures() == 0 && self.disk.bytes() == bytes
+    }
+}
+
 /// Nothing is written where memory is refused, and the next format is as the first would have been.
 #[test]
 fn a_device_is_formatted_again(rt: HostRuntime) -> Result<(), Fail> {
     let alloc = rt.alloc();
-    let topology = match Topology::read(alloc, ONE_NODE) {
-        Ok(topology) => topology,
-        Err(_) => Topology::read(alloc, ONE_NODE)?,
-    };
-    let images = images(alloc).or_else(|| images(alloc)).ok_or("no images")?;
-    let mut disk = match MemDisk::zeroed(alloc, SIZE) {
-        Ok(disk) => disk,
-        Err(_) => MemDisk::zeroed(alloc, SIZE)?,
-    };
-    // A topology keeps its rules: its page counts say so, which `format` asks.
-    let _rules = topology.pages();
-    if let Err(fault) = format(alloc, &mut disk, &topology, &images, AREA) {
-        assert_eq!(rt; fault, FormatFault::Memory);
-        assert_eq!(rt; disk.failures(), 0);
-        assert!(rt; disk.bytes().iter().all(|byte| *byte == 0));
-        format(alloc, &mut disk, &topology, &images, AREA)?;
+    let (mut given, zeros) = (given(alloc)?, zeroed(alloc)?);
+    if let Err(fault) = given.format(alloc) {
+        assert!(rt; fault == FormatFault::Memory && given.has(&zeros));
+        given.format(alloc)?;
     }
-    assert_eq!(rt; disk.failures(), 0);
     let mut want = grown(alloc)?;
     place(&mut want, GROUPS, &[0; 49]);
-    assert!(rt; disk.bytes() == want.as_slice());
+    assert!(rt; given.has(&want));
     Ok(())
 }
 
@@ -84,27 +119,14 @@ fn a_device_is_formatted_again(rt: HostRuntime) -> Result<(), Fail> {
 #[test]
 fn a_bad_image_stays_bad(rt: HostRuntime) -> Result<(), Fail> {
     let alloc = rt.alloc();
-    let topology = match Topology::read(alloc, ONE_NODE) {
-        Ok(topology) => topology,
-        Err(_) => Topology::read(alloc, ONE_NODE)?,
-    };
-    let mut images = images(alloc).or_else(|| images(alloc)).ok_or("no images")?;
-    for image in images.iter_mut() {
-        if let Some(byte) = image.get_mut(109) {
-            *byte = 1;
-        }
+    let (mut given, zeros) = (given(alloc)?, zeroed(alloc)?);
+    for image in given.images.iter_mut() {
+        place(image, 109, &[1]);
     }
-    let mut disk = match MemDisk::zeroed(alloc, SIZE) {
-        Ok(disk) => disk,
-        Err(_) => MemDisk::zeroed(alloc, SIZE)?,
-    };
-    // A topology keeps its rules: its page counts say so, which `format` asks.
-    let _rules = topology.pages();
-    let mut answer = format(alloc, &mut disk, &topology, &images, AREA);
+    let mut answer = given.format(alloc);
     if answer == Err(FormatFault::Memory) {
-        answer = format(alloc, &mut disk, &topology, &images, AREA);
+        answer = given.format(alloc);
     }
-    assert_eq!(rt; answer, Err(FormatFault::BadImage));
-    assert!(rt; disk.bytes().iter().all(|byte| *byte == 0));
+    assert!(rt; answer == Err(FormatFault::BadImage) && given.has(&zeros));
     Ok(())
 }
