@@ -78,16 +78,16 @@ fn images(alloc: Global) -> Result<Vec<Vec<u8>>, AllocError> {
     }
 }
 
-/// A device of zeros, though memory may be refused once.
-fn given(alloc: Global) -> Result<Given, Fail> {
-    Ok(Given {
-        topology: read(alloc, ONE_NODE)?,
-        images: images(alloc)?,
-        disk: MemDisk::of_bytes(zeroed(alloc)?),
-    })
-}
-
 impl Given {
+    /// A device of zeros, though memory may be refused once.
+    fn new(alloc: Global) -> Result<Given, Fail> {
+        Ok(Given {
+            topology: read(alloc, ONE_NODE)?,
+            images: images(alloc)?,
+            disk: MemDisk::of_bytes(zeroed(alloc)?),
+        })
+    }
+
     fn format(&mut self, alloc: Global) -> Result<(), FormatFault> {
         // A topology keeps its rules: its page counts say so, which `format` asks.
         let _rules = self.topology.pages();
@@ -104,7 +104,7 @@ impl Given {
 #[test]
 fn a_device_is_formatted_again(rt: HostRuntime) -> Result<(), Fail> {
     let alloc = rt.alloc();
-    let (mut given, zeros) = (given(alloc)?, zeroed(alloc)?);
+    let (mut given, zeros) = (Given::new(alloc)?, zeroed(alloc)?);
     if let Err(fault) = given.format(alloc) {
         assert!(rt; fault == FormatFault::Memory && given.has(&zeros));
         given.format(alloc)?;
@@ -119,7 +119,7 @@ fn a_device_is_formatted_again(rt: HostRuntime) -> Result<(), Fail> {
 #[test]
 fn a_bad_image_stays_bad(rt: HostRuntime) -> Result<(), Fail> {
     let alloc = rt.alloc();
-    let (mut given, zeros) = (given(alloc)?, zeroed(alloc)?);
+    let (mut given, zeros) = (Given::new(alloc)?, zeroed(alloc)?);
     for image in given.images.iter_mut() {
         place(image, 109, &[1]);
     }

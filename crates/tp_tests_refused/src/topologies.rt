@@ -2,9 +2,8 @@
 
 use std::alloc::Global;
 use std::test::Fail;
-use tp_model::NetFault;
-use tp_model::WireEnd;
 use tp_model::WireEnd::{Link, Port};
+use tp_model::{NetFault, WireEnd};
 use tp_net::Topology;
 
 const TEXT: &[u8] = b"node a 4\nnode b 5\nport h\nwire a.0 h\nwire a.1 b.2\n";
