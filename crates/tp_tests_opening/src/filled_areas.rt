@@ -77,11 +77,7 @@ fn refuses(alloc: Global, store: &mut Store<MemDisk>, count: usize) -> Result<bo
 }
 
 /// Whether no group fits that has one of the counts.
-fn refuses_all(
-    alloc: Global,
-    store: &mut Store<MemDisk>,
-    counts: &[usize],
-) -> Result<bool, Fail> {
+fn refuses_all(alloc: Global, store: &mut Store<MemDisk>, counts: &[usize]) -> Result<bool, Fail> {
     for count in counts {
         if !refuses(alloc, store, *count)? {
             return Ok(false);

@@ -134,7 +134,7 @@ fn entry_bytes(number: u8, took: bool) -> [u8; 16] {
     bytes
 }
 
-/// The bytes of a device with so many entries, in groups of up to 64.
+/// The bytes of a device with `entries` entries, in groups of up to 64. The node took the first byte where `took` says so.
 fn device(alloc: Global, entries: u8, took: bool) -> Result<Vec<u8>, Fail> {
     let mut bytes = fresh(alloc, AREA)?;
     for number in 0..entries {
