@@ -1,8 +1,10 @@
 -- What is copied of a whole cut.
-use Rattle.std.proofs.Common.{◌≡◌, ℕ, zero, suc, ◌+◌, Bool, true, false, not, List, [], ◌∷◌, ◌++◌, take, refl, sym, ap, ◌∙◌, arith, Option, Some, None, slice_get}
+use Rattle.std.proofs.Common.{◌≡◌, ℕ, ◌+◌, Bool, true, false, not, List, [], ◌∷◌, ◌++◌, take, refl, sym, ap, ◌∙◌, Option, Some, None, slice_get}
 use Rattle.std.specs.Prelude.{◌&&◌, Result, Ok, Err, IfOk, IfSome, is_some}
 use Rattle.std.specs.List.{AllByRecursion, list_all}
 use Rattle.std.proofs.lemmas.Bool.{and_parts}
+use Rattle.std.proofs.lemmas.List.{take_more}
+use Rattle.std.proofs.lemmas.Option.{get_or_from_slice_get, slice_get_within}
 use Rattle.tp_book.proofs.Stood.{no_act}
 use Rattle.tp_shared.specs.Copied.{has_copy}
 use Rattle.tp_shared.specs.Told.{Since}
@@ -10,12 +12,7 @@ use Rattle.tp_shared.specs.declared.seal.NodeSeal.{NodeSeal}
 use Rattle.tp_shared.specs.declared.told.Told.{Told}
 
 pub take_some : {A : Type 0} (xs : List A) (i : ℕ) (x : A) → slice_get xs i ≡ Some x → take (i + 1) xs ≡ take i xs ++ x ∷ []
-take_some [] i x e = cc
-take_some (y ∷ ys) zero x e = let same : y ≡ x = cc in ap (λ z. z ∷ []) same
-take_some (y ∷ ys) (suc i) x e = ap (λ n. take n (y ∷ ys)) (more i) ∙ ap (λ zs. y ∷ zs) (take_some ys i x e)
-  where
-    more : (n : ℕ) → suc n + 1 ≡ suc (n + 1)
-    more n = omega arith
+take_some xs i x e = take_more xs i x (slice_get_within xs i x e) ∙ ap (λ y. take i xs ++ y ∷ []) (get_or_from_slice_get xs i x x e)
 
 -- there is a copy, and no node's pages are kept
 pub copy_found : {A E : Type 0} (P : A → Type 0) (found : Result (Option A) E) (thawed whole : Bool) → IfOk found (λ given. IfSome given P) → IfOk found (λ given. is_some given ≡ (thawed && whole)) → has_copy found ≡ true

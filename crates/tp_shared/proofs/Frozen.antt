@@ -18,6 +18,7 @@ use Rattle.tp_snap.specs.Needs.{has_recorded_in}
 use Rattle.tp_book.specs.Book.{BookValue, agreed, world_of}
 use Rattle.tp_book.proofs.Remarked.{running_in}
 use Rattle.tp_shared.specs.Pieces.{IsFrozenPage}
+use Rattle.tp_shared.proofs.Sealing.{get_within}
 
 node_there : (o : Option NodeState) (n : NodeState) → option_map OfNode o ≡ option_map OfNode (Some n) → o ≡ Some n
 node_there None n e = cc
@@ -28,17 +29,12 @@ at_some [] i n e = cc
 at_some (x ∷ xs) zero n e = ap Some e
 at_some (x ∷ xs) (suc i) n e = at_some xs i n e
 
-within : (xs : List NodeState) (i : ℕ) → i < length xs → (x : NodeState) × (slice_get xs i ≡ Some x)
-within [] i h = absurd (omega (arith, h))
-within (x ∷ xs) zero h = (x, refl)
-within (x ∷ xs) (suc i) h = within xs i (omega (arith, h))
-
 module _ (w : MarkedNetwork NodeState) (H : Holds t414 w) (i : ℕ) (below : i < length w.live.nodes) where
   -- a node that has recorded has an image
   image_there : (snap : Snapshot) → w.snapshot ≡ Some snap → has_recorded snap i ≡ true → (n : NodeState) × (get_or w.frozen i None ≡ Some n)
   image_there snap runs recorded =
       let K = running t414 w H snap runs in
-      let N = within K.mid.nodes i (omega (arith, below, mid_nodes t414 has_four_links w H.base snap K)) in
+      let N = get_within K.mid.nodes i (omega (arith, below, mid_nodes t414 has_four_links w H.base snap K)) in
       let apart : i ≢ length K.mid.nodes = λ e. omega (arith, e, below, mid_nodes t414 has_four_links w H.base snap K) in (
         N.0,
         node_there (get_or w.frozen i None) N.0

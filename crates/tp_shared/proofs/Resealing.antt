@@ -1,5 +1,5 @@
 -- One seal beside an unchanged book is another.
-use Rattle.std.proofs.Common.{◌≡◌, ℕ, zero, suc, ◌<◌, Bool, true, false, inl, inr, List, [], ◌∷◌, length, set, refl, sym, ap, subst, ◌∙◌, arith, Some, None, slice_get}
+use Rattle.std.proofs.Common.{◌≡◌, ℕ, Bool, true, false, inl, inr, List, set, refl, sym, ap, subst, ◌∙◌, Some, None, slice_get}
 use Rattle.std.proofs.lemmas.Bool.{cases_eq}
 use Rattle.tp_law_machine.proofs.Partial.{slice_get-set_same, slice_get-set_other}
 use Rattle.tp_book.specs.Book.{BookValue}
@@ -40,8 +40,3 @@ thawed_seal name seal_name a flag b i S = record {
   reserved = S.reserved;
   flag = refl;
 }
-
-pub within_list : {A : Type 0} (xs : List A) (i : ℕ) (x : A) → slice_get xs i ≡ Some x → i < length xs
-within_list [] i x e = cc
-within_list (y ∷ ys) zero x e = omega arith
-within_list (y ∷ ys) (suc i) x e = let r = within_list ys i x e in omega (arith, r)

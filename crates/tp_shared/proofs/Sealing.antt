@@ -25,7 +25,7 @@ use Rattle.tp_shared.proofs.Writing.{enumerated_below}
 
 -- ## Seals
 
-get_within : {A : Type 0} (xs : List A) (i : ℕ) → i < length xs → (x : A) × (slice_get xs i ≡ Some x)
+pub get_within : {A : Type 0} (xs : List A) (i : ℕ) → i < length xs → (x : A) × (slice_get xs i ≡ Some x)
 get_within [] i h = absurd (omega (arith, h))
 get_within (x ∷ xs) zero h = (x, refl)
 get_within (x ∷ xs) (suc i) h = get_within xs i (omega (arith, h))

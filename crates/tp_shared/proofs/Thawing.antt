@@ -1,7 +1,7 @@
 -- Seals once no node's pages are kept any more.
-use Rattle.std.proofs.Common.{◌≡◌, ℕ, zero, suc, true, false, List, [], ◌∷◌, set, sym, subst, ◌∙◌, Some, slice_get}
-use Rattle.std.specs.List.{AllByRecursion}
+use Rattle.std.proofs.Common.{◌≡◌, ℕ, true, false, List, set, sym, ◌∙◌, Some, slice_get}
 use Rattle.std.proofs.lemmas.Bool.{true≢false}
+use Rattle.tp_law_machine.proofs.Partial.{all_at, all_set}
 use Rattle.tp_model.specs.NodeState.{NodeState}
 use Rattle.tp_model.specs.Runs.{World, HasCut}
 use Rattle.tp_snap.specs.Needs.{has_recorded_in}
@@ -12,16 +12,6 @@ use Rattle.tp_shared.specs.Thawed.{HasThawed, Thaws}
 use Rattle.tp_shared.specs.declared.seal.NodeSeal.{NodeSeal}
 use Rattle.tp_shared.specs.declared.told.Told.{Told}
 use Rattle.tp_shared.proofs.Cuts.{stays_whole, whole_recorded}
-
-all_set : {A : Type 0} (P : A → Type 0) (xs : List A) (i : ℕ) (x : A) → AllByRecursion P xs → P x → AllByRecursion P (set xs i x)
-all_set P [] i x all p = tt
-all_set P (y ∷ ys) zero x all p = (p, all.1)
-all_set P (y ∷ ys) (suc i) x all p = (all.0, all_set P ys i x all.1 p)
-
-all_at : {A : Type 0} (P : A → Type 0) (xs : List A) (i : ℕ) (x : A) → AllByRecursion P xs → slice_get xs i ≡ Some x → P x
-all_at P [] i x all e = cc
-all_at P (y ∷ ys) zero x all e = let same : y ≡ x = cc in subst P same all.0
-all_at P (y ∷ ys) (suc i) x all e = all_at P ys i x all.1 e
 
 -- nothing is told of pages
 pub thaws_none : (t : Told) (seals : List NodeSeal) → t.thawed ≡ false → Thaws t seals

@@ -1,13 +1,13 @@
 use Rattle.std.proofs.Common.{◌≡◌, ◌∙◌, length, refl, sym, ap, subst, arith, Some, slice_get}
 use Rattle.std.specs.Prelude.{is_some}
 use Rattle.std.proofs.lemmas.List.{length-set}
-use Rattle.std.proofs.lemmas.Option.{slice_get_read}
+use Rattle.std.proofs.lemmas.Option.{slice_get_read, slice_get_within}
 use Rattle.tp_model.specs.FrozenAs.{IsFrozenAs}
 use Rattle.tp_book.specs.Book.{agreed, world_of}
 use Rattle.tp_shared.specs.Agreement.{Agreement}
 use Rattle.tp_shared.specs.Seals.{Stage}
 use Rattle.tp_shared.proofs.Frozen.{kept_frozen}
-use Rattle.tp_shared.proofs.Resealing.{sealed_again, within_list}
+use Rattle.tp_shared.proofs.Resealing.{sealed_again}
 use Rattle.tp_shared.proofs.Thawing.{thaws_set, thawed_at}
 use Rattle.tp_shared.proofs.locked.Locked.audit_frozen.Goals as goal
 
@@ -53,4 +53,4 @@ returns-clause-frozen g c node frozen =
     let S = inv.3 c.args.number here at in
     let is = ap (λ (x : Agreement). x.frozen) (ap (λ x. x.state) c.agree.ensures.agreed ∙ c.requires.shows.shown) ∙ frozen in
     subst (λ (stage : Stage). IsFrozenAs (world_of stage.book) c.args.number node) c.self.view_is
-    (kept_frozen b c.args.number node c.known.ensures.holds (within_list (agreed b.state) c.args.number here.seal.value.state.node S.node) (S.recorded (ap is_some is)) (λ there t. S.kept node there is t))
+    (kept_frozen b c.args.number node c.known.ensures.holds (slice_get_within (agreed b.state) c.args.number here.seal.value.state.node S.node) (S.recorded (ap is_some is)) (λ there t. S.kept node there is t))
