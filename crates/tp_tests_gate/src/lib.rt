@@ -1,6 +1,8 @@
 //! Threads that a gate holds at a point of a turn, beside others that go on.
 #![tactic(auto)]
 
+pub mod beside;
+
 #[cfg(test)]
 mod device;
 pub mod hold;

@@ -1,6 +1,6 @@
 //! Workers that make turns together, and what they journalled.
 
-ghost use Rattle.std.specs.Prelude.{◌≡◌, ◌+◌, [], IsTrue, IfSome, IfOk, Some, All, length, ℕ};
+ghost use Rattle.std.specs.Prelude.{◌≡◌, [], IsTrue, IfSome, ForSome, Some, All, length, ℕ};
 ghost use Rattle.tp_shared.specs.Seals.{Stage};
 ghost use Rattle.tp_tests_gate.specs.Made.{IsSum, made_by};
 ghost use Rattle.tp_token.specs.Sound.{item_of, shown};
@@ -18,7 +18,7 @@ use tp_work::{Net, Seat, Turn};
 pub struct Work<J: Naming> {
     slips: Slips<J>,
     entries: Option<u64>,
-    pub ghost counted: { IfSome entries (λ count. count ≡ length slips) },
+    pub ghost counted: { ForSome entries (λ count. count ≡ length slips) },
 }
 
 /// How many entries a turn made, where that is a number.

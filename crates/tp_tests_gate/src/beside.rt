@@ -1,0 +1,125 @@
+//! The flusher beside turns of nodes: either goes on while the other is held.
+
+use crate::hold::Hold;
+use std::alloc::Global;
+use std::sync::Wait;
+use std::thread::{Threads, join};
+use tp_disk::Disk;
+use tp_flush::{FLUSHER, Flusher};
+use tp_shared::gate::{BACKLOG_COPIED, RUN_DONE};
+use tp_shared::{Gate, Naming, NoGate, Seat, Shared};
+
+/// How many steps a turn has.
+const QUANTUM: u16 = 9;
+
+/// A turn of the node `number`. Answers whether it was made, and a run with it.
+fn is_run<J: Naming, G: Gate, R: Wait>(
+    rt: &R,
+    shared: &Shared<J>,
+    gate: &G,
+    number: u8,
+) -> bool {
+    if number >= shared.nodes() {
+        return false;
+    }
+    let mut seat = Seat::new();
+    match shared.turn(rt, gate, &mut seat, number, QUANTUM) {
+        Ok(turn) => turn.ran.count() > 0,
+        Err(_) => false,
+    }
+}
+
+/// The number that the next entry gets.
+fn next_of<J: Naming, R: Wait>(rt: &R, shared: &Shared<J>) -> u64 {
+    shared.book().lock(rt).book().next()
+}
+
+/// Whether the flusher's turn is done while the node `number` is held behind its run.
+pub fn is_flushed_beside_a_run<J: Naming + Send + Sync, D: Disk + Send + Drop, R: Threads + Wait + Sync>(
+    rt: &R,
+    alloc: Global,
+    shared: &Shared<J>,
+    flusher: Flusher<J, D>,
+    number: u8,
+) -> (Flusher<J, D>, bool) {
+    let hold = Hold::new(number, RUN_DONE);
+    let gate = &hold;
+    let (is_made, (flusher, is_flushed)) = join(
+        rt,
+        move || is_run(rt, shared, gate, number),
+        move || flush_beside(rt, alloc, shared, flusher, gate),
+    );
+    (flusher, is_made && is_flushed && hold.was_let_go())
+}
+
+// A turn of the flusher once a node is held, which is let go then. Answers whether it was there, and the turn was done.
+fn flush_beside<J: Naming, D: Disk, R: Wait>(
+    rt: &R,
+    alloc: Global,
+    shared: &Shared<J>,
+    flusher: Flusher<J, D>,
+    gate: &Hold,
+) -> (Flusher<J, D>, bool) {
+    let mut flusher = flusher;
+    let came = gate.wait();
+    let done = flusher.turn(rt, alloc, shared);
+    gate.open();
+    (flusher, came && done.is_ok())
+}
+
+// A turn of the flusher that the gate holds. Answers the mark.
+fn flush_held<J: Naming, D: Disk, R: Wait>(
+    rt: &R,
+    alloc: Global,
+    shared: &Shared<J>,
+    flusher: Flusher<J, D>,
+    gate: &Hold,
+) -> (Flusher<J, D>, Option<u64>) {
+    let mut flusher = flusher;
+    let mark = match flusher.turn_with(rt, alloc, shared, gate) {
+        Ok(flushed) => Some(flushed.mark),
+        Err(_) => None,
+    };
+    (flusher, mark)
+}
+
+// A run of the node `number` once the flusher is held, which is let go then. Answers the run's number.
+fn run_beside<J: Naming, R: Wait>(
+    rt: &R,
+    shared: &Shared<J>,
+    gate: &Hold,
+    number: u8,
+) -> Option<u64> {
+    let came = gate.wait();
+    let is_made = is_run(rt, shared, &NoGate, number);
+    let next = next_of(rt, shared);
+    gate.open();
+    if came && is_made { next.checked_sub(1) } else { None }
+}
+
+/// Whether a run of the node `number`, which is journalled while the flusher is held behind its copy, isn't stored by that turn, but
+/// by the next one: the mark is then at most the run's number, and above it.
+pub fn is_stored_by_the_next_turn<J: Naming + Send + Sync, D: Disk + Send + Drop, R: Threads + Wait + Sync>(
+    rt: &R,
+    alloc: Global,
+    shared: &Shared<J>,
+    flusher: Flusher<J, D>,
+    number: u8,
+) -> (Flusher<J, D>, bool) {
+    let hold = Hold::new(FLUSHER, BACKLOG_COPIED);
+    let gate = &hold;
+    let ((mut flusher, first), run) = join(
+        rt,
+        move || flush_held(rt, alloc, shared, flusher, gate),
+        move || run_beside(rt, shared, gate, number),
+    );
+    let second = match flusher.turn(rt, alloc, shared) {
+        Ok(flushed) => Some(flushed.mark),
+        Err(_) => None,
+    };
+    let is_between = match (first, run, second) {
+        (Some(first), Some(run), Some(second)) => first <= run && run < second,
+        _ => false,
+    };
+    (flusher, is_between && hold.was_let_go())
+}
