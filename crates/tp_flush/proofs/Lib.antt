@@ -4,3 +4,6 @@ mod Appends
 mod Begins
 mod Turns
 mod Endings
+mod Goings
+mod Puts
+mod Copying

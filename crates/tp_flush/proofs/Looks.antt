@@ -1,6 +1,6 @@
 -- What is done between two calls of the device is a piece of a run: the acts of the book, a copy of the backlog, and the raising
 -- of the mark.
-use Rattle.std.proofs.Common.{◌≡◌, ◌≤◌, false, List, [], ◌∷◌, map, length, refl, sym, ap, ◌∙◌, Some, arith, length-append}
+use Rattle.std.proofs.Common.{◌≡◌, ◌≤◌, false, List, [], ◌∷◌, map, length, refl, sym, ap, subst, ◌∙◌, Some, arith, length-append}
 use Rattle.std.specs.Prelude.{◌-◌, drop, max}
 use Rattle.std.specs.List.{AllByRecursion}
 use Rattle.tp_model.specs.declared.entry.Entry.{Entry}
@@ -76,6 +76,17 @@ module _ (w : World NodeState) (old now : Told) (told : IsFirst old w) (since : 
   -- the book has no fewer entries than it had
   pub entries_stay : length w.net.entries ≤ length now.net.entries
   entries_stay = acts_keep_entries since.acts w.net now.net since.none net_is
+
+-- the world once the flusher was told of the book
+abbrev pub learned : World NodeState → Told → World NodeState
+learned w told = record w { net = told.net; base = told.base; journal = told.journal }
+
+pub learns : (w : World NodeState) (old now : Told) → IsFirst old w → Since old now → Leads t414 device_areas w (learned w now)
+learns w old now told since =
+    let u : World NodeState = record w { net = now.net; journal = grown_all since.acts w.journal } in
+    let grew : now.journal ≡ grown_all since.acts w.journal = since.journal ∙ ap (grown_all since.acts) told.journal in
+    let end : learned w now ≡ u = λ i. record w { net = now.net; base = base_is w old now told since i; journal = grew i } in
+    record { events = map Acts since.acts; run = subst (λ (v : World NodeState). Run t414 device_areas w (map Acts since.acts) v) (sym end) (acts_run w since.acts now.net since.none (net_is w old now told since)); unopened = acts_unopened since.acts }
 
 -- the world once the mark was raised
 abbrev pub raised : World NodeState → World NodeState

@@ -2,11 +2,15 @@
 #![tactic(auto)]
 
 mod appending;
+mod checkpoint;
 mod copying;
 mod fault;
 mod flushed;
 mod flusher;
+mod images;
 mod laws;
+mod pieces;
+mod progress;
 mod raising;
 mod snapshot;
 mod turn;
@@ -16,5 +20,6 @@ pub use fault::FlushFault;
 pub use flushed::Flushed;
 pub use flusher::Flusher;
 pub use laws::{first_process_begins, next_process_begins};
+pub use progress::Progress;
 pub use turn::FLUSHER;
 pub use whole::Whole;

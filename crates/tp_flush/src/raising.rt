@@ -13,6 +13,7 @@ impl<J: Naming, D: Disk> Flusher<J, D> {
     pub(crate) fn raise(&mut self, shared: &Shared<J>) -> u64
         ensures mark { result ≡ self.new.world.mark }
         ensures reaches { self.old.world.stored ≤ result }
+        ensures up { self.old.world.mark ≤ result }
         ensures looked { Looked self.old self.new }
     {
         let Flusher { parts, .. } = self;

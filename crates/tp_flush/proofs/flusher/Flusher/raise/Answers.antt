@@ -34,6 +34,7 @@ invariant_of-self g c =
       ap (λ (r : RaiserValue). r.mark) c.raise.ensures ∙ c.self.invariant.1,
       subst (λ (k : Known). IsFirst p.key.value k.world) (sym c.of-parts.ensures) (record { net = F.net; base = F.base; journal = F.journal }),
       kept g c,
+      c.self.invariant.4,
     )
 
 pub returns-clause-mark : goal.returns-clause-mark
@@ -49,8 +50,8 @@ returns-clause-looked g c =
     let s : State = g.D.Disk.state p.store.disk in
     let size = g.D.Disk.size_of p.store.disk in
     let failures = g.D.Disk.failures_of p.store.disk in
-    let from : Flushing = record { world = p.whole.known.world; state = s; size = size; failures = failures; opened = p.whole.known.opened } in
-    let to : Flushing = record { world = c.of-parts.result.known.world; state = s; size = size; failures = failures; opened = c.of-parts.result.known.opened } in
+    let from : Flushing = record { world = p.whole.known.world; state = s; size = size; failures = failures; opened = p.whole.known.opened; place = p.store.place; topology = p.topology; progress = p.progress } in
+    let to : Flushing = record { world = c.of-parts.result.known.world; state = s; size = size; failures = failures; opened = c.of-parts.result.known.opened; place = p.store.place; topology = p.topology; progress = p.progress } in
     let looked : Looked from to = record {
       led = subst (λ (k : Known). Leads t414 device_areas p.whole.known.world k.world) (sym c.of-parts.ensures) (raises p.whole.known.world);
       at = ap (λ (k : Known). k.world.at) c.of-parts.ensures;
@@ -60,5 +61,12 @@ returns-clause-looked g c =
       size = refl;
       failures = refl;
       opened = ap (λ (k : Known). k.opened) c.of-parts.ensures;
+      place = refl;
+      topology = refl;
+      progress = refl;
     } in
     subst (λ (v : Flushing). Looked v to) c.self.view_is looked
+
+pub returns-clause-up : goal.returns-clause-up
+returns-clause-up g c =
+    omega (arith, c.raised.ensures, ap (λ (r : RaiserValue). r.at) c.raise.ensures, c.self.invariant.3.mark, ap (λ (v : Flushing). v.world.mark) c.self.view_is)

@@ -1,0 +1,53 @@
+use Rattle.std.proofs.Common.{◌≡◌, false, refl, sym, subst, ap, ◌∙◌}
+use Rattle.std.specs.Prelude.{Ok}
+use Rattle.tp_model.specs.NodeState.{NodeState}
+use Rattle.tp_model.specs.Node.{t414}
+use Rattle.tp_model.specs.Disk.{Moment}
+use Rattle.tp_model.specs.DiskHistory.{State}
+use Rattle.tp_model.specs.DeviceAreas.{device_areas}
+use Rattle.tp_model.specs.Opening.{verdict}
+use Rattle.tp_model.specs.Runs.{World}
+use Rattle.tp_model.specs.Walks.{Walks}
+use Rattle.tp_model.specs.StoreCalls.{Called, clear_calls}
+use Rattle.tp_model.specs.WriteOrder.{Resting}
+use Rattle.tp_area.specs.Other.{Cleared, OtherIsClosed, if_open, other_gate}
+use Rattle.tp_shared.specs.Told.{IsFirst}
+use Rattle.tp_flush.specs.Known.{Began, Known}
+use Rattle.tp_flush.specs.Flushing.{Flushing, Goes, Keeps}
+use Rattle.tp_flush.specs.Ends.{Went, Tried}
+use Rattle.tp_flush.proofs.Appends.{opens, rests_unbroken}
+use Rattle.tp_flush.proofs.Copying.{put_copies}
+use Rattle.tp_flush.proofs.Goings.{goes_still, went_still}
+use Rattle.tp_flush.proofs.Puts.{Answered, after_put, cleared_walks, on_ok, put_answered, put_keeps, put_tried, told_put}
+use Rattle.tp_flush.proofs.flusher.Flusher.clear.Given as given
+use Rattle.tp_flush.proofs.flusher.Flusher.clear.Goals as goal
+
+resting : (g : given.Over) (c : goal.After-answer_of g) → c.self.inside.parts.whole.known.world.at ≡ Resting
+resting g c = ap (λ (v : Flushing). v.world.at) c.self.view_is ∙ c.requires.rests
+
+unbroken : (g : given.Over) (c : goal.After-answer_of g) → c.self.inside.parts.store.broken ≡ false
+unbroken g c = rests_unbroken c.self.inside.parts.store.broken (sym c.self.invariant.3.at ∙ resting g c)
+
+answered : (g : given.Over) (c : goal.After-answer_of g)
+    → Answered c.clear_other-done.result c.clear_other-done.new.self.broken (g.D.Disk.failures_of c.self.inside.parts.store.disk) (g.D.Disk.failures_of c.clear_other-done.new.self.disk)
+answered g c =
+    let a = c.clear_other-done in
+    put_answered a.result a.new.self.broken a.new.self.filled (g.D.Disk.failures_of c.self.inside.parts.store.disk) (g.D.Disk.failures_of a.new.self.disk) a.ensures.done (a.ensures.failed (unbroken g c))
+
+walked : (g : given.Over) (c : goal.After-answer_of g) → g.D.Disk.keeps → Began g.J.Naming.formatted g.J.Naming.before c.self.inside.parts.whole.known.opened
+    → Walks t414 device_areas c.self.inside.parts.whole.known.world
+    (after_put c.clear_other-done.new.self.broken c.self.inside.parts.whole.known.world (g.D.Disk.state c.clear_other-done.new.self.disk).now)
+    (g.D.Disk.state c.self.inside.parts.store.disk) (g.D.Disk.state c.clear_other-done.new.self.disk)
+walked g c k began =
+    let p = c.self.inside.parts in
+    let w : World NodeState = p.whole.known.world in
+    let a = c.clear_other-done in
+    let s : State = g.D.Disk.state p.store.disk in
+    let new : State = g.D.Disk.state a.new.self.disk in
+    let K = c.self.invariant.3 in
+    let o = opens g.J.Naming.formatted w (K.reached k began) in
+    cleared_walks w s new p.store.place (resting g c) (K.disk k)
+    (a.ensures.asked k (unbroken g c) o.0 (subst (λ (m : Moment). verdict m.bytes ≡ Ok o.0) (K.disk k) o.1))
+    a.result a.new.self.broken (g.D.Disk.failures_of p.store.disk) (g.D.Disk.failures_of a.new.self.disk) (answered g c)
+    (on_ok a.result (Cleared p.store.place s new) (Called (clear_calls (if_open (other_gate p.store.place) s.now.bytes)) s new) (λ C. C.called) (a.ensures.cleared k))
+    (a.ensures.broke k (unbroken g c))
