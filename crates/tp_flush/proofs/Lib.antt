@@ -7,3 +7,4 @@ mod Endings
 mod Goings
 mod Puts
 mod Copying
+pub mod Settling

@@ -3,3 +3,4 @@ pub mod Known
 pub mod Flushing
 pub mod Ends
 pub mod Refused
+pub mod Settled

@@ -50,6 +50,8 @@ grown_like One Other b new like G = record {
   history = G.history;
   base = G.base;
   ready = G.ready;
+  room = G.room;
+  floor = G.floor;
 }
 
 pub acted_like : (One Other : List Entry → Type 0) (number : ℕ) (a : Agreement) (b new : BookValue) → ((es : List Entry) → One es → Other es) → Acted One number a b new → Acted Other number a b new
@@ -69,6 +71,8 @@ module _ (Are : List Entry → Type 0) (number : ℕ) (acts : List Act) (b mid :
     history = A.grew.history;
     base = A.grew.base;
     ready = A.grew.ready;
+    room = A.grew.room;
+    floor = A.grew.floor;
   }
 
   -- no run is reserved
@@ -94,6 +98,8 @@ module _ (Are : List Entry → Type 0) (number : ℕ) (acts : List Act) (b mid :
       history = A.grew.history;
       base = A.grew.base;
       ready = A.grew.ready;
+      room = A.grew.room;
+      floor = A.grew.floor;
     };
     nodes = A.nodes;
     runs = ap (λ runs. set runs number true) A.grew.runs;
@@ -169,6 +175,8 @@ acted_run b new number count n A = record {
     history = A.grew.history;
     base = A.grew.base;
     ready = A.grew.ready;
+    room = A.grew.room;
+    floor = A.grew.floor;
   };
   nodes = A.nodes;
   runs = A.grew.runs;

@@ -49,6 +49,8 @@ hosted_input b new port bytes is same act = record {
     history = ap (λ x. x.history) is ∙ ap (λ es. b.history ++ es) (sym (inputs_listed port bytes));
     base = ap (λ x. x.base) is;
     ready = ap (λ x. x.ready) is;
+    room = ap (λ x. x.room) is;
+    floor = ap (λ x. x.floor) is;
   };
   nodes = same;
   runs = ap (λ x. x.runs) is;
@@ -75,6 +77,8 @@ hosted_confirm b new port upto is same act = go (nat_le upto (port_in b port).ou
         history = ap (λ x. x.history) e ∙ sym (append-nil b.history);
         base = ap (λ x. x.base) e;
         ready = ap (λ x. x.ready) e;
+        room = ap (λ x. x.room) e;
+        floor = ap (λ x. x.floor) e;
       };
       nodes = same;
       runs = ap (λ x. x.runs) e;
@@ -92,6 +96,8 @@ hosted_confirm b new port upto is same act = go (nat_le upto (port_in b port).ou
         history = ap (λ x. x.history) e;
         base = ap (λ x. x.base) e;
         ready = ap (λ x. x.ready) e;
+        room = ap (λ x. x.room) e;
+        floor = ap (λ x. x.floor) e;
       };
       nodes = same;
       runs = ap (λ x. x.runs) e;
@@ -113,6 +119,8 @@ hosted_by Are acts b new A none are = record {
     history = A.grew.history;
     base = A.grew.base;
     ready = A.grew.ready;
+    room = A.grew.room;
+    floor = A.grew.floor;
   };
   nodes = A.nodes;
   runs = A.grew.runs;
@@ -166,6 +174,8 @@ begun_grown b new is act = record {
   history = ap (λ x. x.history) is ∙ sym (append-nil b.history);
   base = ap (λ x. x.base) is;
   ready = ap (λ x. x.ready) is;
+  room = ap (λ x. x.room) is;
+  floor = ap (λ x. x.floor) is;
 }
 
 -- ## The store breaks
@@ -182,6 +192,8 @@ hosted_broken b new is = record {
     history = ap (λ x. x.history) is ∙ sym (append-nil b.history);
     base = ap (λ x. x.base) is;
     ready = ap (λ x. x.ready) is;
+    room = ap (λ x. x.room) is;
+    floor = ap (λ x. x.floor) is;
   };
   nodes = ap (λ x. agreed x.state) is;
   runs = ap (λ x. x.runs) is;

@@ -1,6 +1,6 @@
 -- Seals beside a book that grew, and its roll.
 use Rattle.std.proofs.Common.{◌≡◌, ℕ, zero, suc, ◌+◌, ◌<◌, Bool, true, false, inl, inr, List, [], ◌∷◌, ◌++◌, length, set, drop, get_or, refl, sym, ap, subst, ◌∙◌, arith, Option, Some, None, slice_get, length-append}
-use Rattle.std.specs.Prelude.{IsSome, is_some}
+use Rattle.std.specs.Prelude.{◌≤◌, ◌-◌, IsSome, is_some}
 use Rattle.std.specs.List.{AllByRecursion, enumerate_from}
 use Rattle.std.proofs.lemmas.Bool.{cases_eq}
 use Rattle.std.proofs.lemmas.List.{append-nil, drop_at}
@@ -13,6 +13,7 @@ use Rattle.tp_law_machine.specs.NodeOfBytes.{IsNodeOfBytes}
 use Rattle.tp_node.specs.NodeContents.{NodeContents}
 use Rattle.tp_snap.specs.Needs.{has_recorded_in}
 use Rattle.tp_book.specs.Book.{BookValue, agreed}
+use Rattle.tp_book.specs.Joined.{FitsRoom}
 use Rattle.tp_turn.specs.Moments.{IsNodeOf, entries_in}
 use Rattle.tp_shared.specs.Agreement.{Agreement}
 use Rattle.tp_shared.specs.Acts.{Grown, Acted, Hosted}
@@ -124,7 +125,19 @@ module _ (Are : List Entry → Type 0) (b new : BookValue) (G : Grown Are b new)
         next = let n = T.next in let l = ap length are ∙ length-append all (entries_in G.acts) in let m = ap length G.entries_are ∙ length-append b.state.entries (entries_in G.acts) in let base = G.base in omega (arith, n, l, m, base);
       }
 
--- nothing was journalled
+-- ## Room
+
+-- as many entries as there were at the opening were made before it
+pub floor_after : (Are : List Entry → Type 0) (b new : BookValue) → Grown Are b new → (first : ℕ) → b.floor ≤ first - b.base → new.floor ≤ first - new.base
+floor_after Are b new G first low = let floor = G.floor in let base = G.base in omega (arith, floor, base, low)
+
+-- fewer entries fit too, and with more of them before the opening
+pub fits_fewer : (room : Option ℕ) (floor higher entries fewer : ℕ) → FitsRoom room floor entries → floor ≤ higher → fewer ≤ entries → FitsRoom room higher fewer
+fits_fewer None floor higher entries fewer fits low few = tt
+fits_fewer (Some most) floor higher entries fewer fits low few = λ above. let all = fits (omega (arith, above, low, few)) in omega (arith, all, few)
+
+-- ## Nothing is journalled
+
 pub tied_still : (b new : BookValue) (first : ℕ) (all : List Entry) → Grown (λ entries. entries ≡ []) b new → IsTied first all b → IsTied first all new
 tied_still b new first all G T = record {
   are = T.are ∙ sym (append-nil b.history) ∙ ap (λ es. b.history ++ es) (sym G.are) ∙ sym G.history;

@@ -21,6 +21,8 @@ pub record Grown (Are : List Entry → Type 0) (old new : BookValue) : Type 0 wh
   pub history : new.history ≡ old.history ++ entries_in acts
   pub base : new.base ≡ old.base
   pub ready : new.ready ≡ old.ready
+  pub room : new.room ≡ old.room
+  pub floor : new.floor ≡ old.floor
 
 -- Acts of a node were done, and it and whether a run of it is reserved are then so. The others are as they were: whether they have
 -- recorded, and their frozen images.

@@ -1,13 +1,13 @@
 -- What is picked for parts that are put under locks.
-use Rattle.std.specs.Prelude.{◌≡◌, ℕ, length}
+use Rattle.std.specs.Prelude.{◌≡◌, ℕ, length, Option}
 use Rattle.tp_mark.specs.Seen.{MarkName}
 use Rattle.tp_model.specs.NodeState.{NodeState}
 use Rattle.tp_model.specs.Network.{Network}
 use Rattle.tp_shared.specs.Parted.{name_of, PartsValue}
 
 -- What is picked is that of the parts: the names of the roll, the nodes, the mark and what the flusher is told, the number of the
--- first entry, and a network with the same wires and as many nodes and ports.
-pub record Names (roll first : ℕ) (start : Network NodeState) (node : ℕ → ℕ) (mark : MarkName) (flusher : ℕ) (parts : PartsValue) : Type 0 where
+-- first entry, a network with the same wires and as many nodes and ports, and the bytes that groups may fill on the device.
+pub record Names (roll first : ℕ) (start : Network NodeState) (node : ℕ → ℕ) (mark : MarkName) (flusher : ℕ) (room : Option ℕ) (parts : PartsValue) : Type 0 where
   pub roll_is : parts.roll ≡ roll
   pub first_is : parts.first ≡ first
   pub wires_are : parts.book.state.start.wires ≡ start.wires
@@ -16,3 +16,4 @@ pub record Names (roll first : ℕ) (start : Network NodeState) (node : ℕ → 
   pub nodes_are : (i : ℕ) → node i ≡ name_of parts.seals i
   pub mark_is : parts.mark ≡ mark
   pub flusher_is : parts.flusher ≡ flusher
+  pub room_is : parts.book.room ≡ room

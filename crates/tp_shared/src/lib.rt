@@ -1,6 +1,7 @@
 //! What threads share: the book under one lock, the nodes under four others, and the durable mark.
 #![tactic(auto)]
 
+mod agreeing;
 mod audit;
 mod backlog;
 mod cell;

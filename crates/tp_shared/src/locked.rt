@@ -1,6 +1,6 @@
 //! What lies under the book's lock.
 
-ghost use Rattle.std.specs.Prelude.{◌≡◌, ◌<◌, ◌≤◌, ◌+◌, ◌*◌, Some, true, None, false, [], length, is_ok, IfErr};
+ghost use Rattle.std.specs.Prelude.{◌≡◌, ◌<◌, ◌≤◌, ◌+◌, ◌-◌, ◌*◌, Some, true, None, false, [], length, is_ok, IfErr};
 ghost use Rattle.tp_law_machine.specs.NodeOfBytes.{IsNodeOfBytes};
 ghost use Rattle.tp_model.specs.Network.{steps};
 ghost use Rattle.tp_model.specs.Node.{t414};
@@ -37,7 +37,7 @@ pub struct Locked<J: Naming> {
 }
 
 impl<J: Naming> Model for Locked<J> {
-    ghost use Rattle.std.specs.Prelude.{◌≡◌, ◌+◌, ◌*◌, None, length};
+    ghost use Rattle.std.specs.Prelude.{◌≡◌, ◌≤◌, ◌+◌, ◌-◌, ◌*◌, None, length};
     ghost use Rattle.tp_shared.specs.Seals.{Stage, Sealed, IsTied};
     ghost use Rattle.tp_shared.specs.Told.{Since, told_of};
 
@@ -45,7 +45,7 @@ impl<J: Naming> Model for Locked<J> {
 
     ghost view = { λ l. record { book = l.book; all = l.roll.items } };
 
-    ghost invariant = { λ l. (l.book.ready ≡ None) × (length l.seals.items ≡ length J.start.nodes) × (length l.book.runs ≡ length J.start.nodes) × Sealed J.node l.seals.items l.book × (l.roll.name ≡ J.roll) × (l.roll.first ≡ J.first) × IsTied J.first l.roll.items l.book × (l.book.state.start.wires ≡ J.start.wires) × (length l.book.state.start.nodes ≡ length J.start.nodes) × (l.told.name ≡ J.flusher) × Since l.told.value (told_of J.before J.first (record { book = l.book; all = l.roll.items })) × (length J.start.wires ≡ 4 * length J.start.nodes + length J.start.ports) };
+    ghost invariant = { λ l. (l.book.ready ≡ None) × (length l.seals.items ≡ length J.start.nodes) × (length l.book.runs ≡ length J.start.nodes) × Sealed J.node l.seals.items l.book × (l.roll.name ≡ J.roll) × (l.roll.first ≡ J.first) × IsTied J.first l.roll.items l.book × (l.book.state.start.wires ≡ J.start.wires) × (length l.book.state.start.nodes ≡ length J.start.nodes) × (l.told.name ≡ J.flusher) × Since l.told.value (told_of J.before J.first (record { book = l.book; all = l.roll.items })) × (length J.start.wires ≡ 4 * length J.start.nodes + length J.start.ports) × (l.book.room ≡ J.room) × (l.book.floor ≤ J.first - l.book.base) };
 }
 
 impl<J: Naming> Locked<J> {
@@ -62,6 +62,7 @@ impl<J: Naming> Locked<J> {
         requires sealed { Sealed J.node seals.items book }
         requires roll { (roll.name ≡ J.roll) × (roll.first ≡ J.first) × (roll.items ≡ []) }
         requires tied { IsTied J.first roll.items book }
+        requires room { (book.room ≡ J.room) × (book.floor ≤ J.first - book.base) }
         requires told { (told.name ≡ J.flusher) × (told.value ≡ told_of J.before J.first (record { book = book; all = [] })) }
         ensures { result ≡ record { book = book; all = [] } }
     {

@@ -1,6 +1,6 @@
 //! Which network is meant.
 
-ghost use Rattle.std.specs.Prelude.{ℕ, []};
+ghost use Rattle.std.specs.Prelude.{ℕ, [], Option, None};
 ghost use Rattle.tp_mark.specs.Seen.{MarkName};
 ghost use Rattle.tp_model.specs.NodeState.{NodeState};
 ghost use Rattle.tp_model.specs.Network.{Network};
@@ -29,6 +29,9 @@ pub trait Naming {
     /// The name of the twin of what the flusher is told of the book.
     ghost flusher: { ℕ };
 
+    /// The bytes that groups may fill in an area of the device; none without a device.
+    ghost room: { Option ℕ };
+
     /// The network of the images that the device was formatted with.
     ghost formatted: { Network NodeState };
 
@@ -48,6 +51,8 @@ impl Naming for Brand {
     ghost mark = { record { words = 1; slots = 0; views_name = 0; atom = 0; block = 0; offset = 0; slot_names = [] } };
 
     ghost flusher = { 0 };
+
+    ghost room = { None };
 
     ghost formatted = { record { wires = []; nodes = []; ports = []; lines = [] } };
 

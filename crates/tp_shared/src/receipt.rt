@@ -16,11 +16,13 @@ pub struct Receipt<J: Naming> {
 }
 
 impl<J: Naming> Model for Receipt<J> {
-    ghost use Rattle.tp_shared.specs.Receipted.{Receipted};
+    ghost use Rattle.tp_shared.specs.Receipted.{AreBelow, Receipted};
 
     ghost Value = { Receipted };
 
     ghost view = { λ r. record { number = r.given.number; position = r.given.position; seat = r.seat } };
+
+    ghost invariant = { λ r. AreBelow r.given.number r.seat };
 }
 
 impl<J: Naming> Receipt<J> {

@@ -54,7 +54,9 @@ impl<J: Naming> Shared<J> {
     /// Puts `parts` under locks. The names are those of `parts`: whoever calls picks them. The key is the flusher's, and shows what is
     /// told of the book as it is.
     pub fn start(parts: Parts) -> (Shared<J>, Key<Told>)
-        requires { Names J.roll J.first J.start J.node J.mark J.flusher parts }
+        requires { Names J.roll J.first J.start J.node J.mark J.flusher J.room parts }
+        ensures first { J.first ≡ parts.first }
+        ensures room { J.room ≡ parts.book.room }
         ensures key { (result.1.name ≡ J.flusher) × (result.1.value ≡ told_of J.before J.first (record { book = parts.book; all = [] })) }
     {
         let now = Told::first::<J>(&parts);

@@ -7,7 +7,7 @@ use Rattle.tp_shared.specs.Entries.{TakesOf}
 use Rattle.tp_shared.specs.Seals.{Stage}
 use Rattle.tp_shared.specs.Gains.{Noted}
 use Rattle.tp_shared.proofs.Holding.{acted_like, takes_of_like}
-use Rattle.tp_shared.proofs.Sealing.{node_of_seal, sealed_after, tied_after, all_after, noted_by}
+use Rattle.tp_shared.proofs.Sealing.{floor_after, node_of_seal, sealed_after, tied_after, all_after, noted_by}
 use Rattle.tp_shared.proofs.Telling.{since_more}
 use Rattle.tp_shared.proofs.Writing.{as_many}
 use Rattle.tp_shared.proofs.locked.Locked.begin.Goals as goal
@@ -83,6 +83,8 @@ invariant_of-self g c =
       since_more Are g.J.Naming.before g.J.Naming.first c.self.inside.told.value b new c.self.inside.roll.items c.write_new.new.roll.items A.grown
           (all_after Are b new A.grown (length c.entries-before.result.now) many c.self.inside.roll.items c.write_new.new.roll.items c.write_new.ensures.roll) inv.10,
       inv.11,
+      A.grown.room ∙ inv.12,
+      floor_after Are b new A.grown g.J.Naming.first inv.13,
     )
 
 pub returns-clause-noted : goal.returns-clause-noted

@@ -1,6 +1,7 @@
-use Rattle.std.proofs.Common.{◌∙◌, length, ap}
+use Rattle.std.proofs.Common.{◌≡◌, ◌∙◌, List, [], length, ap}
+use Rattle.tp_model.specs.declared.entry.Entry.{Entry}
 use Rattle.tp_shared.proofs.Hosting.{idle_begun, begun_agreed, begun_grown}
-use Rattle.tp_shared.proofs.Sealing.{sealed_begun, tied_still}
+use Rattle.tp_shared.proofs.Sealing.{floor_after, sealed_begun, tied_still}
 use Rattle.tp_shared.proofs.Telling.{since_still}
 use Rattle.tp_shared.proofs.locked.Locked.begin_snapshot.Goals as goal
 
@@ -27,4 +28,6 @@ invariant_of-self-2 g c =
       inv.9,
       since_still g.J.Naming.before g.J.Naming.first c.self.inside.told.value b new c.self.inside.roll.items G inv.10,
       inv.11,
+      G.room ∙ inv.12,
+      floor_after (λ (entries : List Entry). entries ≡ []) b new G g.J.Naming.first inv.13,
     )

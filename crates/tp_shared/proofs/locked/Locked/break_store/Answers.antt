@@ -1,7 +1,7 @@
 use Rattle.std.proofs.Common.{◌≡◌, ◌∙◌, List, [], length, ap}
 use Rattle.tp_model.specs.declared.entry.Entry.{Entry}
 use Rattle.tp_shared.proofs.Hosting.{hosted_broken}
-use Rattle.tp_shared.proofs.Sealing.{sealed_still, tied_still}
+use Rattle.tp_shared.proofs.Sealing.{floor_after, sealed_still, tied_still}
 use Rattle.tp_shared.proofs.Telling.{since_still}
 use Rattle.tp_shared.proofs.locked.Locked.break_store.Goals as goal
 
@@ -23,4 +23,6 @@ invariant_of-self g c =
       inv.9,
       since_still g.J.Naming.before g.J.Naming.first c.self.inside.told.value b new c.self.inside.roll.items H.grown inv.10,
       inv.11,
+      H.grown.room ∙ inv.12,
+      floor_after (λ (entries : List Entry). entries ≡ []) b new H.grown g.J.Naming.first inv.13,
     )

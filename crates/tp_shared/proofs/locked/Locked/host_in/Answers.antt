@@ -2,7 +2,7 @@ use Rattle.std.proofs.Common.{◌≡◌, ◌∙◌, List, length, map, ap}
 use Rattle.tp_model.specs.declared.entry.Entry.{Entry}
 use Rattle.tp_model.specs.declared.entry.Entry.TheVariants.{HostIn}
 use Rattle.tp_shared.proofs.Hosting.{hosted_input}
-use Rattle.tp_shared.proofs.Sealing.{sealed_still, tied_after, all_after}
+use Rattle.tp_shared.proofs.Sealing.{floor_after, sealed_still, tied_after, all_after}
 use Rattle.tp_shared.proofs.Telling.{since_more}
 use Rattle.tp_shared.proofs.Writing.{as_many}
 use Rattle.tp_shared.proofs.locked.Locked.host_in.Goals as goal
@@ -31,4 +31,6 @@ invariant_of-self-2 g c =
       since_more Are g.J.Naming.before g.J.Naming.first c.self.inside.told.value b new c.self.inside.roll.items c.write_new.new.roll.items H.grown
           (all_after Are b new H.grown (length c.entries-before.result.now) many c.self.inside.roll.items c.write_new.new.roll.items c.write_new.ensures.roll) inv.10,
       inv.11,
+      H.grown.room ∙ inv.12,
+      floor_after Are b new H.grown g.J.Naming.first inv.13,
     )

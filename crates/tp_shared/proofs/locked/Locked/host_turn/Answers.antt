@@ -5,7 +5,7 @@ use Rattle.tp_shared.specs.Seals.{Stage}
 use Rattle.tp_shared.specs.Gains.{Noted}
 use Rattle.tp_shared.proofs.Holding.{grown_like, takes_of_like}
 use Rattle.tp_shared.proofs.Hosting.{hosted_turn, host_refused}
-use Rattle.tp_shared.proofs.Sealing.{sealed_still, tied_after, all_after, noted_by}
+use Rattle.tp_shared.proofs.Sealing.{floor_after, sealed_still, tied_after, all_after, noted_by}
 use Rattle.tp_shared.proofs.Telling.{since_more}
 use Rattle.tp_shared.proofs.Writing.{as_many}
 use Rattle.tp_shared.proofs.locked.Locked.host_turn.Goals as goal
@@ -31,6 +31,8 @@ invariant_of-self g c =
       since_more Are g.J.Naming.before g.J.Naming.first c.self.inside.told.value b new c.self.inside.roll.items c.write_new.new.roll.items H.grown
           (all_after Are b new H.grown (length c.entries-before.result.now) many c.self.inside.roll.items c.write_new.new.roll.items c.write_new.ensures.roll) inv.10,
       inv.11,
+      H.grown.room ∙ inv.12,
+      floor_after Are b new H.grown g.J.Naming.first inv.13,
     )
 
 pub returns-clause-noted : goal.returns-clause-noted

@@ -20,4 +20,6 @@ invariant_of-result g c =
       c.requires.told.0,
       subst (λ t. Since t now) (sym is) (since_none now),
       c.requires.wires.1,
+      c.requires.room.0,
+      c.requires.room.1,
     )

@@ -36,6 +36,14 @@ new-requires-clause-sealed g c =
     sealed_named (name_of c.parts.inside.seals.items) g.J.Naming.node c.parts.inside.seals.items c.parts.inside.book
     (λ i. c.requires.nodes_are i ∙ sym (ap (λ v. name_of v.seals i) c.parts.view_is)) c.parts.invariant.shares.sealed
 
+pub new-requires-clause-room : goal.new-requires-clause-room
+new-requires-clause-room g c =
+    let tied = c.parts.invariant.tied in
+    let few = c.known.ensures.floor in
+    let none = ap length c.parts.invariant.none in
+    let first = ap (λ v. v.first) c.parts.view_is ∙ c.requires.first_is in
+    (ap (λ v. v.book.room) c.parts.view_is ∙ c.requires.room_is, omega (arith, few, none, first, tied.next))
+
 pub new-requires-clause-wires : goal.new-requires-clause-wires
 new-requires-clause-wires g c =
     let wires = ap (λ v. v.book.state.start.wires) c.parts.view_is ∙ c.requires.wires_are in

@@ -1,0 +1,120 @@
+-- Slips beside the flusher's journal.
+use Rattle.std.proofs.Common.{◌≡◌, ℕ, zero, suc, ◌+◌, ◌<◌, ◌≤◌, List, [], ◌∷◌, ◌++◌, length, take, refl, sym, ap, subst, ◌∙◌, arith, Some, slice_get, length-append}
+use Rattle.std.specs.List.{AllByRecursion}
+use mathlib.Core.List.{cons≢nil}
+use Rattle.tp_model.specs.declared.entry.Entry.{Entry}
+use Rattle.tp_model.specs.NodeState.{NodeState}
+use Rattle.tp_model.specs.Node.{t414, t414_ends}
+use Rattle.tp_model.specs.Network.{Machine, Network}
+use Rattle.tp_model.specs.Snapshot.{MarkedNetwork}
+use Rattle.tp_model.specs.Order.{Reorder}
+use Rattle.tp_model.specs.Areas.{next_number}
+use Rattle.tp_model.specs.Disk.{MayBe}
+use Rattle.tp_model.specs.DiskHistory.{State}
+use Rattle.tp_model.specs.DeviceAreas.{device_areas}
+use Rattle.tp_model.specs.Runs.{World, Run}
+use Rattle.tp_model.specs.Walks.{RecoversTo}
+use Rattle.tp_law_machine.proofs.LinkLaws.{has_four_links, never_marks}
+use Rattle.tp_law_device.proofs.Holds.{areas_keep}
+use Rattle.tp_law_runs.proofs.Invariant.{Inv}
+use Rattle.tp_law_runs.proofs.Runs.{formatted_holds, run_keeps}
+use Rattle.tp_law_runs.proofs.Walks.{no_step, recovers_at}
+use Rattle.tp_token.specs.Sound.{Sound, item_of}
+use Rattle.tp_shared.specs.declared.told.Told.{Told}
+use Rattle.tp_shared.specs.Receipted.{AreBelow}
+use Rattle.tp_shared.specs.Seals.{Stage, IsTied}
+use Rattle.tp_shared.specs.Told.{IsFirst, Since, told_of}
+use Rattle.tp_shared.proofs.Telling.{grown-entries, told_entries}
+use Rattle.tp_turn.specs.Moments.{entries_in}
+use Rattle.tp_flush.specs.Known.{Reached}
+use Rattle.tp_flush.specs.Settled.{AreIn, RecoversWith, Stand}
+
+-- ## The journal has as many entries as their numbers say
+
+reorder-length : {Node : Type 0} (M : Machine Node) (s : Network Node) (xs ys : List Entry) → Reorder M s xs ys → length xs ≡ length ys
+reorder-length M s xs ys (same es) = refl
+reorder-length M s xs ys (swap front e f back es at is apart rest) =
+    omega (arith, length-append front (e ∷ f ∷ back), length-append front (f ∷ e ∷ back), reorder-length M s (front ++ f ∷ e ∷ back) es rest)
+
+reached_holds : (start : Network NodeState) (w : World NodeState) → Reached start w → Inv t414 device_areas start w
+reached_holds start w R =
+    run_keeps t414 has_four_links never_marks device_areas (areas_keep t414 t414_ends) start R.formatted.opened R.events R.first w
+    (formatted_holds t414 has_four_links never_marks device_areas (areas_keep t414 t414_ends) start R.formatted.opened R.first R.formatted) R.run
+
+pub length-journal : (start : Network NodeState) (w : World NodeState) → Reached start w → length w.journal ≡ w.base + length w.net.entries
+length-journal start w R =
+    let O = (reached_holds start w R).order in
+    omega (arith, reorder-length t414 start w.journal (O.inside ++ w.net.entries) O.order, length-append O.inside w.net.entries, O.count)
+
+-- ## A slip's entry
+
+behind_front : {V : Type 0} (front items : List V) (n : ℕ) (v : V) → item_of (length front) items n ≡ v ∷ [] → slice_get (front ++ items) n ≡ Some v
+behind_front [] [] n v e = absurd (cons≢nil (sym e))
+behind_front [] (x ∷ items) zero v e = let same : x ≡ v = cc in ap Some same
+behind_front [] (x ∷ items) (suc n) v e = behind_front [] items n v e
+behind_front (y ∷ front) items zero v e = absurd (cons≢nil (sym e))
+behind_front (y ∷ front) items (suc n) v e = behind_front front items n v e
+
+in_front : {V : Type 0} (front rest : List V) (n : ℕ) → n < length front → slice_get (front ++ rest) n ≡ slice_get front n
+in_front [] rest n h = absurd (omega (arith, h))
+in_front (x ∷ front) rest zero h = refl
+in_front (x ∷ front) rest (suc n) h = in_front front rest n (omega (arith, h))
+
+in_prefix : {V : Type 0} (m : ℕ) (xs : List V) (n : ℕ) → n < m → slice_get (take m xs) n ≡ slice_get xs n
+in_prefix zero xs n h = absurd (omega (arith, h))
+in_prefix (suc m) [] n h = refl
+in_prefix (suc m) (x ∷ xs) zero h = refl
+in_prefix (suc m) (x ∷ xs) (suc n) h = in_prefix m xs n (omega (arith, h))
+
+-- ## What slips show
+
+stand_in : (journal front items more : List Entry) (slips : List (ℕ × Entry)) → front ++ items ≡ journal ++ more → Sound (item_of (length front) items) slips → Stand journal slips
+stand_in journal front items more [] both sound = tt
+stand_in journal front items more (slip ∷ slips) both sound = (
+  (λ below. sym (in_front journal more slip.0 below) ∙ ap (λ es. slice_get es slip.0) (sym both) ∙ behind_front front items slip.0 slip.1 sound.0),
+  stand_in journal front items more slips both sound.2,
+)
+
+pub slips_stand : (before : World NodeState) (first : ℕ) (stage : Stage) (key : Told) (w : World NodeState) (slips : List (ℕ × Entry)) → IsFirst key w → Since key (told_of before first stage)
+    → IsTied first stage.all stage.book → length w.journal ≡ w.base + length w.net.entries → Sound (item_of first stage.all) slips → Stand w.journal slips
+slips_stand before first stage key w slips F S T long sound =
+    let front = take first before.journal in
+    let more = entries_in S.acts in
+    let both : front ++ stage.all ≡ w.journal ++ more = S.journal ∙ grown-entries S.acts key.journal ∙ ap (λ es. es ++ more) F.journal in
+    let lengths = ap length both in
+    let left = length-append front stage.all in
+    let right = length-append w.journal more in
+    let entries = ap length (told_entries before first key stage S) in
+    let kept = length-append key.net.entries more in
+    let net = ap (λ (n : MarkedNetwork NodeState). length n.entries) F.net in
+    let next = T.next in
+    let base = S.base in
+    let same = F.base in
+    let many : first ≡ length front = omega (arith, lengths, left, right, entries, kept, net, next, base, same, long) in
+    stand_in w.journal front stage.all more slips both (subst (λ n. Sound (item_of n stage.all) slips) many sound)
+
+-- ## What a crash leaves of them
+
+are_in : (journal : List Entry) (least m : ℕ) (slips : List (ℕ × Entry)) → least ≤ m → m ≤ length journal → AreBelow least slips → Stand journal slips → AreIn (take m journal) slips
+are_in journal least m [] low high below stand = tt
+are_in journal least m (slip ∷ slips) low high below stand =
+    let up = below.0 in (
+      in_prefix m journal slip.0 (omega (arith, up, low)) ∙ stand.0 (omega (arith, up, low, high)),
+      are_in journal least m slips low high below.1 stand.1,
+    )
+
+pub recovers_with : (start : Network NodeState) (journal : List Entry) (least : ℕ) (slips : List (ℕ × Entry)) (bytes : List ℕ) → RecoversTo t414 device_areas start journal least bytes
+    → AreBelow least slips → Stand journal slips → RecoversWith start journal least slips bytes
+recovers_with start journal least slips bytes R below stand = record {
+  recovers = R;
+  has = are_in journal least (next_number R.held) slips R.no_less R.no_more below stand;
+}
+
+pub below_more : (m n : ℕ) (slips : List (ℕ × Entry)) → m ≤ n → AreBelow m slips → AreBelow n slips
+below_more m n [] up below = tt
+below_more m n (slip ∷ slips) up below = (let low = below.0 in omega (arith, low, up), below_more m n slips up below.1)
+
+-- of a device as it is
+pub now_recovers : (start : Network NodeState) (w : World NodeState) → Reached start w → (left : List ℕ) → MayBe w.disk left → RecoversTo t414 device_areas start w.journal w.mark left
+now_recovers start w R left may =
+    recovers_at t414 device_areas has_four_links never_marks (areas_keep t414 t414_ends) start R.events R.first w R.formatted R.run w w (no_step t414 device_areas w) (no_step t414 device_areas w) left may

@@ -1,0 +1,13 @@
+use Rattle.std.proofs.Common.{◌≡◌, sym, subst, arith}
+use Rattle.tp_model.specs.Disk.{MayBe}
+use Rattle.tp_flush.proofs.Settling.{below_more, now_recovers, recovers_with}
+use Rattle.tp_flush.proofs.flusher.Flusher.settle.Goals as goal
+
+pub returns-clause-recovers : goal.returns-clause-recovers
+returns-clause-recovers g c k began seen left may =
+    let w = c.args.self.now.world in
+    let reached = c.known.ensures.reached k began in
+    recovers_with g.J.Naming.formatted w.journal w.mark c.args.receipt.now.seat left
+    (now_recovers g.J.Naming.formatted w reached left (subst (λ m. MayBe m left) (sym (c.known.ensures.disk k)) may))
+    (below_more c.args.receipt.now.number w.mark c.args.receipt.now.seat (omega (arith, seen, c.settle_pass.ensures.mark)) c.settle_under.ensures.below)
+    (c.settle_under.ensures.stand k began)

@@ -1,0 +1,94 @@
+//! What passes and receipts are worth: what a pass saw beside the flusher's mark, and slips beside its journal.
+
+ghost use Rattle.std.specs.Prelude.{◌≡◌, ◌≤◌, ℕ, List};
+ghost use Rattle.tp_model.specs.NodeState.{NodeState};
+ghost use Rattle.tp_model.specs.Node.{t414};
+ghost use Rattle.tp_model.specs.Network.{Network};
+ghost use Rattle.tp_model.specs.Disk.{MayBe};
+ghost use Rattle.tp_model.specs.DeviceAreas.{device_areas};
+ghost use Rattle.tp_model.specs.Walks.{RecoversTo};
+ghost use Rattle.tp_model.specs.declared.entry.Entry.{Entry};
+ghost use Rattle.tp_shared.specs.Receipted.{AreBelow};
+ghost use Rattle.tp_flush.specs.Known.{Began};
+ghost use Rattle.tp_flush.specs.Settled.{RecoversWith, Stand};
+
+use crate::flusher::Flusher;
+use std::sync::Wait;
+use tp_disk::Disk;
+use tp_mark::Pass;
+use tp_shared::{Locked, Naming, Receipt, Seat, Shared};
+
+impl<J: Naming, D: Disk> Flusher<J, D> {
+    /// Changes nothing. What `pass` saw is at most the flusher's mark.
+    pub fn settle_pass(&mut self, shared: &Shared<J>, pass: &mut Pass)
+        requires { pass.old.mark ≡ J.mark }
+        ensures same { (self.new ≡ self.old) × (pass.new ≡ pass.old) }
+        ensures mark { pass.old.at ≤ self.old.world.mark }
+    {
+        let Flusher { parts, .. } = self;
+        shared.mark().settle(&mut parts.raiser, pass);
+    }
+
+    /// Changes nothing. Each slip's entry stands in the flusher's journal at its number, where that reaches so far.
+    pub fn settle_seat(&mut self, held: &mut Locked<J>, seat: &mut Seat<J>)
+        ensures same { (self.new ≡ self.old) × (held.new ≡ held.old) × (seat.new ≡ seat.old) }
+        ensures stand { D.keeps → Began J.formatted J.before self.old.opened → Stand self.old.world.journal seat.old }
+    {
+        self.known();
+        held.audit(seat);
+        let Flusher { parts, .. } = self;
+        held.compare(&mut parts.key);
+    }
+
+    /// Changes nothing. The same of a receipt's slips, whose numbers are below the receipt's.
+    pub fn settle_receipt(&mut self, held: &mut Locked<J>, receipt: &mut Receipt<J>)
+        ensures same { (self.new ≡ self.old) × (held.new ≡ held.old) × (receipt.new ≡ receipt.old) }
+        ensures below { AreBelow receipt.old.number receipt.old.seat }
+        ensures stand { D.keeps → Began J.formatted J.before self.old.opened → Stand self.old.world.journal receipt.old.seat }
+    {
+        self.known();
+        held.audit_receipt(receipt);
+        let Flusher { parts, .. } = self;
+        held.compare(&mut parts.key);
+    }
+
+    // The same, under the book's lock.
+    fn settle_under<R: Wait>(&mut self, rt: &R, shared: &Shared<J>, receipt: &mut Receipt<J>)
+        ensures same { (self.new ≡ self.old) × (receipt.new ≡ receipt.old) }
+        ensures below { AreBelow receipt.old.number receipt.old.seat }
+        ensures stand { D.keeps → Began J.formatted J.before self.old.opened → Stand self.old.world.journal receipt.old.seat }
+    {
+        let mut held = shared.book().lock(rt);
+        self.settle_receipt(&mut held, receipt);
+    }
+
+    /// Changes nothing. Where `pass` saw the receipt's number, so that it was told that all of it is stored, whatever a crash leaves
+    /// from now on of the device as it is opens to what leads where a prefix of the journal leads, and in the prefix each of the
+    /// receipt's entries stands at its number.
+    pub fn settle<R: Wait>(
+        &mut self,
+        rt: &R,
+        shared: &Shared<J>,
+        pass: &mut Pass,
+        receipt: &mut Receipt<J>,
+    )
+        requires { pass.old.mark ≡ J.mark }
+        ensures same { (self.new ≡ self.old) × (pass.new ≡ pass.old) × (receipt.new ≡ receipt.old) }
+        ensures mark { pass.old.at ≤ self.old.world.mark }
+        ensures below { AreBelow receipt.old.number receipt.old.seat }
+        ensures stand { D.keeps → Began J.formatted J.before self.old.opened → Stand self.old.world.journal receipt.old.seat }
+        ensures recovers { D.keeps → Began J.formatted J.before self.old.opened → receipt.old.number ≤ pass.old.at
+            → (left : List ℕ) → MayBe self.old.state.now left → RecoversWith J.formatted self.old.world.journal self.old.world.mark receipt.old.seat left }
+    {
+        self.known();
+        self.settle_pass(shared, pass);
+        self.settle_under(rt, shared, receipt);
+    }
+}
+
+/// Where the bytes that a crash left open to a prefix of the journal with each entry below `least`, they have the entries of all
+/// slips below that stand in the journal. The function does nothing; its contract is the law.
+pub fn stored_slips_are_recovered()
+    ensures { (start : Network NodeState) (journal : List Entry) (least : ℕ) (slips : List (ℕ × Entry)) (bytes : List ℕ) → RecoversTo t414 device_areas start journal least bytes
+        → AreBelow least slips → Stand journal slips → RecoversWith start journal least slips bytes }
+{}

@@ -1,0 +1,21 @@
+//! What the flusher was told, beside the book as it is.
+
+ghost use Rattle.std.specs.Prelude.{◌≡◌};
+ghost use Rattle.tp_shared.specs.Told.{Since, told_of};
+
+use crate::locked::Locked;
+use crate::naming::Naming;
+use crate::told::Told;
+use tp_token::{Key, agree};
+
+impl<J: Naming> Locked<J> {
+    /// Changes nothing. Acts, none of them a trim, lead from what the flusher was last told, which `key` shows, to the book as it
+    /// is.
+    pub fn compare(&mut self, key: &mut Key<Told>)
+        requires { key.old.name ≡ J.flusher }
+        ensures same { (self.new ≡ self.old) × (key.new.name ≡ key.old.name) × (key.new.value ≡ key.old.value) }
+        ensures since { Since key.old.value (told_of J.before J.first self.old) }
+    {
+        agree(&mut self.told, key);
+    }
+}
