@@ -9,3 +9,6 @@ pub mod Cells
 pub mod Turned
 pub mod Parted
 pub mod Named
+pub mod Pieces
+pub mod Thawed
+pub mod Copied

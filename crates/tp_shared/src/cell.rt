@@ -26,7 +26,7 @@ use tp_turn::Stretch;
 /// Every fourth node, from the node `I` on.
 #[derive(Drop)]
 pub struct Cell<const I: usize, J: Naming> {
-    places: Vec<Place>,
+    pub(crate) places: Vec<Place>,
     of: PhantomData<J>,
 }
 

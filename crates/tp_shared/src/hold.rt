@@ -1,6 +1,7 @@
 //! What is done for a node while the book's lock is held.
 
 ghost use Rattle.std.specs.Prelude.{◌≡◌, Some, None, true, false, slice_get, is_ok, IfErr};
+ghost use Rattle.tp_snap.specs.Needs.{has_recorded_in};
 ghost use Rattle.tp_shared.specs.Acts.{Acted};
 ghost use Rattle.tp_shared.specs.Entries.{IsTurnRefusal, TakesOf, run_entries};
 ghost use Rattle.tp_turn.specs.Moments.{IsNodeOf};
@@ -18,6 +19,7 @@ pub(crate) fn begin(book: &mut Book, node: &mut Node, number: u8) -> Result<u64,
     requires is { IsNodeOf book.old number node.old }
     ensures acted { Acted (TakesOf book.old.state.start number result) number (record { node = node.new.live; frozen = node.new.frozen; reserved = is_ok result }) book.old book.new }
     ensures is { IsNodeOf book.new number node.new }
+    ensures stays { has_recorded_in book.old.state.snapshot number ≡ true → node.new.frozen ≡ node.old.frozen }
     ensures refused { IfErr result IsTurnRefusal }
 {
     open_turn(book, node, number)

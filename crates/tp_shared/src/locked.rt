@@ -40,12 +40,13 @@ impl<J: Naming> Model for Locked<J> {
     ghost use Rattle.std.specs.Prelude.{◌≡◌, ◌≤◌, ◌+◌, ◌-◌, ◌*◌, None, length};
     ghost use Rattle.tp_shared.specs.Seals.{Stage, Sealed, IsTied};
     ghost use Rattle.tp_shared.specs.Told.{Since, told_of};
+    ghost use Rattle.tp_shared.specs.Thawed.{Thaws};
 
     ghost Value = { Stage };
 
     ghost view = { λ l. record { book = l.book; all = l.roll.items } };
 
-    ghost invariant = { λ l. (l.book.ready ≡ None) × (length l.seals.items ≡ length J.start.nodes) × (length l.book.runs ≡ length J.start.nodes) × Sealed J.node l.seals.items l.book × (l.roll.name ≡ J.roll) × (l.roll.first ≡ J.first) × IsTied J.first l.roll.items l.book × (l.book.state.start.wires ≡ J.start.wires) × (length l.book.state.start.nodes ≡ length J.start.nodes) × (l.told.name ≡ J.flusher) × Since l.told.value (told_of J.before J.first (record { book = l.book; all = l.roll.items })) × (length J.start.wires ≡ 4 * length J.start.nodes + length J.start.ports) × (l.book.room ≡ J.room) × (l.book.floor ≤ J.first - l.book.base) };
+    ghost invariant = { λ l. (l.book.ready ≡ None) × (length l.seals.items ≡ length J.start.nodes) × (length l.book.runs ≡ length J.start.nodes) × Sealed J.node l.seals.items l.book × (l.roll.name ≡ J.roll) × (l.roll.first ≡ J.first) × IsTied J.first l.roll.items l.book × (l.book.state.start.wires ≡ J.start.wires) × (length l.book.state.start.nodes ≡ length J.start.nodes) × (l.told.name ≡ J.flusher) × Since l.told.value (told_of J.before J.first (record { book = l.book; all = l.roll.items })) × (length J.start.wires ≡ 4 * length J.start.nodes + length J.start.ports) × (l.book.room ≡ J.room) × (l.book.floor ≤ J.first - l.book.base) × Thaws l.told.value l.seals.items };
 }
 
 impl<J: Naming> Locked<J> {

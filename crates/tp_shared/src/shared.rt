@@ -39,10 +39,10 @@ fn host_hold<J: Naming, R: Wait>(
 #[derive(Drop)]
 pub struct Shared<J: Naming> {
     book: Mutex<Locked<J>>,
-    c0: Mutex<Cell<0, J>>,
-    c1: Mutex<Cell<1, J>>,
-    c2: Mutex<Cell<2, J>>,
-    c3: Mutex<Cell<3, J>>,
+    pub(crate) c0: Mutex<Cell<0, J>>,
+    pub(crate) c1: Mutex<Cell<1, J>>,
+    pub(crate) c2: Mutex<Cell<2, J>>,
+    pub(crate) c3: Mutex<Cell<3, J>>,
     mark: Mark,
     nodes: u8,
     ports: u8,

@@ -1,6 +1,9 @@
 //! What else is done while the book's lock is held: a snapshot begins, and the store breaks.
 
-ghost use Rattle.std.specs.Prelude.{◌≡◌, true, IfOk, OnErr};
+ghost use Rattle.std.specs.Prelude.{◌≡◌, Some, true, IfOk, OnErr};
+ghost use Rattle.tp_model.specs.Acts.{Begin, happens};
+ghost use Rattle.tp_model.specs.Node.{t414};
+ghost use Rattle.tp_book.specs.Book.{world_of};
 ghost use Rattle.tp_book.specs.Marked.{after_begin, begin_refusal};
 ghost use Rattle.tp_book.specs.Refusals.{IsAnswer};
 
@@ -15,6 +18,7 @@ impl<J: Naming> Locked<J> {
     pub fn begin_snapshot(&mut self, alloc: Global) -> Result<(), Refusal>
         ensures answer { IsAnswer (begin_refusal self.old.book) result }
         ensures ok { IfOk result (λ done. self.new ≡ record self.old { book = after_begin self.old.book }) }
+        ensures act { IfOk result (λ done. happens t414 (world_of self.old.book) Begin ≡ Some (world_of self.new.book)) }
         ensures err { OnErr result (self.new ≡ self.old) }
     {
         self.book.begin(alloc)?;

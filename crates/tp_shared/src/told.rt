@@ -1,6 +1,6 @@
 //! What the flusher is told of the book.
 
-ghost use Rattle.std.specs.Prelude.{◌≡◌, ℕ, List, []};
+ghost use Rattle.std.specs.Prelude.{◌≡◌, ℕ, Bool, List, [], true};
 ghost use Rattle.std.specs.Borrow.{ftrue};
 ghost use Rattle.tp_model.specs.NodeState.{NodeState};
 ghost use Rattle.tp_model.specs.Snapshot.{MarkedNetwork};
@@ -10,13 +10,17 @@ use crate::locked::Locked;
 use crate::naming::Naming;
 use crate::parts::Parts;
 use std::marker::Model;
+use tp_book::Book;
+use tp_token::Roll;
 
-/// A network with its book, how many entries the kept cut holds, and the journal. It has no bytes: contracts alone see it.
+/// A network with its book, how many entries the kept cut holds, and the journal; and whether its cut is whole and no node's pages
+/// are kept any more. It has no bytes: contracts alone see it.
 #[derive(Drop)]
 pub struct Told {
     pub ghost net: { MarkedNetwork NodeState },
     pub ghost base: { ℕ },
     pub ghost journal: { List Entry },
+    pub ghost thawed: { Bool },
 }
 
 impl Model for Told {
@@ -24,7 +28,7 @@ impl Model for Told {
 }
 
 impl Told {
-    ghost use Rattle.std.specs.Prelude.{◌≡◌, []};
+    ghost use Rattle.std.specs.Prelude.{◌≡◌, [], true};
     ghost use Rattle.tp_shared.specs.Told.{told_of};
     ghost use Rattle.tp_shared.specs.declared.told.Told.{Told};
 
@@ -36,9 +40,31 @@ impl Told {
         Told {}
     }
 
+    // The same of two values.
+    fn of_both<T, U>(_value: &T, _beside: &U) -> Told
+        ghost told: { Told }
+        ensures { result ≡ told }
+    {
+        Told {}
+    }
+
     /// What is told of the book that lies under a lock.
     pub(crate) fn now<J: Naming>(locked: &Locked<J>) -> Told
         ensures { result ≡ told_of J.before J.first locked.now }
+    {
+        Told::of(locked)
+    }
+
+    /// The same of a book beside the roll of all entries.
+    pub(crate) fn beside<J: Naming>(book: &Book, roll: &Roll<Entry>) -> Told
+        ensures { result ≡ told_of J.before J.first (record { book = book.now; all = roll.now.items }) }
+    {
+        Told::of_both(book, roll)
+    }
+
+    /// What is told of a book whose cut is whole, while no node's pages are kept.
+    pub(crate) fn thawed<J: Naming>(locked: &Locked<J>) -> Told
+        ensures { result ≡ record (told_of J.before J.first locked.now) { thawed = true } }
     {
         Told::of(locked)
     }

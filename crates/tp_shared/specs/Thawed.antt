@@ -1,0 +1,22 @@
+-- Once no node's pages are kept any more.
+use Rattle.std.specs.Prelude.{◌≡◌, true, false, List}
+use Rattle.std.specs.List.{AllByRecursion}
+use Rattle.tp_model.specs.NodeState.{NodeState}
+use Rattle.tp_model.specs.Node.{t414}
+use Rattle.tp_model.specs.WholeCut.{WholeCut}
+use Rattle.tp_model.specs.Runs.{HasCut}
+use Rattle.tp_law_cuts.proofs.Invariant.{Holds}
+use Rattle.tp_shared.specs.declared.seal.NodeSeal.{NodeSeal}
+use Rattle.tp_shared.specs.declared.told.Told.{Told}
+
+-- What was told is a whole cut, and no node's pages are kept since.
+pub record HasThawed (told : Told) (seals : List NodeSeal) : Type 0 where
+  pub cut : WholeCut
+  pub nodes : List NodeState
+  pub has : HasCut told.net cut nodes
+  pub holds : Holds t414 told.net
+  pub none : AllByRecursion (λ s. s.frozen ≡ false) seals
+
+-- so it is where it was told
+abbrev pub Thaws : Told → List NodeSeal → Type 0
+Thaws told seals = told.thawed ≡ true → HasThawed told seals

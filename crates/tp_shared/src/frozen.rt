@@ -1,0 +1,66 @@
+//! Frozen nodes under their locks.
+
+ghost use Rattle.std.specs.Prelude.{◌≡◌, ◌<◌, ◌%◌, true, length};
+ghost use Rattle.tp_shared.specs.Pieces.{IsFrozenHead, IsFrozenPage};
+ghost use Rattle.tp_shared.specs.Told.{Since};
+
+use crate::cell::Cell;
+use crate::locked::Locked;
+use crate::naming::Naming;
+use crate::pieces::{drop_of, head_of, page_of};
+use crate::told::Told;
+use std::sync::{Mutex, Wait};
+use tp_model::limits::{IMAGE_HEAD_BYTES, PAGE_BYTES};
+use tp_token::Key;
+
+impl<const I: usize, J: Naming> Cell<I, J> {
+    /// The head of the image of the node `number`, which is one of the cell's.
+    pub(crate) fn frozen_head<R: Wait>(
+        &mut self,
+        rt: &R,
+        book: &Mutex<Locked<J>>,
+        key: &mut Key<Told>,
+        number: u8,
+        out: &mut [u8; IMAGE_HEAD_BYTES],
+    ) -> bool
+        requires name { key.old.name ≡ J.flusher }
+        requires there { number < length J.start.nodes }
+        requires here { number % 4 ≡ I }
+        ensures name { key.new.name ≡ key.old.name }
+        ensures since { Since key.old.value key.new.value }
+        ensures head { result ≡ true → IsFrozenHead key.new.value.net number out.new }
+    {
+        let place = &mut self.places[number as usize / 4];
+        head_of(rt, book, place, key, number, out)
+    }
+
+    /// A page of its memory.
+    pub(crate) fn frozen_page<R: Wait>(
+        &mut self,
+        rt: &R,
+        book: &Mutex<Locked<J>>,
+        key: &mut Key<Told>,
+        number: u8,
+        page: usize,
+        out: &mut [u8; PAGE_BYTES],
+    ) -> bool
+        requires name { key.old.name ≡ J.flusher }
+        requires there { number < length J.start.nodes }
+        requires here { number % 4 ≡ I }
+        ensures name { key.new.name ≡ key.old.name }
+        ensures since { Since key.old.value key.new.value }
+        ensures page { result ≡ true → IsFrozenPage key.new.value.net number page out.new }
+    {
+        let place = &mut self.places[number as usize / 4];
+        page_of(rt, book, place, key, number, page, out)
+    }
+
+    /// Lets its frozen pages go.
+    pub(crate) fn drop_frozen<R: Wait>(&mut self, rt: &R, book: &Mutex<Locked<J>>, number: u8)
+        requires there { number < length J.start.nodes }
+        requires here { number % 4 ≡ I }
+    {
+        let place = &mut self.places[number as usize / 4];
+        drop_of(rt, book, place, number);
+    }
+}

@@ -1,0 +1,44 @@
+//! A look at the snapshot.
+
+ghost use Rattle.std.specs.Prelude.{◌≡◌, ◌<◌, ◌≤◌, ℕ, false, get_or, length};
+ghost use Rattle.tp_model.specs.declared.limits.TheConstants.{MAX_NODES};
+ghost use Rattle.tp_snap.specs.Needs.{has_recorded_in};
+ghost use Rattle.tp_book.specs.Book.{node_count};
+
+use crate::locked::Locked;
+use crate::naming::Naming;
+use tp_book::Book;
+use tp_model::limits::MAX_NODES;
+
+/// Whether a snapshot runs, in which the host has recorded as it began; and of each node whether it has recorded in it.
+#[derive(Clone, Copy)]
+pub struct Look {
+    pub running: bool,
+    pub recorded: [bool; MAX_NODES],
+}
+
+// Of each node whether it has recorded.
+fn recorded_in(book: &Book) -> [bool; MAX_NODES]
+    requires { node_count book.now ≤ MAX_NODES }
+    ensures { (i : ℕ) → i < node_count book.now → get_or result i false ≡ has_recorded_in book.now.state.snapshot i }
+{
+    let mut recorded = [false; MAX_NODES];
+    for node in 0..book.nodes() {
+        recorded[node] = book.recorded(node);
+    }
+    recorded
+}
+
+impl<J: Naming> Locked<J> {
+    /// A look at the snapshot. Where none runs, no node's lock is needed for one.
+    pub fn look(&self) -> Look
+        ensures running { result.running ≡ has_recorded_in self.now.book.state.snapshot (length J.start.nodes) }
+        ensures recorded { (i : ℕ) → i < length J.start.nodes → get_or result.recorded i false ≡ has_recorded_in self.now.book.state.snapshot i }
+    {
+        self.book.known();
+        Look {
+            running: self.book.recorded(self.book.nodes()),
+            recorded: recorded_in(&self.book),
+        }
+    }
+}

@@ -1,0 +1,154 @@
+//! Pieces of the image of a node that recorded, while a snapshot runs.
+
+ghost use Rattle.std.specs.Prelude.{◌≡◌, ◌<◌, Some, None, true, false, length};
+ghost use Rattle.tp_model.specs.FrozenAs.{IsFrozenAs};
+ghost use Rattle.tp_model.specs.NodeState.{NodeState};
+ghost use Rattle.tp_book.specs.Book.{world_of};
+ghost use Rattle.tp_shared.specs.Pieces.{IsFrozenHead, IsFrozenPage};
+ghost use Rattle.tp_shared.specs.Seals.{Shows};
+ghost use Rattle.tp_shared.specs.Told.{Since, told_of};
+
+use crate::locked::Locked;
+use crate::naming::Naming;
+use crate::place::Place;
+use crate::shown::Shown;
+use crate::told::Told;
+use std::sync::{Mutex, Wait};
+use tp_model::limits::{IMAGE_HEAD_BYTES, PAGE_BYTES};
+use tp_token::{Key, agree, turn};
+
+impl<J: Naming> Locked<J> {
+    /// Changes nothing. Where the node is frozen, it is as the book has it recorded in the snapshot that runs.
+    pub(crate) fn audit_frozen(&mut self, place: &mut Place, number: u8)
+        requires there { number < length J.start.nodes }
+        requires named { place.old.key.name ≡ J.node number }
+        requires shows { Shows place.old false }
+        ensures same { self.new ≡ self.old }
+        ensures node { place.new.node ≡ place.old.node }
+        ensures named { place.new.key.name ≡ place.old.key.name }
+        ensures shows { Shows place.new false }
+        ensures frozen { (node : NodeState) → place.old.node.frozen ≡ Some node → IsFrozenAs (world_of self.old.book) number node }
+    {
+        self.book.known();
+        let here = &mut self.seals[number as usize];
+        agree(&mut here.seal, &mut place.key);
+    }
+
+    /// The node's frozen pages go. The book's recorded image is what it was.
+    pub(crate) fn thaw(&mut self, place: &mut Place, number: u8)
+        requires there { number < length J.start.nodes }
+        requires named { place.old.key.name ≡ J.node number }
+        requires shows { Shows place.old false }
+        ensures same { self.new ≡ self.old }
+        ensures live { place.new.node.live ≡ place.old.node.live }
+        ensures frozen { place.new.node.frozen ≡ None }
+        ensures named { place.new.key.name ≡ place.old.key.name }
+        ensures shows { Shows place.new false }
+    {
+        let Place { node, key } = place;
+        let here = &mut self.seals[number as usize];
+        agree(&mut here.seal, key);
+        node.drop_frozen();
+        let now = Shown::free(node);
+        turn(&mut here.seal, key, &now);
+        here.frozen = false;
+    }
+}
+
+// A short hold of the book's lock: the frozen node is audited, and the flusher is told of the book.
+fn audit<J: Naming, R: Wait>(
+    rt: &R,
+    book: &Mutex<Locked<J>>,
+    place: &mut Place,
+    key: &mut Key<Told>,
+    number: u8,
+)
+    requires there { number < length J.start.nodes }
+    requires named { place.old.key.name ≡ J.node number }
+    requires shows { Shows place.old false }
+    requires name { key.old.name ≡ J.flusher }
+    ensures node { place.new.node ≡ place.old.node }
+    ensures named { place.new.key.name ≡ place.old.key.name }
+    ensures shows { Shows place.new false }
+    ensures name { key.new.name ≡ key.old.name }
+    ensures since { Since key.old.value key.new.value }
+    ensures frozen { (node : NodeState) → place.old.node.frozen ≡ Some node → IsFrozenAs key.new.value.net number node }
+{
+    let mut held = book.lock(rt);
+    held.audit_frozen(place, number);
+    held.tell(key);
+}
+
+/// The head of the image of a node whose lock is held, as it recorded. False where it isn't frozen.
+pub(crate) fn head_of<J: Naming, R: Wait>(
+    rt: &R,
+    book: &Mutex<Locked<J>>,
+    place: &mut Place,
+    key: &mut Key<Told>,
+    number: u8,
+    out: &mut [u8; IMAGE_HEAD_BYTES],
+) -> bool
+    requires there { number < length J.start.nodes }
+    requires named { place.old.key.name ≡ J.node number }
+    requires shows { Shows place.old false }
+    requires name { key.old.name ≡ J.flusher }
+    ensures named { place.new.key.name ≡ place.old.key.name }
+    ensures shows { Shows place.new false }
+    ensures name { key.new.name ≡ key.old.name }
+    ensures since { Since key.old.value key.new.value }
+    ensures head { result ≡ true → IsFrozenHead key.new.value.net number out.new }
+{
+    audit(rt, book, place, key, number);
+    if !place.node.is_frozen() {
+        return false;
+    }
+    place.node.frozen_head(out);
+    true
+}
+
+/// A page of it. False where it isn't frozen, or has no such page.
+pub(crate) fn page_of<J: Naming, R: Wait>(
+    rt: &R,
+    book: &Mutex<Locked<J>>,
+    place: &mut Place,
+    key: &mut Key<Told>,
+    number: u8,
+    page: usize,
+    out: &mut [u8; PAGE_BYTES],
+) -> bool
+    requires there { number < length J.start.nodes }
+    requires named { place.old.key.name ≡ J.node number }
+    requires shows { Shows place.old false }
+    requires name { key.old.name ≡ J.flusher }
+    ensures named { place.new.key.name ≡ place.old.key.name }
+    ensures shows { Shows place.new false }
+    ensures name { key.new.name ≡ key.old.name }
+    ensures since { Since key.old.value key.new.value }
+    ensures page { result ≡ true → IsFrozenPage key.new.value.net number page out.new }
+{
+    audit(rt, book, place, key, number);
+    if !place.node.is_frozen() || page >= place.node.pages() {
+        return false;
+    }
+    place.node.frozen_page(page, out);
+    true
+}
+
+/// Lets the frozen pages of a node go whose lock is held.
+pub(crate) fn drop_of<J: Naming, R: Wait>(
+    rt: &R,
+    book: &Mutex<Locked<J>>,
+    place: &mut Place,
+    number: u8,
+)
+    requires there { number < length J.start.nodes }
+    requires named { place.old.key.name ≡ J.node number }
+    requires shows { Shows place.old false }
+    ensures live { place.new.node.live ≡ place.old.node.live }
+    ensures frozen { place.new.node.frozen ≡ None }
+    ensures named { place.new.key.name ≡ place.old.key.name }
+    ensures shows { Shows place.new false }
+{
+    let mut held = book.lock(rt);
+    held.thaw(place, number);
+}

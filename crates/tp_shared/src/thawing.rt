@@ -1,0 +1,88 @@
+//! What the flusher does with a node that recorded, while a snapshot runs.
+
+ghost use Rattle.std.specs.Prelude.{◌≡◌, ◌<◌, true, length};
+ghost use Rattle.tp_shared.specs.Pieces.{IsFrozenHead, IsFrozenPage};
+ghost use Rattle.tp_shared.specs.Told.{Since};
+
+use crate::naming::Naming;
+use crate::shared::Shared;
+use crate::told::Told;
+use std::sync::Wait;
+use tp_model::limits::{IMAGE_HEAD_BYTES, PAGE_BYTES};
+use tp_token::Key;
+
+impl<J: Naming> Shared<J> {
+    /// The bytes in front of the memory in the image of node `number`, as it recorded in the snapshot that runs. False where no
+    /// pages of it are kept. `key` shows then what is told of the book.
+    pub fn frozen_head<R: Wait>(
+        &self,
+        rt: &R,
+        key: &mut Key<Told>,
+        number: u8,
+        out: &mut [u8; IMAGE_HEAD_BYTES],
+    ) -> bool
+        requires name { key.old.name ≡ J.flusher }
+        requires there { number < length J.start.nodes }
+        ensures name { key.new.name ≡ key.old.name }
+        ensures since { Since key.old.value key.new.value }
+        ensures head { result ≡ true → IsFrozenHead key.new.value.net number out.new }
+    {
+        let book = self.book();
+        match number % 4 {
+            0 => self.c0.lock(rt).frozen_head(rt, book, key, number, out),
+            1 => self.c1.lock(rt).frozen_head(rt, book, key, number, out),
+            2 => self.c2.lock(rt).frozen_head(rt, book, key, number, out),
+            _ => self.c3.lock(rt).frozen_head(rt, book, key, number, out),
+        }
+    }
+
+    /// The page `page` of its memory, as it recorded. False where no pages of it are kept, or it has no such page. Turns of the
+    /// node may fall between two pages.
+    pub fn frozen_page<R: Wait>(
+        &self,
+        rt: &R,
+        key: &mut Key<Told>,
+        number: u8,
+        page: usize,
+        out: &mut [u8; PAGE_BYTES],
+    ) -> bool
+        requires name { key.old.name ≡ J.flusher }
+        requires there { number < length J.start.nodes }
+        ensures name { key.new.name ≡ key.old.name }
+        ensures since { Since key.old.value key.new.value }
+        ensures page { result ≡ true → IsFrozenPage key.new.value.net number page out.new }
+    {
+        let book = self.book();
+        match number % 4 {
+            0 => self
+                .c0
+                .lock(rt)
+                .frozen_page(rt, book, key, number, page, out),
+            1 => self
+                .c1
+                .lock(rt)
+                .frozen_page(rt, book, key, number, page, out),
+            2 => self
+                .c2
+                .lock(rt)
+                .frozen_page(rt, book, key, number, page, out),
+            _ => self
+                .c3
+                .lock(rt)
+                .frozen_page(rt, book, key, number, page, out),
+        }
+    }
+
+    /// Lets the frozen pages of node `number` go, once all are out.
+    pub fn drop_frozen<R: Wait>(&self, rt: &R, number: u8)
+        requires there { number < length J.start.nodes }
+    {
+        let book = self.book();
+        match number % 4 {
+            0 => self.c0.lock(rt).drop_frozen(rt, book, number),
+            1 => self.c1.lock(rt).drop_frozen(rt, book, number),
+            2 => self.c2.lock(rt).drop_frozen(rt, book, number),
+            _ => self.c3.lock(rt).drop_frozen(rt, book, number),
+        }
+    }
+}
