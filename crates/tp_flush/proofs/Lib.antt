@@ -6,5 +6,7 @@ mod Turns
 mod Endings
 mod Goings
 mod Puts
-mod Copying
+mod Closed
+mod Standing
+mod Switches
 pub mod Settling

@@ -21,7 +21,7 @@ use Rattle.tp_law_runs.proofs.Walks.{one_step, leads_then}
 
 -- ## The book's acts
 
-acts_run : (w : World NodeState) (acts : List Act) (net : MarkedNetwork NodeState) → AllByRecursion (λ act. is_trim act ≡ false) acts → acted t414 w.net acts ≡ Some net
+pub acts_run : (w : World NodeState) (acts : List Act) (net : MarkedNetwork NodeState) → AllByRecursion (λ act. is_trim act ≡ false) acts → acted t414 w.net acts ≡ Some net
     → Run t414 device_areas w (map Acts acts) (record w { net = net; journal = grown_all acts w.journal })
 unfolding acted
 acts_run w [] net none e = let same : w.net ≡ net = cc in ap (λ n. record w { net = n; journal = w.journal }) (sym same)
@@ -30,7 +30,7 @@ acts_run w (act ∷ acts) net none e =
     let u : World NodeState = record w { net = F.0; journal = grown act w.journal } in
     (u, (none.0, F.0, F.1, refl), acts_run u acts net none.1 F.2)
 
-acts_unopened : (acts : List Act) → AllByRecursion (λ (e : Event NodeState). is_reopening e ≡ false) (map Acts acts)
+pub acts_unopened : (acts : List Act) → AllByRecursion (λ (e : Event NodeState). is_reopening e ≡ false) (map Acts acts)
 acts_unopened [] = tt
 acts_unopened (act ∷ acts) = (refl, acts_unopened acts)
 
@@ -43,7 +43,7 @@ grown-length (Close line) entries = omega arith
 grown-length Trim entries = omega arith
 
 -- without a trim there are no fewer entries afterwards
-acts_keep_entries : (acts : List Act) (w v : MarkedNetwork NodeState) → AllByRecursion (λ act. is_trim act ≡ false) acts → acted t414 w acts ≡ Some v → length w.entries ≤ length v.entries
+pub acts_keep_entries : (acts : List Act) (w v : MarkedNetwork NodeState) → AllByRecursion (λ act. is_trim act ≡ false) acts → acted t414 w acts ≡ Some v → length w.entries ≤ length v.entries
 unfolding acted
 acts_keep_entries [] w v none e = let same : w ≡ v = cc in omega (arith, ap (λ (u : MarkedNetwork NodeState). length u.entries) same)
 acts_keep_entries (act ∷ acts) w v none e =

@@ -1,7 +1,9 @@
 -- What is written into the other area while the flusher rests is a piece of a run, whether it was done or a call of the device
 -- failed.
-use Rattle.std.proofs.Common.{◌≡◌, ℕ, ◌+◌, ◌≤◌, refl, sym, ap, subst, ◌∙◌, Bool, true, false, Option, None, Some, Result, Ok, Err, OnOk, OnErr, MatchResult, List, [], ◌∷◌, length}
-use Rattle.std.specs.Prelude.{if◌then◌else◌}
+use Rattle.std.proofs.Common.{◌≡◌, ℕ, zero, suc, ◌+◌, ◌<◌, ◌≤◌, refl, sym, ap, subst, ◌∙◌, Bool, true, false, Option, None, Some, Result, Ok, Err, OnOk, OnErr, IfOk, MatchResult, List, [], ◌∷◌, length, take, get_or, arith}
+use Rattle.std.specs.Prelude.{if◌then◌else◌, is_ok, sum_by}
+use Rattle.std.proofs.lemmas.Bool.{leb-true, lt-ltb}
+use Rattle.std.proofs.lemmas.List.Sums.{sum_by-cons}
 use Rattle.std.specs.Option.{option_map}
 use Rattle.std.specs.Result.{result_ok}
 use Rattle.tp_model.specs.NodeState.{NodeState}
@@ -17,8 +19,11 @@ use Rattle.tp_model.specs.Runs.{World}
 use Rattle.tp_model.specs.Walks.{AreWalked, Walks}
 use Rattle.tp_area.specs.declared.place.Place.{Place}
 use Rattle.tp_area.specs.declared.fault.StoreFault.{StoreFault}
-use Rattle.tp_area.specs.declared.fault.StoreFault.TheVariants.{DeviceFailed as StoreFailed}
-use Rattle.tp_area.specs.Other.{if_open, other_gate}
+use Rattle.tp_area.specs.declared.fault.StoreFault.TheVariants.{AreaFull, DeviceFailed as StoreFailed}
+use Rattle.tp_area.specs.Other.{if_open, other_gate, put_refusal}
+use Rattle.tp_layout.specs.Pieces.{piece_length, piece_place, place_in_image}
+use Rattle.tp_model.specs.Topology.{Topology}
+use Rattle.tp_model.specs.Journal.{image_length, is_roomy}
 use Rattle.tp_shared.specs.declared.told.Told.{Told}
 use Rattle.tp_shared.specs.Told.{IsFirst}
 use Rattle.tp_law_device.proofs.Holds.{areas_keep}
@@ -144,3 +149,38 @@ pub put_answered : (r : Result Unit StoreFault) (broke : Bool) (filled : Option 
     → Answered r broke failures_old failures_new
 put_answered (Ok x) broke filled failures_old failures_new ok err = record { done = (ok.0, ok.2); failed = tt }
 put_answered (Err e) broke filled failures_old failures_new ok err = record { done = tt; failed = (err.1, err.2) }
+
+-- the gate is closed where that was done
+pub ok_cleared : {A E : Type 0} (r : Result A E) (was : Bool) → OnOk r (was ≡ true → is_ok r ≡ true)
+ok_cleared (Ok x) was = λ h. refl
+ok_cleared (Err e) was = tt
+
+pub answered_cleared : (r : Result Unit StoreFault) (q : Result Unit FlushFault) → MatchResult r (λ unit. q ≡ Ok unit) (λ fault. q ≡ Err DeviceFailed) → IfOk q (λ done. is_ok r ≡ true)
+answered_cleared (Ok x) q is = subst (λ (y : Result Unit FlushFault). IfOk y (λ done. true ≡ true)) (sym is) refl
+answered_cleared (Err e) q is = subst (λ (y : Result Unit FlushFault). IfOk y (λ done. false ≡ true)) (sym is) tt
+
+pub on_ok_same : {A E : Type 0} (r : Result A E) (was : Bool) → OnOk r (was ≡ true → was ≡ true)
+on_ok_same (Ok x) was = λ h. h
+on_ok_same (Err e) was = tt
+
+-- ## A piece of an image lies inside the other area
+
+sum_front : (pages : List ℕ) (i : ℕ) → i < length pages → sum_by image_length (take i pages) + image_length (get_or pages i 0) ≤ sum_by image_length pages
+sum_front [] i low = absurd (omega (arith, low))
+sum_front (p ∷ ps) zero low = omega (arith, sum_by-cons image_length p ps)
+sum_front (p ∷ ps) (suc i) low = omega (arith, sum_front ps i (omega (arith, low)), sum_by-cons image_length p ps, sum_by-cons image_length p (take i ps))
+
+piece_ends : (piece pages : ℕ) → piece ≤ pages → place_in_image piece + piece_length piece ≤ image_length pages
+piece_ends zero pages low = omega arith
+piece_ends (suc piece) pages low = omega (arith, low)
+
+pub piece_inside : (t : Topology) (area node piece : ℕ) → is_roomy t area ≡ true → node < length t.pages → piece ≤ get_or t.pages node 0 → piece_place t node piece + piece_length piece < area
+piece_inside t area node piece roomy there low =
+    let wide = leb-true _ _ roomy in
+    omega (arith, wide, sum_front t.pages node there, piece_ends piece (get_or t.pages node 0) low)
+
+pub piece_fits : (broken : Bool) (place : Place) (t : Topology) (node piece : ℕ) → broken ≡ false → is_roomy t place.area ≡ true → node < length t.pages → piece ≤ get_or t.pages node 0
+    → put_refusal broken place (piece_place t node piece + piece_length piece) ≡ None
+piece_fits broken place t node piece unbroken roomy there low =
+    ap (λ b. put_refusal b place (piece_place t node piece + piece_length piece)) unbroken
+    ∙ ap (λ b. if b then None else Some AreaFull) (lt-ltb (piece_place t node piece + piece_length piece) place.area (piece_inside t place.area node piece roomy there low))

@@ -112,12 +112,13 @@ impl<J: Naming, D: Disk> Flusher<J, D> {
         Ok(true)
     }
 
-    /// Copies the frozen image of a node, where it is frozen, and lets its frozen pages go behind the last one.
+    /// Copies the frozen image of a node that has recorded and isn't out yet, and lets its frozen pages go behind the last one.
     fn copy_node<R: Wait, G: Gate>(
         &mut self,
         rt: &R,
         shared: &Shared<J>,
         gate: &G,
+        look: &Look,
         node: u8,
     ) -> Result<(), FlushFault>
         requires rests { self.old.world.at ≡ Resting }
@@ -127,14 +128,19 @@ impl<J: Naming, D: Disk> Flusher<J, D> {
         ensures tried { Tried result self.old self.new }
         ensures goes { Goes D.keeps J.formatted J.before self.old self.new }
     {
-        if self.copy_image(rt, shared, gate, node)? {
-            shared.drop_frozen(rt, node);
-            self.put_out(node as usize);
+        self.known();
+        if !look.recorded[node as usize] || self.is_out(node as usize) {
+            return Ok(());
         }
+        if !self.copy_image(rt, shared, gate, node)? {
+            return Ok(());
+        }
+        shared.drop_frozen(rt, node);
+        self.put_out(node as usize);
         Ok(())
     }
 
-    /// Copies the frozen images of those that have recorded and aren't out yet, without waiting for the others.
+    /// Copies the frozen images of all that have recorded, without waiting for the others.
     pub(crate) fn copy_images<R: Wait, G: Gate>(
         &mut self,
         rt: &R,
@@ -150,9 +156,7 @@ impl<J: Naming, D: Disk> Flusher<J, D> {
         self.known();
         let count = self.nodes().min(shared.nodes() as usize);
         for node in 0..count {
-            if look.recorded[node] && !self.is_out(node) {
-                self.copy_node(rt, shared, gate, node as u8)?;
-            }
+            self.copy_node(rt, shared, gate, look, node as u8)?;
         }
         Ok(())
     }

@@ -14,6 +14,7 @@ mod progress;
 mod raising;
 mod settle;
 mod snapshot;
+mod topology;
 mod turn;
 mod whole;
 
@@ -23,5 +24,6 @@ pub use flusher::Flusher;
 pub use laws::{first_process_begins, next_process_begins};
 pub use progress::Progress;
 pub use settle::stored_slips_are_recovered;
+pub use topology::topology_of;
 pub use turn::FLUSHER;
 pub use whole::Whole;
