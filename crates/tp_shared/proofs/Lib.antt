@@ -1,9 +1,16 @@
 pub mod Untrimmed
 pub mod Telling
 pub mod Holding
-pub mod Sealing
 pub mod Writing
+pub mod Sealing
 pub mod Placing
 pub mod Dealing
 pub mod Opening
 pub mod Hosting
+pub mod Frozen
+pub mod Cuts
+pub mod Thawing
+pub mod Staying
+pub mod Resealing
+pub mod Copying
+pub mod Trims

@@ -34,6 +34,24 @@ impl<J: Naming> Locked<J> {
         agree(&mut here.seal, &mut place.key);
     }
 
+    /// The same, and the flusher is told of the book.
+    pub(crate) fn tell_frozen(&mut self, place: &mut Place, key: &mut Key<Told>, number: u8)
+        requires there { number < length J.start.nodes }
+        requires named { place.old.key.name ≡ J.node number }
+        requires shows { Shows place.old false }
+        requires name { key.old.name ≡ J.flusher }
+        ensures same { self.new ≡ self.old }
+        ensures node { place.new.node ≡ place.old.node }
+        ensures named { place.new.key.name ≡ place.old.key.name }
+        ensures shows { Shows place.new false }
+        ensures key { (key.new.name ≡ key.old.name) × (key.new.value ≡ told_of J.before J.first self.old) }
+        ensures since { Since key.old.value key.new.value }
+        ensures frozen { (node : NodeState) → place.old.node.frozen ≡ Some node → IsFrozenAs key.new.value.net number node }
+    {
+        self.audit_frozen(place, number);
+        self.tell(key);
+    }
+
     /// The node's frozen pages go. The book's recorded image is what it was.
     pub(crate) fn thaw(&mut self, place: &mut Place, number: u8)
         requires there { number < length J.start.nodes }
@@ -75,8 +93,7 @@ fn audit<J: Naming, R: Wait>(
     ensures frozen { (node : NodeState) → place.old.node.frozen ≡ Some node → IsFrozenAs key.new.value.net number node }
 {
     let mut held = book.lock(rt);
-    held.audit_frozen(place, number);
-    held.tell(key);
+    held.tell_frozen(place, key, number);
 }
 
 /// The head of the image of a node whose lock is held, as it recorded. False where it isn't frozen.

@@ -10,8 +10,6 @@ use crate::locked::Locked;
 use crate::naming::Naming;
 use crate::parts::Parts;
 use std::marker::Model;
-use tp_book::Book;
-use tp_token::Roll;
 
 /// A network with its book, how many entries the kept cut holds, and the journal; and whether its cut is whole and no node's pages
 /// are kept any more. It has no bytes: contracts alone see it.
@@ -29,19 +27,12 @@ impl Model for Told {
 
 impl Told {
     ghost use Rattle.std.specs.Prelude.{◌≡◌, [], true};
+    ghost use Rattle.tp_shared.specs.Copied.{trim_of};
     ghost use Rattle.tp_shared.specs.Told.{told_of};
     ghost use Rattle.tp_shared.specs.declared.told.Told.{Told};
 
     // What the contract names. A caller names it by what it lends as `_value`.
     fn of<T>(_value: &T) -> Told
-        ghost told: { Told }
-        ensures { result ≡ told }
-    {
-        Told {}
-    }
-
-    // The same of two values.
-    fn of_both<T, U>(_value: &T, _beside: &U) -> Told
         ghost told: { Told }
         ensures { result ≡ told }
     {
@@ -55,18 +46,29 @@ impl Told {
         Told::of(locked)
     }
 
-    /// The same of a book beside the roll of all entries.
-    pub(crate) fn beside<J: Naming>(book: &Book, roll: &Roll<Entry>) -> Told
-        ensures { result ≡ told_of J.before J.first (record { book = book.now; all = roll.now.items }) }
+    /// What is told of the book once it is trimmed to its whole cut.
+    pub(crate) fn trimmed<J: Naming>(locked: &Locked<J>) -> Told
+        ensures { result ≡ told_of J.before J.first (record { book = trim_of locked.now.book; all = locked.now.all }) }
     {
-        Told::of_both(book, roll)
+        Told::of(locked)
     }
 
-    /// What is told of a book whose cut is whole, while no node's pages are kept.
-    pub(crate) fn thawed<J: Naming>(locked: &Locked<J>) -> Told
+    // What is told of a book whose cut is whole, while no node's pages are kept.
+    fn thawed<J: Naming>(locked: &Locked<J>) -> Told
         ensures { result ≡ record (told_of J.before J.first locked.now) { thawed = true } }
     {
         Told::of(locked)
+    }
+
+    /// What is told of the book, and whether its cut is whole and no node's pages are kept.
+    pub(crate) fn with<J: Naming>(locked: &Locked<J>, thawed: bool) -> Told
+        ensures { result ≡ record (told_of J.before J.first locked.now) { thawed = thawed } }
+    {
+        if thawed {
+            Told::thawed(locked)
+        } else {
+            Told::now(locked)
+        }
     }
 
     /// What is first told of the book of parts.

@@ -1,5 +1,6 @@
 use Rattle.tp_turn.specs.Moments.{moment}
 use Rattle.tp_shared.proofs.Holding.{acted_opens, opens_refused}
+use Rattle.tp_shared.proofs.Staying.{opens_stay}
 use Rattle.tp_shared.proofs.hold.begin.Goals as goal
 
 pub returns-clause-acted : goal.returns-clause-acted
@@ -8,3 +9,6 @@ returns-clause-acted c =
 
 pub returns-clause-refused : goal.returns-clause-refused
 returns-clause-refused c = opens_refused c.args.number c.open_turn.result (moment c.args.book.now c.args.node.now) (moment c.open_turn.new.book c.open_turn.new.node) c.open_turn.ensures.opens
+
+pub returns-clause-stays : goal.returns-clause-stays
+returns-clause-stays c recorded = opens_stay c.args.number c.open_turn.result (moment c.args.book.now c.args.node.now) (moment c.open_turn.new.book c.open_turn.new.node) c.open_turn.ensures.opens recorded

@@ -1,5 +1,5 @@
 use Rattle.std.proofs.Common.{◌≡◌, ◌∙◌, length, ap, sym, subst, arith, refl, Some, slice_get}
-use Rattle.std.specs.Prelude.{is_ok}
+use Rattle.std.specs.Prelude.{is_ok, is_some}
 use Rattle.std.proofs.lemmas.List.{length-set}
 use Rattle.std.proofs.lemmas.Option.{slice_get_read}
 use Rattle.tp_shared.specs.Agreement.{Agreement}
@@ -9,6 +9,7 @@ use Rattle.tp_shared.specs.Gains.{Noted}
 use Rattle.tp_shared.proofs.Holding.{acted_like, takes_of_like}
 use Rattle.tp_shared.proofs.Sealing.{floor_after, node_of_seal, sealed_after, tied_after, all_after, noted_by}
 use Rattle.tp_shared.proofs.Telling.{since_more}
+use Rattle.tp_shared.proofs.Thawing.{thaws_set, thawed_at, thawed_recorded}
 use Rattle.tp_shared.proofs.Writing.{as_many}
 use Rattle.tp_shared.proofs.locked.Locked.begin.Goals as goal
 
@@ -85,6 +86,13 @@ invariant_of-self g c =
       inv.11,
       A.grown.room ∙ inv.12,
       floor_after Are b new A.grown g.J.Naming.first inv.13,
+      thaws_set c.self.inside.told.value c.self.inside.seals.items c.args.number (record { frozen = c.is_frozen-here.result; seal = c.turn.new.seal }) inv.14
+          (λ thawed.
+          c.is_frozen-here.ensures
+          ∙ ap is_some (c.begin-done.ensures.stays (thawed_recorded g.J.Naming.before g.J.Naming.first c.self.inside.told.value c.self.inside.seals.items (record { book = b; all = c.self.inside.roll.items }) thawed inv.10 c.args.number))
+          ∙ ap (λ (x : Agreement). is_some x.frozen) (sym (ap (λ x. x.state) c.agree.ensures.agreed ∙ c.requires.shows.shown))
+          ∙ sym S.flag
+          ∙ thawed_at c.self.inside.told.value c.self.inside.seals.items c.args.number here thawed at),
     )
 
 pub returns-clause-noted : goal.returns-clause-noted

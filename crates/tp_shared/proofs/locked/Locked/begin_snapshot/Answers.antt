@@ -30,4 +30,5 @@ invariant_of-self-2 g c =
       inv.11,
       G.room ∙ inv.12,
       floor_after (λ (entries : List Entry). entries ≡ []) b new G g.J.Naming.first inv.13,
+      inv.14,
     )

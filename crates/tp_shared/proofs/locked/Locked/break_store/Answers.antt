@@ -25,4 +25,5 @@ invariant_of-self g c =
       inv.11,
       H.grown.room ∙ inv.12,
       floor_after (λ (entries : List Entry). entries ≡ []) b new H.grown g.J.Naming.first inv.13,
+      inv.14,
     )

@@ -9,6 +9,7 @@ use Rattle.tp_shared.specs.Seals.{Stage}
 use Rattle.tp_shared.specs.Gains.{Noted}
 use Rattle.tp_shared.proofs.Sealing.{floor_after, node_of_seal, sealed_after, tied_after, all_after, noted_by}
 use Rattle.tp_shared.proofs.Telling.{since_more}
+use Rattle.tp_shared.proofs.Thawing.{thaws_set, thawed_at}
 use Rattle.tp_shared.proofs.Writing.{as_many}
 use Rattle.tp_shared.proofs.locked.Locked.commit.Goals as goal
 
@@ -89,6 +90,8 @@ invariant_of-self g c =
       inv.11,
       A.grown.room ∙ inv.12,
       floor_after Are b new A.grown g.J.Naming.first inv.13,
+      thaws_set c.self.inside.told.value c.self.inside.seals.items c.args.number (record { frozen = here.frozen; seal = c.turn.new.seal }) inv.14
+          (λ thawed. thawed_at c.self.inside.told.value c.self.inside.seals.items c.args.number here thawed at),
     )
 
 pub returns-clause-noted : goal.returns-clause-noted

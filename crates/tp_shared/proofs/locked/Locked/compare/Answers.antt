@@ -1,6 +1,6 @@
-use Rattle.std.proofs.Common.{◌≡◌, ◌∙◌, sym, ap, subst}
+use Rattle.std.proofs.Common.{◌∙◌, sym, subst}
+use Rattle.tp_shared.specs.Thawed.{Thaws}
 use Rattle.tp_shared.specs.Told.{Since, told_of}
-use Rattle.tp_shared.specs.declared.told.Told.{Told}
 use Rattle.tp_shared.proofs.locked.Locked.compare.Goals as goal
 
 pub invariant_of-self : goal.invariant_of-self
@@ -21,6 +21,7 @@ invariant_of-self g c =
       inv.11,
       inv.12,
       inv.13,
+      subst (λ t. Thaws t c.self.inside.seals.items) (sym c.agree.ensures.values.0) inv.14,
     )
 
 pub returns-clause-since : goal.returns-clause-since

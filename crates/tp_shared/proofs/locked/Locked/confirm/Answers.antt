@@ -33,4 +33,5 @@ invariant_of-self-2 g c =
       inv.11,
       H.grown.room ∙ inv.12,
       floor_after Are b new H.grown g.J.Naming.first inv.13,
+      inv.14,
     )

@@ -33,6 +33,7 @@ invariant_of-self g c =
       inv.11,
       H.grown.room ∙ inv.12,
       floor_after Are b new H.grown g.J.Naming.first inv.13,
+      inv.14,
     )
 
 pub returns-clause-noted : goal.returns-clause-noted

@@ -1,6 +1,8 @@
 use Rattle.std.proofs.Common.{◌≡◌, List, sym, ap, subst, ◌∙◌}
 use Rattle.tp_model.specs.declared.entry.Entry.{Entry}
 use Rattle.tp_shared.specs.Told.{Since, told_of}
+use Rattle.tp_shared.specs.declared.told.Told.{Told}
+use Rattle.tp_shared.proofs.Thawing.{thaws_none}
 use Rattle.tp_shared.proofs.Telling.{since_none}
 use Rattle.tp_shared.proofs.locked.Locked.new.Goals as goal
 
@@ -22,4 +24,5 @@ invariant_of-result g c =
       c.requires.wires.1,
       c.requires.room.0,
       c.requires.room.1,
+      thaws_none c.args.told.value c.args.seals.items (ap (λ (t : Told). t.thawed) is),
     )

@@ -1,6 +1,6 @@
-use Rattle.std.proofs.Common.{[]}
+use Rattle.std.proofs.Common.{[], false}
 use Rattle.tp_model.specs.Runs.{fresh}
 use Rattle.tp_shared.proofs.parts.Parts.new.Given as goal
 
 abbrev pub ghost-pair : goal.ghost-pair
-ghost-pair a = record { net = fresh (record { wires = []; nodes = []; ports = []; lines = [] }); base = 0; journal = [] }
+ghost-pair a = record { net = fresh (record { wires = []; nodes = []; ports = []; lines = [] }); base = 0; journal = []; thawed = false }

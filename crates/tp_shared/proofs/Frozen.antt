@@ -1,0 +1,76 @@
+-- The image of a node that recorded, under the book's lock.
+use Rattle.std.proofs.Common.{◌≡◌, ◌≢◌, ℕ, zero, suc, ◌+◌, ◌-◌, ◌*◌, ◌<◌, true, cond, List, [], ◌∷◌, length, get_or, take, drop, refl, sym, ap, ◌∙◌, arith, Option, Some, None, slice_get}
+use Rattle.std.specs.Prelude.{IfSome, is_some, slice_range}
+use Rattle.std.specs.Option.{option_map}
+use Rattle.std.proofs.lemmas.Bool.{ne_eqb}
+use Rattle.tp_model.specs.declared.limits.TheConstants.{PAGE_BYTES}
+use Rattle.tp_model.specs.NodeState.{NodeState}
+use Rattle.tp_model.specs.Node.{t414}
+use Rattle.tp_model.specs.Network.{OfNode, OfHost, own}
+use Rattle.tp_model.specs.Snapshot.{Snapshot, MarkedNetwork, has_recorded}
+use Rattle.tp_model.specs.FrozenAs.{IsFrozenAs}
+use Rattle.tp_law_machine.proofs.LinkLaws.{has_four_links}
+use Rattle.tp_law_network.proofs.Local.{own-node}
+use Rattle.tp_law_cuts.proofs.Invariant.{Holds, as_recorded}
+use Rattle.tp_law_cuts.proofs.Shape.{mid_nodes}
+use Rattle.tp_law_cuts.proofs.Whole.{running}
+use Rattle.tp_snap.specs.Needs.{has_recorded_in}
+use Rattle.tp_book.specs.Book.{BookValue, agreed, world_of}
+use Rattle.tp_book.proofs.Remarked.{running_in}
+use Rattle.tp_shared.specs.Pieces.{IsFrozenPage}
+
+node_there : (o : Option NodeState) (n : NodeState) → option_map OfNode o ≡ option_map OfNode (Some n) → o ≡ Some n
+node_there None n e = cc
+node_there (Some x) n e = cc
+
+at_some : (xs : List (Option NodeState)) (i : ℕ) (n : NodeState) → get_or xs i None ≡ Some n → slice_get xs i ≡ Some (Some n)
+at_some [] i n e = cc
+at_some (x ∷ xs) zero n e = ap Some e
+at_some (x ∷ xs) (suc i) n e = at_some xs i n e
+
+within : (xs : List NodeState) (i : ℕ) → i < length xs → (x : NodeState) × (slice_get xs i ≡ Some x)
+within [] i h = absurd (omega (arith, h))
+within (x ∷ xs) zero h = (x, refl)
+within (x ∷ xs) (suc i) h = within xs i (omega (arith, h))
+
+module _ (w : MarkedNetwork NodeState) (H : Holds t414 w) (i : ℕ) (below : i < length w.live.nodes) where
+  -- a node that has recorded has an image
+  image_there : (snap : Snapshot) → w.snapshot ≡ Some snap → has_recorded snap i ≡ true → (n : NodeState) × (get_or w.frozen i None ≡ Some n)
+  image_there snap runs recorded =
+      let K = running t414 w H snap runs in
+      let N = within K.mid.nodes i (omega (arith, below, mid_nodes t414 has_four_links w H.base snap K)) in
+      let apart : i ≢ length K.mid.nodes = λ e. omega (arith, e, below, mid_nodes t414 has_four_links w H.base snap K) in (
+        N.0,
+        node_there (get_or w.frozen i None) N.0
+            (ap (λ b. cond b (Some (OfHost snap.ports)) (option_map OfNode (get_or w.frozen i None))) (sym (ne_eqb i (length w.live.nodes) (λ e. omega (arith, e, below))))
+            ∙ ap (λ b. cond b (as_recorded (length w.live.nodes) snap w.frozen i) (own w.live i)) (sym recorded)
+            ∙ sym (K.owns i)
+            ∙ own-node K.mid i apart
+            ∙ ap (option_map OfNode) N.1),
+      )
+
+-- what is kept of a node that has recorded is its image
+pub kept_frozen : (b : BookValue) (i : ℕ) (node : NodeState) → Holds t414 (world_of b) → i < length (agreed b.state) → has_recorded_in b.state.snapshot i ≡ true
+    → ((there : NodeState) → get_or b.frozen i None ≡ Some there → node ≡ there) → IsFrozenAs (world_of b) i node
+kept_frozen b i node H below recorded kept =
+    let R = running_in b.state.snapshot i recorded in
+    let I = image_there (world_of b) H i below R.0 R.1 R.2 in
+    record {
+      snap = R.0;
+      runs = R.1;
+      recorded = R.2;
+      is = at_some b.frozen i node (I.1 ∙ ap Some (sym (kept I.0 I.1)));
+    }
+
+-- a page of the frozen node
+pub page_frozen : (o : Option NodeState) (net : MarkedNetwork NodeState) (i page pages : ℕ) (out : List ℕ) → is_some o ≡ true → IfSome o (λ node. out ≡ slice_range node.memory (PAGE_BYTES * page) (PAGE_BYTES * page + PAGE_BYTES))
+    → IfSome o (λ node. length node.memory ≡ PAGE_BYTES * pages) → page < pages → ((node : NodeState) → o ≡ Some node → IsFrozenAs net i node) → IsFrozenPage net i page out
+page_frozen None net i page pages out some is long low frozen = cc
+page_frozen (Some node) net i page pages out some is long low frozen =
+    let size : PAGE_BYTES * page + PAGE_BYTES - PAGE_BYTES * page ≡ PAGE_BYTES = omega arith in
+    record {
+      node = node;
+      frozen = frozen node refl;
+      there = omega (arith, long, low);
+      is = is ∙ ap (λ n. take n (drop (PAGE_BYTES * page) node.memory)) size;
+    }

@@ -1,0 +1,45 @@
+-- Seals once no node's pages are kept any more.
+use Rattle.std.proofs.Common.{◌≡◌, ℕ, zero, suc, true, false, List, [], ◌∷◌, set, sym, subst, ◌∙◌, Some, slice_get}
+use Rattle.std.specs.List.{AllByRecursion}
+use Rattle.std.proofs.lemmas.Bool.{true≢false}
+use Rattle.tp_model.specs.NodeState.{NodeState}
+use Rattle.tp_model.specs.Runs.{World, HasCut}
+use Rattle.tp_snap.specs.Needs.{has_recorded_in}
+use Rattle.tp_book.specs.Book.{world_of}
+use Rattle.tp_shared.specs.Seals.{Stage}
+use Rattle.tp_shared.specs.Told.{Since, told_of}
+use Rattle.tp_shared.specs.Thawed.{HasThawed, Thaws}
+use Rattle.tp_shared.specs.declared.seal.NodeSeal.{NodeSeal}
+use Rattle.tp_shared.specs.declared.told.Told.{Told}
+use Rattle.tp_shared.proofs.Cuts.{stays_whole, whole_recorded}
+
+all_set : {A : Type 0} (P : A → Type 0) (xs : List A) (i : ℕ) (x : A) → AllByRecursion P xs → P x → AllByRecursion P (set xs i x)
+all_set P [] i x all p = tt
+all_set P (y ∷ ys) zero x all p = (p, all.1)
+all_set P (y ∷ ys) (suc i) x all p = (all.0, all_set P ys i x all.1 p)
+
+all_at : {A : Type 0} (P : A → Type 0) (xs : List A) (i : ℕ) (x : A) → AllByRecursion P xs → slice_get xs i ≡ Some x → P x
+all_at P [] i x all e = cc
+all_at P (y ∷ ys) zero x all e = let same : y ≡ x = cc in subst P same all.0
+all_at P (y ∷ ys) (suc i) x all e = all_at P ys i x all.1 e
+
+-- nothing is told of pages
+pub thaws_none : (t : Told) (seals : List NodeSeal) → t.thawed ≡ false → Thaws t seals
+thaws_none t seals e h = absurd (true≢false (sym h ∙ e))
+
+-- one seal is another, beside which stands that no pages are kept
+pub thaws_set : (t : Told) (seals : List NodeSeal) (i : ℕ) (s : NodeSeal) → Thaws t seals → (HasThawed t seals → s.frozen ≡ false) → Thaws t (set seals i s)
+thaws_set t seals i s T kept h =
+    let H = T h in
+    record { cut = H.cut; nodes = H.nodes; has = H.has; holds = H.holds; none = all_set (λ x. x.frozen ≡ false) seals i s H.none (kept H) }
+
+pub thawed_at : (t : Told) (seals : List NodeSeal) (i : ℕ) (s : NodeSeal) → HasThawed t seals → slice_get seals i ≡ Some s → s.frozen ≡ false
+thawed_at t seals i s H e = all_at (λ x. x.frozen ≡ false) seals i s H.none e
+
+-- the cut is whole still
+pub thawed_cut : (before : World NodeState) (first : ℕ) (t : Told) (seals : List NodeSeal) (stage : Stage) → (H : HasThawed t seals) → Since t (told_of before first stage) → HasCut (world_of stage.book) H.cut H.nodes
+thawed_cut before first t seals stage H S = stays_whole H.cut H.nodes t.net (world_of stage.book) H.holds H.has S.acts S.none S.net
+
+-- and all have recorded in it
+pub thawed_recorded : (before : World NodeState) (first : ℕ) (t : Told) (seals : List NodeSeal) (stage : Stage) → HasThawed t seals → Since t (told_of before first stage) → (p : ℕ) → has_recorded_in stage.book.state.snapshot p ≡ true
+thawed_recorded before first t seals stage H S p = whole_recorded (world_of stage.book) H.cut H.nodes (thawed_cut before first t seals stage H S) p

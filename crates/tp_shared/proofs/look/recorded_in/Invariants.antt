@@ -1,0 +1,8 @@
+-- The nodes so far have been looked at.
+use Rattle.std.proofs.Common.{◌≡◌, ◌<◌, ℕ, false, length, get_or}
+use Rattle.tp_model.specs.declared.limits.TheConstants.{MAX_NODES}
+use Rattle.tp_snap.specs.Needs.{has_recorded_in}
+use Rattle.tp_shared.proofs.look.recorded_in.Given as goal
+
+abbrev pub invariant-loop-node : goal.invariant-loop-node
+invariant-loop-node l = (length l.recorded ≡ MAX_NODES) × ((i : ℕ) → i < l.node → get_or l.recorded i false ≡ has_recorded_in l.book.state.snapshot i)

@@ -1,0 +1,6 @@
+use Rattle.tp_shared.specs.Copied.{trim_of}
+use Rattle.tp_shared.specs.Told.{told_of}
+use Rattle.tp_shared.proofs.told.Told.trimmed.Given as goal
+
+abbrev pub ghost-of : goal.ghost-of
+ghost-of g a = told_of g.J.Naming.before g.J.Naming.first (record { book = trim_of a._value.now.book; all = a._value.now.all })
