@@ -45,8 +45,8 @@ went_then a b c first then = record {
 }
 
 -- a fault after what went on
-pub tried_then : {A B : Type 0} (q : Result A FlushFault) (fault : FlushFault) → q ≡ Err fault → (a b c : Flushing) → Went a b → Tried {A = B} (Err fault) b c → Tried q a c
-tried_then {A} {B} q fault is a b c first then = subst (λ (x : Result A FlushFault). Tried x a c) (sym is) (by fault then)
+pub tried_then : {A : Type 0} (B : Type 0) (q : Result A FlushFault) (fault : FlushFault) → q ≡ Err fault → (a b c : Flushing) → Went a b → Tried {A = B} (Err fault) b c → Tried q a c
+tried_then {A} B q fault is a b c first then = subst (λ (x : Result A FlushFault). Tried x a c) (sym is) (by fault then)
   where
     by : (fault : FlushFault) → Tried {A = B} (Err fault) b c → Tried {A = A} (Err fault) a c
     by DeviceFailed then = (failed_then a b c first.waits then.0, then.1 ∙ first.stored)
@@ -63,8 +63,8 @@ tried_on (Err Memory) a b c first then = then
 tried_on (Err AreaFull) a b c first then = then
 
 -- a turn whose backlog was stored and whose mark was raised, and that then ended with a fault
-pub behind_ended : {A B : Type 0} (q : Result A FlushFault) (fault : FlushFault) → q ≡ Err fault → (a b c : Flushing) → WaitsBehind a b → Tried {A = B} (Err fault) b c → Ended q a c
-behind_ended {A} {B} q fault is a b c first then = subst (λ (x : Result A FlushFault). Ended x a c) (sym is) (by fault then)
+pub behind_ended : {A : Type 0} (B : Type 0) (q : Result A FlushFault) (fault : FlushFault) → q ≡ Err fault → (a b c : Flushing) → WaitsBehind a b → Tried {A = B} (Err fault) b c → Ended q a c
+behind_ended {A} B q fault is a b c first then = subst (λ (x : Result A FlushFault). Ended x a c) (sym is) (by fault then)
   where
     by : (fault : FlushFault) → Tried {A = B} (Err fault) b c → Ended {A = A} (Err fault) a c
     by DeviceFailed then = inr (record {

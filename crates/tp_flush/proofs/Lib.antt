@@ -9,4 +9,6 @@ mod Puts
 mod Closed
 mod Standing
 mod Switches
+mod Beside
+mod Tails
 pub mod Settling

@@ -1,11 +1,13 @@
 -- What is written into the other area while the flusher rests is a piece of a run, whether it was done or a call of the device
 -- failed.
-use Rattle.std.proofs.Common.{◌≡◌, ℕ, zero, suc, ◌+◌, ◌<◌, ◌≤◌, refl, sym, ap, subst, ◌∙◌, Bool, true, false, Option, None, Some, Result, Ok, Err, OnOk, OnErr, IfOk, MatchResult, List, [], ◌∷◌, length, take, get_or, arith}
-use Rattle.std.specs.Prelude.{if◌then◌else◌, is_ok, sum_by}
+use Rattle.std.proofs.Common.{◌≡◌, ℕ, zero, suc, ◌+◌, ◌-◌, ◌*◌, ◌<◌, ◌≤◌, refl, sym, ap, subst, ◌∙◌, Bool, true, false, Option, None, Some, Result, Ok, Err, OnOk, OnErr, IfOk, MatchResult, List, [], ◌∷◌, length, take, get_or, arith}
+use Rattle.std.specs.Prelude.{if◌then◌else◌, sum_by}
+use Rattle.std.proofs.Math.Dec.{eqb-suc-zero}
 use Rattle.std.proofs.lemmas.Bool.{leb-true, lt-ltb}
 use Rattle.std.proofs.lemmas.List.Sums.{sum_by-cons}
 use Rattle.std.specs.Option.{option_map}
 use Rattle.std.specs.Result.{result_ok}
+use Rattle.tp_model.specs.declared.limits.TheConstants.{IMAGE_HEAD_BYTES, PAGE_BYTES}
 use Rattle.tp_model.specs.NodeState.{NodeState}
 use Rattle.tp_model.specs.Node.{t414, t414_ends}
 use Rattle.tp_model.specs.Network.{Network}
@@ -141,8 +143,8 @@ put_tried (Err fault) q is broke a b disk A rests after place cleared =
 -- ## What the store's calls say
 
 pub on_ok : {A E : Type 0} (r : Result A E) (P Q : Type 0) → (P → Q) → OnOk r P → OnOk r Q
-on_ok (Ok x) P Q then given = then given
-on_ok (Err e) P Q then given = tt
+on_ok (Ok x) P Q on given = on given
+on_ok (Err e) P Q on given = tt
 
 pub put_answered : (r : Result Unit StoreFault) (broke : Bool) (filled : Option Place) (failures_old failures_new : ℕ)
     → OnOk r ((broke ≡ false) × (filled ≡ None) × (failures_new ≡ failures_old)) → OnErr r ((r ≡ Err StoreFailed) × (broke ≡ true) × (failures_new ≡ failures_old + 1))
@@ -150,18 +152,9 @@ pub put_answered : (r : Result Unit StoreFault) (broke : Bool) (filled : Option 
 put_answered (Ok x) broke filled failures_old failures_new ok err = record { done = (ok.0, ok.2); failed = tt }
 put_answered (Err e) broke filled failures_old failures_new ok err = record { done = tt; failed = (err.1, err.2) }
 
--- the gate is closed where that was done
-pub ok_cleared : {A E : Type 0} (r : Result A E) (was : Bool) → OnOk r (was ≡ true → is_ok r ≡ true)
-ok_cleared (Ok x) was = λ h. refl
-ok_cleared (Err e) was = tt
-
-pub answered_cleared : (r : Result Unit StoreFault) (q : Result Unit FlushFault) → MatchResult r (λ unit. q ≡ Ok unit) (λ fault. q ≡ Err DeviceFailed) → IfOk q (λ done. is_ok r ≡ true)
-answered_cleared (Ok x) q is = subst (λ (y : Result Unit FlushFault). IfOk y (λ done. true ≡ true)) (sym is) refl
-answered_cleared (Err e) q is = subst (λ (y : Result Unit FlushFault). IfOk y (λ done. false ≡ true)) (sym is) tt
-
-pub on_ok_same : {A E : Type 0} (r : Result A E) (was : Bool) → OnOk r (was ≡ true → was ≡ true)
-on_ok_same (Ok x) was = λ h. h
-on_ok_same (Err e) was = tt
+pub on_ok_same : {A E : Type 0} (r : Result A E) (P : Type 0) → P → OnOk r P
+on_ok_same (Ok x) P given = given
+on_ok_same (Err e) P given = tt
 
 -- ## A piece of an image lies inside the other area
 
@@ -170,9 +163,16 @@ sum_front [] i low = absurd (omega (arith, low))
 sum_front (p ∷ ps) zero low = omega (arith, sum_by-cons image_length p ps)
 sum_front (p ∷ ps) (suc i) low = omega (arith, sum_front ps i (omega (arith, low)), sum_by-cons image_length p ps, sum_by-cons image_length p (take i ps))
 
-piece_ends : (piece pages : ℕ) → piece ≤ pages → place_in_image piece + piece_length piece ≤ image_length pages
+pub place_suc : (piece : ℕ) → place_in_image (suc piece) ≡ IMAGE_HEAD_BYTES + PAGE_BYTES * piece
+place_suc piece =
+    ap (λ b. if b then 0 else IMAGE_HEAD_BYTES + PAGE_BYTES * (suc piece - 1)) (eqb-suc-zero piece) ∙ ap (λ n. IMAGE_HEAD_BYTES + PAGE_BYTES * n) (omega arith)
+
+pub length_suc : (piece : ℕ) → piece_length (suc piece) ≡ PAGE_BYTES
+length_suc piece = ap (λ b. if b then IMAGE_HEAD_BYTES else PAGE_BYTES) (eqb-suc-zero piece)
+
+pub piece_ends : (piece pages : ℕ) → piece ≤ pages → place_in_image piece + piece_length piece ≤ image_length pages
 piece_ends zero pages low = omega arith
-piece_ends (suc piece) pages low = omega (arith, low)
+piece_ends (suc piece) pages low = omega (arith, low, place_suc piece, length_suc piece)
 
 pub piece_inside : (t : Topology) (area node piece : ℕ) → is_roomy t area ≡ true → node < length t.pages → piece ≤ get_or t.pages node 0 → piece_place t node piece + piece_length piece < area
 piece_inside t area node piece roomy there low =

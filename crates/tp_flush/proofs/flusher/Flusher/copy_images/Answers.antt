@@ -21,7 +21,7 @@ copy_node-requires-clause-cleared g c = c.loop-node.invariant.went.cleared c.req
 
 pub returns-in_err-copy_node-clause-tried : goal.returns-in_err-copy_node-clause-tried
 returns-in_err-copy_node-clause-tried g c =
-    tried_then c.from_residual.result c.in_err-copy_node.field-0.0 (search rules) c.args.self.now c.loop-node.self c.copy_node.new.self c.loop-node.invariant.went c.in_err-copy_node.ensures.tried
+    tried_then (Unit {0}) c.from_residual.result c.in_err-copy_node.field-0.0 (search rules) c.args.self.now c.loop-node.self c.copy_node.new.self c.loop-node.invariant.went c.in_err-copy_node.ensures.tried
 
 pub returns-in_err-copy_node-clause-goes : goal.returns-in_err-copy_node-clause-goes
 returns-in_err-copy_node-clause-goes g c =

@@ -11,7 +11,7 @@ put-requires-clause-cleared g c = c.read_page.ensures.went.cleared c.requires.cl
 
 pub returns-in_err-put-clause-tried : goal.returns-in_err-put-clause-tried
 returns-in_err-put-clause-tried g c =
-    tried_then c.from_residual.result c.in_err-put.field-0.0 (search rules) c.args.self.now c.read_page.new.self c.put.new.self c.read_page.ensures.went c.in_err-put.ensures.tried
+    tried_then (Unit {0}) c.from_residual.result c.in_err-put.field-0.0 (search rules) c.args.self.now c.read_page.new.self c.put.new.self c.read_page.ensures.went c.in_err-put.ensures.tried
 
 pub returns-in_err-put-clause-goes : goal.returns-in_err-put-clause-goes
 returns-in_err-put-clause-goes g c =

@@ -55,7 +55,7 @@ returns-in_err-checkpoint-clause-goes g c =
 
 pub returns-in_err-checkpoint-clause-ended : goal.returns-in_err-checkpoint-clause-ended
 returns-in_err-checkpoint-clause-ended g c =
-    behind_ended c.from_residual.result c.in_err-checkpoint.field-0.0 (search rules) c.args.self.now c.raise-mark.new.self c.checkpoint.new.self (raised g c) c.in_err-checkpoint.ensures.tried
+    behind_ended (Unit {0}) c.from_residual.result c.in_err-checkpoint.field-0.0 (search rules) c.args.self.now c.raise-mark.new.self c.checkpoint.new.self (raised g c) c.in_err-checkpoint.ensures.tried
 
 pub returns-clause-goes : goal.returns-clause-goes
 returns-clause-goes g c =

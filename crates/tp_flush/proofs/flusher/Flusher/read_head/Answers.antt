@@ -23,7 +23,7 @@ invariant_of-self g c =
       c.self.invariant.4,
     )
 
-abbrev flushing : (g : given.Over) (c : goal.After-of-parts g) → Known → Flushing
+abbrev flushing : (g : given.Over) (c : goal.After-parts-2-1 g) → Known → Flushing
 flushing g c k =
     let p = c.self.inside.parts in
     record {
@@ -37,7 +37,7 @@ flushing g c k =
       progress = p.progress;
     }
 
-looked : (g : given.Over) (c : goal.After-of-parts g) → Looked c.args.self.now (flushing g c c.of-parts.result.known)
+looked : (g : given.Over) (c : goal.After-parts-2-1 g) → Looked c.args.self.now (flushing g c c.of-parts.result.known)
 looked g c =
     let p = c.self.inside.parts in
     subst (λ (v : Flushing). Looked v (flushing g c c.of-parts.result.known)) c.self.view_is
