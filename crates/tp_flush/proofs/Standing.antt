@@ -101,6 +101,7 @@ head_out t net content i bytes H long room = record {
 -- a page behind those that stand
 pub page_out : (t : Topology) (net : MarkedNetwork NodeState) (content : List ℕ) (i count : ℕ) (bytes : List ℕ) → IsPartOut t net content i count → IsFrozenPage net i count bytes → length bytes ≡ PAGE_BYTES
     → piece_place t i (suc count) + PAGE_BYTES ≤ length content → IsPartOut t net (written content (piece_place t i (suc count)) bytes) i (suc count)
+unfolding part_kept
 page_out t net content i count bytes P F long room =
     let K = part_kept t net content i (suc count) bytes (omega (arith, long, length_suc count)) (omega (arith, room, length_suc count)) i count (pieces_apart t i 0 (suc count) (omega arith))
     (λ page low. pieces_apart t i (suc page) (suc count) (omega (arith, low))) P in

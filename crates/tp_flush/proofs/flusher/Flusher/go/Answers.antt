@@ -31,18 +31,18 @@ returns-in_err-store-clause-ended g c =
     stored_ended c.from_residual.result c.in_err-store.field-0.0 (search rules) _ c.args.self.now c.copy_under.new.self c.store.new.self
     (looked_waits c.args.self.now c.copy_under.new.self c.requires.rests c.copy_under.ensures.looked c.copy_under.ensures.mark) c.in_err-store.ensures.stored
 
--- ## The mark was raised
+-- ## The mark was raised, and a call failed behind it
 
-raised : (g : given.Over) (c : goal.After-raise-mark g) → WaitsBehind c.args.self.now c.raise-mark.new.self
-raised g c =
+raised_failed : (g : given.Over) (c : goal.After-drop-backlog-in_err-checkpoint g) → WaitsBehind c.args.self.now c.raise-mark.new.self
+raised_failed g c =
     let S = c.in_ok-store.ensures.stored in
     let R = c.raise-mark.ensures in
     raised_behind c.args.self.now c.store.new.self c.raise-mark.new.self
     (waits_then c.args.self.now c.copy_under.new.self c.store.new.self (looked_waits c.args.self.now c.copy_under.new.self c.requires.rests c.copy_under.ensures.looked c.copy_under.ensures.mark) S.0)
     R.looked (omega (arith, R.up, R.mark)) (omega (arith, R.reaches, R.mark))
 
-went_on : (g : given.Over) (c : goal.After-raise-mark g) → Goes g.D.Disk.keeps g.J.Naming.formatted g.J.Naming.before c.args.self.now c.raise-mark.new.self
-went_on g c =
+went_on_failed : (g : given.Over) (c : goal.After-drop-backlog-in_err-checkpoint g) → Goes g.D.Disk.keeps g.J.Naming.formatted g.J.Naming.before c.args.self.now c.raise-mark.new.self
+went_on_failed g c =
     goes_then g.D.Disk.keeps g.J.Naming.formatted g.J.Naming.before c.args.self.now c.store.new.self c.raise-mark.new.self
     (goes_then g.D.Disk.keeps g.J.Naming.formatted g.J.Naming.before c.args.self.now c.copy_under.new.self c.store.new.self
     (goes_looked g.D.Disk.keeps g.J.Naming.formatted g.J.Naming.before c.args.self.now c.copy_under.new.self c.known.ensures.disk c.copy_under.ensures.looked)
@@ -51,11 +51,29 @@ went_on g c =
 
 pub returns-in_err-checkpoint-clause-goes : goal.returns-in_err-checkpoint-clause-goes
 returns-in_err-checkpoint-clause-goes g c =
-    goes_then g.D.Disk.keeps g.J.Naming.formatted g.J.Naming.before c.args.self.now c.raise-mark.new.self c.checkpoint.new.self (went_on g c) c.checkpoint.ensures.goes
+    goes_then g.D.Disk.keeps g.J.Naming.formatted g.J.Naming.before c.args.self.now c.raise-mark.new.self c.checkpoint.new.self (went_on_failed g c) c.checkpoint.ensures.goes
 
 pub returns-in_err-checkpoint-clause-ended : goal.returns-in_err-checkpoint-clause-ended
 returns-in_err-checkpoint-clause-ended g c =
-    behind_ended (Unit {0}) c.from_residual.result c.in_err-checkpoint.field-0.0 (search rules) c.args.self.now c.raise-mark.new.self c.checkpoint.new.self (raised g c) c.in_err-checkpoint.ensures.tried
+    behind_ended (Unit {0}) c.from_residual-in_err-checkpoint.result c.in_err-checkpoint.field-0.0 (search rules) c.args.self.now c.raise-mark.new.self c.checkpoint.new.self (raised_failed g c) c.in_err-checkpoint.ensures.tried
+
+-- ## All was done
+
+raised : (g : given.Over) (c : goal.After-drop-backlog g) → WaitsBehind c.args.self.now c.raise-mark.new.self
+raised g c =
+    let S = c.in_ok-store.ensures.stored in
+    let R = c.raise-mark.ensures in
+    raised_behind c.args.self.now c.store.new.self c.raise-mark.new.self
+    (waits_then c.args.self.now c.copy_under.new.self c.store.new.self (looked_waits c.args.self.now c.copy_under.new.self c.requires.rests c.copy_under.ensures.looked c.copy_under.ensures.mark) S.0)
+    R.looked (omega (arith, R.up, R.mark)) (omega (arith, R.reaches, R.mark))
+
+went_on : (g : given.Over) (c : goal.After-drop-backlog g) → Goes g.D.Disk.keeps g.J.Naming.formatted g.J.Naming.before c.args.self.now c.raise-mark.new.self
+went_on g c =
+    goes_then g.D.Disk.keeps g.J.Naming.formatted g.J.Naming.before c.args.self.now c.store.new.self c.raise-mark.new.self
+    (goes_then g.D.Disk.keeps g.J.Naming.formatted g.J.Naming.before c.args.self.now c.copy_under.new.self c.store.new.self
+    (goes_looked g.D.Disk.keeps g.J.Naming.formatted g.J.Naming.before c.args.self.now c.copy_under.new.self c.known.ensures.disk c.copy_under.ensures.looked)
+    (record { walks = c.store.ensures.walks; process = c.store.ensures.process }))
+    c.raise-mark.ensures.goes
 
 pub returns-clause-goes : goal.returns-clause-goes
 returns-clause-goes g c =

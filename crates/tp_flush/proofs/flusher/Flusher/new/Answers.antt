@@ -24,7 +24,7 @@ invariant_of-result g c =
           g.D.Disk.keeps g.J.Naming.formatted s place broken raiser.at refl refl c.requires.unbroken (ap (λ (r : RaiserValue). r.at) c.requires.raiser ∙ sym c.requires.next) c.requires.read c.requires.synced),
       record {
         roomy = (λ i. is_roomy (c.requires.topology i) (c.requires.area i)) ∙ c.requires.roomy;
-        closed = λ k unbroken cleared. let no : not_begun.cleared ≡ true = subst (λ (p : Progress). p.cleared ≡ true) c.new-progress.ensures cleared in cc;
+        closed = λ k unbroken cleared. let no : not_begun.cleared ≡ true = subst (λ (p : Progress). p.cleared ≡ true) c.new.ensures cleared in cc;
       },
     )
 

@@ -20,7 +20,7 @@ returns-then-is_broken-clause-ended g c = (c.is_broken.ensures ∙ ap position c
 -- ## It has not
 
 pub go-requires : goal.go-requires
-go-requires g c = c.is_broken.ensures ∙ ap position c.if-is_broken.false
+go-requires g c = record { rests = c.is_broken.ensures ∙ ap position c.if-is_broken.false }
 
 pub returns-clause-recovers : goal.returns-clause-recovers
 returns-clause-recovers g c k began = walked_recovers g.J.Naming.formatted c.args.self.now c.go.new.self (c.known.ensures.reached k began) (c.go.ensures.goes.walks k began)
