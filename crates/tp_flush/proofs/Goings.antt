@@ -2,6 +2,10 @@
 use Rattle.std.proofs.Common.{◌≡◌, ◌≤◌, ◌+◌, inr, sym, subst, refl, ◌∙◌, ap, Result, Ok, Err, arith}
 use Rattle.tp_model.specs.NodeState.{NodeState}
 use Rattle.tp_model.specs.Network.{Network}
+use Rattle.tp_model.specs.Node.{t414}
+use Rattle.tp_model.specs.DiskHistory.{State}
+use Rattle.tp_model.specs.DeviceAreas.{device_areas}
+use Rattle.tp_model.specs.Walks.{Walks}
 use Rattle.tp_model.specs.WriteOrder.{Resting}
 use Rattle.tp_model.specs.Runs.{World}
 use Rattle.tp_area.specs.declared.place.Place.{Place}
@@ -9,7 +13,7 @@ use Rattle.tp_flush.specs.declared.fault.FlushFault.{FlushFault}
 use Rattle.tp_flush.specs.declared.fault.FlushFault.TheVariants.{AreaFull, DeviceFailed, Memory, StoreBroken}
 use Rattle.tp_flush.specs.declared.progress.Progress.{Progress}
 use Rattle.tp_flush.specs.Known.{Began}
-use Rattle.tp_flush.specs.Flushing.{Flushing, Goes, Looked}
+use Rattle.tp_flush.specs.Flushing.{Flushing, Goes, IsSameProcess, Looked}
 use Rattle.tp_flush.specs.Ends.{Ended, Rested, Tried, Waits, WaitsBehind, Went}
 use Rattle.tp_flush.proofs.Kept.{looked_walks}
 use Rattle.tp_flush.proofs.Endings.{failed_then, looked_waits, waits_still, waits_then}
@@ -18,6 +22,14 @@ use Rattle.tp_flush.proofs.Turns.{walked_nowhere, walked_then}
 module _ (keeps : Type 0) (start : Network NodeState) (before : World NodeState) where
   pub goes_still : (a : Flushing) → (keeps → a.world.disk ≡ a.state.now) → Goes keeps start before a a
   goes_still a was = record { walks = λ k began. walked_nowhere a (was k); process = record { opened = refl; size = refl; topology = refl } }
+
+  -- the same world, as to the device
+  pub goes_marked : (a b : Flushing) → (keeps → a.world.disk ≡ a.state.now) → b.world ≡ a.world → b.state ≡ a.state → IsSameProcess a b → Goes keeps start before a b
+  goes_marked a b was world state P = record {
+    walks = λ k began.
+        subst (λ (v : World NodeState). Walks t414 device_areas a.world v a.state b.state) (sym world) (subst (λ (s : State). Walks t414 device_areas a.world a.world a.state s) (sym state) (walked_nowhere a (was k)));
+    process = P;
+  }
 
   pub goes_looked : (a b : Flushing) → (keeps → a.world.disk ≡ a.state.now) → Looked a b → Goes keeps start before a b
   goes_looked a b was L = record { walks = λ k began. looked_walks a b (was k) L; process = record { opened = L.opened; size = L.size; topology = L.topology } }

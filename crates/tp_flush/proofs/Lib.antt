@@ -7,8 +7,4 @@ mod Endings
 mod Goings
 mod Puts
 mod Closed
-mod Standing
-mod Switches
-mod Beside
-mod Tails
 pub mod Settling

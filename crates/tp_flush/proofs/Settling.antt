@@ -7,7 +7,7 @@ use Rattle.tp_model.specs.NodeState.{NodeState}
 use Rattle.tp_model.specs.Node.{t414, t414_ends}
 use Rattle.tp_model.specs.Network.{Machine, Network}
 use Rattle.tp_model.specs.Snapshot.{MarkedNetwork}
-use Rattle.tp_model.specs.Order.{Reorder}
+use Rattle.tp_model.specs.Order.{Reorder, same, swap}
 use Rattle.tp_model.specs.Areas.{next_number}
 use Rattle.tp_model.specs.Disk.{MayBe}
 use Rattle.tp_model.specs.DiskHistory.{State}
@@ -24,7 +24,8 @@ use Rattle.tp_shared.specs.declared.told.Told.{Told}
 use Rattle.tp_shared.specs.Receipted.{AreBelow}
 use Rattle.tp_shared.specs.Seals.{Stage, IsTied}
 use Rattle.tp_shared.specs.Told.{IsFirst, Since, told_of}
-use Rattle.tp_shared.proofs.Telling.{told_journal}
+use Rattle.tp_shared.proofs.Telling.{grown-entries, told_entries}
+use Rattle.tp_turn.specs.Moments.{entries_in}
 use Rattle.tp_flush.specs.Known.{Reached}
 use Rattle.tp_flush.specs.Settled.{AreIn, RecoversWith, Stand}
 
@@ -78,13 +79,12 @@ pub slips_stand : (before : World NodeState) (first : ℕ) (stage : Stage) (key 
     → IsTied first stage.all stage.book → length w.journal ≡ w.base + length w.net.entries → Sound (item_of first stage.all) slips → Stand w.journal slips
 slips_stand before first stage key w slips F S T long sound =
     let front = take first before.journal in
-    let J = told_journal before first key stage S in
-    let more = J.0 in
-    let both : front ++ stage.all ≡ w.journal ++ more = J.2 ∙ ap (λ es. es ++ more) F.journal in
+    let more = entries_in S.acts in
+    let both : front ++ stage.all ≡ w.journal ++ more = S.journal ∙ grown-entries S.acts key.journal ∙ ap (λ es. es ++ more) F.journal in
     let lengths = ap length both in
     let left = length-append front stage.all in
     let right = length-append w.journal more in
-    let entries = ap length J.1 in
+    let entries = ap length (told_entries before first key stage S) in
     let kept = length-append key.net.entries more in
     let net = ap (λ (n : MarkedNetwork NodeState). length n.entries) F.net in
     let next = T.next in

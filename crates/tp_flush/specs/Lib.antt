@@ -1,5 +1,4 @@
 pub mod Progress
-pub mod Copying
 pub mod Known
 pub mod Flushing
 pub mod Ends

@@ -1,6 +1,7 @@
 //! The flusher copies the frozen images of a snapshot, one page a hold of the locks.
 
 ghost use Rattle.std.specs.Prelude.{◌≡◌, ◌<◌, ◌≤◌, true, length, get_or};
+ghost use Rattle.tp_model.specs.declared.limits.TheConstants.{MAX_NODES, MAX_PAGES};
 ghost use Rattle.tp_model.specs.WriteOrder.{Resting};
 ghost use Rattle.tp_flush.specs.Flushing.{Goes};
 ghost use Rattle.tp_flush.specs.Ends.{Tried};
@@ -10,7 +11,7 @@ use crate::flusher::Flusher;
 use crate::turn::FLUSHER;
 use std::sync::Wait;
 use tp_disk::Disk;
-use tp_model::limits::{IMAGE_HEAD_BYTES, PAGE_BYTES};
+use tp_model::limits::{IMAGE_HEAD_BYTES, MAX_PAGES, PAGE_BYTES};
 use tp_shared::gate::PAGE_COPIED;
 use tp_shared::{Gate, Look, Naming, Shared};
 
@@ -18,9 +19,10 @@ impl<J: Naming, D: Disk> Flusher<J, D> {
     /// How many pages a node has.
     fn pages_of(&self, node: usize) -> usize
         requires { node < length self.now.topology.pages }
-        ensures { result ≡ get_or self.now.topology.pages node 0 }
+        ensures inside { result ≤ get_or self.now.topology.pages node 0 }
+        ensures few { result ≤ MAX_PAGES }
     {
-        self.parts.topology.pages()[node] as usize
+        (self.parts.topology.pages()[node] as usize).min(MAX_PAGES)
     }
 
     /// How many nodes the device has images of.
@@ -33,6 +35,7 @@ impl<J: Naming, D: Disk> Flusher<J, D> {
     /// Whether the frozen image of `node` is out.
     fn is_out(&self, node: usize) -> bool
         requires { node < length self.now.topology.pages }
+        ensures few { node < MAX_NODES }
     {
         let _pages = self.parts.topology.pages();
         self.parts.progress.is_out(node)
@@ -74,6 +77,7 @@ impl<J: Naming, D: Disk> Flusher<J, D> {
         requires node { node < length self.old.topology.pages }
         requires there { node < length J.start.nodes }
         requires page { page < get_or self.old.topology.pages node 0 }
+        requires few { page < MAX_PAGES }
         ensures tried { Tried result self.old self.new }
         ensures goes { Goes D.keeps J.formatted J.before self.old self.new }
     {
@@ -129,7 +133,7 @@ impl<J: Naming, D: Disk> Flusher<J, D> {
         ensures goes { Goes D.keeps J.formatted J.before self.old self.new }
     {
         self.known();
-        if !look.recorded[node as usize] || self.is_out(node as usize) {
+        if self.is_out(node as usize) || !look.recorded[node as usize] {
             return Ok(());
         }
         if !self.copy_image(rt, shared, gate, node)? {

@@ -2,6 +2,7 @@
 
 ghost use Rattle.std.specs.Prelude.{◌≡◌, ◌<◌, ◌≤◌, true, length, get_or};
 ghost use Rattle.tp_layout.specs.Pieces.{piece_length};
+ghost use Rattle.tp_model.specs.declared.limits.TheConstants.{MAX_PAGES};
 ghost use Rattle.tp_model.specs.WriteOrder.{Resting};
 ghost use Rattle.tp_flush.specs.Flushing.{Goes};
 ghost use Rattle.tp_flush.specs.Ends.{Tried, Went};
@@ -45,6 +46,7 @@ impl<J: Naming, D: Disk> Flusher<J, D> {
         requires cleared { self.old.progress.cleared ≡ true }
         requires node { node < length self.old.topology.pages }
         requires piece { piece ≤ get_or self.old.topology.pages node 0 }
+        requires few { piece ≤ MAX_PAGES }
         requires whole { length bytes.now ≡ piece_length piece }
         ensures tried { Tried result self.old self.new }
         ensures goes { Goes D.keeps J.formatted J.before self.old self.new }

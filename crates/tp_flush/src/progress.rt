@@ -1,6 +1,6 @@
 //! How far the copy of a snapshot has come.
 
-ghost use Rattle.std.specs.Prelude.{◌≡◌, ◌<◌, ◌≤◌, ℕ, true};
+ghost use Rattle.std.specs.Prelude.{◌≡◌, ◌<◌};
 ghost use Rattle.tp_model.specs.declared.limits.TheConstants.{MAX_NODES};
 ghost use Rattle.tp_flush.specs.Progress.{is_out, not_begun, with_out};
 
@@ -31,19 +31,6 @@ impl Progress {
         ensures { result ≡ is_out self.now node }
     {
         self.out[node]
-    }
-
-    /// Whether the images of the first `count` nodes are out.
-    pub(crate) fn are_out(&self, count: usize) -> bool
-        requires { count ≤ MAX_NODES }
-        ensures { result ≡ true → (node : ℕ) → node < count → is_out self.now node ≡ true }
-    {
-        for node in 0..count {
-            if !self.out[node] {
-                return false;
-            }
-        }
-        true
     }
 
     /// The image of `node` is out.

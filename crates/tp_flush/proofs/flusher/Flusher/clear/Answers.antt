@@ -17,9 +17,15 @@ use Rattle.tp_flush.specs.Flushing.{Flushing, Goes, Keeps}
 use Rattle.tp_flush.specs.Ends.{Went, Tried}
 use Rattle.tp_flush.proofs.Appends.{opens, rests_unbroken}
 use Rattle.tp_flush.proofs.Closed.{put_copies}
+use Rattle.tp_flush.proofs.Goings.{goes_still}
 use Rattle.tp_flush.proofs.Puts.{Answered, after_put, cleared_walks, on_ok, on_ok_same, put_answered, put_keeps, put_known, put_tried, told_put}
 use Rattle.tp_flush.proofs.flusher.Flusher.clear.Given as given
 use Rattle.tp_flush.proofs.flusher.Flusher.clear.Goals as goal
+
+pub returns-then-parts-clause-goes : goal.returns-then-parts-clause-goes
+returns-then-parts-clause-goes g c =
+    subst (λ (v : Flushing). Goes g.D.Disk.keeps g.J.Naming.formatted g.J.Naming.before c.args.self.now v) (sym c.self.view_is)
+    (goes_still g.D.Disk.keeps g.J.Naming.formatted g.J.Naming.before c.args.self.now c.known.ensures.disk)
 
 resting : (g : given.Over) (c : goal.After-answer_of g) → c.self.inside.parts.whole.known.world.at ≡ Resting
 resting g c = ap (λ (v : Flushing). v.world.at) c.self.view_is ∙ c.requires.rests

@@ -32,3 +32,7 @@ returns-clause-tried g c = c.loop-page.invariant.went
 
 pub returns-clause-goes : goal.returns-clause-goes
 returns-clause-goes g c = c.loop-page.invariant.goes
+
+pub returns-then-not-branch-2-clause-goes : goal.returns-then-not-branch-2-clause-goes
+returns-then-not-branch-2-clause-goes g c =
+    goes_then g.D.Disk.keeps g.J.Naming.formatted g.J.Naming.before c.args.self.now c.loop-page.self c.copy_page.new.self c.loop-page.invariant.goes c.copy_page.ensures.goes

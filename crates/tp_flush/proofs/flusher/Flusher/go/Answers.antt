@@ -59,7 +59,7 @@ returns-in_err-checkpoint-clause-ended g c =
 
 -- ## All was done
 
-raised : (g : given.Over) (c : goal.After-drop-backlog g) → WaitsBehind c.args.self.now c.raise-mark.new.self
+raised : (g : given.Over) (c : goal.After-drop-backlog-2 g) → WaitsBehind c.args.self.now c.raise-mark.new.self
 raised g c =
     let S = c.in_ok-store.ensures.stored in
     let R = c.raise-mark.ensures in
@@ -67,7 +67,7 @@ raised g c =
     (waits_then c.args.self.now c.copy_under.new.self c.store.new.self (looked_waits c.args.self.now c.copy_under.new.self c.requires.rests c.copy_under.ensures.looked c.copy_under.ensures.mark) S.0)
     R.looked (omega (arith, R.up, R.mark)) (omega (arith, R.reaches, R.mark))
 
-went_on : (g : given.Over) (c : goal.After-drop-backlog g) → Goes g.D.Disk.keeps g.J.Naming.formatted g.J.Naming.before c.args.self.now c.raise-mark.new.self
+went_on : (g : given.Over) (c : goal.After-drop-backlog-2 g) → Goes g.D.Disk.keeps g.J.Naming.formatted g.J.Naming.before c.args.self.now c.raise-mark.new.self
 went_on g c =
     goes_then g.D.Disk.keeps g.J.Naming.formatted g.J.Naming.before c.args.self.now c.store.new.self c.raise-mark.new.self
     (goes_then g.D.Disk.keeps g.J.Naming.formatted g.J.Naming.before c.args.self.now c.copy_under.new.self c.store.new.self
