@@ -4,4 +4,7 @@ mod Appends
 mod Begins
 mod Turns
 mod Endings
+mod Goings
+mod Puts
+mod Closed
 pub mod Settling

@@ -1,3 +1,4 @@
+pub mod Progress
 pub mod Known
 pub mod Flushing
 pub mod Ends
