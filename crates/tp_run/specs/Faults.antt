@@ -1,0 +1,43 @@
+-- Which faults come where.
+use Rattle.std.specs.Prelude.{◌≡◌, ◌⊎◌, ℕ, nat_le, nat_lt, if◌then◌else◌, List, any, Option, Some, None, Result, Ok, Err}
+use Rattle.tp_model.specs.Topology.{Topology}
+use Rattle.tp_run.specs.declared.fault.RunFault.{RunFault}
+use Rattle.tp_run.specs.declared.fault.RunFault.TheVariants.{Opening, Spare, Port, OfferRefused, FlushFailed, OutputFailed, ConfirmRefused, LastFlushFailed, Memory}
+
+-- the device isn't written
+abbrev pub IsUnbegun : {A : Type 0} → Result A RunFault → Type 0
+IsUnbegun (Ok x) = ⊥
+IsUnbegun (Err (Opening unopened)) = Unit {0}
+IsUnbegun (Err Spare) = Unit {0}
+IsUnbegun (Err Port) = Unit {0}
+IsUnbegun (Err OfferRefused) = ⊥
+IsUnbegun (Err FlushFailed) = ⊥
+IsUnbegun (Err OutputFailed) = ⊥
+IsUnbegun (Err ConfirmRefused) = ⊥
+IsUnbegun (Err LastFlushFailed) = ⊥
+IsUnbegun (Err Memory) = ⊥
+
+-- nothing is printed
+abbrev pub IsSilent : {A : Type 0} → Result A RunFault → Type 0
+IsSilent (Ok x) = ⊥
+IsSilent (Err (Opening unopened)) = Unit {0}
+IsSilent (Err Spare) = Unit {0}
+IsSilent (Err Port) = Unit {0}
+IsSilent (Err OfferRefused) = Unit {0}
+IsSilent (Err FlushFailed) = Unit {0}
+IsSilent (Err OutputFailed) = ⊥
+IsSilent (Err ConfirmRefused) = ⊥
+IsSilent (Err LastFlushFailed) = ⊥
+IsSilent (Err Memory) = ⊥
+
+-- a fault of an offer
+abbrev pub IsOfferFault : RunFault → Type 0
+IsOfferFault fault = (fault ≡ OfferRefused) ⊎ (fault ≡ FlushFailed) ⊎ (fault ≡ Memory)
+
+-- a fault of a flush, which answers `given` where the device fails
+abbrev pub IsFlushFault : RunFault → RunFault → Type 0
+IsFlushFault given fault = (fault ≡ given) ⊎ (fault ≡ Memory)
+
+-- a fault of the confirmation of what was printed
+abbrev pub IsConfirmFault : RunFault → Type 0
+IsConfirmFault fault = (fault ≡ ConfirmRefused) ⊎ (fault ≡ LastFlushFailed) ⊎ (fault ≡ Memory)
