@@ -20,7 +20,7 @@ pub(crate) fn job_fault(job: Job, topology: &Topology) -> Option<RunFault>
     if !topology.pages().iter().all(|pages| job.spare <= *pages) {
         return Some(RunFault::Spare);
     }
-    if usize::from(job.port) >= topology.ports() {
+    if usize::from(job.port) >= topology.port_count() {
         return Some(RunFault::Port);
     }
     None

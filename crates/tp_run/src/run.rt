@@ -33,7 +33,7 @@ use tp_shared::{Naming, NoGate, Parts};
 use tp_work::Net;
 
 /// A run over the store of a device that was opened, with the parts that were made of it.
-fn run_parts<J: Naming + Send + Sync, D: Disk + Send, O: Write, R: Threads + Wait + Sync>(
+fn run_parts<J: Naming + Send + Sync, D: Disk + Send + Drop, O: Write, R: Threads + Wait + Sync>(
     rt: &R,
     alloc: Global,
     job: Job,
@@ -78,7 +78,7 @@ fn run_parts<J: Naming + Send + Sync, D: Disk + Send, O: Write, R: Threads + Wai
 ///
 /// Whatever a crash leaves at any moment of the call is what one just before might have left, or opens to where a prefix of the journal
 /// leads, with all that the device had. After a run that was done it has each entry below the number that is answered.
-pub fn run<D: Disk + Send, O: Write, R: Threads + Wait + Sync>(
+pub fn run<D: Disk + Send + Drop, O: Write, R: Threads + Wait + Sync>(
     rt: &R,
     alloc: Global,
     job: Job,

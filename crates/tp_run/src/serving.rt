@@ -51,7 +51,7 @@ fn print<J: Naming, O: Write, R: Wait>(
 }
 
 /// Lets workers make turns, and the flusher its own in a thread of its own meanwhile, where one can be made, and else behind them.
-fn work<J: Naming + Send + Sync, D: Disk + Send, R: Threads + Wait + Sync>(
+fn work<J: Naming + Send + Sync, D: Disk + Send + Drop, R: Threads + Wait + Sync>(
     rt: &R,
     alloc: Global,
     net: &Net<J, NoGate>,
@@ -107,7 +107,12 @@ fn finish<J: Naming, D: Disk, O: Write, R: Wait>(
 
 /// Hands in the input, lets the workers make their turns, and prints and confirms what is shown then. Answers the number that the
 /// next entry gets.
-pub(crate) fn serve<J: Naming + Send + Sync, D: Disk + Send, O: Write, R: Threads + Wait + Sync>(
+pub(crate) fn serve<
+    J: Naming + Send + Sync,
+    D: Disk + Send + Drop,
+    O: Write,
+    R: Threads + Wait + Sync,
+>(
     rt: &R,
     alloc: Global,
     job: Job,

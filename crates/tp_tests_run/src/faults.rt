@@ -45,11 +45,11 @@ fn play_fault<R: Threads + Wait + Abort + Sync>(
     let (disk, done) = play(rt, alloc, disk, FOUR, b"x", &mut out);
     let was_printed = match done {
         Ok(next) => {
-            assert!(rt; next == 7 && out.as_slice() == b"A");
+            assert!(rt; next == 7 && out.as_slice() == b"A".as_slice());
             true
         }
         Err(RunFault::LastFlushFailed) => {
-            assert!(rt; out.as_slice() == b"A");
+            assert!(rt; out.as_slice() == b"A".as_slice());
             true
         }
         Err(RunFault::FlushFailed | RunFault::Opening(_)) => {
@@ -123,7 +123,7 @@ fn an_output_that_fails_confirms_nothing(rt: HostRuntime) -> Result<(), Fail> {
         assert!(rt; done == Err(RunFault::OutputFailed));
         let mut out = Vec::new(alloc);
         let (_, done) = play(&rt, alloc, disk, FOUR, b"", &mut out);
-        assert!(rt; done.is_ok() && out.as_slice() == b"A");
+        assert!(rt; done.is_ok() && out.as_slice() == b"A".as_slice());
     }
     Ok(())
 }
