@@ -45,7 +45,7 @@ stands s o room parts raiser now base next kept cut leads world book first raise
   ports =
       ap (λ (b : BookValue). length b.state.ports) book ∙ ap (λ (n : Network NodeState). length n.ports) now
       ∙ (after_shape t414 has_four_links o.cut o.now (map (λ e. e.0) o.kept) leads).ports ∙ cut.count;
-  raiser = raised ∙ ap (λ n. record { mark = parts.mark; at = n }) next;
+  raised = raised ∙ ap (λ n. record { mark = parts.mark; at = n }) next;
 }
 
 -- what is first told of their book is the world that goes on from what was opened

@@ -1,6 +1,5 @@
 -- Which faults come where.
-use Rattle.std.specs.Prelude.{◌≡◌, ◌⊎◌, ℕ, nat_le, nat_lt, if◌then◌else◌, List, any, Option, Some, None, Result, Ok, Err}
-use Rattle.tp_model.specs.Topology.{Topology}
+use Rattle.std.specs.Prelude.{◌≡◌, ◌⊎◌, Result, Ok, Err}
 use Rattle.tp_run.specs.declared.fault.RunFault.{RunFault}
 use Rattle.tp_run.specs.declared.fault.RunFault.TheVariants.{Opening, Spare, Port, OfferRefused, FlushFailed, OutputFailed, ConfirmRefused, LastFlushFailed, Memory}
 
@@ -38,6 +37,14 @@ IsOfferFault fault = (fault ≡ OfferRefused) ⊎ (fault ≡ FlushFailed) ⊎ (f
 abbrev pub IsFlushFault : RunFault → RunFault → Type 0
 IsFlushFault given fault = (fault ≡ given) ⊎ (fault ≡ Memory)
 
--- a fault of the confirmation of what was printed
-abbrev pub IsConfirmFault : RunFault → Type 0
-IsConfirmFault fault = (fault ≡ ConfirmRefused) ⊎ (fault ≡ LastFlushFailed) ⊎ (fault ≡ Memory)
+-- a fault that comes once the output was begun
+abbrev pub IsLate : RunFault → Type 0
+IsLate (Opening unopened) = ⊥
+IsLate Spare = ⊥
+IsLate Port = ⊥
+IsLate OfferRefused = ⊥
+IsLate FlushFailed = ⊥
+IsLate OutputFailed = Unit {0}
+IsLate ConfirmRefused = Unit {0}
+IsLate LastFlushFailed = Unit {0}
+IsLate Memory = Unit {0}

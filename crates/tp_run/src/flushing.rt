@@ -1,6 +1,6 @@
 //! The flusher's thread, and flushes behind it.
 
-ghost use Rattle.std.specs.Prelude.{◌≡◌, ◌≤◌, IfOk, IfErr, IsOk};
+ghost use Rattle.std.specs.Prelude.{◌≡◌, ◌≤◌, IfOk, IfErr};
 ghost use Rattle.tp_flush.specs.Known.{Began};
 ghost use Rattle.tp_flush.specs.Flushing.{IsSameProcess, Walked};
 ghost use Rattle.tp_run.specs.Faults.{IsFlushFault};
@@ -13,20 +13,20 @@ use tp_disk::Disk;
 use tp_flush::{FlushFault, Flusher};
 use tp_shared::{Naming, Shared};
 
-/// Makes the flusher's turns while workers make theirs, each once something may have been journalled. It ends once they have ended,
-/// or a call of the device has failed. Where a turn wants memory, the next one does all.
+/// Makes the flusher's turns while workers make theirs, each once something may have been journalled, until they have ended. Where a turn
+/// wants memory, the next one does all; once a call of the device has failed, a turn does nothing.
 pub(crate) fn flush_meanwhile<J: Naming, D: Disk, R: Wait>(
     rt: &R,
     alloc: Global,
     shared: &Shared<J>,
     watch: &Watch,
-    flusher: Flusher<J, D>,
+    first: Flusher<J, D>,
 ) -> Flusher<J, D>
-    ensures walks { D.keeps → Began J.formatted J.before flusher.opened → Walked flusher result }
-    ensures process { IsSameProcess flusher result }
+    ensures walks { D.keeps → Began J.formatted J.before first.opened → Walked first result }
+    ensures process { IsSameProcess first result }
 {
-    flusher.known();
-    let mut flusher = flusher;
+    first.known();
+    let mut flusher = first;
     let mut seen = 0;
     for _ in rt.forever() {
         let Some(news) = watch.wait(rt, seen) else {
@@ -34,15 +34,12 @@ pub(crate) fn flush_meanwhile<J: Naming, D: Disk, R: Wait>(
         };
         seen = news;
         let _done = flusher.turn(rt, alloc, shared);
-        if flusher.is_broken() {
-            break;
-        }
     }
     flusher
 }
 
 /// A flush. It answers `fault` where the device fails.
-pub(crate) fn flush<J: Naming, D: Disk, R: Wait>(
+fn flush<J: Naming, D: Disk, R: Wait>(
     rt: &R,
     alloc: Global,
     shared: &Shared<J>,
@@ -60,4 +57,28 @@ pub(crate) fn flush<J: Naming, D: Disk, R: Wait>(
             Err(fault)
         }
     }
+}
+
+/// A flush of all entries below `number`, which is the next one of a receipt. Answers the mark. It answers `fault` where the device
+/// fails.
+pub(crate) fn flush_upto<J: Naming, D: Disk, R: Wait>(
+    rt: &R,
+    alloc: Global,
+    shared: &Shared<J>,
+    flusher: &mut Flusher<J, D>,
+    number: u64,
+    fault: RunFault,
+) -> Result<u64, RunFault>
+    ensures walks { D.keeps → Began J.formatted J.before flusher.old.opened → Walked flusher.old flusher.new }
+    ensures process { IsSameProcess flusher.old flusher.new }
+    ensures stored { IfOk result (λ mark. (mark ≡ flusher.new.world.mark) × (number ≤ mark)) }
+    ensures refused { IfErr result (IsFlushFault fault) }
+{
+    flush(rt, alloc, shared, flusher, fault)?;
+    let mark = flusher.mark();
+    // A flush that was done copied all that was journalled before.
+    if mark < number {
+        return Err(fault);
+    }
+    Ok(mark)
 }

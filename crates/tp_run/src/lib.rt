@@ -7,11 +7,11 @@ mod job;
 mod offering;
 mod opening;
 mod printing;
-mod run;
+mod running;
 mod serving;
 mod watch;
 mod working;
 
 pub use fault::RunFault;
 pub use job::{Job, MAX_WORKERS};
-pub use run::run;
+pub use running::run;

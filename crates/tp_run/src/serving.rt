@@ -1,12 +1,12 @@
 //! What a run does with a network in threads, and its flusher.
 
-ghost use Rattle.std.specs.Prelude.{◌≡◌, ◌<◌, ◌≤◌, All, length, IfOk, Some};
+ghost use Rattle.std.specs.Prelude.{◌≡◌, ◌<◌, ◌≤◌, All, length, IfErr, IfOk, Some};
 ghost use Rattle.tp_flush.specs.Known.{Began};
 ghost use Rattle.tp_flush.specs.Flushing.{IsSameProcess, Walked};
-ghost use Rattle.tp_run.specs.Faults.{IsSilent};
+ghost use Rattle.tp_run.specs.Faults.{IsLate, IsSilent};
 
 use crate::fault::RunFault;
-use crate::flushing::{flush, flush_meanwhile};
+use crate::flushing::{flush_meanwhile, flush_upto};
 use crate::job::Job;
 use crate::offering::offer_rest;
 use crate::printing::print_shown;
@@ -44,6 +44,7 @@ fn print<J: Naming, O: Write, R: Wait>(
     out: &mut O,
 ) -> Result<Receipt<J>, RunFault>
     requires { port < length J.start.ports }
+    ensures { IfErr result IsLate }
 {
     let mut held = shared.book().lock(rt);
     held.known();
@@ -71,7 +72,9 @@ fn work<J: Naming + Send + Sync, D: Disk + Send + Drop, R: Threads + Wait + Sync
         move || -> Flusher<J, D>
             ensures { (D.keeps → Began J.formatted J.before flusher.opened → Walked flusher result) × IsSameProcess flusher result }
         { flush_meanwhile(rt, alloc, shared, watching, flusher) },
-        || work_all(rt, net, watching, seats),
+        ||
+            requires { All (λ seat. seat.hand ≡ Some net.now.queue) seats.now }
+        { work_all(rt, net, watching, seats) },
     );
     flusher
 }
@@ -92,17 +95,12 @@ fn finish<J: Naming, D: Disk, O: Write, R: Wait>(
     ensures stored { IfOk result (λ next. next ≤ flusher.new.world.mark) }
     ensures silent { IsSilent result → O.contents out.new ≡ O.contents out.old }
 {
-    flush(rt, alloc, shared, flusher, RunFault::FlushFailed)?;
-    let mark = flusher.mark();
-    if mark < offered.number() {
-        return Err(RunFault::FlushFailed);
-    }
+    let number = offered.number();
+    let mark = flush_upto(rt, alloc, shared, flusher, number, RunFault::FlushFailed)?;
     let confirmed = print(rt, shared, port, mark, out)?;
-    flush(rt, alloc, shared, flusher, RunFault::LastFlushFailed)?;
-    if flusher.mark() < confirmed.number() {
-        return Err(RunFault::LastFlushFailed);
-    }
-    Ok(confirmed.number())
+    let next = confirmed.number();
+    let _mark = flush_upto(rt, alloc, shared, flusher, next, RunFault::LastFlushFailed)?;
+    Ok(next)
 }
 
 /// Hands in the input, lets the workers make their turns, and prints and confirms what is shown then. Answers the number that the

@@ -52,7 +52,9 @@ pub(crate) fn work_all<J: Naming + Send + Sync, R: Threads + Wait + Sync>(
         rt,
         seats,
         threads,
-        &|_, seat: &mut Seat<J>| work(rt, net, watch, seat),
+        &|_, seat: &mut Seat<J>|
+            requires { seat.now.hand ≡ Some net.now.queue }
+        { work(rt, net, watch, seat) },
     );
     watch.end(rt);
 }
