@@ -1,5 +1,5 @@
 -- What is made of a device that opened, before threads begin.
-use Rattle.std.specs.Prelude.{◌≡◌, ℕ, nat_lt, nat_le, if◌then◌else◌, length, Option, Some, None}
+use Rattle.std.specs.Prelude.{◌≡◌, ℕ, nat_lt, nat_le, Bool, true, false, length, Option, Some, None}
 use Rattle.std.specs.List.{list_all}
 use Rattle.tp_mark.specs.Seen.{RaiserValue}
 use Rattle.tp_model.specs.Opening.{Opened, next_of}
@@ -18,7 +18,15 @@ pub record StandsFor (o : Opened) (parts : PartsValue) (raiser : RaiserValue) : 
   pub ports : length parts.book.state.ports ≡ o.head.topology.ports
   pub raised : raiser ≡ record { mark = parts.mark; at = next_of o }
 
--- why a network isn't run so: a node has fewer pages than are asked for as spare frames, or there is no such port
+-- whether each node has as many pages as are asked for as spare frames
+abbrev pub has_pages : ℕ → Topology → Bool
+has_pages spare t = list_all (λ pages. nat_le spare pages) t.pages
+
+-- why a network isn't run so: a node has fewer, or there is no such port
+abbrev pub fault_by : Bool → Bool → Option RunFault
+fault_by false there = Some Spare
+fault_by true false = Some Port
+fault_by true true = None
+
 abbrev pub job_fault : ℕ → ℕ → Topology → Option RunFault
-job_fault spare port t =
-    if list_all (λ pages. nat_le spare pages) t.pages then (if nat_lt port t.ports then None else Some Port) else Some Spare
+job_fault spare port t = fault_by (has_pages spare t) (nat_lt port t.ports)

@@ -1,7 +1,7 @@
 //! What is made of a device that opened.
 
 ghost use Rattle.std.specs.Prelude.{◌≡◌, IfOk};
-ghost use Rattle.tp_run.specs.Made.{StandsFor, job_fault};
+ghost use Rattle.tp_run.specs.Made.{StandsFor, fault_by, has_pages, job_fault};
 
 use crate::fault::RunFault;
 use crate::job::Job;
@@ -13,17 +13,30 @@ use tp_recover::Opened;
 use tp_shared::Parts;
 use tp_work::nodes_of;
 
+/// Whether each node has as many pages as `spare` says.
+fn has_pages(spare: u16, topology: &Topology) -> bool
+    ensures { result ≡ has_pages spare topology.now }
+{
+    topology.pages().iter().all(|pages| spare <= *pages)
+}
+
+/// What is wrong, where a node has too few pages, or the port isn't there.
+fn fault_by(has_pages: bool, has_port: bool) -> Option<RunFault>
+    ensures { result ≡ fault_by has_pages has_port }
+{
+    match (has_pages, has_port) {
+        (false, _) => Some(RunFault::Spare),
+        (true, false) => Some(RunFault::Port),
+        (true, true) => None,
+    }
+}
+
 /// Why a network isn't run as `job` says, where it isn't.
 pub(crate) fn job_fault(job: Job, topology: &Topology) -> Option<RunFault>
     ensures { result ≡ job_fault job.spare job.port topology.now }
 {
-    if !topology.pages().iter().all(|pages| job.spare <= *pages) {
-        return Some(RunFault::Spare);
-    }
-    if usize::from(job.port) >= topology.port_count() {
-        return Some(RunFault::Port);
-    }
-    None
+    let has_port = usize::from(job.port) < topology.port_count();
+    fault_by(has_pages(job.spare, topology), has_port)
 }
 
 /// The book and the nodes of what was opened, and the raiser of their mark. Each node has `spare` frames for pages that it writes while
