@@ -1,17 +1,19 @@
--- Faults that come once the output was begun.
-use Rattle.std.proofs.Common.{Result, Err, ℕ}
+-- Faults of a run, and when they come.
+use Rattle.std.proofs.Common.{Result, Ok, Err, ℕ}
+use Rattle.std.specs.Prelude.{IfErr}
 use Rattle.tp_run.specs.declared.fault.RunFault.{RunFault}
 use Rattle.tp_run.specs.declared.fault.RunFault.TheVariants.{Opening, Spare, Port, OfferRefused, FlushFailed, OutputFailed, ConfirmRefused, LastFlushFailed, Memory}
-use Rattle.tp_run.specs.Faults.{IsLate, IsSilent}
+use Rattle.tp_run.specs.Faults.{IsBegun, IsUnbegun}
 
--- no such fault is silent
-pub late_speaks : (fault : RunFault) → IsLate fault → (let done : Result ℕ RunFault = Err fault in IsSilent done) → ⊥
-late_speaks (Opening unopened) late silent = late
-late_speaks Spare late silent = late
-late_speaks Port late silent = late
-late_speaks OfferRefused late silent = late
-late_speaks FlushFailed late silent = late
-late_speaks OutputFailed late silent = silent
-late_speaks ConfirmRefused late silent = silent
-late_speaks LastFlushFailed late silent = silent
-late_speaks Memory late silent = silent
+-- a run that was begun isn't answered as one that wasn't
+pub begun_written : (r : Result ℕ RunFault) → IfErr r IsBegun → IsUnbegun r → ⊥
+begun_written (Ok next) begun unbegun = unbegun
+begun_written (Err (Opening unopened)) begun unbegun = begun
+begun_written (Err Spare) begun unbegun = begun
+begun_written (Err Port) begun unbegun = begun
+begun_written (Err OfferRefused) begun unbegun = unbegun
+begun_written (Err FlushFailed) begun unbegun = unbegun
+begun_written (Err OutputFailed) begun unbegun = unbegun
+begun_written (Err ConfirmRefused) begun unbegun = unbegun
+begun_written (Err LastFlushFailed) begun unbegun = unbegun
+begun_written (Err Memory) begun unbegun = unbegun

@@ -29,10 +29,6 @@ IsSilent (Err ConfirmRefused) = ⊥
 IsSilent (Err LastFlushFailed) = ⊥
 IsSilent (Err Memory) = ⊥
 
--- a fault of an offer
-abbrev pub IsOfferFault : RunFault → Type 0
-IsOfferFault fault = (fault ≡ OfferRefused) ⊎ (fault ≡ FlushFailed) ⊎ (fault ≡ Memory)
-
 -- a fault of a flush, which answers `given` where the device fails
 abbrev pub IsFlushFault : RunFault → RunFault → Type 0
 IsFlushFault given fault = (fault ≡ given) ⊎ (fault ≡ Memory)
@@ -48,3 +44,15 @@ IsLate OutputFailed = Unit {0}
 IsLate ConfirmRefused = Unit {0}
 IsLate LastFlushFailed = Unit {0}
 IsLate Memory = Unit {0}
+
+-- a fault of a run whose device opened, and which can be made as it is asked
+abbrev pub IsBegun : RunFault → Type 0
+IsBegun (Opening unopened) = ⊥
+IsBegun Spare = ⊥
+IsBegun Port = ⊥
+IsBegun OfferRefused = Unit {0}
+IsBegun FlushFailed = Unit {0}
+IsBegun OutputFailed = Unit {0}
+IsBegun ConfirmRefused = Unit {0}
+IsBegun LastFlushFailed = Unit {0}
+IsBegun Memory = Unit {0}

@@ -6,7 +6,7 @@ ghost use Rattle.tp_book.specs.Host.{after_input};
 ghost use Rattle.tp_host.specs.Receipts.{IsFor};
 ghost use Rattle.tp_model.specs.declared.entry.Entry.TheVariants.{HostIn};
 ghost use Rattle.tp_run.specs.Input.{rest_of};
-ghost use Rattle.tp_run.specs.Faults.{IsOfferFault};
+ghost use Rattle.tp_run.specs.Faults.{IsBegun};
 
 use crate::fault::RunFault;
 use tp_host::{OfferFault, offer};
@@ -35,7 +35,7 @@ pub(crate) fn offer_rest<J: Naming>(
     ensures book { IfOk result (λ receipt. held.new.book ≡ after_input held.old.book port (rest_of held.old.book port input.now)) }
     ensures number { IfOk result (λ receipt. receipt.number ≡ next_number held.new.book) }
     ensures receipt { IfOk result (IsFor (map (HostIn port) (rest_of held.old.book port input.now))) }
-    ensures refused { IfErr result IsOfferFault }
+    ensures begun { IfErr result IsBegun }
     ensures err { OnErr result (held.new ≡ held.old) }
 {
     held.known();

@@ -4,7 +4,7 @@ ghost use Rattle.std.specs.Prelude.{◌≡◌, ◌<◌, length, IfOk, IfErr, OnO
 ghost use Rattle.std.specs.Io.KnownBytes.{Appends};
 ghost use Rattle.tp_book.specs.Book.{next_number};
 ghost use Rattle.tp_book.specs.Host.{after_confirm, port_in, shown_from, shown_upto_of};
-ghost use Rattle.tp_run.specs.Faults.{IsLate};
+ghost use Rattle.tp_run.specs.Faults.{IsBegun, IsLate};
 ghost use Rattle.tp_run.specs.Output.{AppendsFront, Printed};
 
 use crate::fault::RunFault;
@@ -42,7 +42,8 @@ fn confirm_shown<J: Naming>(
     requires there { port < length held.old.book.state.ports }
     ensures book { IfOk result (λ receipt. held.new.book ≡ after_confirm held.old.book port (shown_upto_of held.old.book port mark)) }
     ensures number { IfOk result (λ receipt. receipt.number ≡ next_number held.new.book) }
-    ensures refused { IfErr result IsLate }
+    ensures late { IfErr result IsLate }
+    ensures begun { IfErr result IsBegun }
     ensures err { OnErr result (held.new ≡ held.old) }
 {
     let upto = held.book().shown_upto(port, mark);
@@ -67,7 +68,8 @@ pub(crate) fn print_shown<J: Naming, O: Write>(
     ensures printed { Printed (O.contents out.old) (O.contents out.new) (shown_from held.old.book port mark (port_in held.old.book port).out_base) result }
     ensures book { IfOk result (λ receipt. held.new.book ≡ after_confirm held.old.book port (shown_upto_of held.old.book port mark)) }
     ensures number { IfOk result (λ receipt. receipt.number ≡ next_number held.new.book) }
-    ensures refused { IfErr result IsLate }
+    ensures late { IfErr result IsLate }
+    ensures begun { IfErr result IsBegun }
     ensures err { OnErr result (held.new ≡ held.old) }
 {
     let from = held.book().out_base(port);

@@ -1,13 +1,13 @@
 //! A run, from a device to a device.
 
-ghost use Rattle.std.specs.Prelude.{◌≡◌, ◌<◌, ◌≤◌, false, Ok, Err, IsErr};
+ghost use Rattle.std.specs.Prelude.{◌≡◌, ◌<◌, ◌≤◌, false, Ok, Err, IfErr, IsErr};
 ghost use Rattle.tp_area.specs.Places.{place_at};
 ghost use Rattle.tp_flush.specs.Known.{Began};
 ghost use Rattle.tp_model.specs.DiskHistory.{IsSynced};
 ghost use Rattle.tp_model.specs.Opening.{verdict};
 ghost use Rattle.tp_model.specs.declared.limits.TheConstants.{MAX_STEPS};
 ghost use Rattle.tp_recover.specs.Reading.{LeavesNothingNew};
-ghost use Rattle.tp_run.specs.Faults.{IsSilent, IsUnbegun};
+ghost use Rattle.tp_run.specs.Faults.{IsBegun, IsSilent, IsUnbegun};
 ghost use Rattle.tp_run.specs.Made.{StandsFor};
 ghost use Rattle.tp_run.specs.Ran.{History, Ran};
 ghost use Rattle.tp_recover.specs.declared.unopened.Unopened.{Unopened};
@@ -56,6 +56,7 @@ fn run_parts<J: Naming + Send + Sync, D: Disk + Send + Drop, O: Write, R: Thread
     ensures size { D.size_of result.0 ≡ D.size_of store.disk }
     ensures ran { D.keeps → Began J.formatted J.before (D.state store.disk).now.bytes → Ran J.formatted result.1 (D.state store.disk) (D.state result.0) }
     ensures silent { IsSilent result.1 → O.contents out.new ≡ O.contents out.old }
+    ensures begun { IfErr result.1 IsBegun }
 {
     let Ok((net, mut seats, key)) = Net::<J, NoGate>::start(
         rt,

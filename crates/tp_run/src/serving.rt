@@ -3,7 +3,7 @@
 ghost use Rattle.std.specs.Prelude.{◌≡◌, ◌<◌, ◌≤◌, All, length, IfErr, IfOk, Some};
 ghost use Rattle.tp_flush.specs.Known.{Began};
 ghost use Rattle.tp_flush.specs.Flushing.{IsSameProcess, Walked};
-ghost use Rattle.tp_run.specs.Faults.{IsLate, IsSilent};
+ghost use Rattle.tp_run.specs.Faults.{IsBegun, IsLate, IsSilent};
 
 use crate::fault::RunFault;
 use crate::flushing::{flush_meanwhile, flush_upto};
@@ -29,6 +29,7 @@ fn offer<J: Naming, R: Wait>(
     input: &[u8],
 ) -> Result<Receipt<J>, RunFault>
     requires { port < length J.start.ports }
+    ensures { IfErr result IsBegun }
 {
     let mut held = shared.book().lock(rt);
     held.known();
@@ -44,7 +45,8 @@ fn print<J: Naming, O: Write, R: Wait>(
     out: &mut O,
 ) -> Result<Receipt<J>, RunFault>
     requires { port < length J.start.ports }
-    ensures { IfErr result IsLate }
+    ensures late { IfErr result IsLate }
+    ensures begun { IfErr result IsBegun }
 {
     let mut held = shared.book().lock(rt);
     held.known();
@@ -94,6 +96,7 @@ fn finish<J: Naming, D: Disk, O: Write, R: Wait>(
     ensures process { IsSameProcess flusher.old flusher.new }
     ensures stored { IfOk result (λ next. next ≤ flusher.new.world.mark) }
     ensures silent { IsSilent result → O.contents out.new ≡ O.contents out.old }
+    ensures begun { IfErr result IsBegun }
 {
     let number = offered.number();
     let mark = flush_upto(rt, alloc, shared, flusher, number, RunFault::FlushFailed)?;
@@ -126,6 +129,7 @@ pub(crate) fn serve<
     ensures process { IsSameProcess flusher result.0 }
     ensures stored { IfOk result.1 (λ next. next ≤ result.0.world.mark) }
     ensures silent { IsSilent result.1 → O.contents out.new ≡ O.contents out.old }
+    ensures begun { IfErr result.1 IsBegun }
 {
     flusher.known();
     let shared = net.shared();
