@@ -81,10 +81,10 @@ fn play_fault<R: Threads + Wait + Abort + Sync>(
 fn any_call_of_the_device_may_fail(rt: HostRuntime) -> Result<(), Fail> {
     let alloc = rt.alloc();
     for kind in 0..KINDS {
-        let mut failed = 0;
+        let mut failed = 0u64;
         for call in 0..CALLS {
             if play_fault(&rt, alloc, call, kind)? {
-                failed += 1;
+                failed = failed.saturating_add(1);
             }
         }
         assert!(rt; 16 < failed && failed < CALLS);

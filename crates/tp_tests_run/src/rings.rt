@@ -6,7 +6,7 @@ use std::test::Fail;
 use tp_run::Job;
 
 /// How many workers make how many turns.
-const TEAMS: &[(u8, u32)] = &[(1, 4000), (2, 4000), (4, 1000), (16, 4000)];
+const TEAMS: &[(u8, u32)] = &[(1, 200), (2, 200), (4, 200), (16, 200)];
 
 #[test]
 fn workers_leave_a_device_that_opens(rt: HostRuntime) -> Result<(), Fail> {
