@@ -1,8 +1,8 @@
 mod Looks
-mod Kept
+pub mod Kept
 mod Appends
 mod Begins
-mod Turns
+pub mod Turns
 mod Endings
 mod Goings
 mod Puts
