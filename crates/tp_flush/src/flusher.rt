@@ -78,12 +78,13 @@ impl<J: Naming, D: Disk> Flusher<J, D> {
         ensures place { (result.place ≡ store.place) × (result.topology ≡ topology) }
         ensures device { (result.state ≡ D.state store.disk) × (result.size ≡ D.size_of store.disk) × (result.failures ≡ D.failures_of store.disk) }
     {
-        Flusher::over(Snapshot::of(opened), store, key, raiser)
+        Flusher::over(Snapshot::of(opened), topology, store, key, raiser)
     }
 
     /// The same, where what was opened is known by contracts alone, since its network is in the book already.
     pub fn over(
         opened: Snapshot<Opened>,
+        topology: Topology,
         store: Store<D>,
         key: Key<Told>,
         raiser: Raiser,
@@ -95,8 +96,12 @@ impl<J: Naming, D: Disk> Flusher<J, D> {
         requires raiser { raiser ≡ record { mark = J.mark; at = next_of opened.value } }
         requires read { D.keeps → verdict (D.state store.disk).now.bytes ≡ Ok opened.value }
         requires synced { D.keeps → IsSynced (D.state store.disk) }
+        requires topology { topology ≡ opened.value.head.topology }
+        requires area { store.place.area ≡ opened.value.head.area }
+        requires roomy { is_roomy opened.value.head.topology opened.value.head.area ≡ true }
         ensures world { result.world ≡ reopened J.before (D.state store.disk).now.bytes (held_of opened.value) opened.value.now }
         ensures opened { result.opened ≡ (D.state store.disk).now.bytes }
+        ensures place { (result.place ≡ store.place) × (result.topology ≡ topology) }
         ensures device { (result.state ≡ D.state store.disk) × (result.size ≡ D.size_of store.disk) × (result.failures ≡ D.failures_of store.disk) }
     {
         let _ = opened;

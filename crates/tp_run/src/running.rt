@@ -1,9 +1,10 @@
 //! A run, from a device to a device.
 
-ghost use Rattle.std.specs.Prelude.{◌≡◌, ◌<◌, ◌≤◌, false, Ok, Err, IfErr, IsErr};
+ghost use Rattle.std.specs.Prelude.{◌≡◌, ◌<◌, ◌≤◌, true, false, Ok, Err, IfErr, IsErr};
 ghost use Rattle.tp_area.specs.Places.{place_at};
 ghost use Rattle.tp_flush.specs.Known.{Began};
 ghost use Rattle.tp_model.specs.DiskHistory.{IsSynced};
+ghost use Rattle.tp_model.specs.Journal.{is_roomy};
 ghost use Rattle.tp_model.specs.Opening.{verdict};
 ghost use Rattle.tp_model.specs.declared.limits.TheConstants.{MAX_STEPS};
 ghost use Rattle.tp_recover.specs.Reading.{LeavesNothingNew};
@@ -26,8 +27,9 @@ use std::sync::Wait;
 use std::thread::Threads;
 use tp_area::Store;
 use tp_disk::Disk;
-use tp_flush::Flusher;
+use tp_flush::{Flusher, topology_of};
 use tp_mark::Raiser;
+use tp_net::Topology;
 use tp_recover::{Opened, open};
 use tp_shared::{Naming, NoGate, Parts};
 use tp_work::Net;
@@ -38,6 +40,7 @@ fn run_parts<J: Naming + Send + Sync, D: Disk + Send + Drop, O: Write, R: Thread
     alloc: Global,
     job: Job,
     opened: Snapshot<Opened>,
+    topology: Topology,
     parts: Parts,
     raiser: Raiser,
     store: Store<D>,
@@ -47,9 +50,11 @@ fn run_parts<J: Naming + Send + Sync, D: Disk + Send + Drop, O: Write, R: Thread
     requires workers { (0 < job.workers) × (job.workers ≤ MAX_WORKERS) }
     requires quantum { (0 < job.quantum) × (job.quantum ≤ MAX_STEPS) }
     requires port { job.port < opened.value.head.topology.ports }
-    requires names { Names J.roll J.first J.start J.node J.mark J.flusher parts }
+    requires names { Names J.roll J.first J.start J.node J.mark J.flusher J.room parts }
     requires stands { StandsFor opened.value parts raiser }
     requires place { store.place ≡ place_at opened.value }
+    requires topology { topology ≡ opened.value.head.topology }
+    requires roomy { is_roomy opened.value.head.topology opened.value.head.area ≡ true }
     requires unbroken { store.broken ≡ false }
     requires read { D.keeps → verdict (D.state store.disk).now.bytes ≡ Ok opened.value }
     requires synced { D.keeps → IsSynced (D.state store.disk) }
@@ -68,7 +73,7 @@ fn run_parts<J: Naming + Send + Sync, D: Disk + Send + Drop, O: Write, R: Thread
     ) else {
         return (store.into_disk(), Err(RunFault::Memory));
     };
-    let flusher = Flusher::over(opened, store, key, raiser);
+    let flusher = Flusher::over(opened, topology, store, key, raiser);
     flusher.known();
     let (flusher, done) = serve(rt, alloc, job, &net, &mut seats, flusher, input, out);
     (flusher.into_disk(), done)
@@ -105,9 +110,11 @@ pub fn run<D: Disk + Send + Drop, O: Write, R: Threads + Wait + Sync>(
         return (disk, Err(fault));
     }
     let known = Snapshot::of(&opened);
+    let topology = topology_of(&opened);
+    let _area = opened.head().area();
     let store = opened.store(disk);
     let Ok((parts, raiser)) = parts_of(alloc, opened, job.spare) else {
         return (store.into_disk(), Err(RunFault::Memory));
     };
-    run_parts::<Brand, D, O, R>(rt, alloc, job, known, parts, raiser, store, input, out)
+    run_parts::<Brand, D, O, R>(rt, alloc, job, known, topology, parts, raiser, store, input, out)
 }

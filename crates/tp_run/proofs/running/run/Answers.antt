@@ -9,7 +9,7 @@ use Rattle.tp_run.proofs.running.run.Goals as goal
 
 pub run_parts-requires-clause-names : goal.run_parts-requires-clause-names
 run_parts-requires-clause-names g c κs within =
-    record { roll_is = refl; first_is = refl; wires_are = refl; count_is = refl; ports_are = refl; nodes_are = λ i. refl; mark_is = refl; flusher_is = refl }
+    record { roll_is = refl; first_is = refl; wires_are = refl; count_is = refl; ports_are = refl; nodes_are = λ i. refl; mark_is = refl; flusher_is = refl; room_is = refl }
 
 pub returns-in-Err-clause-ran : goal.returns-in-Err-clause-ran
 returns-in-Err-clause-ran g c k began =
