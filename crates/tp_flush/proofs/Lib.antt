@@ -1,6 +1,6 @@
 mod Looks
-mod Kept
+pub mod Kept
 mod Appends
 mod Begins
-mod Turns
+pub mod Turns
 mod Endings

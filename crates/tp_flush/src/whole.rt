@@ -16,6 +16,9 @@ impl Model for Whole {
     ghost also_owns = { λ _. ftrue };
 }
 
+// It has no bytes and owns nothing.
+unsafe impl Send for Whole {}
+
 impl Whole {
     ghost use Rattle.std.specs.Prelude.{◌≡◌};
     ghost use Rattle.tp_flush.specs.Known.{Known};

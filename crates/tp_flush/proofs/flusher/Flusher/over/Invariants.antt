@@ -1,5 +1,5 @@
 use Rattle.tp_flush.proofs.Begins.{begun}
-use Rattle.tp_flush.proofs.flusher.Flusher.new.Given as goal
+use Rattle.tp_flush.proofs.flusher.Flusher.over.Given as goal
 
 abbrev pub ghost-of : goal.ghost-of
 ghost-of g a =

@@ -4,7 +4,7 @@ use Rattle.tp_shared.specs.Told.{IsFirst}
 use Rattle.tp_flush.specs.Known.{Known}
 use Rattle.tp_flush.specs.Flushing.{Keeps}
 use Rattle.tp_flush.proofs.Begins.{begun_is, first_keeps}
-use Rattle.tp_flush.proofs.flusher.Flusher.new.Goals as goal
+use Rattle.tp_flush.proofs.flusher.Flusher.over.Goals as goal
 
 pub invariant_of-result : goal.invariant_of-result
 invariant_of-result g c =
@@ -17,7 +17,7 @@ invariant_of-result g c =
       ap (λ (r : RaiserValue). r.mark) c.requires.raiser,
       subst (λ (k : Known). IsFirst key k.world) (sym c.of-whole.ensures) (record { net = refl; base = refl; journal = refl }),
       subst (λ (k : Known). Keeps g.D.Disk.keeps g.J.Naming.formatted g.J.Naming.before k s place broken raiser.at) (sym c.of-whole.ensures)
-          (first_keeps g.J.Naming.before key.net key.base key.journal c.args.opened.now s.now.bytes place.next c.requires.told.net c.requires.told.base c.requires.told.journal c.requires.next
+          (first_keeps g.J.Naming.before key.net key.base key.journal c.args.opened.value s.now.bytes place.next c.requires.told.net c.requires.told.base c.requires.told.journal c.requires.next
           g.D.Disk.keeps g.J.Naming.formatted s place broken raiser.at refl refl c.requires.unbroken (ap (λ (r : RaiserValue). r.at) c.requires.raiser ∙ sym c.requires.next) c.requires.read c.requires.synced),
     )
 
@@ -26,4 +26,4 @@ returns-clause-world g c =
     let s = g.D.Disk.state c.args.store.disk in
     let key = c.args.key.value in
     ap (λ (k : Known). k.world) c.of-whole.ensures
-    ∙ begun_is g.J.Naming.before key.net key.base key.journal c.args.opened.now s.now.bytes c.args.store.place.next c.requires.told.net c.requires.told.base c.requires.told.journal c.requires.next
+    ∙ begun_is g.J.Naming.before key.net key.base key.journal c.args.opened.value s.now.bytes c.args.store.place.next c.requires.told.net c.requires.told.base c.requires.told.journal c.requires.next
