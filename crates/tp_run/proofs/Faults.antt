@@ -1,0 +1,19 @@
+-- Faults of a run, and when they come.
+use Rattle.std.proofs.Common.{Result, Ok, Err, ℕ}
+use Rattle.std.specs.Prelude.{IfErr}
+use Rattle.tp_run.specs.declared.fault.RunFault.{RunFault}
+use Rattle.tp_run.specs.declared.fault.RunFault.TheVariants.{Opening, Spare, Port, OfferRefused, FlushFailed, OutputFailed, ConfirmRefused, LastFlushFailed, Memory}
+use Rattle.tp_run.specs.Faults.{IsBegun, IsUnbegun}
+
+-- a run that was begun isn't answered as one that wasn't
+pub begun_written : (r : Result ℕ RunFault) → IfErr r IsBegun → IsUnbegun r → ⊥
+begun_written (Ok next) begun unbegun = unbegun
+begun_written (Err (Opening unopened)) begun unbegun = begun
+begun_written (Err Spare) begun unbegun = begun
+begun_written (Err Port) begun unbegun = begun
+begun_written (Err OfferRefused) begun unbegun = unbegun
+begun_written (Err FlushFailed) begun unbegun = unbegun
+begun_written (Err OutputFailed) begun unbegun = unbegun
+begun_written (Err ConfirmRefused) begun unbegun = unbegun
+begun_written (Err LastFlushFailed) begun unbegun = unbegun
+begun_written (Err Memory) begun unbegun = unbegun

@@ -1,0 +1,12 @@
+use Rattle.std.proofs.Common.{sym, subst}
+use Rattle.tp_flush.specs.Known.{Began}
+use Rattle.tp_flush.proofs.Turns.{walked_nowhere, walked_then}
+use Rattle.tp_run.proofs.serving.serve.Goals as goal
+
+pub returns-in-Err-clause-walks : goal.returns-in-Err-clause-walks
+returns-in-Err-clause-walks g c k began = walked_nowhere c.args.flusher (c.known.ensures.disk k)
+
+pub returns-clause-walks : goal.returns-clause-walks
+returns-clause-walks g c k began =
+    walked_then c.args.flusher c.work-flusher.result c.finish-done.new.flusher (c.work-flusher.ensures.walks k began)
+    (c.finish-done.ensures.walks k (subst (Began g.J.Naming.formatted g.J.Naming.before) (sym c.work-flusher.ensures.process.opened) began))

@@ -1,0 +1,5 @@
+use Rattle.std.proofs.Common.{◌≡◌, Some}
+use Rattle.tp_run.proofs.working.work.Given as goal
+
+abbrev pub invariant-loop : goal.invariant-loop
+invariant-loop g l = l.seat.hand ≡ Some l.net.queue

@@ -1,0 +1,58 @@
+-- Which faults come where.
+use Rattle.std.specs.Prelude.{◌≡◌, ◌⊎◌, Result, Ok, Err}
+use Rattle.tp_run.specs.declared.fault.RunFault.{RunFault}
+use Rattle.tp_run.specs.declared.fault.RunFault.TheVariants.{Opening, Spare, Port, OfferRefused, FlushFailed, OutputFailed, ConfirmRefused, LastFlushFailed, Memory}
+
+-- the device isn't written
+abbrev pub IsUnbegun : {A : Type 0} → Result A RunFault → Type 0
+IsUnbegun (Ok x) = ⊥
+IsUnbegun (Err (Opening unopened)) = Unit {0}
+IsUnbegun (Err Spare) = Unit {0}
+IsUnbegun (Err Port) = Unit {0}
+IsUnbegun (Err OfferRefused) = ⊥
+IsUnbegun (Err FlushFailed) = ⊥
+IsUnbegun (Err OutputFailed) = ⊥
+IsUnbegun (Err ConfirmRefused) = ⊥
+IsUnbegun (Err LastFlushFailed) = ⊥
+IsUnbegun (Err Memory) = ⊥
+
+-- nothing is printed
+abbrev pub IsSilent : {A : Type 0} → Result A RunFault → Type 0
+IsSilent (Ok x) = ⊥
+IsSilent (Err (Opening unopened)) = Unit {0}
+IsSilent (Err Spare) = Unit {0}
+IsSilent (Err Port) = Unit {0}
+IsSilent (Err OfferRefused) = Unit {0}
+IsSilent (Err FlushFailed) = Unit {0}
+IsSilent (Err OutputFailed) = ⊥
+IsSilent (Err ConfirmRefused) = ⊥
+IsSilent (Err LastFlushFailed) = ⊥
+IsSilent (Err Memory) = ⊥
+
+-- a fault of a flush, which answers `given` where the device fails
+abbrev pub IsFlushFault : RunFault → RunFault → Type 0
+IsFlushFault given fault = (fault ≡ given) ⊎ (fault ≡ Memory)
+
+-- a fault that comes once the output was begun
+abbrev pub IsLate : RunFault → Type 0
+IsLate (Opening unopened) = ⊥
+IsLate Spare = ⊥
+IsLate Port = ⊥
+IsLate OfferRefused = ⊥
+IsLate FlushFailed = ⊥
+IsLate OutputFailed = Unit {0}
+IsLate ConfirmRefused = Unit {0}
+IsLate LastFlushFailed = Unit {0}
+IsLate Memory = Unit {0}
+
+-- a fault of a run whose device opened, and which can be made as it is asked
+abbrev pub IsBegun : RunFault → Type 0
+IsBegun (Opening unopened) = ⊥
+IsBegun Spare = ⊥
+IsBegun Port = ⊥
+IsBegun OfferRefused = Unit {0}
+IsBegun FlushFailed = Unit {0}
+IsBegun OutputFailed = Unit {0}
+IsBegun ConfirmRefused = Unit {0}
+IsBegun LastFlushFailed = Unit {0}
+IsBegun Memory = Unit {0}

@@ -1,0 +1,5 @@
+pub mod Faults
+pub mod Input
+pub mod Made
+pub mod Output
+pub mod Ran

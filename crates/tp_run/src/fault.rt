@@ -1,0 +1,42 @@
+//! Why a run ends early.
+
+use thiserror::Error;
+use tp_recover::Unopened;
+
+/// In the order in which the causes are tested. Each but the first four may come once the device was written.
+#[derive(Clone, Copy, Debug, PartialEq, Eq, Error)]
+pub enum RunFault {
+    /// The device isn't opened.
+    #[error(transparent)]
+    Opening(Unopened),
+    /// A node has fewer pages than the spare frames that were asked for.
+    #[error("Spare")]
+    Spare,
+    /// The port isn't there.
+    #[error("Port")]
+    Port,
+    /// There is no room on the device for the entries of the input. None was handed in.
+    #[error("JournalFull")]
+    OfferRefused,
+    /// The device failed while the workers made their turns. Nothing is printed.
+    #[error("DeviceFailed")]
+    FlushFailed,
+    /// The output can't be written. A front of what is shown was; nothing is confirmed.
+    #[error("DeviceFailed")]
+    OutputFailed,
+    /// All that is shown is printed, and there is no room on the device for the entry that confirms it.
+    #[error("JournalFull")]
+    ConfirmRefused,
+    /// All that is shown is printed, and the device failed before that it was confirmed is stored.
+    #[error("DeviceFailed")]
+    LastFlushFailed,
+    /// Memory was refused, at whatever step.
+    #[error("Memory")]
+    Memory,
+}
+
+impl From<Unopened> for RunFault {
+    fn from(unopened: Unopened) -> RunFault {
+        RunFault::Opening(unopened)
+    }
+}

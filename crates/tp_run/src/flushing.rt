@@ -1,0 +1,88 @@
+//! The flusher's thread, and flushes behind it.
+
+ghost use Rattle.std.specs.Prelude.{◌≡◌, ◌≤◌, IfOk, IfErr};
+ghost use Rattle.tp_flush.specs.Known.{Began};
+ghost use Rattle.tp_flush.specs.Flushing.{IsSameProcess, Walked};
+ghost use Rattle.tp_run.specs.Faults.{IsBegun, IsFlushFault};
+
+use crate::fault::RunFault;
+use crate::watch::Watch;
+use std::alloc::Global;
+use std::sync::Wait;
+use tp_disk::Disk;
+use tp_flush::{FlushFault, Flusher};
+use tp_shared::{Naming, Shared};
+
+/// Makes the flusher's turns while workers make theirs, each once something may have been journalled, until they have ended. Where a turn
+/// wants memory, the next one does all; once a call of the device has failed, a turn does nothing.
+pub(crate) fn flush_meanwhile<J: Naming, D: Disk, R: Wait>(
+    rt: &R,
+    alloc: Global,
+    shared: &Shared<J>,
+    watch: &Watch,
+    first: Flusher<J, D>,
+) -> Flusher<J, D>
+    ensures walks { D.keeps → Began J.formatted J.before first.opened → Walked first result }
+    ensures process { IsSameProcess first result }
+{
+    first.known();
+    let mut flusher = first;
+    let mut seen = 0;
+    for _ in rt.forever() {
+        let Some(news) = watch.wait(rt, seen) else {
+            break;
+        };
+        seen = news;
+        let _done = flusher.turn(rt, alloc, shared);
+    }
+    flusher
+}
+
+/// A flush. It answers `fault` where the device fails.
+fn flush<J: Naming, D: Disk, R: Wait>(
+    rt: &R,
+    alloc: Global,
+    shared: &Shared<J>,
+    flusher: &mut Flusher<J, D>,
+    fault: RunFault,
+) -> Result<(), RunFault>
+    requires { IsBegun fault }
+    ensures walks { D.keeps → Began J.formatted J.before flusher.old.opened → Walked flusher.old flusher.new }
+    ensures process { IsSameProcess flusher.old flusher.new }
+    ensures refused { IfErr result (IsFlushFault fault) }
+    ensures begun { IfErr result IsBegun }
+{
+    match flusher.turn(rt, alloc, shared) {
+        Ok(_) => Ok(()),
+        Err(FlushFault::Memory) => Err(RunFault::Memory),
+        Err(FlushFault::DeviceFailed | FlushFault::StoreBroken | FlushFault::AreaFull) => {
+            Err(fault)
+        }
+    }
+}
+
+/// A flush of all entries below `number`, which is the next one of a receipt. Answers the mark. It answers `fault` where the device
+/// fails.
+pub(crate) fn flush_upto<J: Naming, D: Disk, R: Wait>(
+    rt: &R,
+    alloc: Global,
+    shared: &Shared<J>,
+    flusher: &mut Flusher<J, D>,
+    number: u64,
+    fault: RunFault,
+) -> Result<u64, RunFault>
+    requires { IsBegun fault }
+    ensures walks { D.keeps → Began J.formatted J.before flusher.old.opened → Walked flusher.old flusher.new }
+    ensures process { IsSameProcess flusher.old flusher.new }
+    ensures stored { IfOk result (λ mark. (mark ≡ flusher.new.world.mark) × (number ≤ mark)) }
+    ensures refused { IfErr result (IsFlushFault fault) }
+    ensures begun { IfErr result IsBegun }
+{
+    flush(rt, alloc, shared, flusher, fault)?;
+    let mark = flusher.mark();
+    // A flush that was done copied all that was journalled before.
+    if mark < number {
+        return Err(fault);
+    }
+    Ok(mark)
+}

@@ -1,0 +1,17 @@
+//! The program's main job: a network that runs in threads over any device.
+#![tactic(auto)]
+
+mod fault;
+mod flushing;
+mod job;
+mod offering;
+mod opening;
+mod printing;
+mod running;
+mod serving;
+mod watch;
+mod working;
+
+pub use fault::RunFault;
+pub use job::{Job, MAX_WORKERS};
+pub use running::run;

@@ -1,0 +1,54 @@
+//! The input that a run hands in.
+
+ghost use Rattle.std.specs.Prelude.{◌≡◌, ◌<◌, length, map, take, drop, IfOk, IfErr, OnErr};
+ghost use Rattle.tp_book.specs.Book.{next_number};
+ghost use Rattle.tp_book.specs.Host.{after_input};
+ghost use Rattle.tp_host.specs.Receipts.{IsFor};
+ghost use Rattle.tp_model.specs.declared.entry.Entry.TheVariants.{HostIn};
+ghost use Rattle.tp_run.specs.Input.{rest_of};
+ghost use Rattle.tp_run.specs.Faults.{IsBegun};
+
+use crate::fault::RunFault;
+use tp_host::{OfferFault, offer};
+use tp_shared::{Locked, Naming, Receipt};
+
+// At most `room` bytes from the position `from` on.
+fn front_from(input: &[u8], from: u64, room: usize) -> &[u8]
+    ensures { result.now ≡ take room (drop from input.now) }
+{
+    let rest = if from < input.len() as u64 {
+        &input[from as usize..]
+    } else {
+        &input[input.len()..]
+    };
+    &rest[..rest.len().min(room)]
+}
+
+/// Hands a port the bytes of its whole input that it hasn't accepted, as many as it has room for. Where it has accepted more, it
+/// gets none. The receipt is for all that it has accepted.
+pub(crate) fn offer_rest<J: Naming>(
+    held: &mut Locked<J>,
+    port: u8,
+    input: &[u8],
+) -> Result<Receipt<J>, RunFault>
+    requires there { port < length held.old.book.state.ports }
+    ensures book { IfOk result (λ receipt. held.new.book ≡ after_input held.old.book port (rest_of held.old.book port input.now)) }
+    ensures number { IfOk result (λ receipt. receipt.number ≡ next_number held.new.book) }
+    ensures receipt { IfOk result (IsFor (map (HostIn port) (rest_of held.old.book port input.now))) }
+    ensures begun { IfErr result IsBegun }
+    ensures err { OnErr result (held.new ≡ held.old) }
+{
+    held.known();
+    let accepted = held.book().accepted(port);
+    let room = held.book().room(port);
+    let bytes = front_from(input, accepted, room);
+    match offer(held, port, accepted, bytes) {
+        Ok(receipt) => Ok(receipt),
+        Err(OfferFault::JournalFull) => Err(RunFault::OfferRefused),
+        Err(OfferFault::Memory) => Err(RunFault::Memory),
+        Err(OfferFault::StoreBroken) => Err(RunFault::FlushFailed),
+        Err(OfferFault::Already(_) | OfferFault::Gap(_) | OfferFault::PortFull(_)) => {
+            unreachable!()
+        }
+    }
+}

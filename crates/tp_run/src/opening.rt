@@ -1,0 +1,60 @@
+//! What is made of a device that opened.
+
+ghost use Rattle.std.specs.Prelude.{◌≡◌, IfOk};
+ghost use Rattle.tp_run.specs.Made.{StandsFor, fault_by, has_pages, job_fault};
+
+use crate::fault::RunFault;
+use crate::job::Job;
+use std::alloc::{AllocError, Global};
+use tp_book::{Book, opened_books_begin};
+use tp_mark::{Mark, Raiser};
+use tp_net::Topology;
+use tp_recover::Opened;
+use tp_shared::Parts;
+use tp_work::nodes_of;
+
+/// Whether each node has as many pages as `spare` says.
+fn has_pages(spare: u16, topology: &Topology) -> bool
+    ensures { result ≡ has_pages spare topology.now }
+{
+    topology.pages().iter().all(|pages| spare <= *pages)
+}
+
+/// What is wrong, where a node has too few pages, or the port isn't there.
+fn fault_by(has_pages: bool, has_port: bool) -> Option<RunFault>
+    ensures { result ≡ fault_by has_pages has_port }
+{
+    match (has_pages, has_port) {
+        (false, _) => Some(RunFault::Spare),
+        (true, false) => Some(RunFault::Port),
+        (true, true) => None,
+    }
+}
+
+/// Why a network isn't run as `job` says, where it isn't.
+pub(crate) fn job_fault(job: Job, topology: &Topology) -> Option<RunFault>
+    ensures { result ≡ job_fault job.spare job.port topology.now }
+{
+    let has_port = usize::from(job.port) < topology.port_count();
+    fault_by(has_pages(job.spare, topology), has_port)
+}
+
+/// The book and the nodes of what was opened, and the raiser of their mark. Each node has `spare` frames for pages that it writes while
+/// it is frozen.
+pub(crate) fn parts_of(
+    alloc: Global,
+    opened: Opened,
+    spare: u16,
+) -> Result<(Parts, Raiser), AllocError>
+    ensures { IfOk result (λ made. StandsFor opened made.0 made.1) }
+{
+    opened_books_begin();
+    opened.known();
+    let room = opened.journal_room();
+    let state = opened.into_state(alloc)?;
+    let book = Book::open(alloc, &state, Some(room))?;
+    let nodes = nodes_of(alloc, &state, spare as usize)?;
+    let (mark, raiser, _) = Mark::start(alloc, state.next, 0)?;
+    let parts = Parts::opened(alloc, &state, book, nodes, mark)?;
+    Ok((parts, raiser))
+}

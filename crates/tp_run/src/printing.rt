@@ -1,0 +1,78 @@
+//! The output that a run prints and confirms.
+
+ghost use Rattle.std.specs.Prelude.{◌≡◌, ◌<◌, length, IfOk, IfErr, OnOk, OnErr};
+ghost use Rattle.std.specs.Io.KnownBytes.{Appends};
+ghost use Rattle.tp_book.specs.Book.{next_number};
+ghost use Rattle.tp_book.specs.Host.{after_confirm, port_in, shown_from, shown_upto_of};
+ghost use Rattle.tp_run.specs.Faults.{IsBegun, IsLate};
+ghost use Rattle.tp_run.specs.Output.{AppendsFront, Printed};
+
+use crate::fault::RunFault;
+use std::io::{ErrorKind, Write};
+use tp_host::{ConfirmFault, confirm};
+use tp_shared::{Locked, Naming, Receipt};
+
+/// Writes bytes as they are. A front of them stands on the output, whatever is answered.
+pub(crate) fn put<O: Write>(out: &mut O, bytes: &[u8]) -> Result<(), RunFault>
+    ensures written { OnOk result (Appends (O.contents out.old) (O.contents out.new) bytes.now) }
+    ensures refused { IfErr result (λ fault. fault ≡ RunFault.OutputFailed) }
+    ensures front { AppendsFront (O.contents out.old) (O.contents out.new) bytes.now }
+{
+    let mut written = 0;
+    for _ in 0..u64::MAX {
+        if written >= bytes.len() {
+            return Ok(());
+        }
+        match out.write(&bytes[written..]) {
+            Ok(0) => return Err(RunFault::OutputFailed),
+            Ok(count) => written += count,
+            Err(error) if error.kind() == ErrorKind::Interrupted => {}
+            Err(_) => return Err(RunFault::OutputFailed),
+        }
+    }
+    Err(RunFault::OutputFailed)
+}
+
+/// Journals, under the book's lock, that the host has all outputs of a port that `mark` shows.
+fn confirm_shown<J: Naming>(
+    held: &mut Locked<J>,
+    port: u8,
+    mark: u64,
+) -> Result<Receipt<J>, RunFault>
+    requires there { port < length held.old.book.state.ports }
+    ensures book { IfOk result (λ receipt. held.new.book ≡ after_confirm held.old.book port (shown_upto_of held.old.book port mark)) }
+    ensures number { IfOk result (λ receipt. receipt.number ≡ next_number held.new.book) }
+    ensures late { IfErr result IsLate }
+    ensures begun { IfErr result IsBegun }
+    ensures err { OnErr result (held.new ≡ held.old) }
+{
+    let upto = held.book().shown_upto(port, mark);
+    match confirm(held, port, mark, upto) {
+        Ok(receipt) => Ok(receipt),
+        Err(ConfirmFault::JournalFull) => Err(RunFault::ConfirmRefused),
+        Err(ConfirmFault::Memory) => Err(RunFault::Memory),
+        Err(ConfirmFault::StoreBroken) => Err(RunFault::LastFlushFailed),
+        Err(ConfirmFault::NotShown) => unreachable!(),
+    }
+}
+
+/// Prints, under the book's lock, the outputs of a port that `mark` shows and that aren't confirmed, and confirms them. The receipt
+/// has the number of the next entry. Where the output can't be written, nothing is confirmed.
+pub(crate) fn print_shown<J: Naming, O: Write>(
+    held: &mut Locked<J>,
+    port: u8,
+    mark: u64,
+    out: &mut O,
+) -> Result<Receipt<J>, RunFault>
+    requires there { port < length held.old.book.state.ports }
+    ensures printed { Printed (O.contents out.old) (O.contents out.new) (shown_from held.old.book port mark (port_in held.old.book port).out_base) result }
+    ensures book { IfOk result (λ receipt. held.new.book ≡ after_confirm held.old.book port (shown_upto_of held.old.book port mark)) }
+    ensures number { IfOk result (λ receipt. receipt.number ≡ next_number held.new.book) }
+    ensures late { IfErr result IsLate }
+    ensures begun { IfErr result IsBegun }
+    ensures err { OnErr result (held.new ≡ held.old) }
+{
+    let from = held.book().out_base(port);
+    put(out, held.book().shown(port, mark, from))?;
+    confirm_shown(held, port, mark)
+}

@@ -1,0 +1,113 @@
+//! A run, from a device to a device.
+
+ghost use Rattle.std.specs.Prelude.{◌≡◌, ◌<◌, ◌≤◌, false, Ok, Err, IfErr, IsErr};
+ghost use Rattle.tp_area.specs.Places.{place_at};
+ghost use Rattle.tp_flush.specs.Known.{Began};
+ghost use Rattle.tp_model.specs.DiskHistory.{IsSynced};
+ghost use Rattle.tp_model.specs.Opening.{verdict};
+ghost use Rattle.tp_model.specs.declared.limits.TheConstants.{MAX_STEPS};
+ghost use Rattle.tp_recover.specs.Reading.{LeavesNothingNew};
+ghost use Rattle.tp_run.specs.Faults.{IsBegun, IsSilent, IsUnbegun};
+ghost use Rattle.tp_run.specs.Made.{StandsFor};
+ghost use Rattle.tp_run.specs.Ran.{History, Ran};
+ghost use Rattle.tp_recover.specs.declared.unopened.Unopened.{Unopened};
+ghost use Rattle.tp_run.specs.declared.job.TheConstants.{MAX_WORKERS};
+ghost use Rattle.tp_shared.specs.Named.{Names};
+
+use crate::fault::RunFault;
+use crate::job::{Job, MAX_WORKERS};
+use crate::opening::{job_fault, parts_of};
+use crate::serving::serve;
+use std::alloc::Global;
+use std::io::Write;
+use std::marker::Brand;
+use std::snapshot::Snapshot;
+use std::sync::Wait;
+use std::thread::Threads;
+use tp_area::Store;
+use tp_disk::Disk;
+use tp_flush::Flusher;
+use tp_mark::Raiser;
+use tp_recover::{Opened, open};
+use tp_shared::{Naming, NoGate, Parts};
+use tp_work::Net;
+
+/// A run over the store of a device that was opened, with the parts that were made of it.
+fn run_parts<J: Naming + Send + Sync, D: Disk + Send + Drop, O: Write, R: Threads + Wait + Sync>(
+    rt: &R,
+    alloc: Global,
+    job: Job,
+    opened: Snapshot<Opened>,
+    parts: Parts,
+    raiser: Raiser,
+    store: Store<D>,
+    input: &[u8],
+    out: &mut O,
+) -> (D, Result<u64, RunFault>)
+    requires workers { (0 < job.workers) × (job.workers ≤ MAX_WORKERS) }
+    requires quantum { (0 < job.quantum) × (job.quantum ≤ MAX_STEPS) }
+    requires port { job.port < opened.value.head.topology.ports }
+    requires names { Names J.roll J.first J.start J.node J.mark J.flusher parts }
+    requires stands { StandsFor opened.value parts raiser }
+    requires place { store.place ≡ place_at opened.value }
+    requires unbroken { store.broken ≡ false }
+    requires read { D.keeps → verdict (D.state store.disk).now.bytes ≡ Ok opened.value }
+    requires synced { D.keeps → IsSynced (D.state store.disk) }
+    ensures size { D.size_of result.0 ≡ D.size_of store.disk }
+    ensures ran { D.keeps → Began J.formatted J.before (D.state store.disk).now.bytes → Ran J.formatted result.1 (D.state store.disk) (D.state result.0) }
+    ensures silent { IsSilent result.1 → O.contents out.new ≡ O.contents out.old }
+    ensures begun { IfErr result.1 IsBegun }
+{
+    let Ok((net, mut seats, key)) = Net::<J, NoGate>::start(
+        rt,
+        alloc,
+        parts,
+        job.quantum,
+        job.workers,
+        NoGate,
+    ) else {
+        return (store.into_disk(), Err(RunFault::Memory));
+    };
+    let flusher = Flusher::over(opened, store, key, raiser);
+    flusher.known();
+    let (flusher, done) = serve(rt, alloc, job, &net, &mut seats, flusher, input, out);
+    (flusher.into_disk(), done)
+}
+
+/// Opens a device, hands in what its port hasn't accepted of `input`, lets workers make turns, stores what they did, and prints and
+/// confirms what the port shows. Answers the device, and the number that the next entry gets.
+///
+/// Whatever a crash leaves at any moment of the call is what one just before might have left, or opens to where a prefix of the journal
+/// leads, with all that the device had. After a run that was done it has each entry below the number that is answered.
+pub fn run<D: Disk + Send + Drop, O: Write, R: Threads + Wait + Sync>(
+    rt: &R,
+    alloc: Global,
+    job: Job,
+    disk: D,
+    input: &[u8],
+    out: &mut O,
+) -> (D, Result<u64, RunFault>)
+    ghost history: { History }
+    requires workers { (0 < job.workers) × (job.workers ≤ MAX_WORKERS) }
+    requires quantum { (0 < job.quantum) × (job.quantum ≤ MAX_STEPS) }
+    ensures size { D.size_of result.0 ≡ D.size_of disk }
+    ensures ran { D.keeps → Began history.formatted history.before (D.state disk).now.bytes → Ran history.formatted result.1 (D.state disk) (D.state result.0) }
+    ensures unwritten { D.keeps → IsUnbegun result.1 → LeavesNothingNew (D.state disk) (D.state result.0) }
+    ensures silent { IsSilent result.1 → O.contents out.new ≡ O.contents out.old }
+    ensures unopened { D.keeps → IsErr (verdict (D.state disk).now.bytes) → (unopened : Unopened) × (result.1 ≡ Err (RunFault.Opening unopened)) }
+{
+    let mut disk = disk;
+    let opened = match open(alloc, &mut disk) {
+        Ok(opened) => opened,
+        Err(unopened) => return (disk, Err(RunFault::Opening(unopened))),
+    };
+    if let Some(fault) = job_fault(job, opened.head().topology()) {
+        return (disk, Err(fault));
+    }
+    let known = Snapshot::of(&opened);
+    let store = opened.store(disk);
+    let Ok((parts, raiser)) = parts_of(alloc, opened, job.spare) else {
+        return (store.into_disk(), Err(RunFault::Memory));
+    };
+    run_parts::<Brand, D, O, R>(rt, alloc, job, known, parts, raiser, store, input, out)
+}
