@@ -104,27 +104,6 @@ impl<J: Naming, D: Disk> Flusher<J, D> {
         ensures place { (result.place ≡ store.place) × (result.topology ≡ topology) }
         ensures device { (result.state ≡ D.state store.disk) × (result.size ≡ D.size_of store.disk) × (result.failures ≡ D.failures_of store.disk) }
     {
-        Flusher::over(Snapshot::of(opened), store, key, raiser)
-    }
-
-    /// The same, where what was opened is known by contracts alone, since its network is in the book already.
-    pub fn over(
-        opened: Snapshot<Opened>,
-        store: Store<D>,
-        key: Key<Told>,
-        raiser: Raiser,
-    ) -> Flusher<J, D>
-        requires name { key.name ≡ J.flusher }
-        requires told { IsFirst key.value (reopened J.before (D.state store.disk).now.bytes (held_of opened.value) opened.value.now) }
-        requires unbroken { store.broken ≡ false }
-        requires next { store.place.next ≡ next_of opened.value }
-        requires raiser { raiser ≡ record { mark = J.mark; at = next_of opened.value } }
-        requires read { D.keeps → verdict (D.state store.disk).now.bytes ≡ Ok opened.value }
-        requires synced { D.keeps → IsSynced (D.state store.disk) }
-        ensures world { result.world ≡ reopened J.before (D.state store.disk).now.bytes (held_of opened.value) opened.value.now }
-        ensures opened { result.opened ≡ (D.state store.disk).now.bytes }
-        ensures device { (result.state ≡ D.state store.disk) × (result.size ≡ D.size_of store.disk) × (result.failures ≡ D.failures_of store.disk) }
-    {
         let _ = opened;
         let both = (store, key);
         let whole = Whole::of(&both);
