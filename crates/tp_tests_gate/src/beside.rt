@@ -35,7 +35,7 @@ fn next_of<J: Naming, R: Wait>(rt: &R, shared: &Shared<J>) -> u64 {
 }
 
 /// Whether the flusher's turn is done while the node `number` is held behind its run.
-pub fn is_flushed_beside_a_run<J: Naming + Send + Sync, D: Disk + Send + Drop, R: Threads + Wait + Sync>(
+pub fn is_flushed_beside_a_run<J: Naming + Send + Sync, D: Disk + Drop, R: Threads + Wait + Sync>(
     rt: &R,
     alloc: Global,
     shared: &Shared<J>,
@@ -99,7 +99,7 @@ fn run_beside<J: Naming, R: Wait>(
 
 /// Whether a run of the node `number`, which is journalled while the flusher is held behind its copy, isn't stored by that turn, but
 /// by the next one: the mark is then at most the run's number, and above it.
-pub fn is_stored_by_the_next_turn<J: Naming + Send + Sync, D: Disk + Send + Drop, R: Threads + Wait + Sync>(
+pub fn is_stored_by_the_next_turn<J: Naming + Send + Sync, D: Disk + Drop, R: Threads + Wait + Sync>(
     rt: &R,
     alloc: Global,
     shared: &Shared<J>,
@@ -108,10 +108,10 @@ pub fn is_stored_by_the_next_turn<J: Naming + Send + Sync, D: Disk + Send + Drop
 ) -> (Flusher<J, D>, bool) {
     let hold = Hold::new(FLUSHER, BACKLOG_COPIED);
     let gate = &hold;
-    let ((mut flusher, first), run) = join(
+    let (run, (mut flusher, first)) = join(
         rt,
-        move || flush_held(rt, alloc, shared, flusher, gate),
         move || run_beside(rt, shared, gate, number),
+        move || flush_held(rt, alloc, shared, flusher, gate),
     );
     let second = match flusher.turn(rt, alloc, shared) {
         Ok(flushed) => Some(flushed.mark),

@@ -1,7 +1,7 @@
 //! Workers that make turns together, and what they journalled.
 
-ghost use Rattle.std.specs.Prelude.{◌≡◌, [], IsTrue, IfSome, ForSome, Some, All, length, ℕ};
-ghost use Rattle.tp_shared.specs.Seals.{Stage};
+ghost use Rattle.std.specs.Prelude.{◌≡◌, [], IsTrue, IfSome, Some, All, length, ℕ};
+ghost use Rattle.std.specs.Option.{ForSome};
 ghost use Rattle.tp_tests_gate.specs.Made.{IsSum, made_by};
 ghost use Rattle.tp_token.specs.Sound.{item_of, shown};
 
