@@ -145,7 +145,13 @@ pub fn work_as_team<J: Naming + Send + Sync, G: Gate + Send + Sync, R: Threads +
         { make_turns(rt, net, lent, turns, 1, first) },
         move || -> Result<Vec<Work<J>>, AllocError>
             requires { All (λ seat. (seat.hand ≡ Some net.now.queue) × (seat.slips ≡ [])) others.items }
-        { map_vec(rt, others, &|seat| make_turns(rt, net, lent, turns, u32::MAX, seat)) },
+        {
+            map_vec(
+                rt,
+                others,
+                &|seat| make_turns(rt, net, lent, turns, u32::MAX, seat),
+            )
+        },
     );
     Ok(first.and(together(others?)))
 }
