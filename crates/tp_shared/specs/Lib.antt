@@ -7,6 +7,7 @@ pub mod Gains
 pub mod Receipted
 pub mod Cells
 pub mod Turned
+pub mod Went
 pub mod Parted
 pub mod Named
 pub mod Pieces

@@ -10,6 +10,7 @@ ghost use Rattle.tp_shared.specs.Entries.{IsTurnRefusal, Takes, TakesOf, run_ent
 ghost use Rattle.tp_shared.specs.Gains.{Gained};
 ghost use Rattle.tp_shared.specs.Seals.{Shows};
 ghost use Rattle.tp_shared.specs.Turned.{Turned};
+ghost use Rattle.tp_shared.specs.Went.{BrokeOff, CommittedBy, OpenedBy, Went};
 
 use crate::gate::{COMMITTED, Gate, NODE_LOCKED, RUN_DONE};
 use crate::locked::Locked;
@@ -55,6 +56,7 @@ fn begin<J: Naming, R: Wait>(
     requires shows { Shows place.old false }
     ensures named { place.new.key.name ≡ place.old.key.name }
     ensures shows { Shows place.new (is_ok result) }
+    ensures opened { OpenedBy J.start number result place.old.node place.new.node }
     ensures gained { Gained (TakesOf J.start number result) seat.old seat.new }
     ensures refused { IfErr result IsTurnRefusal }
 {
@@ -81,6 +83,7 @@ fn commit<J: Naming, R: Wait>(
     ensures ran { result ≡ stretch.ran }
     ensures named { place.new.key.name ≡ place.old.key.name }
     ensures shows { Shows place.new false }
+    ensures committed { CommittedBy J.start number stretch.ran.count place.old.node }
     ensures gained { Gained (λ entries. entries ≡ run_entries number stretch.ran.count) seat.old seat.new }
 {
     let mut held = book.lock(rt);
@@ -104,6 +107,7 @@ fn turn_of<J: Naming, G: Gate, R: Wait>(
     ensures named { place.new.key.name ≡ place.old.key.name }
     ensures shows { Shows place.new false }
     ensures turned { MatchResult result (λ turn. Turned J.start number quantum turn seat.old seat.new) (λ e. Gained (Takes J.start number) seat.old seat.new) }
+    ensures went { MatchResult result (λ turn. Went J.start number quantum turn) (λ e. BrokeOff J.start number e) }
     ensures refused { IfErr result IsTurnRefusal }
 {
     gate.at(number, NODE_LOCKED);
@@ -139,6 +143,7 @@ impl<const I: usize, J: Naming> Cell<I, J> {
         requires there { number < length J.start.nodes }
         requires here { number % 4 ≡ I }
         ensures turned { MatchResult result (λ turn. Turned J.start number quantum turn seat.old seat.new) (λ e. Gained (Takes J.start number) seat.old seat.new) }
+        ensures went { MatchResult result (λ turn. Went J.start number quantum turn) (λ e. BrokeOff J.start number e) }
         ensures refused { IfErr result IsTurnRefusal }
     {
         let Cell { places, .. } = self;

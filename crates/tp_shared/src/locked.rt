@@ -9,6 +9,7 @@ ghost use Rattle.tp_shared.specs.Entries.{IsTurnRefusal, TakesOf, run_entries};
 ghost use Rattle.tp_shared.specs.Gains.{Noted};
 ghost use Rattle.tp_shared.specs.Seals.{Shows, Sealed, IsTied};
 ghost use Rattle.tp_shared.specs.Told.{told_of};
+ghost use Rattle.tp_shared.specs.Went.{IsOf};
 ghost use Rattle.tp_book.specs.Acts.{run_acts};
 ghost use Rattle.tp_book.specs.Calls.{without_run};
 ghost use Rattle.tp_turn.specs.Moments.{Added, IsNodeOf, moment};
@@ -109,6 +110,7 @@ impl<J: Naming> Locked<J> {
         requires shows { Shows place.old false }
         ensures named { place.new.key.name ≡ place.old.key.name }
         ensures shows { Shows place.new (is_ok result) }
+        ensures of { IsOf J.start self.old.book }
         ensures is { IsNodeOf self.old.book number place.old.node }
         ensures opens { Opens number result (moment self.old.book place.old.node) (moment self.new.book place.new.node) }
         ensures noted { Noted (TakesOf J.start number result) J.first self.old self.new seat.old seat.new }
@@ -151,6 +153,7 @@ impl<J: Naming> Locked<J> {
         ensures ran { result ≡ stretch.ran }
         ensures named { place.new.key.name ≡ place.old.key.name }
         ensures shows { Shows place.new false }
+        ensures of { IsOf J.start self.old.book }
         ensures node { place.new.node ≡ place.old.node }
         ensures added { Added number place.old.node.live (run_acts number stretch.ran.count) (without_run self.old.book number) self.new.book }
         ensures noted { Noted (λ entries. entries ≡ run_entries number stretch.ran.count) J.first self.old self.new seat.old seat.new }

@@ -7,6 +7,7 @@ ghost use Rattle.tp_shared.specs.Gains.{Gained};
 ghost use Rattle.tp_shared.specs.Named.{Names};
 ghost use Rattle.tp_shared.specs.Told.{told_of};
 ghost use Rattle.tp_shared.specs.Turned.{Turned};
+ghost use Rattle.tp_shared.specs.Went.{BrokeOff, HostWent, Went};
 
 use crate::cell::Cell;
 use crate::gate::{COMMITTED, Gate};
@@ -28,6 +29,7 @@ fn host_hold<J: Naming, R: Wait>(
     seat: &mut Seat<J>,
 ) -> Result<u64, Refusal>
     ensures gained { Gained (TakesOf J.start (length J.start.nodes) result) seat.old seat.new }
+    ensures went { HostWent J.start result }
     ensures refused { IfErr result IsTurnRefusal }
 {
     let mut held = book.lock(rt);
@@ -127,6 +129,7 @@ impl<J: Naming> Shared<J> {
         requires quantum { quantum ≤ MAX_STEPS }
         requires there { number < length J.start.nodes }
         ensures turned { MatchResult result (λ turn. Turned J.start number quantum turn seat.old seat.new) (λ e. Gained (Takes J.start number) seat.old seat.new) }
+        ensures went { MatchResult result (λ turn. Went J.start number quantum turn) (λ e. BrokeOff J.start number e) }
         ensures refused { IfErr result IsTurnRefusal }
     {
         match number % 4 {
@@ -159,6 +162,7 @@ impl<J: Naming> Shared<J> {
         seat: &mut Seat<J>,
     ) -> Result<u64, Refusal>
         ensures turned { MatchResult result (λ takes. Gained (CountedTakes J.start (length J.start.nodes) takes) seat.old seat.new) (λ e. Gained (Takes J.start (length J.start.nodes)) seat.old seat.new) }
+        ensures went { HostWent J.start result }
         ensures refused { IfErr result IsTurnRefusal }
     {
         let done = host_hold(rt, &self.book, seat);

@@ -1,6 +1,7 @@
 -- How many slips turns and receipts give.
 use Rattle.std.proofs.Common.{◌≡◌, ℕ, ◌+◌, true, false, cond, List, [], ◌∷◌, ◌++◌, length, map, refl, sym, ap, subst, ◌∙◌, arith, Option, Some, None, length-append}
-use Rattle.std.specs.Prelude.{◌==◌, Bool, IfSome, ForSome}
+use Rattle.std.specs.Prelude.{◌==◌, Bool, IfSome, MatchResult, Result, Ok}
+use Rattle.std.specs.Option.{ForSome}
 use Rattle.std.specs.List.{enumerate_from}
 use Rattle.std.proofs.lemmas.List.FromFn.{length-enumerate_from}
 use Rattle.tp_model.specs.declared.entry.Entry.{Entry}
@@ -63,3 +64,7 @@ turned_counted start quantum turn old new entries made result counted by sum T =
 -- a receipt has as many slips as it is for entries
 pub receipt_length : (entries : List Entry) (receipt : Receipted) → IsFor entries receipt → length receipt.seat ≡ length entries
 receipt_length entries receipt F = ap length F.slips ∙ length-enumerate_from F.first entries
+
+-- what is known of an answer
+pub from_ok : {A : Type 0} → {E : Type 0} (P : A → Type 0) (Q : E → Type 0) (r : Result A E) (x : A) → MatchResult r P Q → r ≡ Ok x → P x
+from_ok P Q r x h e = subst (λ r. MatchResult r P Q) e h

@@ -13,12 +13,7 @@ use tp_shared::{Gate, Naming, NoGate, Seat, Shared};
 const QUANTUM: u16 = 9;
 
 /// A turn of the node `number`. Answers whether it was made, and a run with it.
-fn is_run<J: Naming, G: Gate, R: Wait>(
-    rt: &R,
-    shared: &Shared<J>,
-    gate: &G,
-    number: u8,
-) -> bool {
+fn is_run<J: Naming, G: Gate, R: Wait>(rt: &R, shared: &Shared<J>, gate: &G, number: u8) -> bool {
     if number >= shared.nodes() {
         return false;
     }
@@ -35,7 +30,7 @@ fn next_of<J: Naming, R: Wait>(rt: &R, shared: &Shared<J>) -> u64 {
 }
 
 /// Whether the flusher's turn is done while the node `number` is held behind its run.
-pub fn is_flushed_beside_a_run<J: Naming + Send + Sync, D: Disk + Send + Drop, R: Threads + Wait + Sync>(
+pub fn is_flushed_beside_a_run<J: Naming + Send + Sync, D: Disk + Drop, R: Threads + Wait + Sync>(
     rt: &R,
     alloc: Global,
     shared: &Shared<J>,
@@ -94,12 +89,20 @@ fn run_beside<J: Naming, R: Wait>(
     let is_made = is_run(rt, shared, &NoGate, number);
     let next = next_of(rt, shared);
     gate.open();
-    if came && is_made { next.checked_sub(1) } else { None }
+    if came && is_made {
+        next.checked_sub(1)
+    } else {
+        None
+    }
 }
 
 /// Whether a run of the node `number`, which is journalled while the flusher is held behind its copy, isn't stored by that turn, but
 /// by the next one: the mark is then at most the run's number, and above it.
-pub fn is_stored_by_the_next_turn<J: Naming + Send + Sync, D: Disk + Send + Drop, R: Threads + Wait + Sync>(
+pub fn is_stored_by_the_next_turn<
+    J: Naming + Send + Sync,
+    D: Disk + Drop,
+    R: Threads + Wait + Sync,
+>(
     rt: &R,
     alloc: Global,
     shared: &Shared<J>,
@@ -108,10 +111,10 @@ pub fn is_stored_by_the_next_turn<J: Naming + Send + Sync, D: Disk + Send + Drop
 ) -> (Flusher<J, D>, bool) {
     let hold = Hold::new(FLUSHER, BACKLOG_COPIED);
     let gate = &hold;
-    let ((mut flusher, first), run) = join(
+    let (run, (mut flusher, first)) = join(
         rt,
-        move || flush_held(rt, alloc, shared, flusher, gate),
         move || run_beside(rt, shared, gate, number),
+        move || flush_held(rt, alloc, shared, flusher, gate),
     );
     let second = match flusher.turn(rt, alloc, shared) {
         Ok(flushed) => Some(flushed.mark),

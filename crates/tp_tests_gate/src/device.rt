@@ -22,7 +22,8 @@ const SIZE: usize = 262_656;
 pub(crate) const NODES: u8 = 16;
 
 /// Sixteen nodes. Link 0 of the first goes to a port; no other link has a wire.
-const TEXT: &[u8] = b"node a 4\nnode b 4\nnode c 4\nnode d 4\nnode e 4\nnode f 4\nnode g 4\nnode i 4\nnode j 4\nnode k 4\nnode l 4\nnode m 4\nnode n 4\nnode o 4\nnode p 4\nnode q 4\nport h\nwire a.0 h\n";
+const TEXT: &[u8] =
+    b"node a 4\nnode b 4\nnode c 4\nnode d 4\nnode e 4\nnode f 4\nnode g 4\nnode i 4\nnode j 4\nnode k 4\nnode l 4\nnode m 4\nnode n 4\nnode o 4\nnode p 4\nnode q 4\nport h\nwire a.0 h\n";
 
 /// Bytes of a node's image: where they are, and which. Its process sends the letter A on link 0, waits for the acknowledge, and
 /// then goes round.

@@ -2,7 +2,6 @@
 #![tactic(auto)]
 
 pub mod beside;
-
 #[cfg(test)]
 mod device;
 pub mod hold;

@@ -75,7 +75,14 @@ fn is_last<J: Naming, R: Wait>(rt: &R, shared: &Shared<J>, count: usize) -> bool
         .iter()
         .filter(|numbered| matches!(numbered.entry, Entry::Run { .. }))
         .count();
-    runs == count && matches!(last, Some(Entry::Run { node: HELD, count: QUANTUM }))
+    runs == count
+        && matches!(
+            last,
+            Some(Entry::Run {
+                node: HELD,
+                count: QUANTUM
+            })
+        )
 }
 
 /// Turns of `numbers` while one is held. Answers whether all were made, and the run of the one that was held is the last in the journal.

@@ -1,7 +1,7 @@
 //! Workers that make turns together, and what they journalled.
 
-ghost use Rattle.std.specs.Prelude.{◌≡◌, [], IsTrue, IfSome, ForSome, Some, All, length, ℕ};
-ghost use Rattle.tp_shared.specs.Seals.{Stage};
+ghost use Rattle.std.specs.Prelude.{◌≡◌, [], IsTrue, IfSome, Some, All, length, ℕ};
+ghost use Rattle.std.specs.Option.{ForSome};
 ghost use Rattle.tp_tests_gate.specs.Made.{IsSum, made_by};
 ghost use Rattle.tp_token.specs.Sound.{item_of, shown};
 
@@ -145,7 +145,13 @@ pub fn work_as_team<J: Naming + Send + Sync, G: Gate + Send + Sync, R: Threads +
         { make_turns(rt, net, lent, turns, 1, first) },
         move || -> Result<Vec<Work<J>>, AllocError>
             requires { All (λ seat. (seat.hand ≡ Some net.now.queue) × (seat.slips ≡ [])) others.items }
-        { map_vec(rt, others, &|seat| make_turns(rt, net, lent, turns, u32::MAX, seat)) },
+        {
+            map_vec(
+                rt,
+                others,
+                &|seat| make_turns(rt, net, lent, turns, u32::MAX, seat),
+            )
+        },
     );
     Ok(first.and(together(others?)))
 }

@@ -1,5 +1,5 @@
 use Rattle.std.proofs.Common.{◌≡◌, length, Some}
-use Rattle.std.specs.Prelude.{ForSome}
+use Rattle.std.specs.Option.{ForSome}
 use Rattle.tp_tests_gate.proofs.team.make_turns.Given as goal
 
 abbrev pub invariant-loop : goal.invariant-loop

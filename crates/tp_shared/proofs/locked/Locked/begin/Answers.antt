@@ -8,6 +8,7 @@ use Rattle.tp_shared.specs.Agreement.{Agreement}
 use Rattle.tp_shared.specs.Entries.{TakesOf}
 use Rattle.tp_shared.specs.Seals.{Stage}
 use Rattle.tp_shared.specs.Gains.{Noted}
+use Rattle.tp_shared.specs.Went.{IsOf}
 use Rattle.tp_shared.proofs.Holding.{acted_like, takes_of_like}
 use Rattle.tp_shared.proofs.Sealing.{floor_after, node_of_seal, sealed_after, tied_after, all_after, noted_by}
 use Rattle.tp_shared.proofs.Telling.{since_more}
@@ -130,3 +131,6 @@ returns-clause-is g c =
 pub returns-clause-opens : goal.returns-clause-opens
 returns-clause-opens g c =
     subst (λ stage. Opens c.args.number c.begin-done.result (moment stage.book c.args.place.now.node) (moment c.begin-done.new.book c.begin-done.new.node)) c.self.view_is c.begin-done.ensures.opens
+
+pub returns-clause-of : goal.returns-clause-of
+returns-clause-of g c = subst (λ stage. IsOf g.J.Naming.start stage.book) c.self.view_is (record { wires = c.self.invariant.7; nodes = c.self.invariant.8 })

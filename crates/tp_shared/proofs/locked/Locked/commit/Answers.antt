@@ -10,6 +10,7 @@ use Rattle.tp_turn.specs.Moments.{Added}
 use Rattle.tp_shared.specs.Entries.{run_entries}
 use Rattle.tp_shared.specs.Seals.{Stage}
 use Rattle.tp_shared.specs.Gains.{Noted}
+use Rattle.tp_shared.specs.Went.{IsOf}
 use Rattle.tp_shared.proofs.Sealing.{floor_after, node_of_seal, sealed_after, tied_after, all_after, noted_by}
 use Rattle.tp_shared.proofs.Telling.{since_more}
 use Rattle.tp_shared.proofs.Thawing.{thaws_set, thawed_at}
@@ -114,3 +115,6 @@ returns-clause-noted g c =
 pub returns-clause-added : goal.returns-clause-added
 returns-clause-added g c =
     subst (λ stage. Added c.args.number c.args.place.now.node.live (run_acts c.args.number c.args.stretch.ran.count) (without_run stage.book c.args.number) c.commit-ran.new.book) c.self.view_is c.commit-ran.ensures.added
+
+pub returns-clause-of : goal.returns-clause-of
+returns-clause-of g c = subst (λ stage. IsOf g.J.Naming.start stage.book) c.self.view_is (record { wires = c.self.invariant.7; nodes = c.self.invariant.8 })

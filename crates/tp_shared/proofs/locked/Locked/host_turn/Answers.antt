@@ -4,6 +4,7 @@ use Rattle.tp_shared.specs.Acts.{Hosted}
 use Rattle.tp_shared.specs.Entries.{TakesOf}
 use Rattle.tp_shared.specs.Seals.{Stage}
 use Rattle.tp_shared.specs.Gains.{Noted}
+use Rattle.tp_shared.specs.Went.{IsOf}
 use Rattle.tp_shared.proofs.Holding.{grown_like, takes_of_like}
 use Rattle.tp_shared.proofs.Hosting.{hosted_turn, host_refused}
 use Rattle.tp_shared.proofs.Sealing.{floor_after, sealed_still, tied_after, all_after, noted_by}
@@ -59,3 +60,6 @@ returns-clause-refused g c = host_refused c.host_turn-done.result c.self.inside.
 
 pub returns-clause-did : goal.returns-clause-did
 returns-clause-did g c = subst (λ stage. HostDone (HostTurns c.host_turn-done.result) stage.book c.host_turn-done.new.book) c.self.view_is c.host_turn-done.ensures
+
+pub returns-clause-of : goal.returns-clause-of
+returns-clause-of g c = subst (λ stage. IsOf g.J.Naming.start stage.book) c.self.view_is (record { wires = c.self.invariant.7; nodes = c.self.invariant.8 })
