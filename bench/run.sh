@@ -1,0 +1,127 @@
+#!/bin/bash
+# The speed of `tpnet run`, as ratios of programs that run in turns on one machine, outside the gate:
+#   workers   four busy nodes, 4,096 steps a turn: four workers beside one
+#   steps     one busy node, 4,096 steps a turn: steps a second beside the interpreter alone (bench/steps.rattle)
+#   entries   one busy node, one step a turn: durable entries a second beside the same groups written and synced alone
+# usage: bench/run.sh TPNET [ROUNDS [FOLDER ..]]      5 rounds in /dev/shm (in memory, so only our own cost shows) by default.
+#                                                     The time of a run is that of a run without turns less
+set -e
+top=$(cd "$(dirname "$0")/.." && pwd)
+tpnet=$(realpath "$1")
+rounds=${2:-5}
+folders=("${@:3}")
+[ ${#folders[@]} -gt 0 ] || folders=(/dev/shm)
+work=$(mktemp -d /tmp/bench-run-XXXX)
+trap 'rm -rf "$work"' EXIT
+
+cp -r "$top/crates" "$top/crates.txt" "$top/HANDLES" "$work"
+mkdir -p "$work/crates/bench_steps/src" "$work/steps"
+cp "$top/bench/steps.rattle" "$work/crates/bench_steps/src/main.rt"
+echo "bench_steps: tp_cpu tp_mem tp_model" >> "$work/crates.txt"
+(cd "$work/crates/bench_steps" && rt run > "$work/build.log" 2>&1) || true
+steps=$work/crates/bench_steps/out/bench_steps
+[ -x "$steps" ] || { tail -20 "$work/build.log"; exit 1; }
+
+# writes the groups whose numbers of entries stand on standard input, as the store does: the bytes behind the gate, a sync, the gate, a sync
+cat > "$work/raw.c" <<'C'
+#include <fcntl.h>
+#include <stdio.h>
+#include <stdlib.h>
+#include <string.h>
+#include <unistd.h>
+
+static char body[16 + 16 * 64];
+
+static void put(int file, const void *bytes, size_t count, off_t at) {
+    if (pwrite(file, bytes, count, at) != (ssize_t)count || fsync(file) != 0) exit(1);
+}
+
+int main(int count, char **words) {
+    int file = open(words[1], O_RDWR);
+    off_t gate = atoll(words[2]);
+    const unsigned char is_open = 0xA5;
+    int entries;
+    if (count != 3 || file < 0) return 1;
+    memset(body, 1, sizeof body);
+    while (scanf("%d", &entries) == 1) {
+        size_t length = 16 + 16 * (size_t)entries;
+        put(file, body, length, gate + 1);
+        put(file, &is_open, 1, gate);
+        gate += (off_t)length;
+    }
+    return 0;
+}
+C
+cc -O2 -o "$work/raw" "$work/raw.c"
+
+"$top/tools/make-image" "$top/examples/compute.txt" "$work/a.img"
+for name in b c d; do cp "$work/a.img" "$work/$name.img"; done
+cp "$work/a.img" "$work/steps/node.img"
+printf 'node a 4\nport h\n' > "$work/one.net"
+printf 'node a 4\nnode b 4\nnode c 4\nnode d 4\nport h\n' > "$work/four.net"
+"$tpnet" format "$work/one" "$work/one.net" "$work" $((1 << 23)) > "$work/said"
+"$tpnet" format "$work/four" "$work/four.net" "$work" $((1 << 23)) > "$work/said"
+python3 - "$tpnet" "$steps" "$work" "$rounds" "${folders[@]}" <<'PY'
+import os, shutil, statistics, struct, subprocess, sys, tempfile, time
+tpnet, steps, work, rounds = sys.argv[1:5]
+rounds = range(int(rounds))
+TURNS = 20000
+
+def timed(command, cwd=None, given=None):
+    begun = time.monotonic()
+    subprocess.run(command, cwd=cwd, input=given, capture_output=True, check=True)
+    return time.monotonic() - begun
+
+def fresh(which, file):
+    subprocess.run(["cp", "--sparse=always", os.path.join(work, which), file], check=True)
+    subprocess.run(["sync", file], check=True)
+
+def run(which, file, turns, workers, quantum):
+    """The seconds of a run on a new copy of the formatted device."""
+    fresh(which, file)
+    return timed([tpnet, "run", file, "--turns", str(turns), "--workers", str(workers), "--quantum", str(quantum)])
+
+def groups(file):
+    """Where the first group begins, and how many entries each has."""
+    device = open(file, "rb").read()
+    first = at = 512 + 13 + struct.unpack_from("<I", device, 521)[0]
+    found = []
+    while device[at] == 0xA5:
+        found.append(struct.unpack_from("<H", device, at + 2)[0])
+        at += 16 + 16 * found[-1]
+    return first, found
+
+def said(name, mine, other, what):
+    print("    %-8s %s; ratio %.2f best, %.2f median" % (
+        name, what, min(other) / min(mine), statistics.median(other) / statistics.median(mine)), flush=True)
+
+for folder in sys.argv[5:]:
+    kind = subprocess.run(["stat", "-f", "-c", "%T", folder], capture_output=True, text=True, check=True).stdout.strip()
+    print("%s (%s), best and median of %d:" % (folder, kind, len(rounds)))
+    with tempfile.TemporaryDirectory(prefix="bench-run-", dir=folder) as place:
+        file = os.path.join(place, "device")
+        one, four, alone, base = [], [], [], []
+        for _ in rounds:
+            idle = run("four", file, 0, 1, 4096)
+            one.append(run("four", file, TURNS, 1, 4096) - idle)
+            four.append(run("four", file, TURNS, 4, 4096) - idle)
+        made = TURNS * 4 // 5 * 4096
+        said("workers", four, one, "1 worker %.1f, 4 workers %.1f million steps a second" % (made / min(one) / 1e6, made / min(four) / 1e6))
+        ours = []
+        for _ in rounds:
+            idle = run("one", file, 0, 1, 4096)
+            ours.append((run("one", file, TURNS, 1, 4096) - idle) / (TURNS // 2 * 4096))
+            alone.append(timed([steps], cwd=os.path.join(work, "steps")) / 1e8)
+        said("steps", ours, alone, "run %.1f, interpreter alone %.1f million a second" % (1e-6 / min(ours), 1e-6 / min(alone)))
+        ours, plain, sizes = [], [], []
+        for _ in rounds:
+            idle = run("one", file, 0, 2, 1)
+            took = run("one", file, TURNS, 2, 1) - idle
+            first, counts = groups(file)
+            fresh("one", file)
+            given = " ".join(map(str, counts)).encode()
+            ours.append(took / sum(counts))
+            plain.append(timed([os.path.join(work, "raw"), file, str(first)], given=given) / sum(counts))
+            sizes.append(sum(counts) / len(counts))
+        said("entries", ours, plain, "run %.0f, raw %.0f a second, groups of %.1f" % (1 / min(ours), 1 / min(plain), statistics.median(sizes)))
+PY
