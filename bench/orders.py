@@ -1,0 +1,129 @@
+#!/usr/bin/env python3
+"""How many orders of acts two nodes and the host have up to a whole cut: a second opinion on crates/tp_tests_cuts/src/orders.rt.
+
+usage: bench/orders.py     prints the orders of its three cases, counted over a plain model that knows no book
+"""
+import copy
+
+# a line's receiver, a process and its link; the host is process 2. And the line that each end sends
+RECEIVER = {0: (1, 0), 3: (2, 0), 4: (0, 0), 8: (0, 3)}
+LINE = {(0, 0): 0, (0, 3): 3, (1, 0): 4, (2, 0): 8}
+
+# A process of a node is [links, state]. One link: it sends a byte there once. Two: over and over it hears on the first and
+# sends on the second.
+READY, HEARS, SENDS, WAITS, WOKEN, DONE = range(6)
+
+
+def first(nodes):
+    return {"nodes": [[[links, SENDS if len(links) == 1 else READY] for links in node] for node in nodes], "held": [set(), set()],
+            "lines": {line: [] for line in RECEIVER}, "recorded": None, "closed": [], "runs": [0, 0]}
+
+
+def send(net, process, link, token):
+    net["lines"][LINE[process, link]].append(token)
+
+
+def step(net, node, process):
+    """A step of a process, where it has one."""
+    links, state = process
+    if state == SENDS:
+        send(net, node, links[-1], "data")
+        process[1] = WAITS
+    elif state == WOKEN:
+        process[1] = DONE if len(links) == 1 else READY
+    elif state == READY and links[0] in net["held"][node]:
+        net["held"][node].remove(links[0])
+        send(net, node, links[0], "ack")
+        process[1] = SENDS
+    elif state == READY:
+        process[1] = HEARS
+    else:
+        return False
+    return True
+
+
+def run(net, node):
+    """A node runs as far as it can. Whether it made a step."""
+    steps = 0
+    for process in net["nodes"][node]:
+        while step(net, node, process):
+            steps += 1
+    net["runs"][node] += 1
+    return steps > 0
+
+
+def take(net, line):
+    token, (node, link) = net["lines"][line].pop(0), RECEIVER[line]
+    if node == 2:
+        assert token == "data"
+        return send(net, 2, 0, "ack")
+    for process in net["nodes"][node]:
+        if token == "ack" and process[1] == WAITS and process[0][-1] == link:
+            process[1] = WOKEN
+            return
+        if token == "data" and process[1] == HEARS and process[0][0] == link:
+            process[1] = SENDS
+            return send(net, node, link, "ack")
+    assert token == "data"
+    net["held"][node].add(link)
+
+
+def record(net, process):
+    net["recorded"].append(process)
+    for (sender, _), line in LINE.items():
+        if sender == process:
+            net["lines"][line].append("marker")
+
+
+def acts(net, runs):
+    """What each act that can be done leads to, by its name."""
+    found = {}
+
+    def add(name, does, *words):
+        new = copy.deepcopy(net)
+        if does(new, *words) is not False:
+            found[name] = new
+
+    def begin(new):
+        new["recorded"] = []
+        record(new, 2)
+
+    def close(new, line):
+        new["lines"][line].pop(0)
+        new["closed"] = sorted(new["closed"] + [line])
+
+    for node in (0, 1):
+        if net["runs"][node] < runs[node]:
+            add(("run", node), run, node)
+        if net["recorded"] is not None and node not in net["recorded"]:
+            add(("record", node), record, node)
+    if net["recorded"] is None:
+        add("begin", begin)
+    for line, tokens in net["lines"].items():
+        if tokens and tokens[0] != "marker":
+            add(("take", line), take, line)
+        elif tokens and RECEIVER[line][0] in net["recorded"]:
+            add(("close", line), close, line)
+    return found
+
+
+def orders(net, runs, known):
+    if net["recorded"] is not None and len(net["recorded"]) == 3 and len(net["closed"]) == 4:
+        return 1
+    key = repr(dict(net, recorded=sorted(net["recorded"]) if net["recorded"] is not None else None))
+    if key not in known:
+        known[key] = sum(orders(new, runs, known) for new in acts(net, runs).values())
+    return known[key]
+
+
+RELAYS = [[[0], [0, 3]], [[0, 0]]]
+CASES = [
+    ("sent", [[[0]], []], [], [1, 0]),
+    ("crossed", [[[0]], [[0]]], [("run", 0), "begin"], [1, 1]),
+    ("answered", RELAYS, [("run", 1), ("run", 0), ("take", 0), ("run", 1)], [1, 2]),
+]
+for name, nodes, before, runs in CASES:
+    net = first(nodes)
+    for act in before:
+        net = acts(net, runs)[act]
+    print(name, orders(net, runs, {}))

@@ -1,0 +1,116 @@
+//! Plain replays of the entries in a cut, and of those outside.
+
+ghost use Rattle.std.specs.Prelude.{◌≡◌, true};
+ghost use Rattle.tp_replay.specs.Flat.{CanCount};
+
+use crate::network::{LINES, flat_of};
+use crate::plain::Plain;
+use crate::playing::Play;
+use std::alloc::Global;
+use std::test::Fail;
+use tp_book::NetParts;
+use tp_model::Token;
+use tp_net::Lines;
+use tp_port::PortParts;
+use tp_replay::FlatNetwork;
+use tp_snap::Cut;
+
+/// Whether the network's one port can count one more byte.
+fn can_count(flat: &FlatNetwork) -> bool
+    ensures { result ≡ true → CanCount flat.now }
+{
+    match flat.ports() {
+        [port] => port.in_base() < u64::MAX,
+        _ => false,
+    }
+}
+
+/// Replays the entries that are in the cut or outside, as `wanted` says. Answers whether each was possible.
+fn replay(plain: &Plain, wanted: &[bool], flat: &mut FlatNetwork) -> bool {
+    for made in plain.made.iter() {
+        if wanted.contains(&made.inside) {
+            if !can_count(flat) || flat.apply(&made.entry).is_err() {
+                return false;
+            }
+        }
+    }
+    true
+}
+
+/// Whether these tokens stand on a line.
+fn is_line(lines: &Lines, line: usize, tokens: &[Token]) -> bool {
+    if line >= lines.count() || lines.len(line) != tokens.len() {
+        return false;
+    }
+    for (at, token) in tokens.iter().enumerate() {
+        if lines.get(line, at) != Some(*token) {
+            return false;
+        }
+    }
+    true
+}
+
+/// Whether one port is as the other.
+fn is_port(one: &PortParts, other: &PortParts) -> bool {
+    one.pending == other.pending
+        && one.in_base == other.in_base
+        && one.outputs == other.outputs
+        && one.out_base == other.out_base
+}
+
+/// Whether these ports are the others.
+fn are_ports(ports: &[PortParts], others: &[PortParts]) -> bool {
+    ports.len() == others.len()
+        && ports
+            .iter()
+            .zip(others)
+            .all(|(one, other)| is_port(one, other))
+}
+
+/// Whether these images are the others.
+fn are_images(images: &[Vec<u8>], others: &[Vec<u8>]) -> bool {
+    images.len() == others.len() && images.iter().zip(others).all(|(one, other)| one == other)
+}
+
+/// Whether a cut with the nodes' images as they recorded is a network.
+fn is_network(cut: &Cut, images: &[Vec<u8>], parts: &NetParts) -> bool {
+    for (line, tokens) in parts.lines.iter().enumerate() {
+        if !is_line(cut.lines(), line, tokens) {
+            return false;
+        }
+    }
+    parts.lines.len() == LINES
+        && are_ports(cut.ports(), &parts.ports)
+        && are_images(images, &parts.images)
+}
+
+/// Whether two networks are the same.
+fn are_same(one: &NetParts, other: &NetParts) -> bool {
+    one.lines == other.lines
+        && are_ports(&one.ports, &other.ports)
+        && are_images(&one.images, &other.images)
+}
+
+/// Whether the entries in the whole cut come first: they lead to the network that was recorded, and with those outside behind them
+/// all lead to where they led in their own order, to the nodes as they are.
+pub(crate) fn comes_first(
+    alloc: Global,
+    play: &mut Play,
+    first: &[u8],
+    second: &[u8],
+) -> Result<bool, Fail> {
+    let mut swapped = flat_of(alloc, first, second)?;
+    let mut ordered = flat_of(alloc, first, second)?;
+    let now = [play.net.image(alloc, 0)?, play.net.image(alloc, 1)?];
+    let all = replay(&play.plain, &[true, false], &mut ordered);
+    let inside = replay(&play.plain, &[true], &mut swapped);
+    let between = swapped.parts(alloc)?;
+    let outside = replay(&play.plain, &[false], &mut swapped);
+    let (one, other) = (swapped.parts(alloc)?, ordered.parts(alloc)?);
+    let Some(cut) = play.net.book().whole() else {
+        return Ok(false);
+    };
+    let recorded = is_network(cut, &play.images, &between);
+    let led = are_same(&one, &other) && are_images(&now, &one.images);
+    Ok(all && inside && outside && recorded && led)
+}
