@@ -18,7 +18,7 @@ use tp_recover::open;
 fn net(alloc: Global) -> Result<NetParts, Fail>
     ensures { IfOk result (λ net. IsLone (network_of net)) }
 {
-    let image = image(alloc).or_else(|| image(alloc)).ok_or("no image")?;
+    let image = image(alloc)?;
     match lone_net(alloc, &image) {
         Some(net) => Ok(net),
         None => match lone_net(alloc, &image) {
@@ -39,39 +39,38 @@ fn book(alloc: Global) -> Result<Book, Fail>
     }
 }
 
-/// What a book says of its journal and its port: the next number, how many entries it holds, and how many bytes were accepted.
-fn seen(book: &Book) -> Option<(u64, usize, u64)> {
-    if book.ports() == 0 {
-        return None;
+/// Whether a book of one node has `count` entries, each a byte that its port accepted.
+fn has(book: &Book, count: u64) -> bool {
+    if book.ports() == 0 || book.nodes() != 1 {
+        return false;
     }
-    Some((book.next(), book.entries().len(), book.accepted(0)))
+    book.next() == count && book.entries().len() as u64 == count && book.accepted(0) == count
 }
 
 #[test]
 fn a_book_is_begun_again(rt: HostRuntime) -> Result<(), Fail> {
     let book = book(rt.alloc())?;
-    assert_eq!(rt; seen(&book), Some((0, 0, 0)));
-    assert_eq!(rt; book.nodes(), 1);
+    assert!(rt; has(&book, 0));
     Ok(())
+}
+
+/// Whether bytes are accepted by a book of `before` entries, and the receipt's number is `after`.
+fn accepts(book: &mut Book, bytes: &[u8], before: u64, after: u64) -> bool
+    requires { IsUsable book.old }
+    ensures { IsUsable book.new }
+{
+    let mut receipt = hand_in(book, bytes);
+    if receipt == Err(Refusal::Memory) && has(book, before) {
+        receipt = hand_in(book, bytes);
+    }
+    receipt == Ok(after) && has(book, after)
 }
 
 #[test]
 fn bytes_are_handed_in_again(rt: HostRuntime) -> Result<(), Fail> {
     let mut book = book(rt.alloc())?;
-    let mut receipt = hand_in(&mut book, b"x");
-    if receipt == Err(Refusal::Memory) {
-        assert_eq!(rt; seen(&book), Some((0, 0, 0)));
-        receipt = hand_in(&mut book, b"x");
-    }
-    assert_eq!(rt; receipt, Ok(1));
-    assert_eq!(rt; seen(&book), Some((1, 1, 1)));
-    let mut receipt = hand_in(&mut book, b"0123456789");
-    if receipt == Err(Refusal::Memory) {
-        assert_eq!(rt; seen(&book), Some((1, 1, 1)));
-        receipt = hand_in(&mut book, b"0123456789");
-    }
-    assert_eq!(rt; receipt, Ok(11));
-    assert_eq!(rt; seen(&book), Some((11, 11, 11)));
+    let told = accepts(&mut book, b"x", 0, 1) && accepts(&mut book, b"0123456789", 1, 11);
+    assert!(rt; told);
     Ok(())
 }
 
@@ -79,11 +78,10 @@ fn bytes_are_handed_in_again(rt: HostRuntime) -> Result<(), Fail> {
 fn a_run_is_reserved_again(rt: HostRuntime) -> Result<(), Fail> {
     let mut book = book(rt.alloc())?;
     if let Err(refusal) = reserve(&mut book) {
-        assert_eq!(rt; refusal, Refusal::Memory);
-        assert_eq!(rt; seen(&book), Some((0, 0, 0)));
+        assert!(rt; refusal == Refusal::Memory && has(&book, 0));
         reserve(&mut book)?;
     }
-    assert_eq!(rt; seen(&book), Some((0, 0, 0)));
+    assert!(rt; has(&book, 0));
     Ok(())
 }
 
@@ -91,30 +89,22 @@ fn a_run_is_reserved_again(rt: HostRuntime) -> Result<(), Fail> {
 #[test]
 fn a_token_is_made_ready_again(rt: HostRuntime) -> Result<(), Fail> {
     let mut book = book(rt.alloc())?;
-    if let Err(refusal) = hand_in(&mut book, b"abcdefgh") {
-        assert_eq!(rt; refusal, Refusal::Memory);
-        hand_in(&mut book, b"abcdefgh")?;
-    }
+    let told = accepts(&mut book, b"abcdefgh", 0, 8);
+    assert!(rt; told);
     let mut token = make_ready(&mut book);
     if let Err(refusal) = token {
-        assert_eq!(rt; refusal, Refusal::Memory);
-        assert_eq!(rt; seen(&book), Some((8, 8, 8)));
+        assert!(rt; refusal == Refusal::Memory && has(&book, 8));
         token = make_ready(&mut book);
     }
-    assert_eq!(rt; token, Ok(Token::Data(b'a')));
-    assert_eq!(rt; seen(&book), Some((8, 8, 8)));
+    assert!(rt; token == Ok(Token::Data(b'a')) && has(&book, 8));
     Ok(())
 }
 
-/// What a device with two entries leaves, where memory isn't refused.
-fn state(alloc: Global) -> Option<NetState>
+/// What a device leaves, where memory isn't refused.
+fn state(alloc: Global, disk: &mut MemDisk) -> Option<NetState>
     ensures { IfSome result IsOpened }
 {
-    let Ok(bytes) = grown(alloc) else {
-        return None;
-    };
-    let mut disk = MemDisk::of_bytes(bytes);
-    let Ok(opened) = open(alloc, &mut disk) else {
+    let Ok(opened) = open(alloc, disk) else {
         return None;
     };
     let Ok(state) = opened.into_state(alloc) else {
@@ -123,8 +113,8 @@ fn state(alloc: Global) -> Option<NetState>
     Some(state)
 }
 
-/// The book of that device, though memory may be refused once.
-fn opened_book(alloc: Global, state: &NetState) -> Result<Book, Fail>
+/// The book of what it leaves, though memory may be refused once.
+fn book_of(alloc: Global, state: &NetState) -> Result<Book, Fail>
     requires { IsOpened state.now }
 {
     match Book::open(alloc, state, Some(3_862)) {
@@ -133,17 +123,21 @@ fn opened_book(alloc: Global, state: &NetState) -> Result<Book, Fail>
     }
 }
 
+/// The book of a device with two entries, though memory may be refused once.
+fn opened_book(alloc: Global) -> Result<Book, Fail> {
+    let mut disk = MemDisk::of_bytes(grown(alloc)?);
+    match state(alloc, &mut disk) {
+        Some(state) => book_of(alloc, &state),
+        None => match state(alloc, &mut disk) {
+            Some(state) => book_of(alloc, &state),
+            None => Err(Fail::new("not opened")),
+        },
+    }
+}
+
 #[test]
 fn a_book_of_a_device_is_opened_again(rt: HostRuntime) -> Result<(), Fail> {
-    let alloc = rt.alloc();
-    let book = match state(alloc) {
-        Some(state) => opened_book(alloc, &state)?,
-        None => match state(alloc) {
-            Some(state) => opened_book(alloc, &state)?,
-            None => return Err(Fail::new("not opened")),
-        },
-    };
-    assert_eq!(rt; seen(&book), Some((2, 2, 2)));
-    assert_eq!(rt; book.nodes(), 1);
+    let book = opened_book(rt.alloc())?;
+    assert!(rt; has(&book, 2));
     Ok(())
 }

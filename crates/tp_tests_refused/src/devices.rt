@@ -1,25 +1,16 @@
 //! A device in memory, and formatting it. What makes it ready is done again where memory was refused.
 
+use crate::topologies::read;
 use std::alloc::{AllocError, Global};
 use std::test::Fail;
 use tp_area::{FormatFault, format};
 use tp_disk::{Disk, MemDisk};
 use tp_net::Topology;
+use tp_tests_fixtures::{AREA, GROUPS, ONE_NODE, SIZE, idle, place};
 
-/// Bytes of the device and of an area.
-const SIZE: usize = 33_280;
-
-const AREA: u64 = 16_384;
-
-/// Where the first area's groups begin.
-const GROUPS: usize = 13_033;
-
-/// One node, whose link 0 goes to a port.
-const TEXT: &[u8] = b"node a 4\nport h\nwire a.0 h\n";
-
-/// The bytes of the device that aren't 00, with their places: the head, the first area's front, the image, and a group of two
-/// entries, by which the host hands in the letters x and y.
-const BYTES: [(usize, &[u8]); 8] = [
+/// The bytes of the device that aren't 00, with their places: the head, the first area's front, the image's head and the word of the
+/// interrupted process, and a group of two entries, by which the host hands in the letters x and y.
+const BYTES: [(usize, &[u8]); 9] = [
     (0, b"TPNET\0\0\x01\x01\x01"),
     (16, &[0, 0x40, 0, 0, 0, 0, 0, 0, 4]),
     (56, &[0x80]),
@@ -29,75 +20,98 @@ const BYTES: [(usize, &[u8]); 8] = [
         533 + 27,
         &[0x80, 0, 0, 0, 0x80, 0, 0, 0, 0x80, 0, 0, 0, 0x80],
     ),
-    (13_033, &[0xA5, 0, 2]),
+    (533 + 172 + 0x2F, &[0x80]),
+    (GROUPS, &[0xA5, 0, 2]),
     (
-        13_049,
+        GROUPS + 16,
         &[
             3, 0, 0x78, 0, 0, 0, 0, 0, 0, 0, 0, 0, 0, 0, 0, 0, 3, 0, 0x79, 0, 0, 0, 0, 0, 1,
         ],
     ),
 ];
 
-/// Puts bytes at a place.
-fn place(bytes: &mut [u8], at: usize, piece: &[u8]) {
-    for (old, new) in bytes.iter_mut().skip(at).zip(piece) {
-        *old = *new;
-    }
-}
-
 /// The image of a node of four pages in which no process runs.
-pub(crate) fn image(alloc: Global) -> Option<Vec<u8>> {
-    let mut image = Vec::from_elem(alloc, 0u8, 172 + 4096).ok()?;
-    place(&mut image, 0, &[1, 0, 4]);
-    for queue in [27, 31, 35, 39] {
-        place(&mut image, queue, &[0x80]);
+pub(crate) fn image(alloc: Global) -> Result<Vec<u8>, AllocError> {
+    match idle(alloc) {
+        Ok(image) => Ok(image),
+        Err(_) => idle(alloc),
     }
-    Some(image)
 }
 
-fn images(alloc: Global) -> Option<Vec<Vec<u8>>> {
-    let mut images = Vec::new(alloc);
-    images.push(image(alloc)?).ok()?;
-    Some(images)
+/// A device of zeros.
+fn zeroed(alloc: Global) -> Result<Vec<u8>, AllocError> {
+    match Vec::from_elem(alloc, 0u8, SIZE) {
+        Ok(bytes) => Ok(bytes),
+        Err(_) => Vec::from_elem(alloc, 0u8, SIZE),
+    }
 }
 
 /// The bytes of the device with the group, though memory may be refused once.
 pub(crate) fn grown(alloc: Global) -> Result<Vec<u8>, AllocError> {
-    let mut bytes = match Vec::from_elem(alloc, 0u8, SIZE) {
-        Ok(bytes) => bytes,
-        Err(_) => Vec::from_elem(alloc, 0u8, SIZE)?,
-    };
+    let mut bytes = zeroed(alloc)?;
     for (at, piece) in BYTES {
         place(&mut bytes, at, piece);
     }
     Ok(bytes)
 }
 
+/// What is formatted, and the device.
+#[derive(Drop)]
+struct Given {
+    topology: Topology,
+    images: Vec<Vec<u8>>,
+    disk: MemDisk,
+}
+
+/// The node's image as the only one, where memory isn't refused.
+fn images_once(alloc: Global) -> Result<Vec<Vec<u8>>, AllocError> {
+    let mut images = Vec::new(alloc);
+    images.push(image(alloc)?)?;
+    Ok(images)
+}
+
+/// The images of the network.
+fn images(alloc: Global) -> Result<Vec<Vec<u8>>, AllocError> {
+    match images_once(alloc) {
+        Ok(images) => Ok(images),
+        Err(_) => images_once(alloc),
+    }
+}
+
+impl Given {
+    /// A device of zeros, though memory may be refused once.
+    fn new(alloc: Global) -> Result<Given, Fail> {
+        Ok(Given {
+            topology: read(alloc, ONE_NODE)?,
+            images: images(alloc)?,
+            disk: MemDisk::of_bytes(zeroed(alloc)?),
+        })
+    }
+
+    fn format(&mut self, alloc: Global) -> Result<(), FormatFault> {
+        // A topology keeps its rules: its page counts say so, which `format` asks.
+        let _rules = self.topology.pages();
+        format(alloc, &mut self.disk, &self.topology, &self.images, AREA)
+    }
+
+    /// Whether the device has `bytes`, and no call of it failed.
+    fn has(&self, bytes: &[u8]) -> bool {
+        self.disk.failures() == 0 && self.disk.bytes() == bytes
+    }
+}
+
 /// Nothing is written where memory is refused, and the next format is as the first would have been.
 #[test]
 fn a_device_is_formatted_again(rt: HostRuntime) -> Result<(), Fail> {
     let alloc = rt.alloc();
-    let topology = match Topology::read(alloc, TEXT) {
-        Ok(topology) => topology,
-        Err(_) => Topology::read(alloc, TEXT)?,
-    };
-    let images = images(alloc).or_else(|| images(alloc)).ok_or("no images")?;
-    let mut disk = match MemDisk::zeroed(alloc, SIZE) {
-        Ok(disk) => disk,
-        Err(_) => MemDisk::zeroed(alloc, SIZE)?,
-    };
-    // A topology keeps its rules: its page counts say so, which `format` asks.
-    let _rules = topology.pages();
-    if let Err(fault) = format(alloc, &mut disk, &topology, &images, AREA) {
-        assert_eq!(rt; fault, FormatFault::Memory);
-        assert_eq!(rt; disk.failures(), 0);
-        assert!(rt; disk.bytes().iter().all(|byte| *byte == 0));
-        format(alloc, &mut disk, &topology, &images, AREA)?;
+    let (mut given, zeros) = (Given::new(alloc)?, zeroed(alloc)?);
+    if let Err(fault) = given.format(alloc) {
+        assert!(rt; fault == FormatFault::Memory && given.has(&zeros));
+        given.format(alloc)?;
     }
-    assert_eq!(rt; disk.failures(), 0);
     let mut want = grown(alloc)?;
     place(&mut want, GROUPS, &[0; 49]);
-    assert!(rt; disk.bytes() == want.as_slice());
+    assert!(rt; given.has(&want));
     Ok(())
 }
 
@@ -105,27 +119,14 @@ fn a_device_is_formatted_again(rt: HostRuntime) -> Result<(), Fail> {
 #[test]
 fn a_bad_image_stays_bad(rt: HostRuntime) -> Result<(), Fail> {
     let alloc = rt.alloc();
-    let topology = match Topology::read(alloc, TEXT) {
-        Ok(topology) => topology,
-        Err(_) => Topology::read(alloc, TEXT)?,
-    };
-    let mut images = images(alloc).or_else(|| images(alloc)).ok_or("no images")?;
-    for image in images.iter_mut() {
-        if let Some(byte) = image.get_mut(109) {
-            *byte = 1;
-        }
+    let (mut given, zeros) = (Given::new(alloc)?, zeroed(alloc)?);
+    for image in given.images.iter_mut() {
+        place(image, 109, &[1]);
     }
-    let mut disk = match MemDisk::zeroed(alloc, SIZE) {
-        Ok(disk) => disk,
-        Err(_) => MemDisk::zeroed(alloc, SIZE)?,
-    };
-    // A topology keeps its rules: its page counts say so, which `format` asks.
-    let _rules = topology.pages();
-    let mut answer = format(alloc, &mut disk, &topology, &images, AREA);
+    let mut answer = given.format(alloc);
     if answer == Err(FormatFault::Memory) {
-        answer = format(alloc, &mut disk, &topology, &images, AREA);
+        answer = given.format(alloc);
     }
-    assert_eq!(rt; answer, Err(FormatFault::BadImage));
-    assert!(rt; disk.bytes().iter().all(|byte| *byte == 0));
+    assert!(rt; answer == Err(FormatFault::BadImage) && given.has(&zeros));
     Ok(())
 }

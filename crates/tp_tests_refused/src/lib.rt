@@ -4,6 +4,7 @@
 
 #[cfg(test)]
 mod book_calls;
+#[cfg(test)]
 mod books;
 #[cfg(test)]
 mod devices;

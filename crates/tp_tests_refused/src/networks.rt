@@ -1,43 +1,74 @@
 //! Reading a network out.
 
 use crate::devices::{grown, image};
+use std::alloc::Global;
 use std::test::Fail;
+use tp_book::NetParts;
 use tp_disk::MemDisk;
-use tp_model::Token;
 use tp_model::WireEnd::{Link, Port};
-use tp_recover::open;
+use tp_model::{Token, WireEnd};
+use tp_port::PortParts;
+use tp_recover::{Unopened, open};
+use tp_replay::FlatNetwork;
+
+const WIRES: [Option<WireEnd>; 5] = [Some(Port(0)), None, None, None, Some(Link(0, 0))];
+
+/// The network of the device, where memory isn't refused.
+fn network_once(alloc: Global, disk: &mut MemDisk) -> Result<FlatNetwork, Unopened> {
+    let (_, network, _) = open(alloc, disk)?.into_parts();
+    Ok(network)
+}
+
+/// The network of the device, though memory may be refused once.
+fn network(alloc: Global) -> Result<FlatNetwork, Fail> {
+    let mut disk = MemDisk::of_bytes(grown(alloc)?);
+    match network_once(alloc, &mut disk) {
+        Ok(network) => Ok(network),
+        Err(_) => Ok(network_once(alloc, &mut disk)?),
+    }
+}
+
+/// Whether the first byte alone is under way.
+fn are_lines(lines: &[Vec<Token>]) -> bool {
+    for (line, tokens) in lines.iter().enumerate() {
+        let want: &[Token] = if line == 4 { &[Token::Data(b'x')] } else { &[] };
+        if tokens.as_slice() != want {
+            return false;
+        }
+    }
+    lines.len() == 5
+}
+
+fn is_port(port: &PortParts) -> bool {
+    port.pending.as_slice() == b"xy".as_slice()
+        && port.in_base == 0
+        && port.out_base == 0
+        && port.outputs.is_empty()
+}
+
+/// Whether the network is that of the device, whose node has `image`.
+fn is_read_out(net: &NetParts, image: &[u8]) -> bool {
+    let is_node = match net.images.as_slice() {
+        [found] => found.as_slice() == image,
+        _ => false,
+    };
+    let is_host = match net.ports.as_slice() {
+        [port] => is_port(port),
+        _ => false,
+    };
+    is_node && is_host && net.wires.as_slice() == WIRES.as_slice() && are_lines(&net.lines)
+}
 
 /// The network stays as it is, also where memory is refused, and its parts can be had again.
 #[test]
 fn a_network_is_read_out_again(rt: HostRuntime) -> Result<(), Fail> {
     let alloc = rt.alloc();
-    let image = image(alloc).or_else(|| image(alloc)).ok_or("no image")?;
-    let mut disk = MemDisk::of_bytes(grown(alloc)?);
-    let opened = match open(alloc, &mut disk) {
-        Ok(opened) => opened,
-        Err(_) => open(alloc, &mut disk)?,
-    };
-    let (_, mut network, _) = opened.into_parts();
-    let parts = match network.parts(alloc) {
-        Ok(parts) => parts,
+    let image = image(alloc)?;
+    let mut network = network(alloc)?;
+    let net = match network.parts(alloc) {
+        Ok(net) => net,
         Err(_) => network.parts(alloc)?,
     };
-    let wires = [Some(Port(0)), None, None, None, Some(Link(0, 0))];
-    assert_eq!(rt; parts.wires.as_slice(), wires.as_slice());
-    assert_eq!(rt; parts.images.len(), 1);
-    for found in &parts.images {
-        assert!(rt; *found == image);
-    }
-    for (line, tokens) in parts.lines.iter().enumerate() {
-        let want: &[Token] = if line == 4 { &[Token::Data(b'x')] } else { &[] };
-        assert_eq!(rt; tokens.as_slice(), want);
-    }
-    assert_eq!(rt; parts.lines.len(), 5);
-    assert_eq!(rt; parts.ports.len(), 1);
-    for port in &parts.ports {
-        assert_eq!(rt; port.pending.as_slice(), b"xy".as_slice());
-        assert_eq!(rt; (port.in_base, port.out_base), (0, 0));
-        assert!(rt; port.outputs.is_empty());
-    }
+    assert!(rt; is_read_out(&net, &image));
     Ok(())
 }
