@@ -9,18 +9,14 @@ use crate::story::{Story, play_all};
 use std::test::Fail;
 use tp_model::Token::{Ack, Data};
 use tp_node::Why;
-
-/// ldc MostNeg, ldc 41, outbyte, j -2: prints the byte 41 on link 0, and then jumps to itself.
-const PRINTS: &[u8] = &[
-    0x27, 0x2F, 0x2F, 0x2F, 0x2F, 0x2F, 0x6F, 0x40, 0x24, 0x41, 0xFE, 0x60, 0x0E,
-];
+use tp_tests_fixtures::SENDS_A;
 
 /// It has printed, and its byte is acknowledged. Then it runs for 16 steps; or for 4,096, which are three slices of a
 /// dispatch and 1,024 jumps, then a dispatch and 1,020 jumps.
 const PRINTING: &[Story<'static>] = &[
     Story {
         name: "prints a byte",
-        code: PRINTS,
+        code: SENDS_A,
         given: &[],
         events: &[
             Run(3, &[(0, Data(0x41))]),
@@ -44,7 +40,7 @@ const PRINTING: &[Story<'static>] = &[
     },
     Story {
         name: "jumps slice after slice",
-        code: PRINTS,
+        code: SENDS_A,
         given: &[],
         events: &[
             Run(3, &[(0, Data(0x41))]),
@@ -61,7 +57,7 @@ const PRINTING: &[Story<'static>] = &[
     },
     Story {
         name: "three slices",
-        code: PRINTS,
+        code: SENDS_A,
         given: &[],
         events: &[
             Run(3, &[(0, Data(0x41))]),

@@ -3,6 +3,7 @@
 ghost use Rattle.std.specs.Prelude.{◌<◌};
 
 use std::alloc::{AllocError, Global};
+use tp_tests_fixtures::{HEAD, idle, place};
 
 /// Pseudo-random numbers, the same at each run.
 #[derive(Drop)]
@@ -42,9 +43,6 @@ const PLACES: [(u16, u16, u16); 4] = [
     (0x120, 0xA80, 0xEC0),
     (0x130, 0xEC0, 0x200),
 ];
-
-/// The bytes of a node's image in front of its memory.
-const HEAD: usize = 172;
 
 /// The instructions of a process.
 fn code(task: Task) -> [u8; 13] {
@@ -100,13 +98,6 @@ fn code(task: Task) -> [u8; 13] {
     }
 }
 
-/// Puts bytes at a place.
-fn place(bytes: &mut [u8], at: usize, piece: &[u8]) {
-    for (old, new) in bytes.iter_mut().skip(at).zip(piece) {
-        *old = *new;
-    }
-}
-
 /// The address of a place of memory.
 fn address(offset: u16) -> [u8; 4] {
     let [low, high] = offset.to_le_bytes();
@@ -115,11 +106,7 @@ fn address(offset: u16) -> [u8; 4] {
 
 /// The image of a node of four pages whose low queue has a process for each of `tasks`, four at most.
 pub(crate) fn image(alloc: Global, tasks: &[Task]) -> Result<Vec<u8>, AllocError> {
-    let mut image = Vec::from_elem(alloc, 0u8, HEAD + 4096)?;
-    place(&mut image, 0, &[1, 0, 4]);
-    for word in [24, 28, 32, 36, HEAD + 0x2C] {
-        place(&mut image, word, &address(0));
-    }
+    let mut image = idle(alloc)?;
     for (task, (first, workspace, next)) in tasks.iter().zip(PLACES) {
         let at = HEAD + usize::from(workspace);
         place(&mut image, HEAD + usize::from(first), &code(*task));

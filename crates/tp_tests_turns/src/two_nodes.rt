@@ -67,7 +67,7 @@ fn does(alloc: Global, net: &mut Net, step: Step) -> Option<u64> {
     }
 }
 
-/// Whether Markers are in front of just these lines.
+/// Whether Markers are in front of `lines`, and of no other.
 fn are_marked(book: &Book, lines: &[u16]) -> bool {
     book.known();
     for line in 0..9u16 {

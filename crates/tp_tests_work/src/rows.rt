@@ -55,7 +55,7 @@ fn play_offers<J: Naming, R: Wait + Abort>(
     }
 }
 
-// The outputs that a pass is shown from a position on, or the fault.
+/// Whether a pass is shown the outputs `wanted` from the position `from` on, or refused with that fault.
 fn is_shown<J: Naming, R: Wait>(
     rt: &R,
     alloc: Global,
@@ -88,7 +88,7 @@ fn play_turns<J: Naming, R: Wait + Abort>(rt: &R, net: &Net<J, NoGate>, seat: &m
     }
 }
 
-// The letter is shown once the mark is above its Take, and is confirmed once; then what was offered is stored once the mark says so.
+/// Shows the letter once the mark is above its Take, and confirms it once; then what was offered is stored once the mark says so.
 fn play_outputs<J: Naming, R: Wait + Abort>(
     rt: &R,
     alloc: Global,
@@ -119,7 +119,7 @@ fn play_outputs<J: Naming, R: Wait + Abort>(
     assert!(rt; matches!(session.confirm(rt, 1, pass), Ok(_)));
 }
 
-// What is refused once the store is broken; each process stays in the ready queue.
+/// Makes the calls that are refused once the store is broken; each process stays in the ready queue.
 fn play_broken<J: Naming, R: Wait + Abort>(
     rt: &R,
     session: &Session<'_, J>,
@@ -173,7 +173,7 @@ fn play<J: Naming, R: Wait + Abort>(
     Ok(())
 }
 
-// The same with new names.
+/// Plays the same with new names.
 fn play_device<R: Wait + Abort>(
     rt: &R,
     alloc: Global,

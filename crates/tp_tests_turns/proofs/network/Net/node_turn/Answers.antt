@@ -1,7 +1,5 @@
-use Rattle.std.proofs.Common.{◌≡◌, ◌<◌, Some, length, slice_get, refl, ap, sym, subst, rules}
+use Rattle.std.proofs.Common.{◌≡◌, ◌<◌, Some, length, slice_get, refl, rules}
 use Rattle.std.proofs.lemmas.Option.{slice_get_read}
-use Rattle.tp_turn.specs.Moments.{IsNodeOf}
-use Rattle.tp_tests_turns.specs.Nets.{HasNodes}
 use Rattle.tp_tests_turns.proofs.Netting.{turned}
 use Rattle.tp_tests_turns.proofs.network.Net.node_turn.Goals as goal
 

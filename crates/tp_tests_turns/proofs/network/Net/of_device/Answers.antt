@@ -1,8 +1,8 @@
-use Rattle.std.proofs.Common.{◌≡◌, Some, List, slice_get, ℕ, subst, sym, ap, ◌∙◌, map}
+use Rattle.std.proofs.Common.{◌≡◌, Some, slice_get, ℕ, subst, sym, ap, ◌∙◌, map}
 use Rattle.tp_model.specs.NodeState.{NodeState}
 use Rattle.tp_model.specs.Network.{Network}
 use Rattle.tp_law_machine.specs.NodeOfBytes.{IsNodeOfBytes}
-use Rattle.tp_tests_turns.specs.Nets.{seen, spelt}
+use Rattle.tp_tests_turns.specs.Nets.{spelt}
 use Rattle.tp_tests_turns.proofs.Netting.{opens}
 use Rattle.tp_tests_turns.proofs.network.Net.of_device.Goals as goal
 
