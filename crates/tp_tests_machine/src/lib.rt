@@ -7,6 +7,8 @@
 #[cfg(test)]
 mod alternatives;
 #[cfg(test)]
+mod answers;
+#[cfg(test)]
 mod arrival;
 #[cfg(test)]
 mod bench;
@@ -32,6 +34,8 @@ mod isa;
 mod links;
 #[cfg(test)]
 mod memory;
+#[cfg(test)]
+mod part_calls;
 #[cfg(test)]
 mod parts;
 #[cfg(test)]
