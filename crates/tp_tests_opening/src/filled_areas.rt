@@ -1,7 +1,7 @@
 //! Groups appended until an area is full.
 
 use crate::devices::{append, disk_of, fresh, is_same, replayed, what_is_held};
-use std::process::Abort;
+use std::alloc::Global;
 use std::test::Fail;
 use tp_area::{Store, StoreFault};
 use tp_disk::{Disk, MemDisk};
@@ -64,14 +64,10 @@ fn inputs(all: &[Entry], count: usize) -> &[Entry] {
 }
 
 /// Whether a group of `count` entries doesn't fit, and nothing changes.
-fn refuses<R: AllocGlobal + Abort>(
-    rt: &R,
-    store: &mut Store<MemDisk>,
-    count: usize,
-) -> Result<bool, Fail> {
+fn refuses(alloc: Global, store: &mut Store<MemDisk>, count: usize) -> Result<bool, Fail> {
     let place = store.place;
-    let bytes = Vec::from_slice(rt.alloc(), store.disk.bytes())?;
-    let told = append(rt, store, inputs(&INPUTS, count)) == Err(StoreFault::AreaFull);
+    let bytes = Vec::from_slice(alloc, store.disk.bytes())?;
+    let told = append(store, inputs(&INPUTS, count)) == Err(StoreFault::AreaFull);
     Ok(
         told && store.disk.bytes() == bytes.as_slice()
             && store.disk.failures() == 0
@@ -81,13 +77,9 @@ fn refuses<R: AllocGlobal + Abort>(
 }
 
 /// Whether no group fits that has one of the counts.
-fn refuses_all<R: AllocGlobal + Abort>(
-    rt: &R,
-    store: &mut Store<MemDisk>,
-    counts: &[usize],
-) -> Result<bool, Fail> {
+fn refuses_all(alloc: Global, store: &mut Store<MemDisk>, counts: &[usize]) -> Result<bool, Fail> {
     for count in counts {
-        if !refuses(rt, store, *count)? {
+        if !refuses(alloc, store, *count)? {
             return Ok(false);
         }
     }
@@ -95,13 +87,9 @@ fn refuses_all<R: AllocGlobal + Abort>(
 }
 
 /// Appends groups. Answers whether each ends where it ought to.
-fn fill<R: AllocGlobal + Abort>(
-    rt: &R,
-    store: &mut Store<MemDisk>,
-    groups: &[(usize, u64)],
-) -> Result<bool, Fail> {
+fn fill(store: &mut Store<MemDisk>, groups: &[(usize, u64)]) -> Result<bool, StoreFault> {
     for (count, end) in groups {
-        append(rt, store, inputs(&INPUTS, *count))?;
+        append(store, inputs(&INPUTS, *count))?;
         if store.place.end != *end {
             return Ok(false);
         }
@@ -110,13 +98,12 @@ fn fill<R: AllocGlobal + Abort>(
 }
 
 /// Whether a device holds what a plain replay of the groups gives.
-fn is_replayed<R: AllocGlobal>(
-    rt: &R,
+fn is_replayed(
+    alloc: Global,
     first: &[u8],
     bytes: &[u8],
     groups: &[(usize, u64)],
 ) -> Result<bool, Fail> {
-    let alloc = rt.alloc();
     let all = INPUTS;
     let mut entries = Vec::new(alloc);
     for (count, _) in groups {
@@ -127,33 +114,27 @@ fn is_replayed<R: AllocGlobal>(
 }
 
 /// Whether a device of `bytes` is as full once it is opened.
-fn stays_full<R: AllocGlobal + Abort>(
-    rt: &R,
-    bytes: &[u8],
-    filling: &Filling<'_>,
-) -> Result<bool, Fail> {
-    let alloc = rt.alloc();
+fn stays_full(alloc: Global, bytes: &[u8], filling: &Filling<'_>) -> Result<bool, Fail> {
     let (opened, mut store) = open_store(alloc, disk_of(alloc, bytes)?)?;
     let is_kept = opened.next() == filling.next && opened.end() == filling.end;
-    Ok(is_kept && refuses_all(rt, &mut store, filling.refused)?)
+    Ok(is_kept && refuses_all(alloc, &mut store, filling.refused)?)
 }
 
 /// Whether a store is full once it has the groups of `filling`, and the device stays so.
-fn fills<R: AllocGlobal + Abort>(rt: &R, filling: &Filling<'_>) -> Result<bool, Fail> {
-    let alloc = rt.alloc();
+fn fills(alloc: Global, filling: &Filling<'_>) -> Result<bool, Fail> {
     let first = fresh(alloc, filling.area)?;
     let (_, mut store) = open_store(alloc, disk_of(alloc, &first)?)?;
-    let is_filled = fill(rt, &mut store, filling.groups)?;
-    let is_full = refuses_all(rt, &mut store, filling.refused)?;
+    let is_filled = fill(&mut store, filling.groups)?;
+    let is_full = refuses_all(alloc, &mut store, filling.refused)?;
     let bytes = store.into_disk().crash();
-    let stays = stays_full(rt, &bytes, filling)?;
-    Ok(is_filled && is_full && stays && is_replayed(rt, &first, &bytes, filling.groups)?)
+    let stays = stays_full(alloc, &bytes, filling)?;
+    Ok(is_filled && is_full && stays && is_replayed(alloc, &first, &bytes, filling.groups)?)
 }
 
 #[test]
 fn areas_are_filled(rt: HostRuntime) -> Result<(), Fail> {
     for (i, filling) in FILLINGS.iter().enumerate() {
-        let told = fills(&rt, filling)?;
+        let told = fills(rt.alloc(), filling)?;
         assert!(rt; told, "filling {i}");
     }
     Ok(())

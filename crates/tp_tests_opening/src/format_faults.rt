@@ -1,15 +1,14 @@
 //! Formatting a device whose calls fail, or on which the run stops: what the device then opens as.
 
 use crate::devices::{
-    AREA, CALLS_OF_FORMAT, Held, LETTER, Letter, SECOND, SIZE, append, disk_of, fresh, is_same,
-    place, what_is_held,
+    CALLS_OF_FORMAT, Held, LETTER, Letter, append, disk_of, fresh, is_same, what_is_held,
 };
 use std::alloc::{AllocError, Global};
-use std::process::Abort;
 use std::test::Fail;
 use tp_disk::{MemDisk, PlannedFault};
 use tp_model::OpenFault;
 use tp_recover::{Unopened, open, open_store};
+use tp_tests_fixtures::{AREA, SECOND, SIZE, place};
 
 /// Bytes of the head up to the last one of the node's page count that isn't 00, and up to the end of the wire, behind which all
 /// are 00.
@@ -134,24 +133,18 @@ fn a_format_that_stops_behind_its_head(rt: HostRuntime) -> Result<(), Fail> {
 }
 
 /// A device in memory with the letter's group appended.
-fn grow<R: AllocGlobal + Abort>(rt: &R, disk: MemDisk) -> Result<MemDisk, Fail> {
-    let (_, mut store) = open_store(rt.alloc(), disk)?;
-    append(rt, &mut store, &LETTER)?;
+fn grow(alloc: Global, disk: MemDisk) -> Result<MemDisk, Fail> {
+    let (_, mut store) = open_store(alloc, disk)?;
+    append(&mut store, &LETTER)?;
     Ok(store.into_disk())
 }
 
 /// Whether a format over `before` holds what one over zeros does, and so does it with a group.
-fn is_like<R: AllocGlobal + Abort>(
-    rt: &R,
-    before: Vec<u8>,
-    fresh: &Held,
-    grown: &Held,
-) -> Result<bool, Fail> {
-    let alloc = rt.alloc();
+fn is_like(alloc: Global, before: Vec<u8>, fresh: &Held, grown: &Held) -> Result<bool, Fail> {
     let mut disk = MemDisk::of_bytes(before);
     Letter::new(alloc)?.format(alloc, &mut disk, AREA)?;
     let is_fresh = is_same(&what_is_held(alloc, disk.bytes())?, fresh);
-    let disk = grow(rt, disk)?;
+    let disk = grow(alloc, disk)?;
     Ok(is_fresh && is_same(&what_is_held(alloc, disk.bytes())?, grown))
 }
 
@@ -161,11 +154,11 @@ fn a_format_over_other_bytes(rt: HostRuntime) -> Result<(), Fail> {
     let alloc = rt.alloc();
     let whole = fresh(alloc, AREA)?;
     let want = what_is_held(alloc, &whole)?;
-    let disk = grow(&rt, MemDisk::of_bytes(whole))?;
+    let disk = grow(alloc, MemDisk::of_bytes(whole))?;
     let grown = what_is_held(alloc, disk.bytes())?;
-    let used = is_like(&rt, disk.crash(), &want, &grown)?;
-    let gates = is_like(&rt, Vec::from_elem(alloc, 0xA5, SIZE)?, &want, &grown)?;
-    let ones = is_like(&rt, Vec::from_elem(alloc, 0xFF, SIZE)?, &want, &grown)?;
+    let used = is_like(alloc, disk.crash(), &want, &grown)?;
+    let gates = is_like(alloc, Vec::from_elem(alloc, 0xA5, SIZE)?, &want, &grown)?;
+    let ones = is_like(alloc, Vec::from_elem(alloc, 0xFF, SIZE)?, &want, &grown)?;
     assert!(rt; used && gates && ones && want.next == 0);
     Ok(())
 }

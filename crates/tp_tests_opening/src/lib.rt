@@ -5,9 +5,13 @@
 #[cfg(test)]
 mod append_faults;
 #[cfg(test)]
+mod checkpoints;
+#[cfg(test)]
 mod copies;
 #[cfg(test)]
 mod devices;
+#[cfg(test)]
+mod faults;
 #[cfg(test)]
 mod filled_areas;
 #[cfg(test)]

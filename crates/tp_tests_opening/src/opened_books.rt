@@ -4,12 +4,13 @@ ghost use Rattle.std.specs.Prelude.{IfOk};
 ghost use Rattle.tp_book.specs.Opened.{IsOpened};
 ghost use Rattle.tp_tests_store.specs.Lone.{IsUsable};
 
-use crate::devices::{AREA, GROUPS, fresh, image_of_letter, place};
+use crate::devices::fresh;
 use std::alloc::Global;
 use std::test::Fail;
 use tp_book::{Book, NetState, Refusal};
 use tp_disk::MemDisk;
 use tp_recover::open;
+use tp_tests_fixtures::{AREA, GROUPS, letter, place};
 use tp_tests_store::calls::{hand_in, is_shown};
 
 /// How many bytes groups may fill: those of an area less the 12,508 of its cut image and the 14 beside it.
@@ -58,7 +59,7 @@ pub(crate) fn book_of(alloc: Global, bytes: Vec<u8>) -> Result<Book, Fail>
 
 /// Whether a device that was just formatted leaves no entry, and the image that it was formatted with.
 fn is_fresh(alloc: Global, state: &NetState) -> Result<bool, Fail> {
-    let image = image_of_letter(alloc)?;
+    let image = letter(alloc)?;
     let is_image = state.net.images.len() == 1
         && state.net.images.iter().all(|bytes| *bytes == image);
     Ok(

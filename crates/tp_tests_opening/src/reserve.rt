@@ -5,7 +5,7 @@ ghost use Rattle.std.specs.Prelude.{◌≡◌, ◌<◌, length, true};
 ghost use Rattle.tp_book.specs.Marked.{taker_of};
 ghost use Rattle.tp_tests_store.specs.Lone.{IsUsable};
 
-use crate::devices::{AREA, GROUPS, fresh, place};
+use crate::devices::fresh;
 use crate::opened_books::book_of;
 use std::alloc::Global;
 use std::process::Abort;
@@ -13,6 +13,7 @@ use std::test::Fail;
 use tp_book::Refusal::{JournalFull, NothingToTake, SnapshotRunning};
 use tp_book::{Book, Refusal};
 use tp_model::WireEnd;
+use tp_tests_fixtures::{AREA, GROUPS, place};
 use tp_tests_store::calls::hand_in;
 
 /// A call on the book. A take that was made ready is given back.
@@ -133,7 +134,7 @@ fn entry_bytes(number: u8, took: bool) -> [u8; 16] {
     bytes
 }
 
-/// The bytes of a device with so many entries, in groups of up to 64.
+/// The bytes of a device with `entries` entries, in groups of up to 64. The node took the first byte where `took` says so.
 fn device(alloc: Global, entries: u8, took: bool) -> Result<Vec<u8>, Fail> {
     let mut bytes = fresh(alloc, AREA)?;
     for number in 0..entries {
