@@ -2,31 +2,27 @@
 
 ghost use Rattle.tp_model.specs.EntryBytes.{IsSpelt};
 
-use std::process::Abort;
 use tp_entry::{BadEntry, get, put};
 use tp_model::Entry;
 use tp_model::Token::{Ack, Data};
 
-/// The entry with its number is written as `bytes`, and they are read as it.
-fn is_spelt<R: Abort>(rt: &R, entry: Entry, number: u64, bytes: [u8; 16])
+/// Whether the entry with its number is written as `bytes`, and they are read as it.
+fn is_spelt(entry: Entry, number: u64, bytes: [u8; 16]) -> bool
     requires { IsSpelt entry number }
 {
     let mut written = [0xEE; 16];
     put(&entry, number, &mut written);
-    assert_eq!(rt; written, bytes);
-    assert_eq!(rt; get(&bytes), Ok((entry, number)));
+    written == bytes && get(&bytes) == Ok((entry, number))
 }
 
 #[test]
 fn each_kind_has_its_bytes(rt: HostRuntime) {
-    is_spelt(
-        &rt,
+    let run = is_spelt(
         Entry::Run { node: 0, count: 3 },
         0,
         [1, 0, 3, 0, 0, 0, 0, 0, 0, 0, 0, 0, 0, 0, 0, 0],
     );
-    is_spelt(
-        &rt,
+    let takes_data = is_spelt(
         Entry::Take {
             line: 0,
             token: Data(0x41),
@@ -34,8 +30,7 @@ fn each_kind_has_its_bytes(rt: HostRuntime) {
         1,
         [2, 1, 0, 0, 0x41, 0, 0, 0, 1, 0, 0, 0, 0, 0, 0, 0],
     );
-    is_spelt(
-        &rt,
+    let takes_ack = is_spelt(
         Entry::Take {
             line: 4,
             token: Ack,
@@ -43,8 +38,7 @@ fn each_kind_has_its_bytes(rt: HostRuntime) {
         2,
         [2, 2, 4, 0, 0, 0, 0, 0, 2, 0, 0, 0, 0, 0, 0, 0],
     );
-    is_spelt(
-        &rt,
+    let host_in = is_spelt(
         Entry::HostIn {
             port: 1,
             byte: 0x5A,
@@ -52,8 +46,7 @@ fn each_kind_has_its_bytes(rt: HostRuntime) {
         258,
         [3, 1, 0x5A, 0, 0, 0, 0, 0, 2, 1, 0, 0, 0, 0, 0, 0],
     );
-    is_spelt(
-        &rt,
+    let confirm = is_spelt(
         Entry::Confirm {
             port: 1,
             upto: 0x3_0000_0102,
@@ -61,13 +54,13 @@ fn each_kind_has_its_bytes(rt: HostRuntime) {
         3,
         [4, 1, 3, 0, 2, 1, 0, 0, 3, 0, 0, 0, 0, 0, 0, 0],
     );
+    assert!(rt; run && takes_data && takes_ack && host_in && confirm);
 }
 
 #[test]
 fn the_greatest_values_have_their_bytes(rt: HostRuntime) {
     let last = 0xFFFF_FFFF_FFFF;
-    is_spelt(
-        &rt,
+    let run = is_spelt(
         Entry::Run {
             node: 63,
             count: 4096,
@@ -75,8 +68,7 @@ fn the_greatest_values_have_their_bytes(rt: HostRuntime) {
         last,
         [1, 63, 0, 16, 0, 0, 0, 0, 255, 255, 255, 255, 255, 255, 0, 0],
     );
-    is_spelt(
-        &rt,
+    let take = is_spelt(
         Entry::Take {
             line: 263,
             token: Data(255),
@@ -84,14 +76,12 @@ fn the_greatest_values_have_their_bytes(rt: HostRuntime) {
         0,
         [2, 1, 7, 1, 255, 0, 0, 0, 0, 0, 0, 0, 0, 0, 0, 0],
     );
-    is_spelt(
-        &rt,
+    let host_in = is_spelt(
         Entry::HostIn { port: 7, byte: 255 },
         0,
         [3, 7, 255, 0, 0, 0, 0, 0, 0, 0, 0, 0, 0, 0, 0, 0],
     );
-    is_spelt(
-        &rt,
+    let confirm = is_spelt(
         Entry::Confirm {
             port: 7,
             upto: last,
@@ -99,39 +89,39 @@ fn the_greatest_values_have_their_bytes(rt: HostRuntime) {
         0,
         [4, 7, 255, 255, 255, 255, 255, 255, 0, 0, 0, 0, 0, 0, 0, 0],
     );
+    assert!(rt; run && take && host_in && confirm);
 }
 
-fn no_entries() -> [[u8; 16]; 21] {
+/// Bytes that no entry has.
+const NO_ENTRIES: &[[u8; 16]] = &[
+    [0, 0, 1, 0, 0, 0, 0, 0, 0, 0, 0, 0, 0, 0, 0, 0],
+    [5, 0, 1, 0, 0, 0, 0, 0, 0, 0, 0, 0, 0, 0, 0, 0],
+    [1, 64, 1, 0, 0, 0, 0, 0, 0, 0, 0, 0, 0, 0, 0, 0],
+    [1, 0, 0, 0, 0, 0, 0, 0, 0, 0, 0, 0, 0, 0, 0, 0],
+    [1, 0, 1, 16, 0, 0, 0, 0, 0, 0, 0, 0, 0, 0, 0, 0],
+    [1, 0, 1, 0, 1, 0, 0, 0, 0, 0, 0, 0, 0, 0, 0, 0],
+    [1, 0, 1, 0, 0, 0, 0, 1, 0, 0, 0, 0, 0, 0, 0, 0],
+    [2, 0, 0, 0, 0, 0, 0, 0, 0, 0, 0, 0, 0, 0, 0, 0],
+    [2, 3, 0, 0, 0, 0, 0, 0, 0, 0, 0, 0, 0, 0, 0, 0],
+    [2, 1, 8, 1, 0, 0, 0, 0, 0, 0, 0, 0, 0, 0, 0, 0],
+    [2, 1, 0, 0, 0, 1, 0, 0, 0, 0, 0, 0, 0, 0, 0, 0],
+    [2, 2, 8, 1, 0, 0, 0, 0, 0, 0, 0, 0, 0, 0, 0, 0],
+    [2, 2, 0, 0, 0x41, 0, 0, 0, 0, 0, 0, 0, 0, 0, 0, 0],
+    [3, 8, 0x41, 0, 0, 0, 0, 0, 0, 0, 0, 0, 0, 0, 0, 0],
+    [3, 0, 0, 1, 0, 0, 0, 0, 0, 0, 0, 0, 0, 0, 0, 0],
+    [3, 0, 0x41, 0, 1, 0, 0, 0, 0, 0, 0, 0, 0, 0, 0, 0],
+    [4, 8, 0, 0, 0, 0, 0, 0, 0, 0, 0, 0, 0, 0, 0, 0],
+    [4, 255, 0, 0, 0, 0, 0, 0, 0, 0, 0, 0, 0, 0, 0, 0],
+    [1, 0, 1, 0, 0, 0, 0, 0, 0, 0, 0, 0, 0, 0, 1, 0],
+    [4, 0, 0, 0, 0, 0, 0, 0, 0, 0, 0, 0, 0, 0, 0, 1],
     [
-        [0, 0, 1, 0, 0, 0, 0, 0, 0, 0, 0, 0, 0, 0, 0, 0],
-        [5, 0, 1, 0, 0, 0, 0, 0, 0, 0, 0, 0, 0, 0, 0, 0],
-        [1, 64, 1, 0, 0, 0, 0, 0, 0, 0, 0, 0, 0, 0, 0, 0],
-        [1, 0, 0, 0, 0, 0, 0, 0, 0, 0, 0, 0, 0, 0, 0, 0],
-        [1, 0, 1, 16, 0, 0, 0, 0, 0, 0, 0, 0, 0, 0, 0, 0],
-        [1, 0, 1, 0, 1, 0, 0, 0, 0, 0, 0, 0, 0, 0, 0, 0],
-        [1, 0, 1, 0, 0, 0, 0, 1, 0, 0, 0, 0, 0, 0, 0, 0],
-        [2, 0, 0, 0, 0, 0, 0, 0, 0, 0, 0, 0, 0, 0, 0, 0],
-        [2, 3, 0, 0, 0, 0, 0, 0, 0, 0, 0, 0, 0, 0, 0, 0],
-        [2, 1, 8, 1, 0, 0, 0, 0, 0, 0, 0, 0, 0, 0, 0, 0],
-        [2, 1, 0, 0, 0, 1, 0, 0, 0, 0, 0, 0, 0, 0, 0, 0],
-        [2, 2, 8, 1, 0, 0, 0, 0, 0, 0, 0, 0, 0, 0, 0, 0],
-        [2, 2, 0, 0, 0x41, 0, 0, 0, 0, 0, 0, 0, 0, 0, 0, 0],
-        [3, 8, 0x41, 0, 0, 0, 0, 0, 0, 0, 0, 0, 0, 0, 0, 0],
-        [3, 0, 0, 1, 0, 0, 0, 0, 0, 0, 0, 0, 0, 0, 0, 0],
-        [3, 0, 0x41, 0, 1, 0, 0, 0, 0, 0, 0, 0, 0, 0, 0, 0],
-        [4, 8, 0, 0, 0, 0, 0, 0, 0, 0, 0, 0, 0, 0, 0, 0],
-        [4, 255, 0, 0, 0, 0, 0, 0, 0, 0, 0, 0, 0, 0, 0, 0],
-        [1, 0, 1, 0, 0, 0, 0, 0, 0, 0, 0, 0, 0, 0, 1, 0],
-        [4, 0, 0, 0, 0, 0, 0, 0, 0, 0, 0, 0, 0, 0, 0, 1],
-        [
-            255, 255, 255, 255, 255, 255, 255, 255, 255, 255, 255, 255, 255, 255, 255, 255,
-        ],
-    ]
-}
+        255, 255, 255, 255, 255, 255, 255, 255, 255, 255, 255, 255, 255, 255, 255, 255,
+    ],
+];
 
 #[test]
 fn other_bytes_are_no_entry(rt: HostRuntime) {
-    for bytes in &no_entries() {
-        assert_eq!(rt; get(bytes), Err(BadEntry), "{bytes:?}");
+    for (i, bytes) in NO_ENTRIES.iter().enumerate() {
+        assert!(rt; get(bytes) == Err(BadEntry), "row {i}");
     }
 }

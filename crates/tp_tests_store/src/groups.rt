@@ -1,19 +1,17 @@
 //! Groups of entries and their bytes.
 
-use std::alloc::AllocError;
-use std::process::Abort;
+use std::alloc::{AllocError, Global};
 use std::test::Fail;
 use tp_entry::{BadEntry, get, put_group_body, read_group};
 use tp_model::Token::Ack;
 use tp_model::{BadGroup, Entry};
 
 /// A group of one entry, number 7, a run of 5 steps of node 0; and the next gate, closed.
-fn one_entry() -> [u8; 33] {
-    [
-        0xA5, 0, 1, 0, 0, 0, 0, 0, 7, 0, 0, 0, 0, 0, 0, 0, 1, 0, 5, 0, 0, 0, 0, 0, 7, 0, 0, 0, 0,
-        0, 0, 0, 0,
-    ]
-}
+const ONE_ENTRY: [u8; 33] = [
+    0xA5, 0, 1, 0, 0, 0, 0, 0, 7, 0, 0, 0, 0, 0, 0, 0, // the header
+    1, 0, 5, 0, 0, 0, 0, 0, 7, 0, 0, 0, 0, 0, 0, 0, //
+    0,
+];
 
 /// How many entries are read, where a group stands there.
 fn count_in(bytes: &[u8]) -> Result<Option<usize>, BadGroup> {
@@ -21,74 +19,69 @@ fn count_in(bytes: &[u8]) -> Result<Option<usize>, BadGroup> {
     Ok(found.map(|group| group.entries().len()))
 }
 
-/// The bytes with one of them changed.
-fn changed<R: AllocGlobal>(
-    rt: &R,
-    bytes: &[u8],
-    at: usize,
-    byte: u8,
-) -> Result<Vec<u8>, AllocError> {
-    let mut other = bytes.to_vec(rt.alloc())?;
+/// The group with the byte at `at` changed.
+fn changed(alloc: Global, at: usize, byte: u8) -> Result<Vec<u8>, AllocError> {
+    let mut other = Vec::from_slice(alloc, &ONE_ENTRY)?;
     if let Some(place) = other.get_mut(at) {
         *place = byte;
     }
     Ok(other)
 }
 
+/// Whether the bytes are a group of one entry, which reads as wanted.
+fn reads_as(bytes: &[u8], want: Result<(Entry, u64), BadEntry>) -> Result<bool, BadGroup> {
+    let Some(group) = read_group(bytes)? else {
+        return Ok(false);
+    };
+    Ok(match group.entries() {
+        [row] => get(row) == want,
+        _ => false,
+    })
+}
+
 #[test]
-fn one_entry_is_read(rt: HostRuntime) -> Result<(), Fail> {
-    let bytes = one_entry();
-    let group = read_group(&bytes)?.ok_or("no group")?;
-    let entries = group.entries();
-    assert_eq!(rt; entries.len(), 1);
-    assert_eq!(rt; get(&entries[0]), Ok((Entry::Run { node: 0, count: 5 }, 7)));
-    Ok(())
+fn one_entry_is_read(rt: HostRuntime) {
+    let told = reads_as(&ONE_ENTRY, Ok((Entry::Run { node: 0, count: 5 }, 7)));
+    assert!(rt; told == Ok(true));
 }
 
 #[test]
 fn parts_of_a_group_are_none(rt: HostRuntime) {
-    let bytes = one_entry();
-    assert_eq!(rt; count_in(&bytes), Ok(Some(1)));
-    for (count, _) in bytes.iter().enumerate() {
-        assert_eq!(rt;
-            count_in(bytes.get(..count).unwrap_or(&[])),
-            Err(BadGroup),
-            "the first {count} bytes"
-        );
+    assert!(rt; count_in(&ONE_ENTRY) == Ok(Some(1)));
+    for (count, _) in ONE_ENTRY.iter().enumerate() {
+        let told = count_in(ONE_ENTRY.get(..count).unwrap_or(&[]));
+        assert!(rt; told == Err(BadGroup), "the first {count} bytes");
     }
 }
 
-/// What stands there after one byte was changed: its place, the byte, and the entries that are read.
-fn changes() -> [(usize, u8, Result<Option<usize>, BadGroup>); 19] {
-    [
-        (0, 0xA4, Ok(None)),
-        (0, 0, Ok(None)),
-        (0, 0x5A, Ok(None)),
-        (1, 1, Err(BadGroup)),
-        (2, 0, Err(BadGroup)),
-        (2, 2, Err(BadGroup)),
-        (3, 1, Err(BadGroup)),
-        (4, 1, Err(BadGroup)),
-        (5, 1, Err(BadGroup)),
-        (6, 1, Err(BadGroup)),
-        (7, 1, Err(BadGroup)),
-        (8, 6, Err(BadGroup)),
-        (15, 1, Err(BadGroup)),
-        (24, 8, Err(BadGroup)),
-        (31, 1, Err(BadGroup)),
-        (16, 9, Ok(Some(1))),
-        (18, 6, Ok(Some(1))),
-        (32, 0xA5, Ok(Some(1))),
-        (32, 1, Ok(Some(1))),
-    ]
-}
+/// What stands there after one byte was changed: its place, the byte, and how many entries are read.
+const CHANGES: &[(usize, u8, Result<Option<usize>, BadGroup>)] = &[
+    (0, 0xA4, Ok(None)),
+    (0, 0, Ok(None)),
+    (0, 0x5A, Ok(None)),
+    (1, 1, Err(BadGroup)),
+    (2, 0, Err(BadGroup)),
+    (2, 2, Err(BadGroup)),
+    (3, 1, Err(BadGroup)),
+    (4, 1, Err(BadGroup)),
+    (5, 1, Err(BadGroup)),
+    (6, 1, Err(BadGroup)),
+    (7, 1, Err(BadGroup)),
+    (8, 6, Err(BadGroup)),
+    (15, 1, Err(BadGroup)),
+    (24, 8, Err(BadGroup)),
+    (31, 1, Err(BadGroup)),
+    (16, 9, Ok(Some(1))),
+    (18, 6, Ok(Some(1))),
+    (32, 0xA5, Ok(Some(1))),
+    (32, 1, Ok(Some(1))),
+];
 
 #[test]
 fn one_byte_is_changed(rt: HostRuntime) -> Result<(), Fail> {
-    let bytes = one_entry();
-    for (at, byte, want) in &changes() {
-        let other = changed(&rt, &bytes, *at, *byte)?;
-        assert_eq!(rt; count_in(other.as_slice()), *want, "byte {at} is {byte}");
+    for (at, byte, want) in CHANGES {
+        let other = changed(rt.alloc(), *at, *byte)?;
+        assert!(rt; count_in(&other) == *want, "byte {at} is {byte}");
     }
     Ok(())
 }
@@ -96,13 +89,18 @@ fn one_byte_is_changed(rt: HostRuntime) -> Result<(), Fail> {
 /// Bytes of a kind that there isn't make no bad group.
 #[test]
 fn a_bad_entry_is_read_with_its_group(rt: HostRuntime) -> Result<(), Fail> {
-    let other = changed(&rt, &one_entry(), 16, 9)?;
-    let group = read_group(other.as_slice())?.ok_or("no group")?;
-    for row in group.entries() {
-        assert_eq!(rt; get(row), Err(BadEntry));
-    }
+    let other = changed(rt.alloc(), 16, 9)?;
+    assert!(rt; reads_as(&other, Err(BadEntry)) == Ok(true));
     Ok(())
 }
+
+/// Two entries behind the gate, with the next gate, closed.
+const TWO_ENTRIES: [u8; 48] = [
+    0, 2, 0, 0, 0, 0, 0, 7, 0, 0, 0, 0, 0, 0, 0, // the header
+    1, 0, 5, 0, 0, 0, 0, 0, 7, 0, 0, 0, 0, 0, 0, 0, //
+    2, 2, 4, 0, 0, 0, 0, 0, 9, 0, 0, 0, 0, 0, 0, 0, //
+    0,
+];
 
 #[test]
 fn two_entries_are_written(rt: HostRuntime) {
@@ -118,18 +116,13 @@ fn two_entries_are_written(rt: HostRuntime) {
     ];
     let mut written = [0xEE; 50];
     put_group_body(&entries, &mut written);
-    let header = [0, 2, 0, 0, 0, 0, 0, 7, 0, 0, 0, 0, 0, 0, 0];
-    let first = [1, 0, 5, 0, 0, 0, 0, 0, 7, 0, 0, 0, 0, 0, 0, 0];
-    let second = [2, 2, 4, 0, 0, 0, 0, 0, 9, 0, 0, 0, 0, 0, 0, 0];
-    assert_eq!(rt; &written[..15], header.as_slice());
-    assert_eq!(rt; &written[15..31], first.as_slice());
-    assert_eq!(rt; &written[31..47], second.as_slice());
-    assert_eq!(rt; &written[47..], [0, 0xEE, 0xEE].as_slice());
+    let (group, rest) = written.split_at(48);
+    assert!(rt; group == TWO_ENTRIES.as_slice() && rest == [0xEE, 0xEE].as_slice());
 }
 
 /// A group of entries with `numbers`, each the run of a step.
-fn group_of<R: AllocGlobal>(rt: &R, numbers: &[u8]) -> Result<Vec<u8>, AllocError> {
-    let mut bytes = Vec::new(rt.alloc());
+fn group_of(alloc: Global, numbers: &[u8]) -> Result<Vec<u8>, AllocError> {
+    let mut bytes = Vec::new(alloc);
     bytes.extend_from_slice(&[0xA5, 0, numbers.len().min(255) as u8, 0, 0, 0, 0, 0])?;
     bytes.extend_from_slice(&[numbers.first().copied().unwrap_or(0), 0, 0, 0, 0, 0, 0, 0])?;
     for number in numbers {
@@ -139,29 +132,31 @@ fn group_of<R: AllocGlobal>(rt: &R, numbers: &[u8]) -> Result<Vec<u8>, AllocErro
     Ok(bytes)
 }
 
-fn reads<R: AllocGlobal + Abort>(
-    rt: &R,
-    numbers: &[u8],
-    want: Result<Option<usize>, BadGroup>,
-) -> Result<(), Fail> {
-    let bytes = group_of(rt, numbers)?;
-    assert_eq!(rt; count_in(bytes.as_slice()), want, "{numbers:?}");
-    Ok(())
-}
+/// The numbers from 0 on: one more than a group may have.
+const RISING: [u8; 65] = [
+    0, 1, 2, 3, 4, 5, 6, 7, 8, 9, 10, 11, 12, 13, 14, 15, 16, 17, 18, 19, 20, 21, 22, 23, 24, 25,
+    26, 27, 28, 29, 30, 31, 32, 33, 34, 35, 36, 37, 38, 39, 40, 41, 42, 43, 44, 45, 46, 47, 48, 49,
+    50, 51, 52, 53, 54, 55, 56, 57, 58, 59, 60, 61, 62, 63, 64,
+];
+
+/// The numbers of a group's entries, and how many are read.
+const NUMBERS: &[(&[u8], Result<Option<usize>, BadGroup>)] = &[
+    (&[0], Ok(Some(1))),
+    (&[7, 8, 9], Ok(Some(3))),
+    (&[7, 9, 200], Ok(Some(3))),
+    (&[7, 7], Err(BadGroup)),
+    (&[7, 9, 8], Err(BadGroup)),
+    (&[], Err(BadGroup)),
+    (&RISING, Err(BadGroup)),
+];
 
 #[test]
 fn numbers_rise_and_entries_are_few(rt: HostRuntime) -> Result<(), Fail> {
-    reads(&rt, &[0], Ok(Some(1)))?;
-    reads(&rt, &[7, 8, 9], Ok(Some(3)))?;
-    reads(&rt, &[7, 9, 200], Ok(Some(3)))?;
-    reads(&rt, &[7, 7], Err(BadGroup))?;
-    reads(&rt, &[7, 9, 8], Err(BadGroup))?;
-    reads(&rt, &[], Err(BadGroup))?;
-    let mut numbers = Vec::new(rt.alloc());
-    for number in 0..65u8 {
-        numbers.push(number)?;
+    for (i, (numbers, want)) in NUMBERS.iter().enumerate() {
+        let bytes = group_of(rt.alloc(), numbers)?;
+        assert!(rt; count_in(&bytes) == *want, "row {i}");
     }
-    reads(&rt, numbers.as_slice(), Err(BadGroup))?;
-    let _ = numbers.pop();
-    reads(&rt, numbers.as_slice(), Ok(Some(64)))
+    let most = group_of(rt.alloc(), RISING.get(..64).unwrap_or(&[]))?;
+    assert!(rt; count_in(&most) == Ok(Some(64)));
+    Ok(())
 }

@@ -1,6 +1,6 @@
 //! Texts that say no topology, each with its fault.
 
-use std::alloc::AllocError;
+use std::alloc::{AllocError, Global};
 use std::process::Abort;
 use std::test::Fail;
 use tp_model::NetFault;
@@ -19,203 +19,187 @@ const PORTS: &str = "port a\nport b\nport c\nport d\nport e\nport f\nport g\npor
 /// What a text begins with, what follows, and its fault.
 type Row = (&'static str, &'static str, NetFault);
 
-fn nothing_to_run() -> [Row; 6] {
-    [
-        ("", "", Syntax(0)),
-        ("", "\n\n# nothing\n", Syntax(0)),
-        ("", "\r\n", Syntax(0)),
-        ("", "node a 4\n", Syntax(0)),
-        ("", "port h\n", Syntax(0)),
-        (NODES, "", Syntax(0)),
-    ]
-}
+const NOTHING_TO_RUN: &[Row] = &[
+    ("", "", Syntax(0)),
+    ("", "\n\n# nothing\n", Syntax(0)),
+    ("", "\r\n", Syntax(0)),
+    ("", "node a 4\n", Syntax(0)),
+    ("", "port h\n", Syntax(0)),
+    (NODES, "", Syntax(0)),
+];
 
-fn node_lines() -> [Row; 26] {
-    [
-        ("", "node a 3\n", Syntax(1)),
-        ("", "node a 257\n", Syntax(1)),
-        ("", "node a 0\n", Syntax(1)),
-        ("", "node a 04\n", Syntax(1)),
-        ("", "node a +4\n", Syntax(1)),
-        ("", "node a -4\n", Syntax(1)),
-        ("", "node a 4.0\n", Syntax(1)),
-        ("", "node a 0x10\n", Syntax(1)),
-        ("", "node a 18446744073709551620\n", Syntax(1)),
-        ("", "node a\n", Syntax(1)),
-        ("", "node\n", Syntax(1)),
-        ("", "node 4 a\n", Syntax(1)),
-        ("", "node a 4 5\n", Syntax(1)),
-        ("", "node a four\n", Syntax(1)),
-        ("", "Node a 4\n", Syntax(1)),
-        ("", "nodes a 4\n", Syntax(1)),
-        ("", "node A 4\n", Syntax(1)),
-        ("", "node aB 4\n", Syntax(1)),
-        ("", "node 1a 4\n", Syntax(1)),
-        ("", "node -a 4\n", Syntax(1)),
-        ("", "node a_b 4\n", Syntax(1)),
-        ("", "node a.0 4\n", Syntax(1)),
-        ("", "node abcdefghijklmnopq 4\n", Syntax(1)),
-        ("", "node a 4\nnode a 5\n", Syntax(2)),
-        ("", "port h\nnode h 4\n", Syntax(2)),
-        ("", "node a 4\nnode b 4\nnode a 3\n", Syntax(3)),
-    ]
-}
+const NODE_LINES: &[Row] = &[
+    ("", "node a 3\n", Syntax(1)),
+    ("", "node a 257\n", Syntax(1)),
+    ("", "node a 0\n", Syntax(1)),
+    ("", "node a 04\n", Syntax(1)),
+    ("", "node a +4\n", Syntax(1)),
+    ("", "node a -4\n", Syntax(1)),
+    ("", "node a 4.0\n", Syntax(1)),
+    ("", "node a 0x10\n", Syntax(1)),
+    ("", "node a 18446744073709551620\n", Syntax(1)),
+    ("", "node a\n", Syntax(1)),
+    ("", "node\n", Syntax(1)),
+    ("", "node 4 a\n", Syntax(1)),
+    ("", "node a 4 5\n", Syntax(1)),
+    ("", "node a four\n", Syntax(1)),
+    ("", "Node a 4\n", Syntax(1)),
+    ("", "nodes a 4\n", Syntax(1)),
+    ("", "node A 4\n", Syntax(1)),
+    ("", "node aB 4\n", Syntax(1)),
+    ("", "node 1a 4\n", Syntax(1)),
+    ("", "node -a 4\n", Syntax(1)),
+    ("", "node a_b 4\n", Syntax(1)),
+    ("", "node a.0 4\n", Syntax(1)),
+    ("", "node abcdefghijklmnopq 4\n", Syntax(1)),
+    ("", "node a 4\nnode a 5\n", Syntax(2)),
+    ("", "port h\nnode h 4\n", Syntax(2)),
+    ("", "node a 4\nnode b 4\nnode a 3\n", Syntax(3)),
+];
 
-fn port_lines() -> [Row; 9] {
-    [
-        ("", "port\n", Syntax(1)),
-        ("", "port h 4\n", Syntax(1)),
-        ("", "port H\n", Syntax(1)),
-        ("", "port 1\n", Syntax(1)),
-        ("", "port h.0\n", Syntax(1)),
-        ("", "port abcdefghijklmnopq\n", Syntax(1)),
-        ("", "port h\nport h\n", Syntax(2)),
-        ("", "node a 4\nport a\n", Syntax(2)),
-        ("", "ports h\n", Syntax(1)),
-    ]
-}
+const PORT_LINES: &[Row] = &[
+    ("", "port\n", Syntax(1)),
+    ("", "port h 4\n", Syntax(1)),
+    ("", "port H\n", Syntax(1)),
+    ("", "port 1\n", Syntax(1)),
+    ("", "port h.0\n", Syntax(1)),
+    ("", "port abcdefghijklmnopq\n", Syntax(1)),
+    ("", "port h\nport h\n", Syntax(2)),
+    ("", "node a 4\nport a\n", Syntax(2)),
+    ("", "ports h\n", Syntax(1)),
+];
 
-fn spaces_and_ends_of_lines() -> [Row; 14] {
-    [
-        ("", " node a 4\n", Syntax(1)),
-        ("", "node a 4 \n", Syntax(1)),
-        ("", " \n", Syntax(1)),
-        ("", " # indented\n", Syntax(1)),
-        ("", "node a 4 # four\n", Syntax(1)),
-        ("", "node\ta 4\n", Syntax(1)),
-        ("", "node a 4\r", Syntax(1)),
-        ("", "node a 4\r\r\n", Syntax(1)),
-        ("", "node a 4\rport h\n", Syntax(1)),
-        ("", "\r", Syntax(1)),
-        (SMALL, "\r\n\r", Syntax(4)),
-        (SMALL, "link a h\n", Syntax(3)),
-        (SMALL, "wire a.0 h\nx", Syntax(4)),
-        (
-            "",
-            "# one\n\nnode a 4\n\n# five\nport h\nwire a.0\n",
-            Syntax(7),
-        ),
-    ]
-}
+const SPACES_AND_ENDS_OF_LINES: &[Row] = &[
+    ("", " node a 4\n", Syntax(1)),
+    ("", "node a 4 \n", Syntax(1)),
+    ("", " \n", Syntax(1)),
+    ("", " # indented\n", Syntax(1)),
+    ("", "node a 4 # four\n", Syntax(1)),
+    ("", "node\ta 4\n", Syntax(1)),
+    ("", "node a 4\r", Syntax(1)),
+    ("", "node a 4\r\r\n", Syntax(1)),
+    ("", "node a 4\rport h\n", Syntax(1)),
+    ("", "\r", Syntax(1)),
+    (SMALL, "\r\n\r", Syntax(4)),
+    (SMALL, "link a h\n", Syntax(3)),
+    (SMALL, "wire a.0 h\nx", Syntax(4)),
+    (
+        "",
+        "# one\n\nnode a 4\n\n# five\nport h\nwire a.0\n",
+        Syntax(7),
+    ),
+];
 
-fn wire_shapes() -> [Row; 18] {
-    [
-        (SMALL, "wire\n", Syntax(3)),
-        (SMALL, "wire a.0\n", Syntax(3)),
-        (SMALL, "wire a.0 h h\n", Syntax(3)),
-        (SMALL, "wire a h\n", Syntax(3)),
-        (SMALL, "wire h a\n", Syntax(3)),
-        (SMALL, "wire a.0 h.0\n", Syntax(3)),
-        (SMALL, "wire a.4 h\n", Syntax(3)),
-        (SMALL, "wire a.00 h\n", Syntax(3)),
-        (SMALL, "wire a.-1 h\n", Syntax(3)),
-        (SMALL, "wire a. h\n", Syntax(3)),
-        (SMALL, "wire .0 h\n", Syntax(3)),
-        (SMALL, "wire a.0.0 h\n", Syntax(3)),
-        (SMALL, "wire a..0 h\n", Syntax(3)),
-        (SMALL, "wire a.0, h\n", Syntax(3)),
-        (SMALL, "wire A.0 h\n", Syntax(3)),
-        (SMALL, "wire a.0 h \n", Syntax(3)),
-        (SMALL, "port g\nwire g h\n", Syntax(4)),
-        (SMALL, "wire h h\n", Syntax(3)),
-    ]
-}
+const WIRE_SHAPES: &[Row] = &[
+    (SMALL, "wire\n", Syntax(3)),
+    (SMALL, "wire a.0\n", Syntax(3)),
+    (SMALL, "wire a.0 h h\n", Syntax(3)),
+    (SMALL, "wire a h\n", Syntax(3)),
+    (SMALL, "wire h a\n", Syntax(3)),
+    (SMALL, "wire a.0 h.0\n", Syntax(3)),
+    (SMALL, "wire a.4 h\n", Syntax(3)),
+    (SMALL, "wire a.00 h\n", Syntax(3)),
+    (SMALL, "wire a.-1 h\n", Syntax(3)),
+    (SMALL, "wire a. h\n", Syntax(3)),
+    (SMALL, "wire .0 h\n", Syntax(3)),
+    (SMALL, "wire a.0.0 h\n", Syntax(3)),
+    (SMALL, "wire a..0 h\n", Syntax(3)),
+    (SMALL, "wire a.0, h\n", Syntax(3)),
+    (SMALL, "wire A.0 h\n", Syntax(3)),
+    (SMALL, "wire a.0 h \n", Syntax(3)),
+    (SMALL, "port g\nwire g h\n", Syntax(4)),
+    (SMALL, "wire h h\n", Syntax(3)),
+];
 
-fn unknown_names() -> [Row; 8] {
-    [
-        ("", "node a 4\nwire a.0 b.1\n", UnknownNode),
-        ("", "wire a.0 b.0\nnode a 4\nnode b 4\n", UnknownNode),
-        ("", "node a 4\nwire a.0 h\nport h\n", UnknownNode),
-        (SMALL, "wire a.0 g\n", UnknownNode),
-        (SMALL, "wire b h\n", UnknownNode),
-        (SMALL, "wire b.0 h.0\n", UnknownNode),
-        (SMALL, "wire aa.0 h\n", UnknownNode),
-        (SMALL, "wire a.0 h\nwire a.0 b.0\n", UnknownNode),
-    ]
-}
+const UNKNOWN_NAMES: &[Row] = &[
+    ("", "node a 4\nwire a.0 b.1\n", UnknownNode),
+    ("", "wire a.0 b.0\nnode a 4\nnode b 4\n", UnknownNode),
+    ("", "node a 4\nwire a.0 h\nport h\n", UnknownNode),
+    (SMALL, "wire a.0 g\n", UnknownNode),
+    (SMALL, "wire b h\n", UnknownNode),
+    (SMALL, "wire b.0 h.0\n", UnknownNode),
+    (SMALL, "wire aa.0 h\n", UnknownNode),
+    (SMALL, "wire a.0 h\nwire a.0 b.0\n", UnknownNode),
+];
 
-fn taken_ends() -> [Row; 8] {
-    [
-        (SMALL, "wire a.0 h\nwire a.0 a.1\n", TwoWires),
-        (SMALL, "wire a.0 h\nwire a.1 a.0\n", TwoWires),
-        (SMALL, "wire a.0 h\nwire a.1 h\n", TwoWires),
-        (SMALL, "wire a.0 h\nwire h a.1\n", TwoWires),
-        (SMALL, "wire a.0 h\nwire a.0 h\n", TwoWires),
-        (SMALL, "wire a.0 h\nwire h a.0\n", TwoWires),
-        (SMALL, "wire a.0 a.0\n", TwoWires),
-        (SMALL, "wire a.3 a.2\nwire h a.2\nnode b 3\n", TwoWires),
-    ]
-}
+const TAKEN_ENDS: &[Row] = &[
+    (SMALL, "wire a.0 h\nwire a.0 a.1\n", TwoWires),
+    (SMALL, "wire a.0 h\nwire a.1 a.0\n", TwoWires),
+    (SMALL, "wire a.0 h\nwire a.1 h\n", TwoWires),
+    (SMALL, "wire a.0 h\nwire h a.1\n", TwoWires),
+    (SMALL, "wire a.0 h\nwire a.0 h\n", TwoWires),
+    (SMALL, "wire a.0 h\nwire h a.0\n", TwoWires),
+    (SMALL, "wire a.0 a.0\n", TwoWires),
+    (SMALL, "wire a.3 a.2\nwire h a.2\nnode b 3\n", TwoWires),
+];
 
-fn too_many() -> [Row; 7] {
-    [
-        (NODES, "node q 4\n", TooMany),
-        (NODES, "node q 3\n", Syntax(17)),
-        (NODES, "node a 4\n", Syntax(17)),
-        (PORTS, "port i\n", TooMany),
-        (PORTS, "port a\n", Syntax(9)),
-        (PORTS, "port I\n", Syntax(9)),
-        (NODES, "port z\nport y\nnode q 4\nnode r 3\n", TooMany),
-    ]
-}
+const TOO_MANY: &[Row] = &[
+    (NODES, "node q 4\n", TooMany),
+    (NODES, "node q 3\n", Syntax(17)),
+    (NODES, "node a 4\n", Syntax(17)),
+    (PORTS, "port i\n", TooMany),
+    (PORTS, "port a\n", Syntax(9)),
+    (PORTS, "port I\n", Syntax(9)),
+    (NODES, "port z\nport y\nnode q 4\nnode r 3\n", TooMany),
+];
 
-fn first_of_several() -> [Row; 5] {
-    [
-        (SMALL, "wire a.0\nwire a.0 b.0\n", Syntax(3)),
-        (SMALL, "wire a.0 b.0\nwire a.0\n", UnknownNode),
-        (SMALL, "wire b.4 h\n", Syntax(3)),
-        (SMALL, "wire a.0 h\nwire h h\n", Syntax(4)),
-        (SMALL, "wire a.0 h\nwire a.0 h.1\n", Syntax(4)),
-    ]
-}
+const FIRST_OF_SEVERAL: &[Row] = &[
+    (SMALL, "wire a.0\nwire a.0 b.0\n", Syntax(3)),
+    (SMALL, "wire a.0 b.0\nwire a.0\n", UnknownNode),
+    (SMALL, "wire b.4 h\n", Syntax(3)),
+    (SMALL, "wire a.0 h\nwire h h\n", Syntax(4)),
+    (SMALL, "wire a.0 h\nwire a.0 h.1\n", Syntax(4)),
+];
 
-fn fault_of<R: AllocGlobal>(
-    rt: &R,
-    front: &str,
-    rest: &str,
-) -> Result<Option<NetFault>, AllocError> {
-    let mut text = String::new(rt.alloc());
+/// Whether the text of a row has its fault.
+fn has_fault(alloc: Global, row: &Row) -> Result<bool, AllocError> {
+    let (front, rest, want) = *row;
+    let mut text = String::new(alloc);
     text.push_str(front)?;
     text.push_str(rest)?;
-    Ok(Topology::read(rt.alloc(), text.as_bytes()).err())
+    Ok(Topology::read(alloc, text.as_bytes()).err() == Some(want))
 }
 
-fn refuses<R: AllocGlobal + Abort>(rt: &R, rows: &[Row]) -> Result<(), Fail> {
-    for (front, rest, want) in rows {
-        assert_eq!(rt;
-            fault_of(rt, front, rest)?,
-            Some(*want),
-            "after {front:?}: {rest:?}"
-        );
+/// Whether each text of a table has its fault; else the number of the first that hasn't.
+fn refuses(alloc: Global, rows: &[Row]) -> Result<Option<usize>, AllocError> {
+    for (i, row) in rows.iter().enumerate() {
+        if !has_fault(alloc, row)? {
+            return Ok(Some(i));
+        }
     }
+    Ok(None)
+}
+
+fn check<R: AllocGlobal + Abort>(rt: &R, rows: &[Row]) -> Result<(), Fail> {
+    let wrong = refuses(rt.alloc(), rows)?;
+    assert!(rt; wrong.is_none(), "row {wrong:?}");
     Ok(())
 }
 
 #[test]
 fn texts_without_a_node_or_a_port(rt: HostRuntime) -> Result<(), Fail> {
-    refuses(&rt, &nothing_to_run())
+    check(&rt, NOTHING_TO_RUN)
 }
 
 #[test]
 fn lines_are_malformed(rt: HostRuntime) -> Result<(), Fail> {
-    refuses(&rt, &node_lines())?;
-    refuses(&rt, &port_lines())?;
-    refuses(&rt, &spaces_and_ends_of_lines())?;
-    refuses(&rt, &wire_shapes())
+    check(&rt, NODE_LINES)?;
+    check(&rt, PORT_LINES)?;
+    check(&rt, SPACES_AND_ENDS_OF_LINES)?;
+    check(&rt, WIRE_SHAPES)
 }
 
 #[test]
 fn names_and_wires_are_refused(rt: HostRuntime) -> Result<(), Fail> {
-    refuses(&rt, &unknown_names())?;
-    refuses(&rt, &taken_ends())?;
-    refuses(&rt, &too_many())?;
-    refuses(&rt, &first_of_several())
+    check(&rt, UNKNOWN_NAMES)?;
+    check(&rt, TAKEN_ENDS)?;
+    check(&rt, TOO_MANY)?;
+    check(&rt, FIRST_OF_SEVERAL)
 }
 
 #[test]
 fn bytes_need_not_be_text(rt: HostRuntime) {
-    let skipped = Topology::read(rt.alloc(), b"#\xff\nnode a 4\nport h\n");
-    assert_eq!(rt; skipped.err(), None);
-    let name = Topology::read(rt.alloc(), b"node a 4\nnode b\xff 4\n");
-    assert_eq!(rt; name.err(), Some(Syntax(2)));
+    let skipped = Topology::read(rt.alloc(), b"#\xff\nnode a 4\nport h\n").err();
+    let name = Topology::read(rt.alloc(), b"node a 4\nnode b\xff 4\n").err();
+    assert!(rt; skipped.is_none() && name == Some(Syntax(2)));
 }
