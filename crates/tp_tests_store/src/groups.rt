@@ -116,7 +116,7 @@ fn two_entries_are_written(rt: HostRuntime) {
     ];
     let mut written = [0xEE; 50];
     put_group_body(&entries, &mut written);
-    let (group, rest) = written.split_at(48);
+    let (group, rest) = written.as_slice().split_at(48);
     assert!(rt; group == TWO_ENTRIES.as_slice() && rest == [0xEE, 0xEE].as_slice());
 }
 

@@ -5,6 +5,7 @@
 pub mod calls;
 #[cfg(test)]
 mod entries;
+#[cfg(test)]
 mod fixture;
 #[cfg(test)]
 mod groups;
