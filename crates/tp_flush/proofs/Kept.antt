@@ -1,5 +1,5 @@
 -- What the flusher keeps as it looks at the book, and as it raises the mark.
-use Rattle.std.proofs.Common.{◌≡◌, ℕ, ◌+◌, ◌<◌, ◌≤◌, true, List, ◌++◌, length, sym, ap, subst, ◌∙◌, Bool, arith, length-drop}
+use Rattle.std.proofs.Common.{◌≡◌, ℕ, ◌+◌, ◌<◌, ◌≤◌, true, List, ◌++◌, length, refl, sym, ap, subst, ◌∙◌, Bool, arith, length-drop}
 use Rattle.std.specs.Prelude.{◌-◌, drop, max}
 use Rattle.std.specs.List.{AllByRecursion}
 use Rattle.tp_model.specs.declared.entry.Entry.{Entry}
@@ -8,6 +8,7 @@ use Rattle.tp_model.specs.EntryBytes.{is_in_range}
 use Rattle.tp_model.specs.NodeState.{NodeState}
 use Rattle.tp_model.specs.Node.{t414}
 use Rattle.tp_model.specs.Network.{Network}
+use Rattle.tp_model.specs.Topology.{Topology}
 use Rattle.tp_model.specs.Snapshot.{MarkedNetwork}
 use Rattle.tp_model.specs.DiskHistory.{State}
 use Rattle.tp_model.specs.WriteOrder.{Resting}
@@ -16,11 +17,12 @@ use Rattle.tp_model.specs.Runs.{World}
 use Rattle.tp_model.specs.Walks.{Leads, Walks}
 use Rattle.tp_area.specs.declared.place.Place.{Place}
 use Rattle.tp_law_runs.proofs.Walks.{run_then, still_walks}
+use Rattle.tp_flush.specs.declared.progress.Progress.{Progress}
 use Rattle.tp_flush.specs.Known.{Known, Reached}
 use Rattle.tp_flush.specs.Flushing.{Flushing, IsBacklog, Keeps, Looked, Walked}
 use Rattle.tp_shared.specs.declared.told.Told.{Told}
 use Rattle.tp_shared.specs.Told.{IsFirst, Since}
-use Rattle.tp_flush.proofs.Looks.{base_is, copied, entries_stay, looks, raised, raises}
+use Rattle.tp_flush.proofs.Looks.{base_is, copied, entries_stay, learned, learns, looks, raised, raises}
 
 -- a run goes on
 pub reached_then : (start : Network NodeState) (w v : World NodeState) → Reached start w → Leads t414 device_areas w v → Reached start v
@@ -35,6 +37,24 @@ reached_then start w v R L = record {
 pub looked_walks : (a b : Flushing) → a.world.disk ≡ a.state.now → Looked a b → Walked a b
 looked_walks a b was L =
     subst (λ (s : State). Walks t414 device_areas a.world b.world a.state s) (sym L.state) (still_walks t414 device_areas a.world b.world a.state L.led (L.disk ∙ was))
+
+-- a look at the book, of which the flusher then knows more
+pub learned_looked : (w : World NodeState) (old now : Told) (first : IsFirst old w) (since : Since old now) (s : State) (size failures : ℕ) (opened : List ℕ) (place : Place) (t : Topology) (progress : Progress)
+    → Looked (record { world = w; state = s; size = size; failures = failures; opened = opened; place = place; topology = t; progress = progress })
+    (record { world = learned w now; state = s; size = size; failures = failures; opened = opened; place = place; topology = t; progress = progress })
+learned_looked w old now first since s size failures opened place t progress = record {
+  led = learns w old now first since;
+  at = refl;
+  stored = refl;
+  disk = refl;
+  state = refl;
+  size = refl;
+  failures = refl;
+  opened = refl;
+  place = refl;
+  topology = refl;
+  progress = refl;
+}
 
 module _ (keeps : Type 0) (start : Network NodeState) (before : World NodeState) where
   abbrev pub raised_known : Known → Known
@@ -67,6 +87,23 @@ module _ (keeps : Type 0) (start : Network NodeState) (before : World NodeState)
         at = K.at;
         disk = K.disk;
         reached = λ kept began. reached_then start k.world (copied k.world now) (K.reached kept began) (looks k.world old now told since rests);
+      }
+
+  abbrev pub learned_known : Known → Told → Known
+  learned_known k told = record { world = learned k.world told; opened = k.opened }
+
+  pub learn_keeps : (k : Known) (s : State) (place : Place) (broken : Bool) (mark : ℕ) → Keeps keeps start before k s place broken mark
+      → (old now : Told) → IsFirst old k.world → Since old now → Keeps keeps start before (learned_known k now) s place broken mark
+  learn_keeps k s place broken mark K old now told since =
+      let base : now.base ≡ k.world.base = base_is k.world old now told since in
+      record {
+        next = K.next;
+        cut = omega (arith, K.cut, base);
+        ends = omega (arith, K.ends, base, entries_stay k.world old now told since);
+        mark = K.mark;
+        at = K.at;
+        disk = K.disk;
+        reached = λ kept began. reached_then start k.world (learned k.world now) (K.reached kept began) (learns k.world old now told since);
       }
 
   -- where the copy begins

@@ -4,4 +4,9 @@ mod Appends
 mod Begins
 mod Turns
 mod Endings
+mod Goings
+mod Puts
+mod Closed
+mod Standing
+mod Beside
 pub mod Settling

@@ -1,6 +1,6 @@
 -- What is done between two calls of the device is a piece of a run: the acts of the book, a copy of the backlog, and the raising
 -- of the mark.
-use Rattle.std.proofs.Common.{◌≡◌, ◌≤◌, false, List, [], ◌∷◌, map, length, refl, sym, ap, ◌∙◌, Some, arith, length-append}
+use Rattle.std.proofs.Common.{◌≡◌, ◌≤◌, false, List, [], ◌∷◌, map, length, refl, sym, ap, subst, ◌∙◌, Some, arith, length-append}
 use Rattle.std.specs.Prelude.{◌-◌, drop, max}
 use Rattle.std.specs.List.{AllByRecursion}
 use Rattle.tp_model.specs.declared.entry.Entry.{Entry}
@@ -21,7 +21,7 @@ use Rattle.tp_law_runs.proofs.Walks.{one_step, leads_then}
 
 -- ## The book's acts
 
-acts_run : (w : World NodeState) (acts : List Act) (net : MarkedNetwork NodeState) → AllByRecursion (λ act. is_trim act ≡ false) acts → acted t414 w.net acts ≡ Some net
+pub acts_run : (w : World NodeState) (acts : List Act) (net : MarkedNetwork NodeState) → AllByRecursion (λ act. is_trim act ≡ false) acts → acted t414 w.net acts ≡ Some net
     → Run t414 device_areas w (map Acts acts) (record w { net = net; journal = grown_all acts w.journal })
 unfolding acted
 acts_run w [] net none e = let same : w.net ≡ net = cc in ap (λ n. record w { net = n; journal = w.journal }) (sym same)
@@ -30,7 +30,7 @@ acts_run w (act ∷ acts) net none e =
     let u : World NodeState = record w { net = F.0; journal = grown act w.journal } in
     (u, (none.0, F.0, F.1, refl), acts_run u acts net none.1 F.2)
 
-acts_unopened : (acts : List Act) → AllByRecursion (λ (e : Event NodeState). is_reopening e ≡ false) (map Acts acts)
+pub acts_unopened : (acts : List Act) → AllByRecursion (λ (e : Event NodeState). is_reopening e ≡ false) (map Acts acts)
 acts_unopened [] = tt
 acts_unopened (act ∷ acts) = (refl, acts_unopened acts)
 
@@ -43,7 +43,7 @@ grown-length (Close line) entries = omega arith
 grown-length Trim entries = omega arith
 
 -- without a trim there are no fewer entries afterwards
-acts_keep_entries : (acts : List Act) (w v : MarkedNetwork NodeState) → AllByRecursion (λ act. is_trim act ≡ false) acts → acted t414 w acts ≡ Some v → length w.entries ≤ length v.entries
+pub acts_keep_entries : (acts : List Act) (w v : MarkedNetwork NodeState) → AllByRecursion (λ act. is_trim act ≡ false) acts → acted t414 w acts ≡ Some v → length w.entries ≤ length v.entries
 unfolding acted
 acts_keep_entries [] w v none e = let same : w ≡ v = cc in omega (arith, ap (λ (u : MarkedNetwork NodeState). length u.entries) same)
 acts_keep_entries (act ∷ acts) w v none e =
@@ -76,6 +76,17 @@ module _ (w : World NodeState) (old now : Told) (told : IsFirst old w) (since : 
   -- the book has no fewer entries than it had
   pub entries_stay : length w.net.entries ≤ length now.net.entries
   entries_stay = acts_keep_entries since.acts w.net now.net since.none net_is
+
+-- the world once the flusher was told of the book
+abbrev pub learned : World NodeState → Told → World NodeState
+learned w told = record w { net = told.net; base = told.base; journal = told.journal }
+
+pub learns : (w : World NodeState) (old now : Told) → IsFirst old w → Since old now → Leads t414 device_areas w (learned w now)
+learns w old now told since =
+    let u : World NodeState = record w { net = now.net; journal = grown_all since.acts w.journal } in
+    let grew : now.journal ≡ grown_all since.acts w.journal = since.journal ∙ ap (grown_all since.acts) told.journal in
+    let end : learned w now ≡ u = λ i. record w { net = now.net; base = base_is w old now told since i; journal = grew i } in
+    record { events = map Acts since.acts; run = subst (λ (v : World NodeState). Run t414 device_areas w (map Acts since.acts) v) (sym end) (acts_run w since.acts now.net since.none (net_is w old now told since)); unopened = acts_unopened since.acts }
 
 -- the world once the mark was raised
 abbrev pub raised : World NodeState → World NodeState

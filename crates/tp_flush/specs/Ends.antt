@@ -1,5 +1,7 @@
 -- How a turn of the flusher ended.
-use Rattle.std.specs.Prelude.{◌≡◌, ℕ, ◌+◌, drop, Result, Ok, Err}
+use Rattle.std.specs.Prelude.{◌≡◌, ◌≤◌, ◌⊎◌, ℕ, ◌+◌, Bool, true, if◌then◌else◌, drop, Result, Ok, Err}
+use Rattle.tp_model.specs.NodeState.{NodeState}
+use Rattle.tp_model.specs.FrozenAs.{IsFrozenAs}
 use Rattle.tp_model.specs.WriteOrder.{Resting, Broken}
 use Rattle.tp_flush.specs.declared.fault.FlushFault.{FlushFault}
 use Rattle.tp_flush.specs.declared.fault.FlushFault.TheVariants.{AreaFull, DeviceFailed, Memory, StoreBroken}
@@ -17,19 +19,60 @@ pub record Failed (old new : Flushing) : Type 0 where
   pub broken : new.world.at ≡ Broken
   pub failures : new.failures ≡ old.failures + 1
   pub mark : new.world.mark ≡ old.world.mark
+  pub generation : new.place.generation ≡ old.place.generation
 
 -- No call failed, and the mark is where it was: whatever was copied or stored, the next turn goes on.
 pub record Waits (old new : Flushing) : Type 0 where
   pub rested : Rested old new
   pub mark : new.world.mark ≡ old.world.mark
+  pub generation : new.place.generation ≡ old.place.generation
 
--- That memory was refused comes before the first call of the device, and that it failed earlier before everything.
+-- The mark was raised to what was stored.
+pub record Raised (old new : Flushing) : Type 0 where
+  pub mark : old.world.mark ≤ new.world.mark
+  pub reaches : new.world.stored ≤ new.world.mark
+  pub generation : new.place.generation ≡ old.place.generation
+
+-- The backlog was stored and the mark raised. Then a call of the device failed, or nothing did.
+pub record FailedBehind (old new : Flushing) : Type 0 where
+  pub raised : Raised old new
+  pub began : old.world.at ≡ Resting
+  pub broken : new.world.at ≡ Broken
+  pub failures : new.failures ≡ old.failures + 1
+
+pub record WaitsBehind (old new : Flushing) : Type 0 where
+  pub raised : Raised old new
+  pub rested : Rested old new
+
+-- That the device failed earlier comes before everything. That memory was refused comes before the first call of the device, or
+-- behind the raising of the mark, as the device may fail there too.
 abbrev pub Ended : {A : Type 0} → Result A FlushFault → Flushing → Flushing → Type 0
 Ended (Ok given) old new = Rested old new
-Ended (Err DeviceFailed) old new = Failed old new
+Ended (Err DeviceFailed) old new = Failed old new ⊎ FailedBehind old new
 Ended (Err StoreBroken) old new = (old.world.at ≡ Broken) × (new ≡ old)
-Ended (Err Memory) old new = Waits old new × Looked old new
+Ended (Err Memory) old new = (Waits old new × Looked old new) ⊎ WaitsBehind old new
 Ended (Err AreaFull) old new = Waits old new
+
+-- the generation of the open area grew by one exactly where the flusher switched to the other area
+abbrev pub generation_after : Bool → Flushing → Flushing → Type 0
+generation_after switched old new = new.place.generation ≡ old.place.generation + (if switched then 1 else 0)
+
+-- Nothing was stored, the next group goes where it went, the other area stays closed where it was, and nodes stay frozen as they
+-- were.
+pub record Went (old new : Flushing) : Type 0 where
+  pub waits : Waits old new
+  pub stored : new.world.stored ≡ old.world.stored
+  pub place : new.place ≡ old.place
+  pub cleared : old.progress.cleared ≡ true → new.progress.cleared ≡ true
+  pub frozen : (i : ℕ) (node : NodeState) → IsFrozenAs old.world.net i node → IsFrozenAs new.world.net i node
+
+-- That was done, or a call of the device failed.
+abbrev pub Tried : {A : Type 0} → Result A FlushFault → Flushing → Flushing → Type 0
+Tried (Ok given) old new = Went old new
+Tried (Err DeviceFailed) old new = Failed old new × (new.world.stored ≡ old.world.stored)
+Tried (Err StoreBroken) old new = ⊥
+Tried (Err Memory) old new = ⊥
+Tried (Err AreaFull) old new = ⊥
 
 -- So many entries of the backlog were appended, or a call of the device failed, or the area was full.
 abbrev pub Stored : Result Unit FlushFault → ℕ → Flushing → Flushing → Type 0

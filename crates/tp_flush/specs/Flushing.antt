@@ -1,5 +1,5 @@
 -- What contracts see of the flusher, what it keeps, and what it did.
-use Rattle.std.specs.Prelude.{◌≡◌, ◌<◌, ◌≤◌, ℕ, ◌+◌, Bool, true, if◌then◌else◌, List, length}
+use Rattle.std.specs.Prelude.{◌≡◌, ◌<◌, ◌≤◌, ℕ, ◌+◌, Bool, true, false, if◌then◌else◌, List, length, get_or}
 use Rattle.std.specs.List.{AllByRecursion}
 use Rattle.tp_model.specs.declared.entry.Entry.{Entry}
 use Rattle.tp_model.specs.declared.limits.TheConstants.{NUMBER_LIMIT}
@@ -7,22 +7,34 @@ use Rattle.tp_model.specs.EntryBytes.{is_in_range}
 use Rattle.tp_model.specs.NodeState.{NodeState}
 use Rattle.tp_model.specs.Node.{t414}
 use Rattle.tp_model.specs.Network.{Network}
+use Rattle.tp_model.specs.Topology.{Topology}
+use Rattle.tp_model.specs.Journal.{is_roomy}
 use Rattle.tp_model.specs.DiskHistory.{State}
 use Rattle.tp_model.specs.WriteOrder.{Position, Resting, Broken}
 use Rattle.tp_model.specs.DeviceAreas.{device_areas}
 use Rattle.tp_model.specs.Runs.{World}
 use Rattle.tp_model.specs.Walks.{Leads, Walks}
 use Rattle.tp_area.specs.declared.place.Place.{Place}
+use Rattle.tp_area.specs.Other.{OtherIsClosed}
+use Rattle.tp_area.specs.Tails.{content_beside}
+use Rattle.tp_model.specs.Snapshot.{MarkedNetwork}
+use Rattle.tp_flush.specs.Copying.{IsPartOut}
+use Rattle.tp_flush.specs.Progress.{is_out}
+use Rattle.tp_flush.specs.declared.progress.Progress.{Progress}
 use Rattle.tp_flush.specs.Known.{Known, Began, Reached}
 
 -- The world as the flusher knows it; what has become of its device, how many bytes that has, and how many of its calls have
--- failed; and the bytes that this process opened.
+-- failed; the bytes that this process opened; the place of the next group, in the open area; the device's topology; and how far
+-- the copy of the snapshot that runs has come.
 pub record Flushing : Type 0 where
   pub world : World NodeState
   pub state : State
   pub size : ℕ
   pub failures : ℕ
   pub opened : List ℕ
+  pub place : Place
+  pub topology : Topology
+  pub progress : Progress
 
 -- between two of its calls the flusher rests, or a call of the device has failed
 abbrev pub position : Bool → Position NodeState
@@ -39,6 +51,13 @@ pub record Keeps (keeps : Type 0) (start : Network NodeState) (before : World No
   pub disk : keeps → known.world.disk ≡ state.now
   pub reached : keeps → Began start before known.opened → Reached start known.world
 
+-- What it keeps for the copy of a snapshot: its areas have room for any cut of its topology; the other area's gate is closed once
+-- that was done for the snapshot; and each frozen image that is out stands there.
+pub record Copies (keeps : Type 0) (net : MarkedNetwork NodeState) (state : State) (place : Place) (broken : Bool) (t : Topology) (progress : Progress) : Type 0 where
+  pub roomy : is_roomy t place.area ≡ true
+  pub closed : keeps → broken ≡ false → progress.cleared ≡ true → OtherIsClosed place state
+  pub images : keeps → broken ≡ false → (i : ℕ) → i < length t.pages → is_out progress i ≡ true → IsPartOut t net (content_beside place state) i (get_or t.pages i 0)
+
 -- Each moment of the device since is that of a world on the way of one run.
 abbrev pub Walked : Flushing → Flushing → Type 0
 Walked old new = Walks t414 device_areas old.world new.world old.state new.state
@@ -53,11 +72,15 @@ pub record Looked (old new : Flushing) : Type 0 where
   pub size : new.size ≡ old.size
   pub failures : new.failures ≡ old.failures
   pub opened : new.opened ≡ old.opened
+  pub place : new.place ≡ old.place
+  pub topology : new.topology ≡ old.topology
+  pub progress : new.progress ≡ old.progress
 
 -- The process and its device are the same.
 pub record IsSameProcess (old new : Flushing) : Type 0 where
   pub opened : new.opened ≡ old.opened
   pub size : new.size ≡ old.size
+  pub topology : new.topology ≡ old.topology
 
 -- The backlog was copied: these entries, whose bytes and numbers are in their ranges, and which end below this number.
 pub record IsBacklog (w : World NodeState) (entries : List Entry) (upto : ℕ) : Type 0 where
@@ -65,3 +88,9 @@ pub record IsBacklog (w : World NodeState) (entries : List Entry) (upto : ℕ) :
   pub each : AllByRecursion (λ e. is_in_range e ≡ true) entries
   pub reaches : upto ≡ w.stored + length entries
   pub numbers : w.stored + length entries < NUMBER_LIMIT
+
+-- Where this process opened what a run had led to: each moment of the device since is that of a world on the way of one run. The
+-- process and its device are the same.
+pub record Goes (keeps : Type 0) (start : Network NodeState) (before : World NodeState) (old new : Flushing) : Type 0 where
+  pub walks : keeps → Began start before old.opened → Walked old new
+  pub process : IsSameProcess old new

@@ -1,28 +1,34 @@
 //! The flusher.
 
-ghost use Rattle.std.specs.Prelude.{◌≡◌, Ok, false};
+ghost use Rattle.std.specs.Prelude.{◌≡◌, Ok, true, false};
 ghost use Rattle.tp_model.specs.DiskHistory.{IsSynced};
+ghost use Rattle.tp_model.specs.Journal.{is_roomy};
 ghost use Rattle.tp_model.specs.Opening.{held_of, next_of, verdict};
 ghost use Rattle.tp_model.specs.Runs.{reopened};
 ghost use Rattle.tp_shared.specs.Told.{IsFirst};
 ghost use Rattle.tp_flush.specs.Known.{Began, Reached};
 ghost use Rattle.tp_flush.specs.Flushing.{position};
 
+use crate::progress::Progress;
 use crate::whole::Whole;
 use std::marker::{Model, PhantomData};
 use tp_area::Store;
 use tp_disk::Disk;
 use tp_mark::Raiser;
+use tp_net::Topology;
 use tp_recover::Opened;
 use tp_shared::{Naming, Told};
 use tp_token::Key;
 
-/// The flusher's store, what it was told of the book, the mark's raiser, and the world as it knows it.
+/// The flusher's store, what it was told of the book, the mark's raiser, the device's topology, how far the copy of the snapshot that
+/// runs has come, and the world as the flusher knows it.
 #[derive(Drop)]
 pub(crate) struct Parts<D: Disk> {
     pub(crate) store: Store<D>,
     pub(crate) key: Key<Told>,
     pub(crate) raiser: Raiser,
+    pub(crate) topology: Topology,
+    pub(crate) progress: Progress,
     pub(crate) whole: Whole,
 }
 
@@ -37,19 +43,25 @@ pub struct Flusher<J: Naming, D: Disk> {
 impl<J: Naming, D: Disk> Model for Flusher<J, D> {
     ghost use Rattle.std.specs.Prelude.{◌≡◌};
     ghost use Rattle.tp_shared.specs.Told.{IsFirst};
-    ghost use Rattle.tp_flush.specs.Flushing.{Flushing, Keeps};
+    ghost use Rattle.tp_flush.specs.Flushing.{Copies, Flushing, Keeps};
 
     ghost Value = { Flushing };
 
-    ghost view = { λ f. record { world = f.parts.whole.known.world; state = D.state f.parts.store.disk; size = D.size_of f.parts.store.disk; failures = D.failures_of f.parts.store.disk; opened = f.parts.whole.known.opened } };
+    ghost view = { λ f. record { world = f.parts.whole.known.world; state = D.state f.parts.store.disk; size = D.size_of f.parts.store.disk; failures = D.failures_of f.parts.store.disk; opened = f.parts.whole.known.opened; place = f.parts.store.place; topology = f.parts.topology; progress = f.parts.progress } };
 
-    ghost invariant = { λ f. (f.parts.key.name ≡ J.flusher) × (f.parts.raiser.mark ≡ J.mark) × IsFirst f.parts.key.value f.parts.whole.known.world × Keeps D.keeps J.formatted J.before f.parts.whole.known (D.state f.parts.store.disk) f.parts.store.place f.parts.store.broken f.parts.raiser.at };
+    ghost invariant = { λ f. (f.parts.key.name ≡ J.flusher) × (f.parts.raiser.mark ≡ J.mark) × IsFirst f.parts.key.value f.parts.whole.known.world × Keeps D.keeps J.formatted J.before f.parts.whole.known (D.state f.parts.store.disk) f.parts.store.place f.parts.store.broken f.parts.raiser.at × Copies D.keeps f.parts.whole.known.world.net (D.state f.parts.store.disk) f.parts.store.place f.parts.store.broken f.parts.topology f.parts.progress };
 }
 
 impl<J: Naming, D: Disk> Flusher<J, D> {
-    /// The flusher over a store, where `opened`, `store`, `key` and `raiser` come from one opening: the store is the one over the
-    /// device that was opened, the key's book goes on from it, and the mark has its next number.
-    pub fn new(opened: &Opened, store: Store<D>, key: Key<Told>, raiser: Raiser) -> Flusher<J, D>
+    /// The flusher over a store, where `opened`, `topology`, `store`, `key` and `raiser` come from one opening: the store is the one
+    /// over the device that was opened, the key's book goes on from it, and the mark has its next number.
+    pub fn new(
+        opened: &Opened,
+        topology: Topology,
+        store: Store<D>,
+        key: Key<Told>,
+        raiser: Raiser,
+    ) -> Flusher<J, D>
         requires name { key.name ≡ J.flusher }
         requires told { IsFirst key.value (reopened J.before (D.state store.disk).now.bytes (held_of opened.now) opened.now.now) }
         requires unbroken { store.broken ≡ false }
@@ -57,8 +69,12 @@ impl<J: Naming, D: Disk> Flusher<J, D> {
         requires raiser { raiser ≡ record { mark = J.mark; at = next_of opened.now } }
         requires read { D.keeps → verdict (D.state store.disk).now.bytes ≡ Ok opened.now }
         requires synced { D.keeps → IsSynced (D.state store.disk) }
+        requires topology { topology ≡ opened.now.head.topology }
+        requires area { store.place.area ≡ opened.now.head.area }
+        requires roomy { is_roomy opened.now.head.topology opened.now.head.area ≡ true }
         ensures world { result.world ≡ reopened J.before (D.state store.disk).now.bytes (held_of opened.now) opened.now.now }
         ensures opened { result.opened ≡ (D.state store.disk).now.bytes }
+        ensures place { (result.place ≡ store.place) × (result.topology ≡ topology) }
         ensures device { (result.state ≡ D.state store.disk) × (result.size ≡ D.size_of store.disk) × (result.failures ≡ D.failures_of store.disk) }
     {
         let _ = opened;
@@ -70,6 +86,8 @@ impl<J: Naming, D: Disk> Flusher<J, D> {
                 store,
                 key,
                 raiser,
+                topology,
+                progress: Progress::new(),
                 whole,
             },
             of: PhantomData,

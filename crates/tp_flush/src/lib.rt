@@ -2,14 +2,19 @@
 #![tactic(auto)]
 
 mod appending;
+mod checkpoint;
 mod copying;
 mod fault;
 mod flushed;
 mod flusher;
+mod images;
 mod laws;
+mod pieces;
+mod progress;
 mod raising;
 mod settle;
 mod snapshot;
+mod topology;
 mod turn;
 mod whole;
 
@@ -17,6 +22,8 @@ pub use fault::FlushFault;
 pub use flushed::Flushed;
 pub use flusher::Flusher;
 pub use laws::{first_process_begins, next_process_begins};
+pub use progress::Progress;
 pub use settle::stored_slips_are_recovered;
+pub use topology::topology_of;
 pub use turn::FLUSHER;
 pub use whole::Whole;

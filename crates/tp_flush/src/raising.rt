@@ -1,7 +1,7 @@
 //! The flusher raises the mark.
 
 ghost use Rattle.std.specs.Prelude.{◌≡◌, ◌≤◌};
-ghost use Rattle.tp_flush.specs.Flushing.{Looked};
+ghost use Rattle.tp_flush.specs.Flushing.{Goes, Looked};
 
 use crate::flusher::Flusher;
 use crate::whole::Whole;
@@ -13,8 +13,11 @@ impl<J: Naming, D: Disk> Flusher<J, D> {
     pub(crate) fn raise(&mut self, shared: &Shared<J>) -> u64
         ensures mark { result ≡ self.new.world.mark }
         ensures reaches { self.old.world.stored ≤ result }
+        ensures up { self.old.world.mark ≤ result }
         ensures looked { Looked self.old self.new }
+        ensures goes { Goes D.keeps J.formatted J.before self.old self.new }
     {
+        self.known();
         let Flusher { parts, .. } = self;
         shared
             .mark()

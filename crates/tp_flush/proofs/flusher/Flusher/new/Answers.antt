@@ -1,8 +1,13 @@
-use Rattle.std.proofs.Common.{refl, sym, subst, ap, ◌∙◌}
+use Rattle.std.proofs.Common.{◌≡◌, true, refl, sym, subst, ap, ◌∙◌}
 use Rattle.tp_mark.specs.Seen.{RaiserValue}
 use Rattle.tp_shared.specs.Told.{IsFirst}
+use Rattle.tp_model.specs.Journal.{is_roomy}
+use Rattle.tp_flush.specs.declared.progress.Progress.{Progress}
+use Rattle.tp_flush.specs.Progress.{not_begun}
 use Rattle.tp_flush.specs.Known.{Known}
 use Rattle.tp_flush.specs.Flushing.{Keeps}
+use Rattle.std.proofs.lemmas.Bool.{true≢false}
+use Rattle.tp_flush.proofs.Closed.{none_out}
 use Rattle.tp_flush.proofs.Begins.{begun_is, first_keeps}
 use Rattle.tp_flush.proofs.flusher.Flusher.new.Goals as goal
 
@@ -19,6 +24,11 @@ invariant_of-result g c =
       subst (λ (k : Known). Keeps g.D.Disk.keeps g.J.Naming.formatted g.J.Naming.before k s place broken raiser.at) (sym c.of-whole.ensures)
           (first_keeps g.J.Naming.before key.net key.base key.journal c.args.opened.now s.now.bytes place.next c.requires.told.net c.requires.told.base c.requires.told.journal c.requires.next
           g.D.Disk.keeps g.J.Naming.formatted s place broken raiser.at refl refl c.requires.unbroken (ap (λ (r : RaiserValue). r.at) c.requires.raiser ∙ sym c.requires.next) c.requires.read c.requires.synced),
+      record {
+        roomy = (λ i. is_roomy (c.requires.topology i) (c.requires.area i)) ∙ c.requires.roomy;
+        closed = λ k unbroken cleared. let no : not_begun.cleared ≡ true = subst (λ (p : Progress). p.cleared ≡ true) c.new.ensures cleared in cc;
+        images = λ k unbroken i there out. absurd (true≢false (sym out ∙ none_out c.new.result c.new.ensures i));
+      },
     )
 
 pub returns-clause-world : goal.returns-clause-world

@@ -7,8 +7,9 @@ use Rattle.tp_model.specs.DeviceAreas.{device_areas}
 use Rattle.tp_model.specs.Walks.{Leads}
 use Rattle.tp_shared.specs.Told.{IsFirst}
 use Rattle.tp_flush.specs.Known.{Known}
-use Rattle.tp_flush.specs.Flushing.{Flushing, Keeps, Looked}
+use Rattle.tp_flush.specs.Flushing.{Copies, Flushing, Keeps, Looked}
 use Rattle.tp_flush.proofs.Kept.{raise_keeps}
+use Rattle.tp_flush.proofs.Goings.{goes_looked}
 use Rattle.tp_flush.proofs.Looks.{raises}
 use Rattle.tp_flush.proofs.flusher.Flusher.raise.Given as given
 use Rattle.tp_flush.proofs.flusher.Flusher.raise.Goals as goal
@@ -34,6 +35,7 @@ invariant_of-self g c =
       ap (λ (r : RaiserValue). r.mark) c.raise.ensures ∙ c.self.invariant.1,
       subst (λ (k : Known). IsFirst p.key.value k.world) (sym c.of-parts.ensures) (record { net = F.net; base = F.base; journal = F.journal }),
       kept g c,
+      subst (λ (k : Known). Copies g.D.Disk.keeps k.world.net (g.D.Disk.state p.store.disk) p.store.place p.store.broken p.topology p.progress) (sym c.of-parts.ensures) c.self.invariant.4,
     )
 
 pub returns-clause-mark : goal.returns-clause-mark
@@ -43,15 +45,24 @@ pub returns-clause-reaches : goal.returns-clause-reaches
 returns-clause-reaches g c =
     omega (arith, c.raised.ensures, ap (λ (r : RaiserValue). r.at) c.raise.ensures, c.self.invariant.3.next, ap (λ (v : Flushing). v.world.stored) c.self.view_is)
 
-pub returns-clause-looked : goal.returns-clause-looked
-returns-clause-looked g c =
+abbrev flushing : (g : given.Over) (c : goal.After-raised g) → Known → Flushing
+flushing g c k =
     let p = c.self.inside.parts in
-    let s : State = g.D.Disk.state p.store.disk in
-    let size = g.D.Disk.size_of p.store.disk in
-    let failures = g.D.Disk.failures_of p.store.disk in
-    let from : Flushing = record { world = p.whole.known.world; state = s; size = size; failures = failures; opened = p.whole.known.opened } in
-    let to : Flushing = record { world = c.of-parts.result.known.world; state = s; size = size; failures = failures; opened = c.of-parts.result.known.opened } in
-    let looked : Looked from to = record {
+    record {
+      world = k.world;
+      state = g.D.Disk.state p.store.disk;
+      size = g.D.Disk.size_of p.store.disk;
+      failures = g.D.Disk.failures_of p.store.disk;
+      opened = k.opened;
+      place = p.store.place;
+      topology = p.topology;
+      progress = p.progress;
+    }
+
+looked : (g : given.Over) (c : goal.After-raised g) → Looked c.args.self.now (flushing g c c.of-parts.result.known)
+looked g c =
+    let p = c.self.inside.parts in
+    let L : Looked (flushing g c p.whole.known) (flushing g c c.of-parts.result.known) = record {
       led = subst (λ (k : Known). Leads t414 device_areas p.whole.known.world k.world) (sym c.of-parts.ensures) (raises p.whole.known.world);
       at = ap (λ (k : Known). k.world.at) c.of-parts.ensures;
       stored = ap (λ (k : Known). k.world.stored) c.of-parts.ensures;
@@ -60,5 +71,19 @@ returns-clause-looked g c =
       size = refl;
       failures = refl;
       opened = ap (λ (k : Known). k.opened) c.of-parts.ensures;
+      place = refl;
+      topology = refl;
+      progress = refl;
     } in
-    subst (λ (v : Flushing). Looked v to) c.self.view_is looked
+    subst (λ (v : Flushing). Looked v (flushing g c c.of-parts.result.known)) c.self.view_is L
+
+pub returns-clause-looked : goal.returns-clause-looked
+returns-clause-looked g c = looked g c
+
+pub returns-clause-goes : goal.returns-clause-goes
+returns-clause-goes g c =
+    goes_looked g.D.Disk.keeps g.J.Naming.formatted g.J.Naming.before c.args.self.now (flushing g c c.of-parts.result.known) c.known.ensures.disk (looked g c)
+
+pub returns-clause-up : goal.returns-clause-up
+returns-clause-up g c =
+    omega (arith, c.raised.ensures, ap (λ (r : RaiserValue). r.at) c.raise.ensures, c.self.invariant.3.mark, ap (λ (v : Flushing). v.world.mark) c.self.view_is)

@@ -1,0 +1,115 @@
+-- Parts of a turn, one behind the other.
+use Rattle.std.proofs.Common.{◌≡◌, ℕ, ◌≤◌, ◌+◌, inr, sym, subst, refl, ◌∙◌, ap, Result, Ok, Err, arith}
+use Rattle.tp_model.specs.NodeState.{NodeState}
+use Rattle.tp_model.specs.FrozenAs.{IsFrozenAs}
+use Rattle.tp_model.specs.Network.{Network}
+use Rattle.tp_model.specs.Node.{t414}
+use Rattle.tp_model.specs.DiskHistory.{State}
+use Rattle.tp_model.specs.DeviceAreas.{device_areas}
+use Rattle.tp_model.specs.Walks.{Walks}
+use Rattle.tp_model.specs.WriteOrder.{Resting}
+use Rattle.tp_model.specs.Runs.{World}
+use Rattle.tp_area.specs.declared.place.Place.{Place}
+use Rattle.tp_flush.specs.declared.fault.FlushFault.{FlushFault}
+use Rattle.tp_flush.specs.declared.fault.FlushFault.TheVariants.{AreaFull, DeviceFailed, Memory, StoreBroken}
+use Rattle.tp_flush.specs.declared.progress.Progress.{Progress}
+use Rattle.tp_flush.specs.Known.{Began}
+use Rattle.tp_flush.specs.Flushing.{Flushing, Goes, IsSameProcess, Looked}
+use Rattle.tp_flush.specs.Ends.{Ended, Rested, Tried, Waits, WaitsBehind, Went}
+use Rattle.tp_flush.proofs.Kept.{looked_walks}
+use Rattle.tp_flush.proofs.Endings.{failed_then, looked_waits, waits_still, waits_then}
+use Rattle.tp_flush.proofs.Turns.{walked_nowhere, walked_then}
+
+module _ (keeps : Type 0) (start : Network NodeState) (before : World NodeState) where
+  pub goes_still : (a : Flushing) → (keeps → a.world.disk ≡ a.state.now) → Goes keeps start before a a
+  goes_still a was = record { walks = λ k began. walked_nowhere a (was k); process = record { opened = refl; size = refl; topology = refl } }
+
+  -- the same world, as to the device
+  pub goes_marked : (a b : Flushing) → (keeps → a.world.disk ≡ a.state.now) → b.world ≡ a.world → b.state ≡ a.state → IsSameProcess a b → Goes keeps start before a b
+  goes_marked a b was world state P = record {
+    walks = λ k began.
+        subst (λ (v : World NodeState). Walks t414 device_areas a.world v a.state b.state) (sym world) (subst (λ (s : State). Walks t414 device_areas a.world a.world a.state s) (sym state) (walked_nowhere a (was k)));
+    process = P;
+  }
+
+  pub goes_looked : (a b : Flushing) → (keeps → a.world.disk ≡ a.state.now) → Looked a b → Goes keeps start before a b
+  goes_looked a b was L = record { walks = λ k began. looked_walks a b (was k) L; process = record { opened = L.opened; size = L.size; topology = L.topology } }
+
+  pub goes_then : (a b c : Flushing) → Goes keeps start before a b → Goes keeps start before b c → Goes keeps start before a c
+  goes_then a b c first then =
+      let P = first.process in
+      let Q = then.process in
+      record {
+        walks = λ k began. walked_then a b c (first.walks k began) (then.walks k (subst (Began start before) (sym P.opened) began));
+        process = record { opened = Q.opened ∙ P.opened; size = Q.size ∙ P.size; topology = Q.topology ∙ P.topology };
+      }
+
+-- ## How they ended
+
+pub went_still : (a : Flushing) → a.world.at ≡ Resting → Went a a
+went_still a rests = record { waits = waits_still a rests; stored = refl; place = refl; cleared = λ h. h; frozen = λ i node F. F }
+
+pub went_then : (a b c : Flushing) → Went a b → Went b c → Went a c
+went_then a b c first then = record {
+  waits = waits_then a b c first.waits then.waits;
+  stored = then.stored ∙ first.stored;
+  place = then.place ∙ first.place;
+  cleared = λ h. then.cleared (first.cleared h);
+  frozen = λ i node F. then.frozen i node (first.frozen i node F);
+}
+
+-- a fault after what went on
+pub tried_then : {A : Type 0} (B : Type 0) (q : Result A FlushFault) (fault : FlushFault) → q ≡ Err fault → (a b c : Flushing) → Went a b → Tried {A = B} (Err fault) b c → Tried q a c
+tried_then {A} B q fault is a b c first then = subst (λ (x : Result A FlushFault). Tried x a c) (sym is) (by fault then)
+  where
+    by : (fault : FlushFault) → Tried {A = B} (Err fault) b c → Tried {A = A} (Err fault) a c
+    by DeviceFailed then = (failed_then a b c first.waits then.0, then.1 ∙ first.stored)
+    by StoreBroken then = absurd then
+    by Memory then = absurd then
+    by AreaFull then = absurd then
+
+-- the same answer, of another type
+pub tried_on : {A : Type 0} (q : Result A FlushFault) (a b c : Flushing) → Went a b → Tried q b c → Tried q a c
+tried_on (Ok given) a b c first then = went_then a b c first then
+tried_on (Err DeviceFailed) a b c first then = (failed_then a b c first.waits then.0, then.1 ∙ first.stored)
+tried_on (Err StoreBroken) a b c first then = then
+tried_on (Err Memory) a b c first then = then
+tried_on (Err AreaFull) a b c first then = then
+
+-- a turn whose backlog was stored and whose mark was raised, and that then ended with a fault
+pub behind_ended : {A : Type 0} (B : Type 0) (q : Result A FlushFault) (fault : FlushFault) → q ≡ Err fault → (a b c : Flushing) → WaitsBehind a b → Tried {A = B} (Err fault) b c → Ended q a c
+behind_ended {A} B q fault is a b c first then = subst (λ (x : Result A FlushFault). Ended x a c) (sym is) (by fault then)
+  where
+    by : (fault : FlushFault) → Tried {A = B} (Err fault) b c → Ended {A = A} (Err fault) a c
+    by DeviceFailed then = inr (record {
+      raised = record {
+        mark = omega (arith, first.raised.mark, then.0.mark);
+        reaches = omega (arith, first.raised.reaches, then.0.mark, then.1);
+        generation = then.0.generation ∙ first.raised.generation;
+      };
+      began = first.rested.began;
+      broken = then.0.broken;
+      failures = then.0.failures ∙ ap (λ n. n + 1) first.rested.failures;
+    })
+    by StoreBroken then = absurd then
+    by Memory then = absurd then
+    by AreaFull then = absurd then
+
+-- no call failed so far, and the mark was raised
+pub raised_behind : (a b c : Flushing) → Waits a b → Looked b c → b.world.mark ≤ c.world.mark → b.world.stored ≤ c.world.mark → WaitsBehind a c
+raised_behind a b c first L up reaches = record {
+  raised = record { mark = omega (arith, first.mark, up); reaches = omega (arith, reaches, L.stored); generation = ap (λ (p : Place). p.generation) L.place ∙ first.generation };
+  rested = record { began = first.rested.began; rests = L.at ∙ first.rested.rests; failures = L.failures ∙ first.rested.failures };
+}
+
+pub rested_then : (a b c : Flushing) → Rested a b → Rested b c → Rested a c
+rested_then a b c first then = record { began = first.began; rests = then.rests; failures = then.failures ∙ first.failures }
+
+pub went_looked : (a b : Flushing) → a.world.at ≡ Resting → Looked a b → b.world.mark ≡ a.world.mark → ((i : ℕ) (node : NodeState) → IsFrozenAs a.world.net i node → IsFrozenAs b.world.net i node) → Went a b
+went_looked a b rests L mark frozen = record {
+  waits = looked_waits a b rests L mark;
+  stored = L.stored;
+  place = L.place;
+  cleared = λ h. ap (λ (p : Progress). p.cleared) L.progress ∙ h;
+  frozen = frozen;
+}

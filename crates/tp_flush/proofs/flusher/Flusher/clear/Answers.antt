@@ -1,0 +1,132 @@
+use Rattle.std.proofs.Common.{◌≡◌, true, false, refl, sym, subst, ap, ◌∙◌, ℕ, ◌<◌, length, get_or, arith}
+use Rattle.std.specs.Prelude.{Ok}
+use Rattle.tp_model.specs.NodeState.{NodeState}
+use Rattle.tp_model.specs.Node.{t414}
+use Rattle.tp_model.specs.Disk.{Moment}
+use Rattle.tp_model.specs.DiskHistory.{State}
+use Rattle.tp_model.specs.DeviceAreas.{device_areas}
+use Rattle.tp_model.specs.Opening.{verdict}
+use Rattle.tp_model.specs.Runs.{World}
+use Rattle.tp_model.specs.Walks.{Walks}
+use Rattle.tp_model.specs.StoreCalls.{Called, clear_calls}
+use Rattle.tp_model.specs.WriteOrder.{Resting}
+use Rattle.tp_area.specs.Other.{Cleared, OtherIsClosed, if_open, other_gate}
+use Rattle.tp_shared.specs.Told.{IsFirst}
+use Rattle.tp_area.specs.Tails.{content_beside}
+use Rattle.tp_flush.specs.Copying.{IsPartOut}
+use Rattle.tp_flush.specs.Progress.{is_out}
+use Rattle.tp_flush.specs.Known.{Began, Known}
+use Rattle.tp_flush.specs.Flushing.{Copies, Flushing, Goes, Keeps}
+use Rattle.tp_flush.specs.Ends.{Tried}
+use Rattle.tp_flush.proofs.Appends.{opens, rests_unbroken}
+use Rattle.tp_flush.proofs.Closed.{clear_content, put_copies}
+use Rattle.tp_flush.proofs.Goings.{goes_still}
+use Rattle.tp_flush.proofs.Puts.{Answered, after_put, cleared_walks, on_ok, on_ok_same, put_answered, put_keeps, put_known, put_net, put_tried, told_put}
+use Rattle.tp_flush.proofs.flusher.Flusher.clear.Given as given
+use Rattle.tp_flush.proofs.flusher.Flusher.clear.Goals as goal
+
+pub returns-then-parts-clause-goes : goal.returns-then-parts-clause-goes
+returns-then-parts-clause-goes g c =
+    subst (λ (v : Flushing). Goes g.D.Disk.keeps g.J.Naming.formatted g.J.Naming.before c.args.self.now v) (sym c.self.view_is)
+    (goes_still g.D.Disk.keeps g.J.Naming.formatted g.J.Naming.before c.args.self.now c.known.ensures.disk)
+
+resting : (g : given.Over) (c : goal.After-answer_of g) → c.self.inside.parts.whole.known.world.at ≡ Resting
+resting g c = ap (λ (v : Flushing). v.world.at) c.self.view_is ∙ c.requires.rests
+
+unbroken : (g : given.Over) (c : goal.After-answer_of g) → c.self.inside.parts.store.broken ≡ false
+unbroken g c = rests_unbroken c.self.inside.parts.store.broken (sym c.self.invariant.3.at ∙ resting g c)
+
+answered : (g : given.Over) (c : goal.After-answer_of g)
+    → Answered c.clear_other-done.result c.clear_other-done.new.self.broken (g.D.Disk.failures_of c.self.inside.parts.store.disk) (g.D.Disk.failures_of c.clear_other-done.new.self.disk)
+answered g c =
+    let a = c.clear_other-done in
+    put_answered a.result a.new.self.broken a.new.self.filled (g.D.Disk.failures_of c.self.inside.parts.store.disk) (g.D.Disk.failures_of a.new.self.disk) a.ensures.done (a.ensures.failed (unbroken g c))
+
+walked : (g : given.Over) (c : goal.After-answer_of g) → g.D.Disk.keeps → Began g.J.Naming.formatted g.J.Naming.before c.self.inside.parts.whole.known.opened
+    → Walks t414 device_areas c.self.inside.parts.whole.known.world
+    (after_put c.clear_other-done.new.self.broken c.self.inside.parts.whole.known.world (g.D.Disk.state c.clear_other-done.new.self.disk).now)
+    (g.D.Disk.state c.self.inside.parts.store.disk) (g.D.Disk.state c.clear_other-done.new.self.disk)
+walked g c k began =
+    let p = c.self.inside.parts in
+    let w : World NodeState = p.whole.known.world in
+    let a = c.clear_other-done in
+    let s : State = g.D.Disk.state p.store.disk in
+    let new : State = g.D.Disk.state a.new.self.disk in
+    let K = c.self.invariant.3 in
+    let o = opens g.J.Naming.formatted w (K.reached k began) in
+    cleared_walks w s new p.store.place (resting g c) (K.disk k)
+    (a.ensures.asked k (unbroken g c) o.0 (subst (λ (m : Moment). verdict m.bytes ≡ Ok o.0) (K.disk k) o.1))
+    a.result a.new.self.broken (g.D.Disk.failures_of p.store.disk) (g.D.Disk.failures_of a.new.self.disk) (answered g c)
+    (on_ok a.result (Cleared p.store.place s new) (Called (clear_calls (if_open (other_gate p.store.place) s.now.bytes)) s new) (λ C. C.called) (a.ensures.cleared k))
+    (a.ensures.broke k (unbroken g c))
+
+pub invariant_of-self-2 : goal.invariant_of-self-2
+invariant_of-self-2 g c =
+    let p = c.self.inside.parts in
+    let a = c.clear_other-done in
+    let s : State = g.D.Disk.state p.store.disk in
+    let new : State = g.D.Disk.state a.new.self.disk in
+    let K = subst (λ broken. Keeps g.D.Disk.keeps g.J.Naming.formatted g.J.Naming.before p.whole.known s p.store.place broken p.raiser.at) (unbroken g c) c.self.invariant.3 in (
+      c.self.invariant.0,
+      c.self.invariant.1,
+      subst (λ (k : Known). IsFirst p.key.value k.world) (sym c.of-parts.ensures) (told_put p.key.value a.new.self.broken p.whole.known.world new.now c.self.invariant.2),
+      subst (λ (k : Known). Keeps g.D.Disk.keeps g.J.Naming.formatted g.J.Naming.before k new a.new.self.place a.new.self.broken p.raiser.at) (sym c.of-parts.ensures)
+          (subst (λ place. Keeps g.D.Disk.keeps g.J.Naming.formatted g.J.Naming.before (put_known p.whole.known a.new.self.broken new) new place a.new.self.broken p.raiser.at) (sym a.ensures.place)
+          (put_keeps g.D.Disk.keeps g.J.Naming.formatted g.J.Naming.before p.whole.known s p.store.place p.raiser.at K new a.new.self.broken (walked g c))),
+      subst (λ (k : Known). Copies g.D.Disk.keeps k.world.net new a.new.self.place a.new.self.broken p.topology (record p.progress { cleared = true })) (sym c.of-parts.ensures)
+          (subst (λ net. Copies g.D.Disk.keeps net new a.new.self.place a.new.self.broken p.topology (record p.progress { cleared = true })) (sym (put_net a.new.self.broken p.whole.known.world new.now))
+          (put_copies g.D.Disk.keeps p.whole.known.world.net new p.store.place a.new.self.place p.topology (record p.progress { cleared = true }) a.result a.new.self.broken (g.D.Disk.failures_of p.store.disk) (g.D.Disk.failures_of a.new.self.disk) c.self.invariant.4.roomy (answered g c) a.ensures.place
+          (λ k. on_ok a.result (Cleared p.store.place s new) (OtherIsClosed p.store.place new) (λ P. P.closed) (a.ensures.cleared k))
+          (λ k. on_ok a.result (Cleared p.store.place s new) ((i : ℕ) → i < length p.topology.pages → is_out (record p.progress { cleared = true }) i ≡ true → IsPartOut p.topology p.whole.known.world.net (content_beside p.store.place new) i (get_or p.topology.pages i 0))
+          (λ C i there out. subst (λ xs. IsPartOut p.topology p.whole.known.world.net xs i (get_or p.topology.pages i 0))
+          (sym (clear_content p.store.place s new (omega (arith, p.store.whole, g.met.D.Disk.whole k p.store.disk)) (omega (arith, p.store.behind, p.store.inside)) C.called)) (c.self.invariant.4.images k (unbroken g c) i there out)) (a.ensures.cleared k)))),
+    )
+
+abbrev behind : (g : given.Over) (c : goal.After-answer_of g) → Flushing
+behind g c =
+    let p = c.self.inside.parts in
+    let a = c.clear_other-done in
+    record {
+      world = c.of-parts.result.known.world;
+      state = g.D.Disk.state a.new.self.disk;
+      size = g.D.Disk.size_of a.new.self.disk;
+      failures = g.D.Disk.failures_of a.new.self.disk;
+      opened = c.of-parts.result.known.opened;
+      place = a.new.self.place;
+      topology = p.topology;
+      progress = record p.progress { cleared = true };
+    }
+
+abbrev before : (g : given.Over) (c : goal.After-answer_of g) → Flushing
+before g c =
+    let p = c.self.inside.parts in
+    record {
+      world = p.whole.known.world;
+      state = g.D.Disk.state p.store.disk;
+      size = g.D.Disk.size_of p.store.disk;
+      failures = g.D.Disk.failures_of p.store.disk;
+      opened = p.whole.known.opened;
+      place = p.store.place;
+      topology = p.topology;
+      progress = p.progress;
+    }
+
+pub returns-clause-tried : goal.returns-clause-tried
+returns-clause-tried g c =
+    let p = c.self.inside.parts in
+    let a = c.clear_other-done in
+    let new : State = g.D.Disk.state a.new.self.disk in
+    subst (λ (v : Flushing). Tried c.answer_of.result v (behind g c)) c.self.view_is
+    (put_tried a.result c.answer_of.result c.answer_of.ensures a.new.self.broken (before g c) (behind g c) new.now (answered g c) (resting g c) (ap (λ (k : Known). k.world) c.of-parts.ensures) a.ensures.place
+    (on_ok_same a.result _ (λ h. refl)))
+
+pub returns-clause-goes : goal.returns-clause-goes
+returns-clause-goes g c =
+    let p = c.self.inside.parts in
+    let a = c.clear_other-done in
+    let s : State = g.D.Disk.state p.store.disk in
+    let new : State = g.D.Disk.state a.new.self.disk in
+    subst (λ (v : Flushing). Goes g.D.Disk.keeps g.J.Naming.formatted g.J.Naming.before v (behind g c)) c.self.view_is (record {
+      walks = λ k began. subst (λ (x : Known). Walks t414 device_areas p.whole.known.world x.world s new) (sym c.of-parts.ensures) (walked g c k began);
+      process = record { opened = ap (λ (k : Known). k.opened) c.of-parts.ensures; size = a.ensures.size; topology = refl };
+    })

@@ -1,0 +1,64 @@
+use Rattle.std.proofs.Common.{Bool, rules, ◌≡◌, sym, subst, ap, ◌∙◌, arith, get_or}
+use Rattle.tp_flush.proofs.Goings.{goes_then, tried_then, went_then}
+use Rattle.tp_model.specs.Topology.{Topology}
+use Rattle.tp_area.specs.Tails.{content_beside}
+use Rattle.tp_flush.specs.declared.progress.Progress.{Progress}
+use Rattle.tp_flush.specs.Copying.{IsPartOut}
+use Rattle.tp_flush.specs.Progress.{is_out}
+use Rattle.tp_flush.proofs.flusher.Flusher.copy_image.Goals as goal
+
+pub loop-page-init : goal.loop-page-init
+loop-page-init g c = record {
+  went = c.in_ok-copy_head.ensures.tried;
+  goes = c.copy_head.ensures.goes;
+  free = ap (λ (p : Progress). is_out p c.args.node) c.copy_head.ensures.same ∙ c.requires.free;
+  stands = λ k. c.in_ok-copy_head.ensures.stands k c.if-not-branch.false;
+}
+
+pub loop-page-preserved : goal.loop-page-preserved
+loop-page-preserved g c =
+    let I = c.loop-page.invariant in
+    record {
+      went = went_then c.args.self.now c.loop-page.self c.copy_page.new.self I.went c.in_ok-copy_page.ensures.tried;
+      goes = goes_then g.D.Disk.keeps g.J.Naming.formatted g.J.Naming.before c.args.self.now c.loop-page.self c.copy_page.new.self I.goes c.copy_page.ensures.goes;
+      free = ap (λ (p : Progress). is_out p c.args.node) c.copy_page.ensures.same ∙ I.free;
+      stands = λ k. c.in_ok-copy_page.ensures.stands k c.if-not-branch-2.false;
+    }
+
+pub copy_page-requires-clause-rests : goal.copy_page-requires-clause-rests
+copy_page-requires-clause-rests g c = c.loop-page.invariant.went.waits.rested.rests
+
+pub copy_page-requires-clause-cleared : goal.copy_page-requires-clause-cleared
+copy_page-requires-clause-cleared g c = c.loop-page.invariant.went.cleared c.requires.cleared
+
+pub returns-in_err-copy_page-clause-tried : goal.returns-in_err-copy_page-clause-tried
+returns-in_err-copy_page-clause-tried g c =
+    tried_then Bool c.from_residual-in_err-copy_page.result c.in_err-copy_page.field-0.0 (search rules) c.args.self.now c.loop-page.self c.copy_page.new.self c.loop-page.invariant.went c.in_err-copy_page.ensures.tried
+
+pub returns-in_err-copy_page-clause-goes : goal.returns-in_err-copy_page-clause-goes
+returns-in_err-copy_page-clause-goes g c =
+    goes_then g.D.Disk.keeps g.J.Naming.formatted g.J.Naming.before c.args.self.now c.loop-page.self c.copy_page.new.self c.loop-page.invariant.goes c.copy_page.ensures.goes
+
+pub returns-clause-tried : goal.returns-clause-tried
+returns-clause-tried g c = c.loop-page.invariant.went
+
+pub returns-clause-goes : goal.returns-clause-goes
+returns-clause-goes g c = c.loop-page.invariant.goes
+
+pub returns-then-not-branch-2-clause-goes : goal.returns-then-not-branch-2-clause-goes
+returns-then-not-branch-2-clause-goes g c =
+    goes_then g.D.Disk.keeps g.J.Naming.formatted g.J.Naming.before c.args.self.now c.loop-page.self c.copy_page.new.self c.loop-page.invariant.goes c.copy_page.ensures.goes
+
+pub copy_page-requires-clause-free : goal.copy_page-requires-clause-free
+copy_page-requires-clause-free g c = c.loop-page.invariant.free
+
+pub copy_page-requires-clause-stands : goal.copy_page-requires-clause-stands
+copy_page-requires-clause-stands g c = c.loop-page.invariant.stands
+
+pub returns-clause-stands : goal.returns-clause-stands
+returns-clause-stands g c k = λ found.
+    let I = c.loop-page.invariant in
+    let v = c.loop-page.self in
+    let P = c.copy_head.ensures.goes.process in
+    let all : c.loop-page.page ≡ get_or v.topology.pages c.args.node 0 = omega (arith, c.pages_of-page-end.ensures.is, ap (λ (t : Topology). get_or t.pages c.args.node 0) (I.goes.process.topology ∙ sym P.topology)) in
+    subst (IsPartOut v.topology v.world.net (content_beside v.place v.state) c.args.node) all (I.stands k)

@@ -1,0 +1,34 @@
+use Rattle.std.proofs.Common.{rules}
+use Rattle.tp_flush.proofs.Goings.{goes_still, goes_then, tried_then, went_still, went_then}
+use Rattle.tp_flush.proofs.flusher.Flusher.copy_images.Goals as goal
+
+pub loop-node-init : goal.loop-node-init
+loop-node-init g c = record { went = went_still c.args.self.now c.requires.rests; goes = goes_still g.D.Disk.keeps g.J.Naming.formatted g.J.Naming.before c.args.self.now c.known.ensures.disk }
+
+pub loop-node-preserved : goal.loop-node-preserved
+loop-node-preserved g c =
+    let I = c.loop-node.invariant in
+    record {
+      went = went_then c.args.self.now c.loop-node.self c.copy_node.new.self I.went c.in_ok-copy_node.ensures.tried;
+      goes = goes_then g.D.Disk.keeps g.J.Naming.formatted g.J.Naming.before c.args.self.now c.loop-node.self c.copy_node.new.self I.goes c.copy_node.ensures.goes;
+    }
+
+pub copy_node-requires-clause-rests : goal.copy_node-requires-clause-rests
+copy_node-requires-clause-rests g c = c.loop-node.invariant.went.waits.rested.rests
+
+pub copy_node-requires-clause-cleared : goal.copy_node-requires-clause-cleared
+copy_node-requires-clause-cleared g c = c.loop-node.invariant.went.cleared c.requires.cleared
+
+pub returns-in_err-copy_node-clause-tried : goal.returns-in_err-copy_node-clause-tried
+returns-in_err-copy_node-clause-tried g c =
+    tried_then (Unit {0}) c.from_residual.result c.in_err-copy_node.field-0.0 (search rules) c.args.self.now c.loop-node.self c.copy_node.new.self c.loop-node.invariant.went c.in_err-copy_node.ensures.tried
+
+pub returns-in_err-copy_node-clause-goes : goal.returns-in_err-copy_node-clause-goes
+returns-in_err-copy_node-clause-goes g c =
+    goes_then g.D.Disk.keeps g.J.Naming.formatted g.J.Naming.before c.args.self.now c.loop-node.self c.copy_node.new.self c.loop-node.invariant.goes c.copy_node.ensures.goes
+
+pub returns-clause-tried : goal.returns-clause-tried
+returns-clause-tried g c = c.loop-node.invariant.went
+
+pub returns-clause-goes : goal.returns-clause-goes
+returns-clause-goes g c = c.loop-node.invariant.goes

@@ -1,0 +1,9 @@
+use Rattle.tp_flush.specs.Flushing.{Goes}
+use Rattle.tp_flush.specs.Ends.{Went}
+use Rattle.tp_flush.proofs.flusher.Flusher.copy_images.Given as goal
+
+abbrev pub invariant-loop-node : goal.invariant-loop-node
+invariant-loop-node g l = record {
+  went : Went l.fn.self l.self;
+  goes : Goes g.D.Disk.keeps g.J.Naming.formatted g.J.Naming.before l.fn.self l.self;
+}

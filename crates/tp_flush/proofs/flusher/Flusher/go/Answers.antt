@@ -1,0 +1,82 @@
+use Rattle.std.proofs.Common.{inl, arith, rules}
+use Rattle.tp_flush.specs.Flushing.{Goes}
+use Rattle.tp_flush.specs.Ends.{WaitsBehind}
+use Rattle.tp_flush.proofs.Endings.{looked_waits, stored_ended, waits_then}
+use Rattle.tp_flush.proofs.Goings.{behind_ended, goes_looked, goes_then, raised_behind, rested_then}
+use Rattle.tp_flush.proofs.flusher.Flusher.go.Given as given
+use Rattle.tp_flush.proofs.flusher.Flusher.go.Goals as goal
+
+-- ## Memory was refused
+
+pub returns-in_default-clause-goes : goal.returns-in_default-clause-goes
+returns-in_default-clause-goes g c =
+    goes_looked g.D.Disk.keeps g.J.Naming.formatted g.J.Naming.before c.args.self.now c.copy_under.new.self c.known.ensures.disk c.copy_under.ensures.looked
+
+pub returns-in_default-clause-ended : goal.returns-in_default-clause-ended
+returns-in_default-clause-ended g c =
+    let L = c.copy_under.ensures.looked in
+    inl (looked_waits c.args.self.now c.copy_under.new.self c.requires.rests L c.copy_under.ensures.mark, L)
+
+-- ## The store answered a fault
+
+pub returns-in_err-store-clause-goes : goal.returns-in_err-store-clause-goes
+returns-in_err-store-clause-goes g c =
+    goes_then g.D.Disk.keeps g.J.Naming.formatted g.J.Naming.before c.args.self.now c.copy_under.new.self c.store.new.self
+    (goes_looked g.D.Disk.keeps g.J.Naming.formatted g.J.Naming.before c.args.self.now c.copy_under.new.self c.known.ensures.disk c.copy_under.ensures.looked)
+    (record { walks = c.store.ensures.walks; process = c.store.ensures.process })
+
+pub returns-in_err-store-clause-ended : goal.returns-in_err-store-clause-ended
+returns-in_err-store-clause-ended g c =
+    stored_ended c.from_residual.result c.in_err-store.field-0.0 (search rules) _ c.args.self.now c.copy_under.new.self c.store.new.self
+    (looked_waits c.args.self.now c.copy_under.new.self c.requires.rests c.copy_under.ensures.looked c.copy_under.ensures.mark) c.in_err-store.ensures.stored
+
+-- ## The mark was raised, and a call failed behind it
+
+raised_failed : (g : given.Over) (c : goal.After-drop-backlog-in_err-checkpoint g) → WaitsBehind c.args.self.now c.raise-mark.new.self
+raised_failed g c =
+    let S = c.in_ok-store.ensures.stored in
+    let R = c.raise-mark.ensures in
+    raised_behind c.args.self.now c.store.new.self c.raise-mark.new.self
+    (waits_then c.args.self.now c.copy_under.new.self c.store.new.self (looked_waits c.args.self.now c.copy_under.new.self c.requires.rests c.copy_under.ensures.looked c.copy_under.ensures.mark) S.0)
+    R.looked (omega (arith, R.up, R.mark)) (omega (arith, R.reaches, R.mark))
+
+went_on_failed : (g : given.Over) (c : goal.After-drop-backlog-in_err-checkpoint g) → Goes g.D.Disk.keeps g.J.Naming.formatted g.J.Naming.before c.args.self.now c.raise-mark.new.self
+went_on_failed g c =
+    goes_then g.D.Disk.keeps g.J.Naming.formatted g.J.Naming.before c.args.self.now c.store.new.self c.raise-mark.new.self
+    (goes_then g.D.Disk.keeps g.J.Naming.formatted g.J.Naming.before c.args.self.now c.copy_under.new.self c.store.new.self
+    (goes_looked g.D.Disk.keeps g.J.Naming.formatted g.J.Naming.before c.args.self.now c.copy_under.new.self c.known.ensures.disk c.copy_under.ensures.looked)
+    (record { walks = c.store.ensures.walks; process = c.store.ensures.process }))
+    c.raise-mark.ensures.goes
+
+pub returns-in_err-checkpoint-clause-goes : goal.returns-in_err-checkpoint-clause-goes
+returns-in_err-checkpoint-clause-goes g c =
+    goes_then g.D.Disk.keeps g.J.Naming.formatted g.J.Naming.before c.args.self.now c.raise-mark.new.self c.checkpoint.new.self (went_on_failed g c) c.checkpoint.ensures.goes
+
+pub returns-in_err-checkpoint-clause-ended : goal.returns-in_err-checkpoint-clause-ended
+returns-in_err-checkpoint-clause-ended g c =
+    behind_ended (Unit {0}) c.from_residual-in_err-checkpoint.result c.in_err-checkpoint.field-0.0 (search rules) c.args.self.now c.raise-mark.new.self c.checkpoint.new.self (raised_failed g c) c.in_err-checkpoint.ensures.tried
+
+-- ## All was done
+
+raised : (g : given.Over) (c : goal.After-drop-backlog-2 g) → WaitsBehind c.args.self.now c.raise-mark.new.self
+raised g c =
+    let S = c.in_ok-store.ensures.stored in
+    let R = c.raise-mark.ensures in
+    raised_behind c.args.self.now c.store.new.self c.raise-mark.new.self
+    (waits_then c.args.self.now c.copy_under.new.self c.store.new.self (looked_waits c.args.self.now c.copy_under.new.self c.requires.rests c.copy_under.ensures.looked c.copy_under.ensures.mark) S.0)
+    R.looked (omega (arith, R.up, R.mark)) (omega (arith, R.reaches, R.mark))
+
+went_on : (g : given.Over) (c : goal.After-drop-backlog-2 g) → Goes g.D.Disk.keeps g.J.Naming.formatted g.J.Naming.before c.args.self.now c.raise-mark.new.self
+went_on g c =
+    goes_then g.D.Disk.keeps g.J.Naming.formatted g.J.Naming.before c.args.self.now c.store.new.self c.raise-mark.new.self
+    (goes_then g.D.Disk.keeps g.J.Naming.formatted g.J.Naming.before c.args.self.now c.copy_under.new.self c.store.new.self
+    (goes_looked g.D.Disk.keeps g.J.Naming.formatted g.J.Naming.before c.args.self.now c.copy_under.new.self c.known.ensures.disk c.copy_under.ensures.looked)
+    (record { walks = c.store.ensures.walks; process = c.store.ensures.process }))
+    c.raise-mark.ensures.goes
+
+pub returns-clause-goes : goal.returns-clause-goes
+returns-clause-goes g c =
+    goes_then g.D.Disk.keeps g.J.Naming.formatted g.J.Naming.before c.args.self.now c.raise-mark.new.self c.checkpoint.new.self (went_on g c) c.checkpoint.ensures.goes
+
+pub returns-clause-ended : goal.returns-clause-ended
+returns-clause-ended g c = rested_then c.args.self.now c.raise-mark.new.self c.checkpoint.new.self (raised g c).rested c.in_ok-checkpoint.ensures.tried.waits.rested

@@ -1,0 +1,175 @@
+use Rattle.std.proofs.Common.{◌≡◌, ◌+◌, ◌<◌, ◌≤◌, [], ◌∷◌, None, false, get_or, length, refl, sym, subst, ap, ◌∙◌, ℕ, true, arith, IfOk}
+use Rattle.std.specs.Prelude.{Ok}
+use Rattle.tp_model.specs.NodeState.{NodeState}
+use Rattle.tp_model.specs.Node.{t414}
+use Rattle.tp_model.specs.Disk.{Moment}
+use Rattle.tp_model.specs.DiskHistory.{State}
+use Rattle.tp_model.specs.DeviceAreas.{device_areas}
+use Rattle.tp_model.specs.Opening.{verdict}
+use Rattle.tp_model.specs.Runs.{World}
+use Rattle.tp_model.specs.Walks.{Walks}
+use Rattle.tp_model.specs.StoreCalls.{Called, put_calls}
+use Rattle.tp_model.specs.WriteOrder.{Resting}
+use Rattle.tp_area.specs.Other.{OtherIsClosed, PutBehind, other_gate, put_refusal}
+use Rattle.tp_layout.specs.Pieces.{piece_length, piece_place}
+use Rattle.tp_shared.specs.Told.{IsFirst}
+use Rattle.tp_area.specs.Tails.{content_beside}
+use Rattle.tp_flush.specs.Copying.{IsPartOut}
+use Rattle.tp_flush.specs.Progress.{is_out}
+use Rattle.tp_flush.specs.Known.{Began, Known}
+use Rattle.tp_flush.specs.Flushing.{Copies, Flushing, Goes, Keeps}
+use Rattle.tp_flush.specs.Ends.{Tried}
+use Rattle.tp_flush.proofs.Appends.{opens, rests_unbroken}
+use Rattle.tp_flush.proofs.Closed.{piece_images, piece_room, put_copies}
+use Rattle.tp_flush.proofs.Beside.{put_content}
+use Rattle.tp_area.specs.declared.place.Place.{Place}
+use Rattle.tp_model.specs.Disk.{written}
+use Rattle.tp_flush.proofs.Puts.{if_answered, piece_inside, Answered, after_put, on_ok, on_ok_same, piece_fits, piece_walks, put_answered, put_keeps, put_known, put_net, put_tried, told_put}
+use Rattle.tp_flush.proofs.flusher.Flusher.put.Given as given
+use Rattle.tp_flush.proofs.flusher.Flusher.put.Goals as goal
+
+resting : (g : given.Over) (c : goal.After-answer_of g) → c.self.inside.parts.whole.known.world.at ≡ Resting
+resting g c = ap (λ (v : Flushing). v.world.at) c.self.view_is ∙ c.requires.rests
+
+unbroken : (g : given.Over) (c : goal.After-answer_of g) → c.self.inside.parts.store.broken ≡ false
+unbroken g c = rests_unbroken c.self.inside.parts.store.broken (sym c.self.invariant.3.at ∙ resting g c)
+
+none : (g : given.Over) (c : goal.After-answer_of g)
+    → put_refusal c.self.inside.parts.store.broken c.self.inside.parts.store.place (piece_place c.self.inside.parts.topology c.args.node c.args.piece + piece_length c.args.piece) ≡ None
+none g c =
+    let p = c.self.inside.parts in
+    piece_fits p.store.broken p.store.place p.topology c.args.node c.args.piece (unbroken g c) c.self.invariant.4.roomy
+    (subst (λ (v : Flushing). c.args.node < length v.topology.pages) (sym c.self.view_is) c.requires.node)
+    (subst (λ (v : Flushing). c.args.piece ≤ get_or v.topology.pages c.args.node 0) (sym c.self.view_is) c.requires.piece)
+
+answered : (g : given.Over) (c : goal.After-answer_of g)
+    → Answered c.put_piece-done.result c.put_piece-done.new.self.broken (g.D.Disk.failures_of c.self.inside.parts.store.disk) (g.D.Disk.failures_of c.put_piece-done.new.self.disk)
+answered g c =
+    let a = c.put_piece-done in
+    put_answered a.result a.new.self.broken a.new.self.filled (g.D.Disk.failures_of c.self.inside.parts.store.disk) (g.D.Disk.failures_of a.new.self.disk) a.ensures.done (a.ensures.failed (none g c))
+
+walked : (g : given.Over) (c : goal.After-answer_of g) → g.D.Disk.keeps → Began g.J.Naming.formatted g.J.Naming.before c.self.inside.parts.whole.known.opened
+    → Walks t414 device_areas c.self.inside.parts.whole.known.world
+    (after_put c.put_piece-done.new.self.broken c.self.inside.parts.whole.known.world (g.D.Disk.state c.put_piece-done.new.self.disk).now)
+    (g.D.Disk.state c.self.inside.parts.store.disk) (g.D.Disk.state c.put_piece-done.new.self.disk)
+walked g c k began =
+    let p = c.self.inside.parts in
+    let w : World NodeState = p.whole.known.world in
+    let a = c.put_piece-done in
+    let s : State = g.D.Disk.state p.store.disk in
+    let new : State = g.D.Disk.state a.new.self.disk in
+    let at = piece_place p.topology c.args.node c.args.piece in
+    let K = c.self.invariant.3 in
+    let o = opens g.J.Naming.formatted w (K.reached k began) in
+    piece_walks w s new p.store.place (resting g c) (K.disk k) o.0 o.1 (other_gate p.store.place + 1 + at) c.args.bytes.now
+    (a.ensures.asked k (none g c) o.0 (subst (λ (m : Moment). verdict m.bytes ≡ Ok o.0) (K.disk k) o.1))
+    a.result a.new.self.broken (g.D.Disk.failures_of p.store.disk) (g.D.Disk.failures_of a.new.self.disk) (answered g c)
+    (on_ok a.result (PutBehind p.store.place at c.args.bytes.now s new) (Called (put_calls ((other_gate p.store.place + 1 + at, c.args.bytes.now) ∷ [])) s new) (λ P. P.called) (a.ensures.put k))
+    (a.ensures.broke k (none g c))
+
+pub invariant_of-self : goal.invariant_of-self
+invariant_of-self g c =
+    let p = c.self.inside.parts in
+    let a = c.put_piece-done in
+    let s : State = g.D.Disk.state p.store.disk in
+    let new : State = g.D.Disk.state a.new.self.disk in
+    let K = subst (λ broken. Keeps g.D.Disk.keeps g.J.Naming.formatted g.J.Naming.before p.whole.known s p.store.place broken p.raiser.at) (unbroken g c) c.self.invariant.3 in (
+      c.self.invariant.0,
+      c.self.invariant.1,
+      subst (λ (k : Known). IsFirst p.key.value k.world) (sym c.of-parts.ensures) (told_put p.key.value a.new.self.broken p.whole.known.world new.now c.self.invariant.2),
+      subst (λ (k : Known). Keeps g.D.Disk.keeps g.J.Naming.formatted g.J.Naming.before k new a.new.self.place a.new.self.broken p.raiser.at) (sym c.of-parts.ensures)
+          (subst (λ place. Keeps g.D.Disk.keeps g.J.Naming.formatted g.J.Naming.before (put_known p.whole.known a.new.self.broken new) new place a.new.self.broken p.raiser.at) (sym a.ensures.place)
+          (put_keeps g.D.Disk.keeps g.J.Naming.formatted g.J.Naming.before p.whole.known s p.store.place p.raiser.at K new a.new.self.broken (walked g c))),
+      subst (λ (k : Known). Copies g.D.Disk.keeps k.world.net new a.new.self.place a.new.self.broken p.topology p.progress) (sym c.of-parts.ensures)
+          (subst (λ net. Copies g.D.Disk.keeps net new a.new.self.place a.new.self.broken p.topology p.progress) (sym (put_net a.new.self.broken p.whole.known.world new.now))
+          (put_copies g.D.Disk.keeps p.whole.known.world.net new p.store.place a.new.self.place p.topology p.progress a.result a.new.self.broken (g.D.Disk.failures_of p.store.disk) (g.D.Disk.failures_of a.new.self.disk) c.self.invariant.4.roomy (answered g c) a.ensures.place
+          (λ k. on_ok a.result (PutBehind p.store.place (piece_place p.topology c.args.node c.args.piece) c.args.bytes.now s new) (OtherIsClosed p.store.place new) (λ P. P.closed) (a.ensures.put k))
+          (λ k. on_ok a.result (PutBehind p.store.place (piece_place p.topology c.args.node c.args.piece) c.args.bytes.now s new) ((i : ℕ) → i < length p.topology.pages → is_out p.progress i ≡ true → IsPartOut p.topology p.whole.known.world.net (content_beside p.store.place new) i (get_or p.topology.pages i 0))
+          (λ P. piece_images p.topology p.whole.known.world.net p.store.place s new c.args.node c.args.piece c.args.bytes.now p.progress (omega (arith, p.store.whole, g.met.D.Disk.whole k p.store.disk)) c.self.invariant.4.roomy
+          (subst (λ (v : Flushing). c.args.node < length v.topology.pages) (sym c.self.view_is) c.requires.node) (subst (λ (v : Flushing). c.args.piece ≤ get_or v.topology.pages c.args.node 0) (sym c.self.view_is) c.requires.piece)
+          c.requires.whole (subst (λ (v : Flushing). is_out v.progress c.args.node ≡ false) (sym c.self.view_is) c.requires.free) P.called (c.self.invariant.4.images k (unbroken g c))) (a.ensures.put k)))),
+    )
+
+abbrev behind : (g : given.Over) (c : goal.After-answer_of g) → Flushing
+behind g c =
+    let p = c.self.inside.parts in
+    let a = c.put_piece-done in
+    record {
+      world = c.of-parts.result.known.world;
+      state = g.D.Disk.state a.new.self.disk;
+      size = g.D.Disk.size_of a.new.self.disk;
+      failures = g.D.Disk.failures_of a.new.self.disk;
+      opened = c.of-parts.result.known.opened;
+      place = a.new.self.place;
+      topology = p.topology;
+      progress = p.progress;
+    }
+
+abbrev before : (g : given.Over) (c : goal.After-answer_of g) → Flushing
+before g c =
+    let p = c.self.inside.parts in
+    record {
+      world = p.whole.known.world;
+      state = g.D.Disk.state p.store.disk;
+      size = g.D.Disk.size_of p.store.disk;
+      failures = g.D.Disk.failures_of p.store.disk;
+      opened = p.whole.known.opened;
+      place = p.store.place;
+      topology = p.topology;
+      progress = p.progress;
+    }
+
+pub returns-clause-tried : goal.returns-clause-tried
+returns-clause-tried g c =
+    let p = c.self.inside.parts in
+    let a = c.put_piece-done in
+    let new : State = g.D.Disk.state a.new.self.disk in
+    subst (λ (v : Flushing). Tried c.answer_of.result v (behind g c)) c.self.view_is
+    (put_tried a.result c.answer_of.result c.answer_of.ensures a.new.self.broken (before g c) (behind g c) new.now (answered g c) (resting g c) (ap (λ (k : Known). k.world) c.of-parts.ensures) a.ensures.place
+    (on_ok_same a.result _ (λ h. h)))
+
+pub returns-clause-goes : goal.returns-clause-goes
+returns-clause-goes g c =
+    let p = c.self.inside.parts in
+    let a = c.put_piece-done in
+    let s : State = g.D.Disk.state p.store.disk in
+    let new : State = g.D.Disk.state a.new.self.disk in
+    subst (λ (v : Flushing). Goes g.D.Disk.keeps g.J.Naming.formatted g.J.Naming.before v (behind g c)) c.self.view_is (record {
+      walks = λ k began. subst (λ (x : Known). Walks t414 device_areas p.whole.known.world x.world s new) (sym c.of-parts.ensures) (walked g c k began);
+      process = record { opened = ap (λ (k : Known). k.opened) c.of-parts.ensures; size = a.ensures.size; topology = refl };
+    })
+
+pub returns-clause-same : goal.returns-clause-same
+returns-clause-same g c =
+    let p = c.self.inside.parts in
+    let a = c.put_piece-done in (
+      ap (λ (k : Known). k.world.net) c.of-parts.ensures ∙ put_net a.new.self.broken p.whole.known.world (g.D.Disk.state a.new.self.disk).now ∙ ap (λ (v : Flushing). v.world.net) c.self.view_is,
+      ap (λ (v : Flushing). v.progress) c.self.view_is,
+    )
+
+inside : (g : given.Over) (c : goal.After-answer_of g) → piece_place c.self.inside.parts.topology c.args.node c.args.piece + piece_length c.args.piece < c.self.inside.parts.store.place.area
+inside g c =
+    let p = c.self.inside.parts in
+    piece_inside p.topology p.store.place.area c.args.node c.args.piece c.self.invariant.4.roomy
+    (subst (λ (v : Flushing). c.args.node < length v.topology.pages) (sym c.self.view_is) c.requires.node)
+    (subst (λ (v : Flushing). c.args.piece ≤ get_or v.topology.pages c.args.node 0) (sym c.self.view_is) c.requires.piece)
+
+pub returns-clause-room : goal.returns-clause-room
+returns-clause-room g c k =
+    let p = c.self.inside.parts in
+    let s : State = g.D.Disk.state p.store.disk in
+    subst (λ (v : Flushing). piece_place v.topology c.args.node c.args.piece + piece_length c.args.piece ≤ length (content_beside v.place v.state)) c.self.view_is
+    (piece_room p.store.place s (piece_place p.topology c.args.node c.args.piece + piece_length c.args.piece) (omega (arith, p.store.whole, g.met.D.Disk.whole k p.store.disk)) (inside g c))
+
+pub returns-clause-content : goal.returns-clause-content
+returns-clause-content g c k =
+    let p = c.self.inside.parts in
+    let a = c.put_piece-done in
+    let s : State = g.D.Disk.state p.store.disk in
+    let new : State = g.D.Disk.state a.new.self.disk in
+    let at = piece_place p.topology c.args.node c.args.piece in
+    subst (λ (v : Flushing). IfOk c.answer_of.result (λ done. content_beside a.new.self.place new ≡ written (content_beside v.place v.state) (piece_place v.topology c.args.node c.args.piece) c.args.bytes.now)) c.self.view_is
+    (if_answered a.result c.answer_of.result c.answer_of.ensures (content_beside a.new.self.place new ≡ written (content_beside p.store.place s) at c.args.bytes.now)
+    (on_ok a.result (PutBehind p.store.place at c.args.bytes.now s new) (content_beside a.new.self.place new ≡ written (content_beside p.store.place s) at c.args.bytes.now)
+    (λ P. ap (λ (q : Place). content_beside q new) a.ensures.place
+    ∙ put_content p.store.place at c.args.bytes.now s new (omega (arith, p.store.whole, g.met.D.Disk.whole k p.store.disk)) (omega (arith, inside g c, c.requires.whole)) P.called) (a.ensures.put k)))

@@ -1,0 +1,61 @@
+use Rattle.std.proofs.Common.{refl, sym, subst, ap, ◌∙◌}
+use Rattle.tp_model.specs.DiskHistory.{State}
+use Rattle.tp_shared.specs.Told.{IsFirst}
+use Rattle.tp_shared.specs.Pieces.{IsFrozenHead}
+use Rattle.tp_flush.specs.Known.{Known}
+use Rattle.tp_flush.specs.Flushing.{Copies, Flushing, Keeps, Looked}
+use Rattle.tp_model.specs.FrozenAs.{IsFrozenAs}
+use Rattle.tp_flush.proofs.Closed.{frozen_told, look_copies}
+use Rattle.tp_flush.proofs.Goings.{goes_looked, went_looked}
+use Rattle.tp_flush.proofs.Kept.{learn_keeps, learned_looked}
+use Rattle.tp_flush.proofs.flusher.Flusher.read_head.Given as given
+use Rattle.tp_flush.proofs.flusher.Flusher.read_head.Goals as goal
+
+pub invariant_of-self : goal.invariant_of-self
+invariant_of-self g c =
+    let p = c.self.inside.parts in
+    let now = c.frozen_head-found.new.key.value in
+    let s : State = g.D.Disk.state p.store.disk in (
+      c.frozen_head-found.ensures.name ∙ c.self.invariant.0,
+      c.self.invariant.1,
+      subst (λ (k : Known). IsFirst now k.world) (sym c.of-parts.ensures) (record { net = refl; base = refl; journal = refl }),
+      subst (λ (k : Known). Keeps g.D.Disk.keeps g.J.Naming.formatted g.J.Naming.before k s p.store.place p.store.broken p.raiser.at) (sym c.of-parts.ensures)
+          (learn_keeps g.D.Disk.keeps g.J.Naming.formatted g.J.Naming.before p.whole.known s p.store.place p.store.broken p.raiser.at c.self.invariant.3 p.key.value now c.self.invariant.2 c.frozen_head-found.ensures.since),
+      subst (λ (k : Known). Copies g.D.Disk.keeps k.world.net s p.store.place p.store.broken p.topology p.progress) (sym c.of-parts.ensures)
+          (look_copies g.D.Disk.keeps p.whole.known.world p.key.value now s p.store.place p.store.broken p.topology p.progress c.self.invariant.2 c.frozen_head-found.ensures.since c.self.invariant.4),
+    )
+
+abbrev flushing : (g : given.Over) (c : goal.After-parts-2-1 g) → Known → Flushing
+flushing g c k =
+    let p = c.self.inside.parts in
+    record {
+      world = k.world;
+      state = g.D.Disk.state p.store.disk;
+      size = g.D.Disk.size_of p.store.disk;
+      failures = g.D.Disk.failures_of p.store.disk;
+      opened = k.opened;
+      place = p.store.place;
+      topology = p.topology;
+      progress = p.progress;
+    }
+
+looked : (g : given.Over) (c : goal.After-parts-2-1 g) → Looked c.args.self.now (flushing g c c.of-parts.result.known)
+looked g c =
+    let p = c.self.inside.parts in
+    subst (λ (v : Flushing). Looked v (flushing g c c.of-parts.result.known)) c.self.view_is
+    (subst (λ (k : Known). Looked (flushing g c p.whole.known) (flushing g c k)) (sym c.of-parts.ensures)
+    (learned_looked p.whole.known.world p.key.value c.frozen_head-found.new.key.value c.self.invariant.2 c.frozen_head-found.ensures.since (g.D.Disk.state p.store.disk) (g.D.Disk.size_of p.store.disk) (g.D.Disk.failures_of p.store.disk) p.whole.known.opened p.store.place p.topology p.progress))
+
+pub returns-clause-went : goal.returns-clause-went
+returns-clause-went g c =
+    went_looked c.args.self.now (flushing g c c.of-parts.result.known) c.requires.rests (looked g c)
+    (ap (λ (k : Known). k.world.mark) c.of-parts.ensures ∙ ap (λ (v : Flushing). v.world.mark) c.self.view_is)
+    (λ i node F. subst (λ (k : Known). IsFrozenAs k.world.net i node) (sym c.of-parts.ensures)
+    (frozen_told c.self.inside.parts.whole.known.world c.self.inside.parts.key.value c.frozen_head-found.new.key.value c.self.invariant.2 c.frozen_head-found.ensures.since i node (subst (λ (v : Flushing). IsFrozenAs v.world.net i node) (sym c.self.view_is) F)))
+
+pub returns-clause-goes : goal.returns-clause-goes
+returns-clause-goes g c =
+    goes_looked g.D.Disk.keeps g.J.Naming.formatted g.J.Naming.before c.args.self.now (flushing g c c.of-parts.result.known) c.known.ensures.disk (looked g c)
+
+pub returns-clause-head : goal.returns-clause-head
+returns-clause-head g c found = subst (λ (k : Known). IsFrozenHead k.world.net c.args.node c.frozen_head-found.new.out) (sym c.of-parts.ensures) (c.frozen_head-found.ensures.head found)

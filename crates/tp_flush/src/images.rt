@@ -1,0 +1,180 @@
+//! The flusher copies the frozen images of a snapshot, one page a hold of the locks.
+
+ghost use Rattle.std.specs.Prelude.{◌≡◌, ◌+◌, ◌<◌, ◌≤◌, true, false, length, get_or, IfOk};
+ghost use Rattle.tp_model.specs.declared.limits.TheConstants.{MAX_NODES, MAX_PAGES};
+ghost use Rattle.tp_model.specs.WriteOrder.{Resting};
+ghost use Rattle.tp_area.specs.Tails.{content_beside};
+ghost use Rattle.tp_flush.specs.Copying.{IsPartOut};
+ghost use Rattle.tp_flush.specs.Progress.{is_out};
+ghost use Rattle.tp_flush.specs.Flushing.{Goes};
+ghost use Rattle.tp_flush.specs.Ends.{Tried};
+
+use crate::fault::FlushFault;
+use crate::flusher::Flusher;
+use crate::turn::FLUSHER;
+use std::sync::Wait;
+use tp_disk::Disk;
+use tp_model::limits::{IMAGE_HEAD_BYTES, MAX_PAGES, PAGE_BYTES};
+use tp_shared::gate::PAGE_COPIED;
+use tp_shared::{Gate, Look, Naming, Shared};
+
+impl<J: Naming, D: Disk> Flusher<J, D> {
+    /// How many pages a node has.
+    fn pages_of(&self, node: usize) -> usize
+        requires { node < length self.now.topology.pages }
+        ensures is { result ≡ get_or self.now.topology.pages node 0 }
+        ensures few { result ≤ MAX_PAGES }
+    {
+        self.parts.topology.pages()[node] as usize
+    }
+
+    /// How many nodes the device has images of.
+    fn nodes(&self) -> usize
+        ensures { result ≡ length self.now.topology.pages }
+    {
+        self.parts.topology.pages().len()
+    }
+
+    /// Whether the frozen image of `node` is out.
+    fn is_out(&self, node: usize) -> bool
+        requires { node < length self.now.topology.pages }
+        ensures value { result ≡ is_out self.now.progress node }
+        ensures few { node < MAX_NODES }
+    {
+        let _pages = self.parts.topology.pages();
+        self.parts.progress.is_out(node)
+    }
+
+    /// Copies the head of a frozen image. False where the node isn't frozen.
+    fn copy_head<R: Wait>(
+        &mut self,
+        rt: &R,
+        shared: &Shared<J>,
+        node: u8,
+    ) -> Result<bool, FlushFault>
+        requires rests { self.old.world.at ≡ Resting }
+        requires cleared { self.old.progress.cleared ≡ true }
+        requires node { node < length self.old.topology.pages }
+        requires there { node < length J.start.nodes }
+        requires free { is_out self.old.progress node ≡ false }
+        ensures tried { Tried result self.old self.new }
+        ensures same { self.new.progress ≡ self.old.progress }
+        ensures stands { D.keeps → IfOk result (λ found. found ≡ true → IsPartOut self.new.topology self.new.world.net (content_beside self.new.place self.new.state) node 0) }
+        ensures goes { Goes D.keeps J.formatted J.before self.old self.new }
+    {
+        let mut head = [0; IMAGE_HEAD_BYTES];
+        if !self.read_head(rt, shared, node, &mut head) {
+            return Ok(false);
+        }
+        self.put(node as usize, 0, &head)?;
+        Ok(true)
+    }
+
+    /// Copies a page of a frozen image. False where the node isn't frozen, or has no such page.
+    fn copy_page<R: Wait, G: Gate>(
+        &mut self,
+        rt: &R,
+        shared: &Shared<J>,
+        gate: &G,
+        node: u8,
+        page: usize,
+    ) -> Result<bool, FlushFault>
+        requires rests { self.old.world.at ≡ Resting }
+        requires cleared { self.old.progress.cleared ≡ true }
+        requires node { node < length self.old.topology.pages }
+        requires there { node < length J.start.nodes }
+        requires page { page < get_or self.old.topology.pages node 0 }
+        requires few { page < MAX_PAGES }
+        requires free { is_out self.old.progress node ≡ false }
+        requires stands { D.keeps → IsPartOut self.old.topology self.old.world.net (content_beside self.old.place self.old.state) node page }
+        ensures tried { Tried result self.old self.new }
+        ensures same { self.new.progress ≡ self.old.progress }
+        ensures stands { D.keeps → IfOk result (λ found. found ≡ true → IsPartOut self.new.topology self.new.world.net (content_beside self.new.place self.new.state) node (page + 1)) }
+        ensures goes { Goes D.keeps J.formatted J.before self.old self.new }
+    {
+        let mut bytes = [0; PAGE_BYTES];
+        if !self.read_page(rt, shared, node, page, &mut bytes) {
+            return Ok(false);
+        }
+        gate.at(FLUSHER, PAGE_COPIED);
+        self.put(node as usize, page + 1, &bytes)?;
+        Ok(true)
+    }
+
+    /// Copies a frozen image. False where the node isn't frozen.
+    fn copy_image<R: Wait, G: Gate>(
+        &mut self,
+        rt: &R,
+        shared: &Shared<J>,
+        gate: &G,
+        node: u8,
+    ) -> Result<bool, FlushFault>
+        requires rests { self.old.world.at ≡ Resting }
+        requires cleared { self.old.progress.cleared ≡ true }
+        requires node { node < length self.old.topology.pages }
+        requires there { node < length J.start.nodes }
+        requires free { is_out self.old.progress node ≡ false }
+        ensures tried { Tried result self.old self.new }
+        ensures stands { D.keeps → IfOk result (λ found. found ≡ true → IsPartOut self.new.topology self.new.world.net (content_beside self.new.place self.new.state) node (get_or self.new.topology.pages node 0)) }
+        ensures goes { Goes D.keeps J.formatted J.before self.old self.new }
+    {
+        if !self.copy_head(rt, shared, node)? {
+            return Ok(false);
+        }
+        for page in 0..self.pages_of(node as usize) {
+            if !self.copy_page(rt, shared, gate, node, page)? {
+                return Ok(false);
+            }
+        }
+        Ok(true)
+    }
+
+    /// Copies the frozen image of a node that has recorded and isn't out yet, and lets its frozen pages go behind the last one.
+    fn copy_node<R: Wait, G: Gate>(
+        &mut self,
+        rt: &R,
+        shared: &Shared<J>,
+        gate: &G,
+        look: &Look,
+        node: u8,
+    ) -> Result<(), FlushFault>
+        requires rests { self.old.world.at ≡ Resting }
+        requires cleared { self.old.progress.cleared ≡ true }
+        requires node { node < length self.old.topology.pages }
+        requires there { node < length J.start.nodes }
+        ensures tried { Tried result self.old self.new }
+        ensures goes { Goes D.keeps J.formatted J.before self.old self.new }
+    {
+        self.known();
+        if self.is_out(node as usize) || !look.recorded[node as usize] {
+            return Ok(());
+        }
+        if !self.copy_image(rt, shared, gate, node)? {
+            return Ok(());
+        }
+        shared.drop_frozen(rt, node);
+        self.put_out(node as usize);
+        Ok(())
+    }
+
+    /// Copies the frozen images of all that have recorded, without waiting for the others.
+    pub(crate) fn copy_images<R: Wait, G: Gate>(
+        &mut self,
+        rt: &R,
+        shared: &Shared<J>,
+        gate: &G,
+        look: &Look,
+    ) -> Result<(), FlushFault>
+        requires rests { self.old.world.at ≡ Resting }
+        requires cleared { self.old.progress.cleared ≡ true }
+        ensures tried { Tried result self.old self.new }
+        ensures goes { Goes D.keeps J.formatted J.before self.old self.new }
+    {
+        self.known();
+        let count = self.nodes().min(shared.nodes() as usize);
+        for node in 0..count {
+            self.copy_node(rt, shared, gate, look, node as u8)?;
+        }
+        Ok(())
+    }
+}

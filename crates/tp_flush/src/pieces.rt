@@ -1,0 +1,128 @@
+//! The flusher writes a frozen image into the other area, piece by piece.
+
+ghost use Rattle.std.specs.Prelude.{◌≡◌, ◌+◌, ◌<◌, ◌≤◌, true, false, length, get_or, IfOk};
+ghost use Rattle.tp_layout.specs.Pieces.{piece_length, piece_place};
+ghost use Rattle.tp_area.specs.Tails.{content_beside};
+ghost use Rattle.tp_model.specs.Disk.{written};
+ghost use Rattle.tp_shared.specs.Pieces.{IsFrozenHead, IsFrozenPage};
+ghost use Rattle.tp_flush.specs.Copying.{IsPartOut};
+ghost use Rattle.tp_flush.specs.Progress.{is_out};
+ghost use Rattle.tp_model.specs.declared.limits.TheConstants.{MAX_PAGES};
+ghost use Rattle.tp_model.specs.WriteOrder.{Resting};
+ghost use Rattle.tp_flush.specs.Flushing.{Goes};
+ghost use Rattle.tp_flush.specs.Ends.{Tried, Went};
+
+use crate::appending::answer_of;
+use crate::fault::FlushFault;
+use crate::flusher::{Flusher, Parts};
+use crate::whole::Whole;
+use std::sync::Wait;
+use tp_disk::Disk;
+use tp_model::limits::{IMAGE_HEAD_BYTES, PAGE_BYTES};
+use tp_shared::{Naming, Shared};
+
+impl<J: Naming, D: Disk> Flusher<J, D> {
+    /// Closes the other area's gate where it is open, once for a snapshot.
+    pub(crate) fn clear(&mut self) -> Result<(), FlushFault>
+        requires rests { self.old.world.at ≡ Resting }
+        ensures tried { Tried result self.old self.new }
+        ensures goes { Goes D.keeps J.formatted J.before self.old self.new }
+        ensures cleared { self.new.progress.cleared ≡ true }
+    {
+        self.known();
+        let Flusher { parts, .. } = self;
+        if parts.progress.cleared {
+            return Ok(());
+        }
+        let done = parts.store.clear_other();
+        parts.progress.cleared = true;
+        parts.whole = Whole::of(&*parts);
+        answer_of(done)
+    }
+
+    /// Puts a piece of the frozen image of `node` into the other area.
+    pub(crate) fn put(&mut self, node: usize, piece: usize, bytes: &[u8]) -> Result<(), FlushFault>
+        requires rests { self.old.world.at ≡ Resting }
+        requires cleared { self.old.progress.cleared ≡ true }
+        requires node { node < length self.old.topology.pages }
+        requires piece { piece ≤ get_or self.old.topology.pages node 0 }
+        requires few { piece ≤ MAX_PAGES }
+        requires whole { length bytes.now ≡ piece_length piece }
+        requires free { is_out self.old.progress node ≡ false }
+        ensures tried { Tried result self.old self.new }
+        ensures same { (self.new.world.net ≡ self.old.world.net) × (self.new.progress ≡ self.old.progress) }
+        ensures room { D.keeps → piece_place self.old.topology node piece + piece_length piece ≤ length (content_beside self.old.place self.old.state) }
+        ensures content { D.keeps → IfOk result (λ done. content_beside self.new.place self.new.state ≡ written (content_beside self.old.place self.old.state) (piece_place self.old.topology node piece) bytes.now) }
+        ensures goes { Goes D.keeps J.formatted J.before self.old self.new }
+    {
+        self.known();
+        let Flusher { parts, .. } = self;
+        let Parts {
+            store,
+            topology,
+            ..
+        } = parts;
+        let done = store.put_piece(topology, node, piece, bytes);
+        parts.whole = Whole::of(&*parts);
+        answer_of(done)
+    }
+
+    /// Reads the head of the frozen image of `node`. False where the node isn't frozen.
+    pub(crate) fn read_head<R: Wait>(
+        &mut self,
+        rt: &R,
+        shared: &Shared<J>,
+        node: u8,
+        out: &mut [u8; IMAGE_HEAD_BYTES],
+    ) -> bool
+        requires rests { self.old.world.at ≡ Resting }
+        requires there { node < length J.start.nodes }
+        ensures went { Went self.old self.new }
+        ensures same { (self.new.state ≡ self.old.state) × (self.new.progress ≡ self.old.progress) }
+        ensures head { result ≡ true → IsFrozenHead self.new.world.net node out.new }
+        ensures goes { Goes D.keeps J.formatted J.before self.old self.new }
+    {
+        self.known();
+        let Flusher { parts, .. } = self;
+        let found = shared.frozen_head(rt, &mut parts.key, node, out);
+        parts.whole = Whole::of(&*parts);
+        found
+    }
+
+    /// Reads a page of it. False where the node isn't frozen, or has no such page.
+    pub(crate) fn read_page<R: Wait>(
+        &mut self,
+        rt: &R,
+        shared: &Shared<J>,
+        node: u8,
+        page: usize,
+        out: &mut [u8; PAGE_BYTES],
+    ) -> bool
+        requires rests { self.old.world.at ≡ Resting }
+        requires there { node < length J.start.nodes }
+        ensures went { Went self.old self.new }
+        ensures same { (self.new.state ≡ self.old.state) × (self.new.progress ≡ self.old.progress) }
+        ensures page { result ≡ true → IsFrozenPage self.new.world.net node page out.new }
+        ensures goes { Goes D.keeps J.formatted J.before self.old self.new }
+    {
+        self.known();
+        let Flusher { parts, .. } = self;
+        let found = shared.frozen_page(rt, &mut parts.key, node, page, out);
+        parts.whole = Whole::of(&*parts);
+        found
+    }
+
+    /// All pieces of the frozen image of `node` are in the other area.
+    pub(crate) fn put_out(&mut self, node: usize)
+        requires rests { self.old.world.at ≡ Resting }
+        requires node { node < length self.old.topology.pages }
+        requires stands { D.keeps → IsPartOut self.old.topology self.old.world.net (content_beside self.old.place self.old.state) node (get_or self.old.topology.pages node 0) }
+        ensures went { Went self.old self.new }
+        ensures goes { Goes D.keeps J.formatted J.before self.old self.new }
+    {
+        self.known();
+        let Flusher { parts, .. } = self;
+        let _pages = parts.topology.pages();
+        parts.progress.put_out(node);
+    }
+}
