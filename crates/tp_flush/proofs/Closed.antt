@@ -1,33 +1,55 @@
 -- The other area stays closed, whatever is appended to the open one or put behind its gate.
-use Rattle.std.proofs.Common.{◌≡◌, ◌⊎◌, inl, inr, ℕ, ◌+◌, ◌*◌, ◌<◌, ◌≤◌, List, length, refl, sym, ap, subst, ◌∙◌, Bool, true, false, Option, Result, Ok, Err, OnOk, arith}
-use Rattle.std.specs.Prelude.{not}
-use Rattle.std.proofs.lemmas.Bool.{ltb-true}
+use Rattle.std.proofs.Common.{◌≡◌, ◌≢◌, ◌⊎◌, inl, inr, ℕ, zero, suc, ◌+◌, ◌-◌, ◌*◌, ◌<◌, ◌≤◌, List, [], ◌∷◌, length, get_or, refl, sym, ap, subst, ◌∙◌, Bool, true, false, Option, Some, None, Result, Ok, Err, OnOk, arith, get_or-set_other}
+use Rattle.std.specs.Prelude.{not, if◌then◌else◌, replicate}
+use Rattle.std.proofs.lemmas.Bool.Decides.{eqb_tells}
+use Rattle.std.specs.List.{AllByRecursion}
+use Rattle.std.proofs.lemmas.Bool.{ltb-true, true≢false}
 use Rattle.tp_model.specs.declared.entry.Entry.{Entry}
-use Rattle.tp_model.specs.declared.limits.TheConstants.{AREA_HEAD_BYTES, HEAD_BYTES}
-use Rattle.tp_model.specs.Device.{area_start, is_open}
+use Rattle.tp_model.specs.declared.limits.TheConstants.{AREA_HEAD_BYTES, HEAD_BYTES, MAX_NODES}
+use Rattle.tp_model.specs.Bytes.{u8_at}
+use Rattle.tp_model.specs.NodeState.{NodeState}
+use Rattle.tp_model.specs.Node.{t414}
+use Rattle.tp_model.specs.Snapshot.{MarkedNetwork}
+use Rattle.tp_model.specs.FrozenAs.{IsFrozenAs}
+use Rattle.tp_model.specs.Acts.{Act, acted, happens}
+use Rattle.tp_model.specs.Runs.{World, is_trim}
+use Rattle.tp_model.specs.Areas.{gate_closed}
+use Rattle.tp_model.specs.Device.{area_start, content_of, is_open}
 use Rattle.tp_model.specs.Disk.{Moment, SameOutside}
 use Rattle.tp_model.specs.DiskHistory.{State}
-use Rattle.tp_model.specs.StoreCalls.{Called, group_calls}
+use Rattle.tp_model.specs.StoreCalls.{Called, clear_calls, group_calls, put_calls}
 use Rattle.tp_model.specs.Group.{group_length}
 use Rattle.tp_model.specs.Journal.{is_roomy}
 use Rattle.tp_model.specs.Topology.{Topology}
+use Rattle.tp_layout.specs.Pieces.{piece_length, piece_place}
 use Rattle.tp_area.specs.declared.place.Place.{Place}
 use Rattle.tp_area.specs.declared.fault.StoreFault.{StoreFault}
 use Rattle.tp_area.specs.Appended.{Appended, body_of}
-use Rattle.tp_area.specs.Other.{OtherIsClosed, other_gate}
+use Rattle.tp_area.specs.Other.{OtherIsClosed, if_open, other_gate}
 use Rattle.tp_area.specs.Places.{behind, has_room}
+use Rattle.tp_area.specs.Tails.{content_beside}
 use Rattle.tp_area.proofs.Behind.{CanBeAppended, length-body}
 use Rattle.tp_area.proofs.Frames.{gate_same}
+use Rattle.tp_shared.specs.declared.told.Told.{Told}
+use Rattle.tp_shared.specs.Told.{IsFirst, Since}
+use Rattle.tp_law_network.proofs.Partial.{bind_some}
+use Rattle.tp_law_device.proofs.Contents.{length-content_of}
+use Rattle.tp_law_runs.proofs.Moments.{written_same_outside}
+use Rattle.tp_law_tail.proofs.Frozen.{frozen_as_stays}
 use Rattle.tp_flush.specs.declared.progress.Progress.{Progress}
+use Rattle.tp_flush.specs.Progress.{is_out, not_begun, with_out}
+use Rattle.tp_flush.specs.Copying.{IsPartOut}
 use Rattle.tp_flush.specs.Flushing.{Copies}
-use Rattle.tp_flush.proofs.Appends.{Answered}
-use Rattle.tp_flush.proofs.Puts.{Answered as PutAnswered}
+use Rattle.tp_flush.proofs.Appends.{Answered, after_group}
+use Rattle.tp_flush.proofs.Beside.{areas_fit, content_kept, put_content}
+use Rattle.tp_flush.proofs.Puts.{Answered as PutAnswered, piece_inside}
+use Rattle.tp_flush.proofs.Standing.{other_kept}
 
 -- ## A group
 
--- it lies apart from the other area's gate
+-- it lies apart from the other area
 apart : (area : ℕ) (second : Bool) (end size : ℕ) → area_start area second + AREA_HEAD_BYTES ≤ end → end + size < area_start area second + area
-    → (area_start area (not second) < end) ⊎ (end + (1 + size) ≤ area_start area (not second))
+    → (area_start area (not second) + area ≤ end) ⊎ (end + (1 + size) ≤ area_start area (not second))
 apart area false end size low high = inr (omega (arith, high))
 apart area true end size low high = inl (omega (arith, low))
 
@@ -50,29 +72,54 @@ module _ (place : Place) (s new : State) (es : List Entry) (can : CanBeAppended 
       subst (SameOutside place.end (1 + length (body_of place.next es)) s.now.bytes) (sym (ap (λ (m : Moment). m.bytes) called.now))
       (gate_same s.now.bytes place.end (body_of place.next es) (omega (arith, fit, size)))
 
-  pub gate_apart : (other_gate place < place.end) ⊎ (place.end + (1 + length (body_of place.next es)) ≤ other_gate place)
-  gate_apart =
-      subst (λ n. (other_gate place < place.end) ⊎ (place.end + (1 + n) ≤ other_gate place)) (sym size)
+  group_apart : (other_gate place + place.area ≤ place.end) ⊎ (place.end + (1 + length (body_of place.next es)) ≤ other_gate place)
+  group_apart =
+      subst (λ n. (other_gate place + place.area ≤ place.end) ⊎ (place.end + (1 + n) ≤ other_gate place)) (sym size)
       (apart place.area place.second place.end (group_length (length es)) low high)
 
+  some : 1 ≤ place.area
+  some = omega (arith, low, high)
+
   pub closed_behind : OtherIsClosed place s → OtherIsClosed (behind place (length es)) new
-  closed_behind shut = ap is_open (group_outside.same (other_gate place) gate_apart) ∙ shut
+  closed_behind shut = ap is_open (group_outside.same (other_gate place) (side group_apart)) ∙ shut
+    where
+      side : (other_gate place + place.area ≤ place.end) ⊎ (place.end + (1 + length (body_of place.next es)) ≤ other_gate place)
+          → (other_gate place < place.end) ⊎ (place.end + (1 + length (body_of place.next es)) ≤ other_gate place)
+      side (inl front) = inl (omega (arith, front, some))
+      side (inr from) = inr from
+
+  pub content_behind : content_beside place new ≡ content_beside place s
+  content_behind = content_kept place place.end (1 + length (body_of place.next es)) s new group_outside (side group_apart) some
+    where
+      side : (other_gate place + place.area ≤ place.end) ⊎ (place.end + (1 + length (body_of place.next es)) ≤ other_gate place)
+          → (place.end + (1 + length (body_of place.next es)) ≤ other_gate place + 1) ⊎ (other_gate place + place.area ≤ place.end)
+      side (inl front) = inr front
+      side (inr from) = inl (omega (arith, from))
 
 -- what the flusher keeps for a snapshot's copy, behind a group that was appended or failed
-pub append_copies : (keeps : Type 0) (s new : State) (place to : Place) (t : Topology) (p : Progress) (es : List Entry) (r : Result Unit StoreFault) (broke : Bool) (filled : Option Place) (failures_old failures_new : ℕ)
-    → Copies keeps s place false t p → Answered r es place to broke filled failures_old failures_new → CanBeAppended place.next es → has_room place (length es) ≡ true
+pub append_copies : (keeps : Type 0) (net : MarkedNetwork NodeState) (s new : State) (place to : Place) (t : Topology) (p : Progress) (es : List Entry) (r : Result Unit StoreFault) (broke : Bool) (filled : Option Place) (failures_old failures_new : ℕ)
+    → Copies keeps net s place false t p → Answered r es place to broke filled failures_old failures_new → CanBeAppended place.next es → has_room place (length es) ≡ true
     → area_start place.area place.second + AREA_HEAD_BYTES ≤ place.end → (keeps → HEAD_BYTES + 2 * place.area ≤ length s.now.bytes) → (keeps → OnOk r (Appended es place s new))
-    → Copies keeps new to broke t p
-append_copies keeps s new place to t p es (Ok x) broke filled failures_old failures_new C A can fits low whole did = record {
+    → Copies keeps net new to broke t p
+append_copies keeps net s new place to t p es (Ok x) broke filled failures_old failures_new C A can fits low whole did = record {
   roomy = ap (λ (q : Place). is_roomy t q.area) A.done.0 ∙ C.roomy;
   closed = λ k unbroken cleared.
       subst (λ (q : Place). OtherIsClosed q new) (sym A.done.0)
       (let D = did k in closed_behind place s new es can fits low (whole k) D.called (C.closed k refl cleared));
+  images = λ k unbroken i there out.
+      let D = did k in
+      subst (λ (q : Place). IsPartOut t net (content_beside q new) i (get_or t.pages i 0)) (sym A.done.0)
+      (subst (λ xs. IsPartOut t net xs i (get_or t.pages i 0)) (sym (content_behind place s new es can fits low (whole k) D.called)) (C.images k refl i there out));
 }
-append_copies keeps s new place to t p es (Err e) broke filled failures_old failures_new C A can fits low whole did = record {
+append_copies keeps net s new place to t p es (Err e) broke filled failures_old failures_new C A can fits low whole did = record {
   roomy = ap (λ (q : Place). is_roomy t q.area) A.failed.1 ∙ C.roomy;
   closed = λ k unbroken cleared. let no = A.failed.2 in cc;
+  images = λ k unbroken. let no = A.failed.2 in cc;
 }
+
+pub group_net : (broke : Bool) (next : ℕ) (w : World NodeState) (disk : Moment) → (after_group broke next w disk).net ≡ w.net
+group_net true next w disk = refl
+group_net false next w disk = refl
 
 -- ## Bytes behind the other area's gate
 
@@ -80,9 +127,86 @@ closed_when : (r : Result Unit StoreFault) (broke : Bool) (failures_old failures
 closed_when (Ok x) broke failures_old failures_new A X is unbroken = is
 closed_when (Err e) broke failures_old failures_new A X is unbroken = let no = A.failed.0 in cc
 
-pub put_copies : (keeps : Type 0) (new : State) (place to : Place) (t : Topology) (p : Progress) (r : Result Unit StoreFault) (broke : Bool) (failures_old failures_new : ℕ)
-    → is_roomy t place.area ≡ true → PutAnswered r broke failures_old failures_new → to ≡ place → (keeps → OnOk r (OtherIsClosed place new)) → Copies keeps new to broke t p
-put_copies keeps new place to t p r broke failures_old failures_new roomy A same shut = record {
+pub put_copies : (keeps : Type 0) (net : MarkedNetwork NodeState) (new : State) (place to : Place) (t : Topology) (p : Progress) (r : Result Unit StoreFault) (broke : Bool) (failures_old failures_new : ℕ)
+    → is_roomy t place.area ≡ true → PutAnswered r broke failures_old failures_new → to ≡ place → (keeps → OnOk r (OtherIsClosed place new))
+    → (keeps → OnOk r ((i : ℕ) → i < length t.pages → is_out p i ≡ true → IsPartOut t net (content_beside place new) i (get_or t.pages i 0))) → Copies keeps net new to broke t p
+put_copies keeps net new place to t p r broke failures_old failures_new roomy A same shut images = record {
   roomy = ap (λ (q : Place). is_roomy t q.area) same ∙ roomy;
   closed = λ k unbroken cleared. subst (λ (q : Place). OtherIsClosed q new) (sym same) (closed_when r broke failures_old failures_new A (OtherIsClosed place new) (shut k) unbroken);
+  images = λ k unbroken i there out.
+      subst (λ (q : Place). IsPartOut t net (content_beside q new) i (get_or t.pages i 0)) (sym same)
+      (closed_when r broke failures_old failures_new A ((i : ℕ) → i < length t.pages → is_out p i ≡ true → IsPartOut t net (content_beside place new) i (get_or t.pages i 0)) (images k) unbroken i there out);
 }
+
+-- the other area's gate is closed, or was closed: its content stays
+pub clear_content : (place : Place) (s new : State) → HEAD_BYTES + 2 * place.area ≤ length s.now.bytes → 1 ≤ place.area
+    → Called (clear_calls (if_open (other_gate place) s.now.bytes)) s new → content_beside place new ≡ content_beside place s
+clear_content place s new whole some called = go (is_open (u8_at s.now.bytes (other_gate place))) called
+  where
+    go : (found : Bool) → Called (clear_calls (if found then Some (other_gate place) else None)) s new → content_beside place new ≡ content_beside place s
+    go false did = ap (λ (m : Moment). content_of place.area (not place.second) m.bytes) did.now
+    go true did =
+        let room = areas_fit place.area (length s.now.bytes) (not place.second) whole in
+        content_kept place (other_gate place) 1 s new
+        (subst (SameOutside (other_gate place) 1 s.now.bytes) (sym (ap (λ (m : Moment). m.bytes) did.now)) (written_same_outside s.now.bytes (other_gate place) gate_closed (omega (arith, room, some))))
+        (inl (omega arith)) some
+
+-- a piece that was put leaves the images of other nodes
+pub piece_images : (t : Topology) (net : MarkedNetwork NodeState) (place : Place) (s new : State) (node piece : ℕ) (bytes : List ℕ) (p : Progress) → HEAD_BYTES + 2 * place.area ≤ length s.now.bytes
+    → is_roomy t place.area ≡ true → node < length t.pages → piece ≤ get_or t.pages node 0 → length bytes ≡ piece_length piece → is_out p node ≡ false
+    → Called (put_calls ((other_gate place + 1 + piece_place t node piece, bytes) ∷ [])) s new
+    → ((i : ℕ) → i < length t.pages → is_out p i ≡ true → IsPartOut t net (content_beside place s) i (get_or t.pages i 0))
+    → (i : ℕ) → i < length t.pages → is_out p i ≡ true → IsPartOut t net (content_beside place new) i (get_or t.pages i 0)
+piece_images t net place s new node piece bytes p whole roomy there low long free called images i i_there out =
+    let inside : piece_place t node piece + piece_length piece < place.area = piece_inside t place.area node piece roomy there low in
+    let size : length (content_beside place s) ≡ place.area - 1 = length-content_of place.area (not place.second) s.now.bytes (areas_fit place.area (length s.now.bytes) (not place.second) whole) in
+    let other : i ≢ node = λ same. true≢false (sym out ∙ ap (is_out p) same ∙ free) in
+    subst (λ xs. IsPartOut t net xs i (get_or t.pages i 0)) (sym (put_content place (piece_place t node piece) bytes s new whole (omega (arith, inside, long)) called))
+    (other_kept t net (content_beside place s) node piece bytes long (omega (arith, inside, size)) i other i_there there low (images i i_there out))
+
+-- ## Looks at the book
+
+pub frozen_since : (acts : List Act) (w v : MarkedNetwork NodeState) → AllByRecursion (λ act. is_trim act ≡ false) acts → acted t414 w acts ≡ Some v → (i : ℕ) (node : NodeState) → IsFrozenAs w i node → IsFrozenAs v i node
+unfolding acted
+frozen_since [] w v none e i node F = let same : w ≡ v = cc in subst (λ n. IsFrozenAs n i node) same F
+frozen_since (act ∷ acts) w v none e i node F =
+    let B = bind_some (happens t414 w act) (λ u. acted t414 u acts) v e in
+    frozen_since acts B.0 v none.1 B.2 i node (frozen_as_stays t414 w B.0 act i node none.0 B.1 F)
+
+pub frozen_told : (w : World NodeState) (old now : Told) → IsFirst old w → Since old now → (i : ℕ) (node : NodeState) → IsFrozenAs w.net i node → IsFrozenAs now.net i node
+frozen_told w old now first since i node F = frozen_since since.acts old.net now.net since.none since.net i node (subst (λ n. IsFrozenAs n i node) (sym first.net) F)
+
+pub look_copies : (keeps : Type 0) (w : World NodeState) (old now : Told) (s : State) (place : Place) (broken : Bool) (t : Topology) (p : Progress) → IsFirst old w → Since old now
+    → Copies keeps w.net s place broken t p → Copies keeps now.net s place broken t p
+look_copies keeps w old now s place broken t p first since C = record {
+  roomy = C.roomy;
+  closed = C.closed;
+  images = λ k unbroken i there out.
+      let P = C.images k unbroken i there out in
+      record { node = P.node; frozen = frozen_told w old now first since i P.node P.frozen; long = P.long; head = P.head; pages = P.pages };
+}
+
+-- ## Which images are out
+
+none_set : (n i : ℕ) → get_or (replicate n false) i false ≡ false
+none_set zero i = refl
+none_set (suc n) zero = refl
+none_set (suc n) (suc i) = none_set n i
+
+pub none_out : (p : Progress) → p ≡ not_begun → (i : ℕ) → is_out p i ≡ false
+none_out p is i = ap (λ q. is_out q i) is ∙ none_set MAX_NODES i
+
+pub out_more : (keeps : Type 0) (net : MarkedNetwork NodeState) (s : State) (place : Place) (broken : Bool) (t : Topology) (p : Progress) (node : ℕ) → Copies keeps net s place broken t p
+    → (keeps → IsPartOut t net (content_beside place s) node (get_or t.pages node 0)) → Copies keeps net s place broken t (with_out p node)
+out_more keeps net s place broken t p node C stands = record {
+  roomy = C.roomy;
+  closed = C.closed;
+  images = λ k unbroken i there out. elim (eqb_tells i node) [
+    | inl same ↦ subst (λ (j : ℕ). IsPartOut t net (content_beside place s) j (get_or t.pages j 0)) (sym same.1) (stands k)
+    | inr other ↦ C.images k unbroken i there (sym (get_or-set_other p.out node i true false other.1) ∙ out)
+  ];
+}
+
+-- a place in the content of the other area
+pub piece_room : (place : Place) (s : State) (end : ℕ) → HEAD_BYTES + 2 * place.area ≤ length s.now.bytes → end < place.area → end ≤ length (content_beside place s)
+piece_room place s end whole inside = omega (arith, inside, length-content_of place.area (not place.second) s.now.bytes (areas_fit place.area (length s.now.bytes) (not place.second) whole))

@@ -1,6 +1,7 @@
 -- Parts of a turn, one behind the other.
-use Rattle.std.proofs.Common.{◌≡◌, ◌≤◌, ◌+◌, inr, sym, subst, refl, ◌∙◌, ap, Result, Ok, Err, arith}
+use Rattle.std.proofs.Common.{◌≡◌, ℕ, ◌≤◌, ◌+◌, inr, sym, subst, refl, ◌∙◌, ap, Result, Ok, Err, arith}
 use Rattle.tp_model.specs.NodeState.{NodeState}
+use Rattle.tp_model.specs.FrozenAs.{IsFrozenAs}
 use Rattle.tp_model.specs.Network.{Network}
 use Rattle.tp_model.specs.Node.{t414}
 use Rattle.tp_model.specs.DiskHistory.{State}
@@ -46,7 +47,7 @@ module _ (keeps : Type 0) (start : Network NodeState) (before : World NodeState)
 -- ## How they ended
 
 pub went_still : (a : Flushing) → a.world.at ≡ Resting → Went a a
-went_still a rests = record { waits = waits_still a rests; stored = refl; place = refl; cleared = λ h. h }
+went_still a rests = record { waits = waits_still a rests; stored = refl; place = refl; cleared = λ h. h; frozen = λ i node F. F }
 
 pub went_then : (a b c : Flushing) → Went a b → Went b c → Went a c
 went_then a b c first then = record {
@@ -54,6 +55,7 @@ went_then a b c first then = record {
   stored = then.stored ∙ first.stored;
   place = then.place ∙ first.place;
   cleared = λ h. then.cleared (first.cleared h);
+  frozen = λ i node F. then.frozen i node (first.frozen i node F);
 }
 
 -- a fault after what went on
@@ -103,10 +105,11 @@ raised_behind a b c first L up reaches = record {
 pub rested_then : (a b c : Flushing) → Rested a b → Rested b c → Rested a c
 rested_then a b c first then = record { began = first.began; rests = then.rests; failures = then.failures ∙ first.failures }
 
-pub went_looked : (a b : Flushing) → a.world.at ≡ Resting → Looked a b → b.world.mark ≡ a.world.mark → Went a b
-went_looked a b rests L mark = record {
+pub went_looked : (a b : Flushing) → a.world.at ≡ Resting → Looked a b → b.world.mark ≡ a.world.mark → ((i : ℕ) (node : NodeState) → IsFrozenAs a.world.net i node → IsFrozenAs b.world.net i node) → Went a b
+went_looked a b rests L mark frozen = record {
   waits = looked_waits a b rests L mark;
   stored = L.stored;
   place = L.place;
   cleared = λ h. ap (λ (p : Progress). p.cleared) L.progress ∙ h;
+  frozen = frozen;
 }

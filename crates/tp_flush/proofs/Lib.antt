@@ -7,4 +7,6 @@ mod Endings
 mod Goings
 mod Puts
 mod Closed
+mod Standing
+mod Beside
 pub mod Settling

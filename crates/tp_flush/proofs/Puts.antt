@@ -1,20 +1,23 @@
 -- What is written into the other area while the flusher rests is a piece of a run, whether it was done or a call of the device
 -- failed.
-use Rattle.std.proofs.Common.{◌≡◌, ℕ, zero, suc, ◌+◌, ◌-◌, ◌*◌, ◌<◌, ◌≤◌, refl, sym, ap, subst, ◌∙◌, Bool, true, false, Option, None, Some, Result, Ok, Err, OnOk, OnErr, IfOk, MatchResult, List, [], ◌∷◌, length, take, get_or, arith}
-use Rattle.std.specs.Prelude.{if◌then◌else◌, sum_by}
+use Rattle.std.proofs.Common.{◌≡◌, ℕ, zero, suc, ◌+◌, ◌-◌, ◌*◌, ◌<◌, ◌≤◌, refl, sym, ap, subst, ◌∙◌, Bool, true, false, Option, None, Some, Result, Ok, Err, OnOk, OnErr, MatchResult, List, [], ◌∷◌, length, take, get_or, arith}
+use Rattle.std.specs.Prelude.{if◌then◌else◌, sum_by, nat_le, IfOk}
+use Rattle.std.specs.List.{list_all}
 use Rattle.std.proofs.Math.Dec.{eqb-suc-zero}
-use Rattle.std.proofs.lemmas.Bool.{leb-true, lt-ltb}
+use Rattle.std.proofs.lemmas.Bool.{and_parts, leb-true, lt-ltb}
+use Rattle.tp_law_device.proofs.Wires.{has_shape}
 use Rattle.std.proofs.lemmas.List.Sums.{sum_by-cons}
 use Rattle.std.specs.Option.{option_map}
 use Rattle.std.specs.Result.{result_ok}
-use Rattle.tp_model.specs.declared.limits.TheConstants.{IMAGE_HEAD_BYTES, PAGE_BYTES}
+use Rattle.tp_model.specs.declared.limits.TheConstants.{IMAGE_HEAD_BYTES, MAX_PAGES, MIN_PAGES, PAGE_BYTES}
 use Rattle.tp_model.specs.NodeState.{NodeState}
 use Rattle.tp_model.specs.Node.{t414, t414_ends}
 use Rattle.tp_model.specs.Network.{Network}
 use Rattle.tp_model.specs.Disk.{Moment, Call, IsWithin}
 use Rattle.tp_model.specs.DiskHistory.{State}
 use Rattle.tp_model.specs.StoreCalls.{Broke, Called, clear_calls, put_calls}
-use Rattle.tp_model.specs.WriteOrder.{Resting, Broken}
+use Rattle.tp_model.specs.FrozenAs.{IsFrozenAs}
+use Rattle.tp_model.specs.WriteOrder.{Resting}
 use Rattle.tp_model.specs.Opening.{Opened, held_of, verdict}
 use Rattle.tp_model.specs.DeviceAreas.{device_areas}
 use Rattle.tp_model.specs.Runs.{World}
@@ -24,7 +27,7 @@ use Rattle.tp_area.specs.declared.fault.StoreFault.{StoreFault}
 use Rattle.tp_area.specs.declared.fault.StoreFault.TheVariants.{AreaFull, DeviceFailed as StoreFailed}
 use Rattle.tp_area.specs.Other.{if_open, other_gate, put_refusal}
 use Rattle.tp_layout.specs.Pieces.{piece_length, piece_place, place_in_image}
-use Rattle.tp_model.specs.Topology.{Topology}
+use Rattle.tp_model.specs.Topology.{Topology, is_page_count, is_topology}
 use Rattle.tp_model.specs.Journal.{image_length, is_roomy}
 use Rattle.tp_shared.specs.declared.told.Told.{Told}
 use Rattle.tp_shared.specs.Told.{IsFirst}
@@ -35,7 +38,7 @@ use Rattle.tp_flush.specs.declared.fault.FlushFault.{FlushFault}
 use Rattle.tp_flush.specs.declared.fault.FlushFault.TheVariants.{DeviceFailed}
 use Rattle.tp_flush.specs.Known.{Known, Began}
 use Rattle.tp_flush.specs.Flushing.{Flushing, Keeps}
-use Rattle.tp_flush.specs.Ends.{Failed, Tried, Waits, Went}
+use Rattle.tp_flush.specs.Ends.{Failed, Tried, Went}
 use Rattle.tp_flush.proofs.Appends.{failed_at}
 use Rattle.tp_flush.proofs.Kept.{reached_then}
 
@@ -111,6 +114,11 @@ pub told_put : (told : Told) (broke : Bool) (w : World NodeState) (disk : Moment
 told_put told true w disk F = record { net = F.net; base = F.base; journal = F.journal }
 told_put told false w disk F = record { net = F.net; base = F.base; journal = F.journal }
 
+-- the book is as it was
+pub put_net : (broke : Bool) (w : World NodeState) (disk : Moment) → (after_put broke w disk).net ≡ w.net
+put_net true w disk = refl
+put_net false w disk = refl
+
 -- ## How it ended
 
 pub put_tried : (r : Result Unit StoreFault) (q : Result Unit FlushFault) → MatchResult r (λ unit. q ≡ Ok unit) (λ fault. q ≡ Err DeviceFailed)
@@ -127,6 +135,7 @@ put_tried (Ok unit) q is broke a b disk A rests after place cleared =
       stored = ap (λ (w : World NodeState). w.stored) world;
       place = place;
       cleared = cleared;
+      frozen = λ i node F. subst (λ (w : World NodeState). IsFrozenAs w.net i node) (sym world) F;
     } in
     subst (λ (x : Result Unit FlushFault). Tried x a b) (sym is) went
 put_tried (Err fault) q is broke a b disk A rests after place cleared =
@@ -184,3 +193,19 @@ pub piece_fits : (broken : Bool) (place : Place) (t : Topology) (node piece : �
 piece_fits broken place t node piece unbroken roomy there low =
     ap (λ b. put_refusal b place (piece_place t node piece + piece_length piece)) unbroken
     ∙ ap (λ b. if b then None else Some AreaFull) (lt-ltb (piece_place t node piece + piece_length piece) place.area (piece_inside t place.area node piece roomy there low))
+
+pub if_answered : (r : Result Unit StoreFault) (q : Result Unit FlushFault) → MatchResult r (λ unit. q ≡ Ok unit) (λ fault. q ≡ Err DeviceFailed) → (P : Type 0) → OnOk r P → IfOk q (λ done. P)
+if_answered (Ok x) q is P given = subst (λ (y : Result Unit FlushFault). IfOk y (λ done. P)) (sym is) given
+if_answered (Err e) q is P given = subst (λ (y : Result Unit FlushFault). IfOk y (λ done. P)) (sym is) tt
+
+-- ## A topology's pages
+
+few_in : (pages : List ℕ) → list_all is_page_count pages ≡ true → (i : ℕ) → get_or pages i 0 ≤ MAX_PAGES
+few_in [] h i = omega arith
+few_in (n ∷ ns) h zero =
+    let both = and_parts (is_page_count n) (list_all is_page_count ns) h in
+    leb-true n MAX_PAGES (and_parts (nat_le MIN_PAGES n) (nat_le n MAX_PAGES) both.0).1
+few_in (n ∷ ns) h (suc i) = few_in ns (and_parts (is_page_count n) (list_all is_page_count ns) h).1 i
+
+pub page_few : (t : Topology) → is_topology t ≡ true → (i : ℕ) → get_or t.pages i 0 ≤ MAX_PAGES
+page_few t rules i = few_in t.pages (has_shape t rules).pages i

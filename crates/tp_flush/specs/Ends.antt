@@ -1,5 +1,7 @@
 -- How a turn of the flusher ended.
 use Rattle.std.specs.Prelude.{◌≡◌, ◌≤◌, ◌⊎◌, ℕ, ◌+◌, Bool, true, if◌then◌else◌, drop, Result, Ok, Err}
+use Rattle.tp_model.specs.NodeState.{NodeState}
+use Rattle.tp_model.specs.FrozenAs.{IsFrozenAs}
 use Rattle.tp_model.specs.WriteOrder.{Resting, Broken}
 use Rattle.tp_flush.specs.declared.fault.FlushFault.{FlushFault}
 use Rattle.tp_flush.specs.declared.fault.FlushFault.TheVariants.{AreaFull, DeviceFailed, Memory, StoreBroken}
@@ -55,12 +57,14 @@ Ended (Err AreaFull) old new = Waits old new
 abbrev pub generation_after : Bool → Flushing → Flushing → Type 0
 generation_after switched old new = new.place.generation ≡ old.place.generation + (if switched then 1 else 0)
 
--- Nothing was stored, the next group goes where it went, and the other area stays closed where it was.
+-- Nothing was stored, the next group goes where it went, the other area stays closed where it was, and nodes stay frozen as they
+-- were.
 pub record Went (old new : Flushing) : Type 0 where
   pub waits : Waits old new
   pub stored : new.world.stored ≡ old.world.stored
   pub place : new.place ≡ old.place
   pub cleared : old.progress.cleared ≡ true → new.progress.cleared ≡ true
+  pub frozen : (i : ℕ) (node : NodeState) → IsFrozenAs old.world.net i node → IsFrozenAs new.world.net i node
 
 -- That was done, or a call of the device failed.
 abbrev pub Tried : {A : Type 0} → Result A FlushFault → Flushing → Flushing → Type 0

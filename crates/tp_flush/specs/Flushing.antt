@@ -1,5 +1,5 @@
 -- What contracts see of the flusher, what it keeps, and what it did.
-use Rattle.std.specs.Prelude.{◌≡◌, ◌<◌, ◌≤◌, ℕ, ◌+◌, Bool, true, false, if◌then◌else◌, List, length}
+use Rattle.std.specs.Prelude.{◌≡◌, ◌<◌, ◌≤◌, ℕ, ◌+◌, Bool, true, false, if◌then◌else◌, List, length, get_or}
 use Rattle.std.specs.List.{AllByRecursion}
 use Rattle.tp_model.specs.declared.entry.Entry.{Entry}
 use Rattle.tp_model.specs.declared.limits.TheConstants.{NUMBER_LIMIT}
@@ -16,6 +16,10 @@ use Rattle.tp_model.specs.Runs.{World}
 use Rattle.tp_model.specs.Walks.{Leads, Walks}
 use Rattle.tp_area.specs.declared.place.Place.{Place}
 use Rattle.tp_area.specs.Other.{OtherIsClosed}
+use Rattle.tp_area.specs.Tails.{content_beside}
+use Rattle.tp_model.specs.Snapshot.{MarkedNetwork}
+use Rattle.tp_flush.specs.Copying.{IsPartOut}
+use Rattle.tp_flush.specs.Progress.{is_out}
 use Rattle.tp_flush.specs.declared.progress.Progress.{Progress}
 use Rattle.tp_flush.specs.Known.{Known, Began, Reached}
 
@@ -47,11 +51,12 @@ pub record Keeps (keeps : Type 0) (start : Network NodeState) (before : World No
   pub disk : keeps → known.world.disk ≡ state.now
   pub reached : keeps → Began start before known.opened → Reached start known.world
 
--- What it keeps for the copy of a snapshot: its areas have room for any cut of its topology, and the other area's gate is closed
--- once that was done for the snapshot.
-pub record Copies (keeps : Type 0) (state : State) (place : Place) (broken : Bool) (t : Topology) (progress : Progress) : Type 0 where
+-- What it keeps for the copy of a snapshot: its areas have room for any cut of its topology; the other area's gate is closed once
+-- that was done for the snapshot; and each frozen image that is out stands there.
+pub record Copies (keeps : Type 0) (net : MarkedNetwork NodeState) (state : State) (place : Place) (broken : Bool) (t : Topology) (progress : Progress) : Type 0 where
   pub roomy : is_roomy t place.area ≡ true
   pub closed : keeps → broken ≡ false → progress.cleared ≡ true → OtherIsClosed place state
+  pub images : keeps → broken ≡ false → (i : ℕ) → i < length t.pages → is_out progress i ≡ true → IsPartOut t net (content_beside place state) i (get_or t.pages i 0)
 
 -- Each moment of the device since is that of a world on the way of one run.
 abbrev pub Walked : Flushing → Flushing → Type 0

@@ -1,4 +1,5 @@
 pub mod Progress
+pub mod Copying
 pub mod Known
 pub mod Flushing
 pub mod Ends

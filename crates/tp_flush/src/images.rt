@@ -1,8 +1,11 @@
 //! The flusher copies the frozen images of a snapshot, one page a hold of the locks.
 
-ghost use Rattle.std.specs.Prelude.{◌≡◌, ◌<◌, ◌≤◌, true, length, get_or};
+ghost use Rattle.std.specs.Prelude.{◌≡◌, ◌+◌, ◌<◌, ◌≤◌, true, false, length, get_or, IfOk};
 ghost use Rattle.tp_model.specs.declared.limits.TheConstants.{MAX_NODES, MAX_PAGES};
 ghost use Rattle.tp_model.specs.WriteOrder.{Resting};
+ghost use Rattle.tp_area.specs.Tails.{content_beside};
+ghost use Rattle.tp_flush.specs.Copying.{IsPartOut};
+ghost use Rattle.tp_flush.specs.Progress.{is_out};
 ghost use Rattle.tp_flush.specs.Flushing.{Goes};
 ghost use Rattle.tp_flush.specs.Ends.{Tried};
 
@@ -19,10 +22,10 @@ impl<J: Naming, D: Disk> Flusher<J, D> {
     /// How many pages a node has.
     fn pages_of(&self, node: usize) -> usize
         requires { node < length self.now.topology.pages }
-        ensures inside { result ≤ get_or self.now.topology.pages node 0 }
+        ensures is { result ≡ get_or self.now.topology.pages node 0 }
         ensures few { result ≤ MAX_PAGES }
     {
-        (self.parts.topology.pages()[node] as usize).min(MAX_PAGES)
+        self.parts.topology.pages()[node] as usize
     }
 
     /// How many nodes the device has images of.
@@ -35,6 +38,7 @@ impl<J: Naming, D: Disk> Flusher<J, D> {
     /// Whether the frozen image of `node` is out.
     fn is_out(&self, node: usize) -> bool
         requires { node < length self.now.topology.pages }
+        ensures value { result ≡ is_out self.now.progress node }
         ensures few { node < MAX_NODES }
     {
         let _pages = self.parts.topology.pages();
@@ -52,7 +56,10 @@ impl<J: Naming, D: Disk> Flusher<J, D> {
         requires cleared { self.old.progress.cleared ≡ true }
         requires node { node < length self.old.topology.pages }
         requires there { node < length J.start.nodes }
+        requires free { is_out self.old.progress node ≡ false }
         ensures tried { Tried result self.old self.new }
+        ensures same { self.new.progress ≡ self.old.progress }
+        ensures stands { D.keeps → IfOk result (λ found. found ≡ true → IsPartOut self.new.topology self.new.world.net (content_beside self.new.place self.new.state) node 0) }
         ensures goes { Goes D.keeps J.formatted J.before self.old self.new }
     {
         let mut head = [0; IMAGE_HEAD_BYTES];
@@ -78,7 +85,11 @@ impl<J: Naming, D: Disk> Flusher<J, D> {
         requires there { node < length J.start.nodes }
         requires page { page < get_or self.old.topology.pages node 0 }
         requires few { page < MAX_PAGES }
+        requires free { is_out self.old.progress node ≡ false }
+        requires stands { D.keeps → IsPartOut self.old.topology self.old.world.net (content_beside self.old.place self.old.state) node page }
         ensures tried { Tried result self.old self.new }
+        ensures same { self.new.progress ≡ self.old.progress }
+        ensures stands { D.keeps → IfOk result (λ found. found ≡ true → IsPartOut self.new.topology self.new.world.net (content_beside self.new.place self.new.state) node (page + 1)) }
         ensures goes { Goes D.keeps J.formatted J.before self.old self.new }
     {
         let mut bytes = [0; PAGE_BYTES];
@@ -102,7 +113,9 @@ impl<J: Naming, D: Disk> Flusher<J, D> {
         requires cleared { self.old.progress.cleared ≡ true }
         requires node { node < length self.old.topology.pages }
         requires there { node < length J.start.nodes }
+        requires free { is_out self.old.progress node ≡ false }
         ensures tried { Tried result self.old self.new }
+        ensures stands { D.keeps → IfOk result (λ found. found ≡ true → IsPartOut self.new.topology self.new.world.net (content_beside self.new.place self.new.state) node (get_or self.new.topology.pages node 0)) }
         ensures goes { Goes D.keeps J.formatted J.before self.old self.new }
     {
         if !self.copy_head(rt, shared, node)? {

@@ -1,7 +1,12 @@
 //! The flusher writes a frozen image into the other area, piece by piece.
 
-ghost use Rattle.std.specs.Prelude.{◌≡◌, ◌<◌, ◌≤◌, true, length, get_or};
-ghost use Rattle.tp_layout.specs.Pieces.{piece_length};
+ghost use Rattle.std.specs.Prelude.{◌≡◌, ◌+◌, ◌<◌, ◌≤◌, true, false, length, get_or, IfOk};
+ghost use Rattle.tp_layout.specs.Pieces.{piece_length, piece_place};
+ghost use Rattle.tp_area.specs.Tails.{content_beside};
+ghost use Rattle.tp_model.specs.Disk.{written};
+ghost use Rattle.tp_shared.specs.Pieces.{IsFrozenHead, IsFrozenPage};
+ghost use Rattle.tp_flush.specs.Copying.{IsPartOut};
+ghost use Rattle.tp_flush.specs.Progress.{is_out};
 ghost use Rattle.tp_model.specs.declared.limits.TheConstants.{MAX_PAGES};
 ghost use Rattle.tp_model.specs.WriteOrder.{Resting};
 ghost use Rattle.tp_flush.specs.Flushing.{Goes};
@@ -36,25 +41,26 @@ impl<J: Naming, D: Disk> Flusher<J, D> {
     }
 
     /// Puts a piece of the frozen image of `node` into the other area.
-    pub(crate) fn put(
-        &mut self,
-        node: usize,
-        piece: usize,
-        bytes: &[u8],
-    ) -> Result<(), FlushFault>
+    pub(crate) fn put(&mut self, node: usize, piece: usize, bytes: &[u8]) -> Result<(), FlushFault>
         requires rests { self.old.world.at ≡ Resting }
         requires cleared { self.old.progress.cleared ≡ true }
         requires node { node < length self.old.topology.pages }
         requires piece { piece ≤ get_or self.old.topology.pages node 0 }
         requires few { piece ≤ MAX_PAGES }
         requires whole { length bytes.now ≡ piece_length piece }
+        requires free { is_out self.old.progress node ≡ false }
         ensures tried { Tried result self.old self.new }
+        ensures same { (self.new.world.net ≡ self.old.world.net) × (self.new.progress ≡ self.old.progress) }
+        ensures room { D.keeps → piece_place self.old.topology node piece + piece_length piece ≤ length (content_beside self.old.place self.old.state) }
+        ensures content { D.keeps → IfOk result (λ done. content_beside self.new.place self.new.state ≡ written (content_beside self.old.place self.old.state) (piece_place self.old.topology node piece) bytes.now) }
         ensures goes { Goes D.keeps J.formatted J.before self.old self.new }
     {
         self.known();
         let Flusher { parts, .. } = self;
         let Parts {
-            store, topology, ..
+            store,
+            topology,
+            ..
         } = parts;
         let done = store.put_piece(topology, node, piece, bytes);
         parts.whole = Whole::of(&*parts);
@@ -72,6 +78,8 @@ impl<J: Naming, D: Disk> Flusher<J, D> {
         requires rests { self.old.world.at ≡ Resting }
         requires there { node < length J.start.nodes }
         ensures went { Went self.old self.new }
+        ensures same { (self.new.state ≡ self.old.state) × (self.new.progress ≡ self.old.progress) }
+        ensures head { result ≡ true → IsFrozenHead self.new.world.net node out.new }
         ensures goes { Goes D.keeps J.formatted J.before self.old self.new }
     {
         self.known();
@@ -93,6 +101,8 @@ impl<J: Naming, D: Disk> Flusher<J, D> {
         requires rests { self.old.world.at ≡ Resting }
         requires there { node < length J.start.nodes }
         ensures went { Went self.old self.new }
+        ensures same { (self.new.state ≡ self.old.state) × (self.new.progress ≡ self.old.progress) }
+        ensures page { result ≡ true → IsFrozenPage self.new.world.net node page out.new }
         ensures goes { Goes D.keeps J.formatted J.before self.old self.new }
     {
         self.known();
@@ -106,6 +116,7 @@ impl<J: Naming, D: Disk> Flusher<J, D> {
     pub(crate) fn put_out(&mut self, node: usize)
         requires rests { self.old.world.at ≡ Resting }
         requires node { node < length self.old.topology.pages }
+        requires stands { D.keeps → IsPartOut self.old.topology self.old.world.net (content_beside self.old.place self.old.state) node (get_or self.old.topology.pages node 0) }
         ensures went { Went self.old self.new }
         ensures goes { Goes D.keeps J.formatted J.before self.old self.new }
     {

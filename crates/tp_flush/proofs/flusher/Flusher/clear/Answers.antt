@@ -1,4 +1,4 @@
-use Rattle.std.proofs.Common.{◌≡◌, true, false, refl, sym, subst, ap, ◌∙◌}
+use Rattle.std.proofs.Common.{◌≡◌, true, false, refl, sym, subst, ap, ◌∙◌, ℕ, ◌<◌, length, get_or, arith}
 use Rattle.std.specs.Prelude.{Ok}
 use Rattle.tp_model.specs.NodeState.{NodeState}
 use Rattle.tp_model.specs.Node.{t414}
@@ -12,13 +12,16 @@ use Rattle.tp_model.specs.StoreCalls.{Called, clear_calls}
 use Rattle.tp_model.specs.WriteOrder.{Resting}
 use Rattle.tp_area.specs.Other.{Cleared, OtherIsClosed, if_open, other_gate}
 use Rattle.tp_shared.specs.Told.{IsFirst}
+use Rattle.tp_area.specs.Tails.{content_beside}
+use Rattle.tp_flush.specs.Copying.{IsPartOut}
+use Rattle.tp_flush.specs.Progress.{is_out}
 use Rattle.tp_flush.specs.Known.{Began, Known}
-use Rattle.tp_flush.specs.Flushing.{Flushing, Goes, Keeps}
-use Rattle.tp_flush.specs.Ends.{Went, Tried}
+use Rattle.tp_flush.specs.Flushing.{Copies, Flushing, Goes, Keeps}
+use Rattle.tp_flush.specs.Ends.{Tried}
 use Rattle.tp_flush.proofs.Appends.{opens, rests_unbroken}
-use Rattle.tp_flush.proofs.Closed.{put_copies}
+use Rattle.tp_flush.proofs.Closed.{clear_content, put_copies}
 use Rattle.tp_flush.proofs.Goings.{goes_still}
-use Rattle.tp_flush.proofs.Puts.{Answered, after_put, cleared_walks, on_ok, on_ok_same, put_answered, put_keeps, put_known, put_tried, told_put}
+use Rattle.tp_flush.proofs.Puts.{Answered, after_put, cleared_walks, on_ok, on_ok_same, put_answered, put_keeps, put_known, put_net, put_tried, told_put}
 use Rattle.tp_flush.proofs.flusher.Flusher.clear.Given as given
 use Rattle.tp_flush.proofs.flusher.Flusher.clear.Goals as goal
 
@@ -70,8 +73,13 @@ invariant_of-self-2 g c =
       subst (λ (k : Known). Keeps g.D.Disk.keeps g.J.Naming.formatted g.J.Naming.before k new a.new.self.place a.new.self.broken p.raiser.at) (sym c.of-parts.ensures)
           (subst (λ place. Keeps g.D.Disk.keeps g.J.Naming.formatted g.J.Naming.before (put_known p.whole.known a.new.self.broken new) new place a.new.self.broken p.raiser.at) (sym a.ensures.place)
           (put_keeps g.D.Disk.keeps g.J.Naming.formatted g.J.Naming.before p.whole.known s p.store.place p.raiser.at K new a.new.self.broken (walked g c))),
-      put_copies g.D.Disk.keeps new p.store.place a.new.self.place p.topology (record p.progress { cleared = true }) a.result a.new.self.broken (g.D.Disk.failures_of p.store.disk) (g.D.Disk.failures_of a.new.self.disk) c.self.invariant.4.roomy (answered g c) a.ensures.place
-          (λ k. on_ok a.result (Cleared p.store.place s new) (OtherIsClosed p.store.place new) (λ C. C.closed) (a.ensures.cleared k)),
+      subst (λ (k : Known). Copies g.D.Disk.keeps k.world.net new a.new.self.place a.new.self.broken p.topology (record p.progress { cleared = true })) (sym c.of-parts.ensures)
+          (subst (λ net. Copies g.D.Disk.keeps net new a.new.self.place a.new.self.broken p.topology (record p.progress { cleared = true })) (sym (put_net a.new.self.broken p.whole.known.world new.now))
+          (put_copies g.D.Disk.keeps p.whole.known.world.net new p.store.place a.new.self.place p.topology (record p.progress { cleared = true }) a.result a.new.self.broken (g.D.Disk.failures_of p.store.disk) (g.D.Disk.failures_of a.new.self.disk) c.self.invariant.4.roomy (answered g c) a.ensures.place
+          (λ k. on_ok a.result (Cleared p.store.place s new) (OtherIsClosed p.store.place new) (λ P. P.closed) (a.ensures.cleared k))
+          (λ k. on_ok a.result (Cleared p.store.place s new) ((i : ℕ) → i < length p.topology.pages → is_out (record p.progress { cleared = true }) i ≡ true → IsPartOut p.topology p.whole.known.world.net (content_beside p.store.place new) i (get_or p.topology.pages i 0))
+          (λ C i there out. subst (λ xs. IsPartOut p.topology p.whole.known.world.net xs i (get_or p.topology.pages i 0))
+          (sym (clear_content p.store.place s new (omega (arith, p.store.whole, g.met.D.Disk.whole k p.store.disk)) (omega (arith, p.store.behind, p.store.inside)) C.called)) (c.self.invariant.4.images k (unbroken g c) i there out)) (a.ensures.cleared k)))),
     )
 
 abbrev behind : (g : given.Over) (c : goal.After-answer_of g) → Flushing

@@ -1,6 +1,7 @@
-use Rattle.std.proofs.Common.{◌≡◌, sym, subst, ap, ◌∙◌, rules}
-use Rattle.tp_model.specs.Topology.{Topology}
+use Rattle.std.proofs.Common.{rules, arith}
 use Rattle.tp_flush.proofs.Goings.{goes_then, tried_then, went_then}
+use Rattle.tp_area.specs.Tails.{content_beside}
+use Rattle.tp_flush.proofs.Standing.{head_out, part_put}
 use Rattle.tp_flush.proofs.flusher.Flusher.copy_head.Goals as goal
 
 pub put-requires-clause-rests : goal.put-requires-clause-rests
@@ -23,3 +24,11 @@ returns-clause-tried g c = went_then c.args.self.now c.read_head.new.self c.put.
 pub returns-clause-goes : goal.returns-clause-goes
 returns-clause-goes g c =
     goes_then g.D.Disk.keeps g.J.Naming.formatted g.J.Naming.before c.args.self.now c.read_head.new.self c.put.new.self c.read_head.ensures.goes c.in_ok-put.ensures.goes
+
+pub returns-clause-stands : goal.returns-clause-stands
+returns-clause-stands g c k = λ found.
+    let b = c.read_head.new.self in
+    let d = c.put.new.self in
+    let E = c.in_ok-put.ensures in
+    part_put b d _ c.args.node 0 (E.content k) c.put.ensures.same.0 c.put.ensures.goes.process.topology
+    (head_out b.topology b.world.net (content_beside b.place b.state) c.args.node c.read_head.new.out (c.read_head.ensures.head c.if-not-read_head.false) (search rules) (omega (arith, c.put.ensures.room k)))

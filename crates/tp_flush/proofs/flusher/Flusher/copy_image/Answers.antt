@@ -1,9 +1,19 @@
-use Rattle.std.proofs.Common.{◌≡◌, Bool, sym, subst, ap, ◌∙◌, rules}
+use Rattle.std.proofs.Common.{Bool, rules, ◌≡◌, sym, subst, ap, ◌∙◌, arith, get_or}
 use Rattle.tp_flush.proofs.Goings.{goes_then, tried_then, went_then}
+use Rattle.tp_model.specs.Topology.{Topology}
+use Rattle.tp_area.specs.Tails.{content_beside}
+use Rattle.tp_flush.specs.declared.progress.Progress.{Progress}
+use Rattle.tp_flush.specs.Copying.{IsPartOut}
+use Rattle.tp_flush.specs.Progress.{is_out}
 use Rattle.tp_flush.proofs.flusher.Flusher.copy_image.Goals as goal
 
 pub loop-page-init : goal.loop-page-init
-loop-page-init g c = record { went = c.in_ok-copy_head.ensures.tried; goes = c.copy_head.ensures.goes }
+loop-page-init g c = record {
+  went = c.in_ok-copy_head.ensures.tried;
+  goes = c.copy_head.ensures.goes;
+  free = ap (λ (p : Progress). is_out p c.args.node) c.copy_head.ensures.same ∙ c.requires.free;
+  stands = λ k. c.in_ok-copy_head.ensures.stands k c.if-not-branch.false;
+}
 
 pub loop-page-preserved : goal.loop-page-preserved
 loop-page-preserved g c =
@@ -11,6 +21,8 @@ loop-page-preserved g c =
     record {
       went = went_then c.args.self.now c.loop-page.self c.copy_page.new.self I.went c.in_ok-copy_page.ensures.tried;
       goes = goes_then g.D.Disk.keeps g.J.Naming.formatted g.J.Naming.before c.args.self.now c.loop-page.self c.copy_page.new.self I.goes c.copy_page.ensures.goes;
+      free = ap (λ (p : Progress). is_out p c.args.node) c.copy_page.ensures.same ∙ I.free;
+      stands = λ k. c.in_ok-copy_page.ensures.stands k c.if-not-branch-2.false;
     }
 
 pub copy_page-requires-clause-rests : goal.copy_page-requires-clause-rests
@@ -36,3 +48,17 @@ returns-clause-goes g c = c.loop-page.invariant.goes
 pub returns-then-not-branch-2-clause-goes : goal.returns-then-not-branch-2-clause-goes
 returns-then-not-branch-2-clause-goes g c =
     goes_then g.D.Disk.keeps g.J.Naming.formatted g.J.Naming.before c.args.self.now c.loop-page.self c.copy_page.new.self c.loop-page.invariant.goes c.copy_page.ensures.goes
+
+pub copy_page-requires-clause-free : goal.copy_page-requires-clause-free
+copy_page-requires-clause-free g c = c.loop-page.invariant.free
+
+pub copy_page-requires-clause-stands : goal.copy_page-requires-clause-stands
+copy_page-requires-clause-stands g c = c.loop-page.invariant.stands
+
+pub returns-clause-stands : goal.returns-clause-stands
+returns-clause-stands g c k = λ found.
+    let I = c.loop-page.invariant in
+    let v = c.loop-page.self in
+    let P = c.copy_head.ensures.goes.process in
+    let all : c.loop-page.page ≡ get_or v.topology.pages c.args.node 0 = omega (arith, c.pages_of-page-end.ensures.is, ap (λ (t : Topology). get_or t.pages c.args.node 0) (I.goes.process.topology ∙ sym P.topology)) in
+    subst (IsPartOut v.topology v.world.net (content_beside v.place v.state) c.args.node) all (I.stands k)

@@ -1,4 +1,4 @@
-use Rattle.std.proofs.Common.{◌≡◌, sym, subst, ap, ◌∙◌, rules}
+use Rattle.std.proofs.Common.{rules}
 use Rattle.tp_flush.proofs.Goings.{goes_still, goes_then, tried_then, went_still, went_then}
 use Rattle.tp_flush.proofs.flusher.Flusher.copy_images.Goals as goal
 

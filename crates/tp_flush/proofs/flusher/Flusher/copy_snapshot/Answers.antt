@@ -1,5 +1,4 @@
-use Rattle.std.proofs.Common.{◌≡◌, sym, subst, ap, ◌∙◌, rules}
-use Rattle.tp_flush.proofs.Goings.{goes_still, goes_then, tried_on, went_still}
+use Rattle.tp_flush.proofs.Goings.{goes_then, tried_on}
 use Rattle.tp_flush.proofs.flusher.Flusher.copy_snapshot.Goals as goal
 
 pub returns-clause-tried : goal.returns-clause-tried

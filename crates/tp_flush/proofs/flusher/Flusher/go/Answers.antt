@@ -1,5 +1,4 @@
-use Rattle.std.proofs.Common.{◌≡◌, inl, sym, subst, ap, ◌∙◌, arith, rules}
-use Rattle.tp_flush.specs.Known.{Began}
+use Rattle.std.proofs.Common.{inl, arith, rules}
 use Rattle.tp_flush.specs.Flushing.{Goes}
 use Rattle.tp_flush.specs.Ends.{WaitsBehind}
 use Rattle.tp_flush.proofs.Endings.{looked_waits, stored_ended, waits_then}

@@ -6,6 +6,8 @@ use Rattle.tp_flush.specs.declared.progress.Progress.{Progress}
 use Rattle.tp_flush.specs.Progress.{not_begun}
 use Rattle.tp_flush.specs.Known.{Known}
 use Rattle.tp_flush.specs.Flushing.{Keeps}
+use Rattle.std.proofs.lemmas.Bool.{true≢false}
+use Rattle.tp_flush.proofs.Closed.{none_out}
 use Rattle.tp_flush.proofs.Begins.{begun_is, first_keeps}
 use Rattle.tp_flush.proofs.flusher.Flusher.over.Goals as goal
 
@@ -25,6 +27,7 @@ invariant_of-result g c =
       record {
         roomy = (λ i. is_roomy (c.requires.topology i) (c.requires.area i)) ∙ c.requires.roomy;
         closed = λ k unbroken cleared. let no : not_begun.cleared ≡ true = subst (λ (p : Progress). p.cleared ≡ true) c.new.ensures cleared in cc;
+        images = λ k unbroken i there out. absurd (true≢false (sym out ∙ none_out c.new.result c.new.ensures i));
       },
     )
 

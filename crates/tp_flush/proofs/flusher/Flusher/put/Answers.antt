@@ -1,4 +1,4 @@
-use Rattle.std.proofs.Common.{◌≡◌, ◌+◌, ◌<◌, ◌≤◌, [], ◌∷◌, None, false, get_or, length, refl, sym, subst, ap, ◌∙◌}
+use Rattle.std.proofs.Common.{◌≡◌, ◌+◌, ◌<◌, ◌≤◌, [], ◌∷◌, None, false, get_or, length, refl, sym, subst, ap, ◌∙◌, ℕ, true, arith, IfOk}
 use Rattle.std.specs.Prelude.{Ok}
 use Rattle.tp_model.specs.NodeState.{NodeState}
 use Rattle.tp_model.specs.Node.{t414}
@@ -13,12 +13,18 @@ use Rattle.tp_model.specs.WriteOrder.{Resting}
 use Rattle.tp_area.specs.Other.{OtherIsClosed, PutBehind, other_gate, put_refusal}
 use Rattle.tp_layout.specs.Pieces.{piece_length, piece_place}
 use Rattle.tp_shared.specs.Told.{IsFirst}
+use Rattle.tp_area.specs.Tails.{content_beside}
+use Rattle.tp_flush.specs.Copying.{IsPartOut}
+use Rattle.tp_flush.specs.Progress.{is_out}
 use Rattle.tp_flush.specs.Known.{Began, Known}
-use Rattle.tp_flush.specs.Flushing.{Flushing, Goes, Keeps}
-use Rattle.tp_flush.specs.Ends.{Went, Tried}
+use Rattle.tp_flush.specs.Flushing.{Copies, Flushing, Goes, Keeps}
+use Rattle.tp_flush.specs.Ends.{Tried}
 use Rattle.tp_flush.proofs.Appends.{opens, rests_unbroken}
-use Rattle.tp_flush.proofs.Closed.{put_copies}
-use Rattle.tp_flush.proofs.Puts.{Answered, after_put, on_ok, on_ok_same, piece_fits, piece_walks, put_answered, put_keeps, put_known, put_tried, told_put}
+use Rattle.tp_flush.proofs.Closed.{piece_images, piece_room, put_copies}
+use Rattle.tp_flush.proofs.Beside.{put_content}
+use Rattle.tp_area.specs.declared.place.Place.{Place}
+use Rattle.tp_model.specs.Disk.{written}
+use Rattle.tp_flush.proofs.Puts.{if_answered, piece_inside, Answered, after_put, on_ok, on_ok_same, piece_fits, piece_walks, put_answered, put_keeps, put_known, put_net, put_tried, told_put}
 use Rattle.tp_flush.proofs.flusher.Flusher.put.Given as given
 use Rattle.tp_flush.proofs.flusher.Flusher.put.Goals as goal
 
@@ -74,8 +80,14 @@ invariant_of-self g c =
       subst (λ (k : Known). Keeps g.D.Disk.keeps g.J.Naming.formatted g.J.Naming.before k new a.new.self.place a.new.self.broken p.raiser.at) (sym c.of-parts.ensures)
           (subst (λ place. Keeps g.D.Disk.keeps g.J.Naming.formatted g.J.Naming.before (put_known p.whole.known a.new.self.broken new) new place a.new.self.broken p.raiser.at) (sym a.ensures.place)
           (put_keeps g.D.Disk.keeps g.J.Naming.formatted g.J.Naming.before p.whole.known s p.store.place p.raiser.at K new a.new.self.broken (walked g c))),
-      put_copies g.D.Disk.keeps new p.store.place a.new.self.place p.topology p.progress a.result a.new.self.broken (g.D.Disk.failures_of p.store.disk) (g.D.Disk.failures_of a.new.self.disk) c.self.invariant.4.roomy (answered g c) a.ensures.place
-          (λ k. on_ok a.result (PutBehind p.store.place (piece_place p.topology c.args.node c.args.piece) c.args.bytes.now s new) (OtherIsClosed p.store.place new) (λ P. P.closed) (a.ensures.put k)),
+      subst (λ (k : Known). Copies g.D.Disk.keeps k.world.net new a.new.self.place a.new.self.broken p.topology p.progress) (sym c.of-parts.ensures)
+          (subst (λ net. Copies g.D.Disk.keeps net new a.new.self.place a.new.self.broken p.topology p.progress) (sym (put_net a.new.self.broken p.whole.known.world new.now))
+          (put_copies g.D.Disk.keeps p.whole.known.world.net new p.store.place a.new.self.place p.topology p.progress a.result a.new.self.broken (g.D.Disk.failures_of p.store.disk) (g.D.Disk.failures_of a.new.self.disk) c.self.invariant.4.roomy (answered g c) a.ensures.place
+          (λ k. on_ok a.result (PutBehind p.store.place (piece_place p.topology c.args.node c.args.piece) c.args.bytes.now s new) (OtherIsClosed p.store.place new) (λ P. P.closed) (a.ensures.put k))
+          (λ k. on_ok a.result (PutBehind p.store.place (piece_place p.topology c.args.node c.args.piece) c.args.bytes.now s new) ((i : ℕ) → i < length p.topology.pages → is_out p.progress i ≡ true → IsPartOut p.topology p.whole.known.world.net (content_beside p.store.place new) i (get_or p.topology.pages i 0))
+          (λ P. piece_images p.topology p.whole.known.world.net p.store.place s new c.args.node c.args.piece c.args.bytes.now p.progress (omega (arith, p.store.whole, g.met.D.Disk.whole k p.store.disk)) c.self.invariant.4.roomy
+          (subst (λ (v : Flushing). c.args.node < length v.topology.pages) (sym c.self.view_is) c.requires.node) (subst (λ (v : Flushing). c.args.piece ≤ get_or v.topology.pages c.args.node 0) (sym c.self.view_is) c.requires.piece)
+          c.requires.whole (subst (λ (v : Flushing). is_out v.progress c.args.node ≡ false) (sym c.self.view_is) c.requires.free) P.called (c.self.invariant.4.images k (unbroken g c))) (a.ensures.put k)))),
     )
 
 abbrev behind : (g : given.Over) (c : goal.After-answer_of g) → Flushing
@@ -126,3 +138,38 @@ returns-clause-goes g c =
       walks = λ k began. subst (λ (x : Known). Walks t414 device_areas p.whole.known.world x.world s new) (sym c.of-parts.ensures) (walked g c k began);
       process = record { opened = ap (λ (k : Known). k.opened) c.of-parts.ensures; size = a.ensures.size; topology = refl };
     })
+
+pub returns-clause-same : goal.returns-clause-same
+returns-clause-same g c =
+    let p = c.self.inside.parts in
+    let a = c.put_piece-done in (
+      ap (λ (k : Known). k.world.net) c.of-parts.ensures ∙ put_net a.new.self.broken p.whole.known.world (g.D.Disk.state a.new.self.disk).now ∙ ap (λ (v : Flushing). v.world.net) c.self.view_is,
+      ap (λ (v : Flushing). v.progress) c.self.view_is,
+    )
+
+inside : (g : given.Over) (c : goal.After-answer_of g) → piece_place c.self.inside.parts.topology c.args.node c.args.piece + piece_length c.args.piece < c.self.inside.parts.store.place.area
+inside g c =
+    let p = c.self.inside.parts in
+    piece_inside p.topology p.store.place.area c.args.node c.args.piece c.self.invariant.4.roomy
+    (subst (λ (v : Flushing). c.args.node < length v.topology.pages) (sym c.self.view_is) c.requires.node)
+    (subst (λ (v : Flushing). c.args.piece ≤ get_or v.topology.pages c.args.node 0) (sym c.self.view_is) c.requires.piece)
+
+pub returns-clause-room : goal.returns-clause-room
+returns-clause-room g c k =
+    let p = c.self.inside.parts in
+    let s : State = g.D.Disk.state p.store.disk in
+    subst (λ (v : Flushing). piece_place v.topology c.args.node c.args.piece + piece_length c.args.piece ≤ length (content_beside v.place v.state)) c.self.view_is
+    (piece_room p.store.place s (piece_place p.topology c.args.node c.args.piece + piece_length c.args.piece) (omega (arith, p.store.whole, g.met.D.Disk.whole k p.store.disk)) (inside g c))
+
+pub returns-clause-content : goal.returns-clause-content
+returns-clause-content g c k =
+    let p = c.self.inside.parts in
+    let a = c.put_piece-done in
+    let s : State = g.D.Disk.state p.store.disk in
+    let new : State = g.D.Disk.state a.new.self.disk in
+    let at = piece_place p.topology c.args.node c.args.piece in
+    subst (λ (v : Flushing). IfOk c.answer_of.result (λ done. content_beside a.new.self.place new ≡ written (content_beside v.place v.state) (piece_place v.topology c.args.node c.args.piece) c.args.bytes.now)) c.self.view_is
+    (if_answered a.result c.answer_of.result c.answer_of.ensures (content_beside a.new.self.place new ≡ written (content_beside p.store.place s) at c.args.bytes.now)
+    (on_ok a.result (PutBehind p.store.place at c.args.bytes.now s new) (content_beside a.new.self.place new ≡ written (content_beside p.store.place s) at c.args.bytes.now)
+    (λ P. ap (λ (q : Place). content_beside q new) a.ensures.place
+    ∙ put_content p.store.place at c.args.bytes.now s new (omega (arith, p.store.whole, g.met.D.Disk.whole k p.store.disk)) (omega (arith, inside g c, c.requires.whole)) P.called) (a.ensures.put k)))

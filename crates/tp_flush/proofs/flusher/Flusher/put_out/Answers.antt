@@ -1,5 +1,9 @@
-use Rattle.std.proofs.Common.{refl, sym, subst, ap}
-use Rattle.tp_flush.specs.Flushing.{Flushing}
+use Rattle.std.proofs.Common.{get_or, ap, subst, sym}
+use Rattle.tp_flush.specs.Flushing.{Copies, Flushing}
+use Rattle.tp_area.specs.Tails.{content_beside}
+use Rattle.tp_flush.specs.declared.progress.Progress.{Progress}
+use Rattle.tp_flush.specs.Copying.{IsPartOut}
+use Rattle.tp_flush.proofs.Closed.{out_more}
 use Rattle.tp_flush.proofs.Goings.{goes_marked}
 use Rattle.tp_flush.proofs.flusher.Flusher.put_out.Goals as goal
 
@@ -7,3 +11,15 @@ pub returns-clause-goes : goal.returns-clause-goes
 returns-clause-goes g c =
     goes_marked g.D.Disk.keeps g.J.Naming.formatted g.J.Naming.before c.args.self.now _ c.known.ensures.disk (ap (λ (v : Flushing). v.world) c.self.view_is) (ap (λ (v : Flushing). v.state) c.self.view_is)
     (record { opened = ap (λ (v : Flushing). v.opened) c.self.view_is; size = ap (λ (v : Flushing). v.size) c.self.view_is; topology = ap (λ (v : Flushing). v.topology) c.self.view_is })
+
+pub invariant_of-self : goal.invariant_of-self
+invariant_of-self g c =
+    let p = c.self.inside.parts in (
+      c.self.invariant.0,
+      c.self.invariant.1,
+      c.self.invariant.2,
+      c.self.invariant.3,
+      subst (λ (q : Progress). Copies g.D.Disk.keeps p.whole.known.world.net (g.D.Disk.state p.store.disk) p.store.place p.store.broken p.topology q) (sym c.put_out.ensures)
+          (out_more g.D.Disk.keeps p.whole.known.world.net (g.D.Disk.state p.store.disk) p.store.place p.store.broken p.topology p.progress c.args.node c.self.invariant.4
+          (λ k. subst (λ (v : Flushing). IsPartOut v.topology v.world.net (content_beside v.place v.state) c.args.node (get_or v.topology.pages c.args.node 0)) (sym c.self.view_is) (c.requires.stands k))),
+    )

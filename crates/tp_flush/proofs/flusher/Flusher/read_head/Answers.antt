@@ -1,10 +1,11 @@
-use Rattle.std.proofs.Common.{◌≡◌, refl, sym, subst, ap, ◌∙◌}
+use Rattle.std.proofs.Common.{refl, sym, subst, ap, ◌∙◌}
 use Rattle.tp_model.specs.DiskHistory.{State}
-use Rattle.tp_model.specs.WriteOrder.{Resting}
 use Rattle.tp_shared.specs.Told.{IsFirst}
+use Rattle.tp_shared.specs.Pieces.{IsFrozenHead}
 use Rattle.tp_flush.specs.Known.{Known}
-use Rattle.tp_flush.specs.Flushing.{Flushing, Goes, Keeps, Looked}
-use Rattle.tp_flush.specs.Ends.{Went}
+use Rattle.tp_flush.specs.Flushing.{Copies, Flushing, Keeps, Looked}
+use Rattle.tp_model.specs.FrozenAs.{IsFrozenAs}
+use Rattle.tp_flush.proofs.Closed.{frozen_told, look_copies}
 use Rattle.tp_flush.proofs.Goings.{goes_looked, went_looked}
 use Rattle.tp_flush.proofs.Kept.{learn_keeps, learned_looked}
 use Rattle.tp_flush.proofs.flusher.Flusher.read_head.Given as given
@@ -20,7 +21,8 @@ invariant_of-self g c =
       subst (λ (k : Known). IsFirst now k.world) (sym c.of-parts.ensures) (record { net = refl; base = refl; journal = refl }),
       subst (λ (k : Known). Keeps g.D.Disk.keeps g.J.Naming.formatted g.J.Naming.before k s p.store.place p.store.broken p.raiser.at) (sym c.of-parts.ensures)
           (learn_keeps g.D.Disk.keeps g.J.Naming.formatted g.J.Naming.before p.whole.known s p.store.place p.store.broken p.raiser.at c.self.invariant.3 p.key.value now c.self.invariant.2 c.frozen_head-found.ensures.since),
-      c.self.invariant.4,
+      subst (λ (k : Known). Copies g.D.Disk.keeps k.world.net s p.store.place p.store.broken p.topology p.progress) (sym c.of-parts.ensures)
+          (look_copies g.D.Disk.keeps p.whole.known.world p.key.value now s p.store.place p.store.broken p.topology p.progress c.self.invariant.2 c.frozen_head-found.ensures.since c.self.invariant.4),
     )
 
 abbrev flushing : (g : given.Over) (c : goal.After-parts-2-1 g) → Known → Flushing
@@ -48,7 +50,12 @@ pub returns-clause-went : goal.returns-clause-went
 returns-clause-went g c =
     went_looked c.args.self.now (flushing g c c.of-parts.result.known) c.requires.rests (looked g c)
     (ap (λ (k : Known). k.world.mark) c.of-parts.ensures ∙ ap (λ (v : Flushing). v.world.mark) c.self.view_is)
+    (λ i node F. subst (λ (k : Known). IsFrozenAs k.world.net i node) (sym c.of-parts.ensures)
+    (frozen_told c.self.inside.parts.whole.known.world c.self.inside.parts.key.value c.frozen_head-found.new.key.value c.self.invariant.2 c.frozen_head-found.ensures.since i node (subst (λ (v : Flushing). IsFrozenAs v.world.net i node) (sym c.self.view_is) F)))
 
 pub returns-clause-goes : goal.returns-clause-goes
 returns-clause-goes g c =
     goes_looked g.D.Disk.keeps g.J.Naming.formatted g.J.Naming.before c.args.self.now (flushing g c c.of-parts.result.known) c.known.ensures.disk (looked g c)
+
+pub returns-clause-head : goal.returns-clause-head
+returns-clause-head g c found = subst (λ (k : Known). IsFrozenHead k.world.net c.args.node c.frozen_head-found.new.out) (sym c.of-parts.ensures) (c.frozen_head-found.ensures.head found)

@@ -1,5 +1,4 @@
-use Rattle.std.proofs.Common.{◌≡◌, refl, sym, subst, ap, ◌∙◌}
-use Rattle.tp_model.specs.WriteOrder.{Resting}
+use Rattle.std.proofs.Common.{refl, ap, ◌∙◌}
 use Rattle.tp_flush.specs.Flushing.{position}
 use Rattle.tp_flush.proofs.Endings.{never_both}
 use Rattle.tp_flush.proofs.Turns.{walked_nowhere, walked_recovers}

@@ -1,0 +1,158 @@
+-- Pieces of frozen images stand where they were put, also once others are put beside them.
+use Rattle.std.proofs.Common.{◌≡◌, ◌≢◌, ◌⊎◌, inl, inr, ℕ, zero, suc, ◌+◌, ◌*◌, ◌<◌, ◌≤◌, List, [], ◌∷◌, length, take, drop, get_or, slice_get, Some, sym, ap, subst, ◌∙◌, arith, length-take}
+use Rattle.std.specs.Prelude.{sum_by}
+use Rattle.std.proofs.lemmas.Bool.{cases_lt}
+use Rattle.std.proofs.lemmas.List.Sums.{sum_by-cons}
+use Rattle.tp_model.specs.declared.limits.TheConstants.{IMAGE_HEAD_BYTES, PAGE_BYTES}
+use Rattle.tp_model.specs.NodeState.{NodeState}
+use Rattle.tp_model.specs.Image.{IsNode, image, image_head, page_count}
+use Rattle.tp_model.specs.Snapshot.{MarkedNetwork}
+use Rattle.tp_model.specs.WholeCut.{WholeCut}
+use Rattle.tp_model.specs.Runs.{HasCut}
+use Rattle.tp_model.specs.FrozenAs.{IsFrozenAs}
+use Rattle.tp_model.specs.PiecesStand.{IsThere}
+use Rattle.tp_model.specs.Disk.{written}
+use Rattle.tp_model.specs.Journal.{image_length}
+use Rattle.tp_model.specs.Opening.{nodes_place}
+use Rattle.tp_model.specs.Topology.{Topology}
+use Rattle.tp_layout.specs.Pieces.{piece_length, piece_place, place_in_image}
+use Rattle.tp_law_tail.proofs.Frozen.{cut_frozen, image_in_pieces}
+use Rattle.tp_law_tail.proofs.Pieces.{there_kept, there_written}
+use Rattle.tp_shared.specs.Pieces.{IsFrozenHead, IsFrozenPage}
+use Rattle.tp_area.specs.Tails.{content_beside}
+use Rattle.tp_flush.specs.Flushing.{Flushing}
+use Rattle.tp_flush.specs.Ends.{Went}
+use Rattle.tp_flush.specs.Copying.{IsPartOut}
+use Rattle.tp_flush.proofs.Puts.{length_suc, piece_ends, place_suc}
+
+-- ## Pieces lie apart
+
+front_sum : (pages : List ℕ) (i j : ℕ) → i < j → j < length pages → sum_by image_length (take i pages) + image_length (get_or pages i 0) ≤ sum_by image_length (take j pages)
+front_sum [] i j low there = absurd (omega (arith, there))
+front_sum (p ∷ ps) i zero low there = absurd (omega (arith, low))
+front_sum (p ∷ ps) zero (suc j) low there = omega (arith, sum_by-cons image_length p (take j ps))
+front_sum (p ∷ ps) (suc i) (suc j) low there =
+    omega (arith, front_sum ps i j (omega (arith, low)) (omega (arith, there)), sum_by-cons image_length p (take i ps), sum_by-cons image_length p (take j ps))
+
+-- a piece ends before another one begins, or behind it
+abbrev pub LieApart : Topology → ℕ → ℕ → ℕ → ℕ → Type 0
+LieApart t i p j q = (piece_place t i p + piece_length p ≤ piece_place t j q) ⊎ (piece_place t j q + piece_length q ≤ piece_place t i p)
+
+pub nodes_apart : (t : Topology) (i p j q : ℕ) → i ≢ j → i < length t.pages → j < length t.pages → p ≤ get_or t.pages i 0 → q ≤ get_or t.pages j 0 → LieApart t i p j q
+nodes_apart t i p j q other i_there j_there low high = elim (cases_lt i j) [
+  | inl before ↦ inl (omega (arith, front_sum t.pages i j before j_there, piece_ends p (get_or t.pages i 0) low))
+  | inr from ↦ inr (omega (arith, front_sum t.pages j i (behind from) i_there, piece_ends q (get_or t.pages j 0) high))
+]
+  where
+    behind : j ≤ i → j < i
+    behind from = elim (cases_lt j i) [
+      | inl less ↦ less
+      | inr least ↦ absurd (other (omega (arith, from, least)))
+    ]
+
+in_order : (p q : ℕ) → p < q → place_in_image p + piece_length p ≤ place_in_image q
+in_order p zero low = absurd (omega (arith, low))
+in_order zero (suc q) low = omega (arith, place_suc q)
+in_order (suc p) (suc q) low = omega (arith, low, place_suc p, place_suc q, length_suc p)
+
+pub pieces_apart : (t : Topology) (i p q : ℕ) → p < q → LieApart t i p i q
+pieces_apart t i p q low = inl (omega (arith, in_order p q low))
+
+-- ## Pieces stay
+
+piece_kept : (content : List ℕ) (t : Topology) (i p j q : ℕ) (bytes more : List ℕ) → length bytes ≤ piece_length p → length more ≡ piece_length q → LieApart t i p j q
+    → piece_place t j q + piece_length q ≤ length content → IsThere content (piece_place t i p) bytes → IsThere (written content (piece_place t j q) more) (piece_place t i p) bytes
+piece_kept content t i p j q bytes more few long (inl front) room there =
+    there_kept content (piece_place t i p) bytes (piece_place t j q) more (omega (arith, room, long)) (inl (omega (arith, front, few))) there
+piece_kept content t i p j q bytes more few long (inr behind) room there =
+    there_kept content (piece_place t i p) bytes (piece_place t j q) more (omega (arith, room, long)) (inr (omega (arith, behind, long))) there
+
+module _ (t : Topology) (net : MarkedNetwork NodeState) (content : List ℕ) (j q : ℕ) (more : List ℕ) (long : length more ≡ piece_length q) (room : piece_place t j q + piece_length q ≤ length content) where
+  -- what stood stands beside a piece that is put
+  pub part_kept : (i count : ℕ) → LieApart t i 0 j q → ((page : ℕ) → page < count → LieApart t i (suc page) j q) → IsPartOut t net content i count → IsPartOut t net (written content (piece_place t j q) more) i count
+  part_kept i count head each P = record {
+    node = P.node;
+    frozen = P.frozen;
+    long = P.long;
+    head = piece_kept content t i 0 j q (image_head P.node) more (omega (arith, P.long)) long head room P.head;
+    pages = λ page low.
+        piece_kept content t i (suc page) j q (take PAGE_BYTES (drop (PAGE_BYTES * page) P.node.memory)) more (omega (arith, length_suc page, length-take PAGE_BYTES (drop (PAGE_BYTES * page) P.node.memory))) long
+        (each page low) room (P.pages page low);
+  }
+
+  -- of another node
+  pub other_kept : (i : ℕ) → i ≢ j → i < length t.pages → j < length t.pages → q ≤ get_or t.pages j 0 → IsPartOut t net content i (get_or t.pages i 0)
+      → IsPartOut t net (written content (piece_place t j q) more) i (get_or t.pages i 0)
+  other_kept i other i_there j_there high =
+      part_kept i (get_or t.pages i 0) (nodes_apart t i 0 j q other i_there j_there (omega arith) high)
+      (λ page low. nodes_apart t i (suc page) j q other i_there j_there (omega (arith, low)) high)
+
+same_frozen : (net : MarkedNetwork NodeState) (i : ℕ) (a b : NodeState) → IsFrozenAs net i a → IsFrozenAs net i b → a ≡ b
+same_frozen net i a b F G = let first = F.is in let second = G.is in cc
+
+-- the head is the first piece
+pub head_out : (t : Topology) (net : MarkedNetwork NodeState) (content : List ℕ) (i : ℕ) (bytes : List ℕ) → IsFrozenHead net i bytes → length bytes ≡ IMAGE_HEAD_BYTES
+    → piece_place t i 0 + IMAGE_HEAD_BYTES ≤ length content → IsPartOut t net (written content (piece_place t i 0) bytes) i 0
+head_out t net content i bytes H long room = record {
+  node = H.node;
+  frozen = H.frozen;
+  long = ap length (sym H.is) ∙ long;
+  head = subst (λ xs. IsThere (written content (piece_place t i 0) bytes) (piece_place t i 0) xs) H.is (there_written content (piece_place t i 0) bytes (omega (arith, room, long)));
+  pages = λ page low. absurd (omega (arith, low));
+}
+
+-- a page behind those that stand
+pub page_out : (t : Topology) (net : MarkedNetwork NodeState) (content : List ℕ) (i count : ℕ) (bytes : List ℕ) → IsPartOut t net content i count → IsFrozenPage net i count bytes → length bytes ≡ PAGE_BYTES
+    → piece_place t i (suc count) + PAGE_BYTES ≤ length content → IsPartOut t net (written content (piece_place t i (suc count)) bytes) i (suc count)
+unfolding part_kept
+page_out t net content i count bytes P F long room =
+    let K = part_kept t net content i (suc count) bytes (omega (arith, long, length_suc count)) (omega (arith, room, length_suc count)) i count (pieces_apart t i 0 (suc count) (omega arith))
+    (λ page low. pieces_apart t i (suc page) (suc count) (omega (arith, low))) P in
+    let here : F.node ≡ P.node = same_frozen net i F.node P.node F.frozen P.frozen in
+    let is : bytes ≡ take PAGE_BYTES (drop (PAGE_BYTES * count) P.node.memory) = F.is ∙ ap (λ (n : NodeState). take PAGE_BYTES (drop (PAGE_BYTES * count) n.memory)) here in
+    let new : List ℕ = written content (piece_place t i (suc count)) bytes in
+    let last : IsThere new (piece_place t i (suc count)) (take PAGE_BYTES (drop (PAGE_BYTES * count) P.node.memory)) =
+    subst (λ xs. IsThere new (piece_place t i (suc count)) xs) is (there_written content (piece_place t i (suc count)) bytes (omega (arith, room, long))) in
+    record {
+      node = K.node;
+      frozen = K.frozen;
+      long = K.long;
+      head = K.head;
+      pages = λ page low. elim (cases_lt page count) [
+        | inl before ↦ K.pages page before
+        | inr from ↦
+            let same : page ≡ count = omega (arith, low, from) in
+            subst (λ (k : ℕ). IsThere new (piece_place t i (suc k)) (take PAGE_BYTES (drop (PAGE_BYTES * k) P.node.memory))) (sym same) last
+      ];
+    }
+
+-- ## The images of a cut
+
+pub image_out : (t : Topology) (net : MarkedNetwork NodeState) (content : List ℕ) (i : ℕ) (cut : WholeCut) (nodes : List NodeState) (node : NodeState) → IsPartOut t net content i (get_or t.pages i 0) → HasCut net cut nodes
+    → slice_get nodes i ≡ Some node → IsNode node → page_count node.memory ≡ get_or t.pages i 0 → IsThere content (nodes_place + sum_by image_length (take i t.pages)) (image node)
+image_out t net content i cut nodes node P has at N count =
+    let there : slice_get nodes i ≡ Some P.node = cut_frozen net cut nodes i P.node has P.frozen in
+    let same : P.node ≡ node = cc in
+    let place : piece_place t i 0 ≡ nodes_place + sum_by image_length (take i t.pages) = omega arith in
+    image_in_pieces content (nodes_place + sum_by image_length (take i t.pages)) node N
+    (subst (λ (n : NodeState). IsThere content (nodes_place + sum_by image_length (take i t.pages)) (image_head n)) same (subst (λ k. IsThere content k (image_head P.node)) place P.head))
+    (λ page low.
+    let here : piece_place t i (suc page) ≡ nodes_place + sum_by image_length (take i t.pages) + IMAGE_HEAD_BYTES + PAGE_BYTES * page = omega (arith, place_suc page) in
+    subst (λ (n : NodeState). IsThere content (nodes_place + sum_by image_length (take i t.pages) + IMAGE_HEAD_BYTES + PAGE_BYTES * page) (take PAGE_BYTES (drop (PAGE_BYTES * page) n.memory))) same
+    (subst (λ k. IsThere content k (take PAGE_BYTES (drop (PAGE_BYTES * page) P.node.memory))) here (P.pages page (omega (arith, low, count)))))
+
+-- ## Behind a look, and behind a piece that was put
+
+pub part_looked : (a b : Flushing) → Went a b → b.state ≡ a.state → b.topology ≡ a.topology → (i count : ℕ) → IsPartOut a.topology a.world.net (content_beside a.place a.state) i count
+    → IsPartOut b.topology b.world.net (content_beside b.place b.state) i count
+part_looked a b W state topology i count P =
+    let here : IsPartOut a.topology b.world.net (content_beside a.place a.state) i count =
+    record { node = P.node; frozen = W.frozen i P.node P.frozen; long = P.long; head = P.head; pages = P.pages } in
+    let same : content_beside a.place a.state ≡ content_beside b.place b.state = λ j. content_beside (sym W.place j) (sym state j) in
+    subst (λ (t : Topology). IsPartOut t b.world.net (content_beside b.place b.state) i count) (sym topology) (subst (λ xs. IsPartOut a.topology b.world.net xs i count) same here)
+
+pub part_put : (b d : Flushing) (xs : List ℕ) (i count : ℕ) → content_beside d.place d.state ≡ xs → d.world.net ≡ b.world.net → d.topology ≡ b.topology → IsPartOut b.topology b.world.net xs i count
+    → IsPartOut d.topology d.world.net (content_beside d.place d.state) i count
+part_put b d xs i count content net topology P =
+    subst (λ (t : Topology). IsPartOut t d.world.net (content_beside d.place d.state) i count) (sym topology)
+    (subst (λ n. IsPartOut b.topology n (content_beside d.place d.state) i count) (sym net) (subst (λ ys. IsPartOut b.topology b.world.net ys i count) (sym content) P))

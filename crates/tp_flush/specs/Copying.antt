@@ -1,0 +1,18 @@
+-- What stands of a snapshot's frozen images in the other area.
+use Rattle.std.specs.Prelude.{◌≡◌, ◌<◌, ℕ, suc, ◌*◌, List, length, take, drop}
+use Rattle.tp_model.specs.declared.limits.TheConstants.{IMAGE_HEAD_BYTES, PAGE_BYTES}
+use Rattle.tp_model.specs.NodeState.{NodeState}
+use Rattle.tp_model.specs.Image.{image_head}
+use Rattle.tp_model.specs.Snapshot.{MarkedNetwork}
+use Rattle.tp_model.specs.FrozenAs.{IsFrozenAs}
+use Rattle.tp_model.specs.PiecesStand.{IsThere}
+use Rattle.tp_model.specs.Topology.{Topology}
+use Rattle.tp_layout.specs.Pieces.{piece_place}
+
+-- Of the frozen image of node i, the head and as many pages stand at their places in a content.
+pub record IsPartOut (t : Topology) (net : MarkedNetwork NodeState) (content : List ℕ) (i count : ℕ) : Type 0 where
+  pub node : NodeState
+  pub frozen : IsFrozenAs net i node
+  pub long : length (image_head node) ≡ IMAGE_HEAD_BYTES
+  pub head : IsThere content (piece_place t i 0) (image_head node)
+  pub pages : (page : ℕ) → page < count → IsThere content (piece_place t i (suc page)) (take PAGE_BYTES (drop (PAGE_BYTES * page) node.memory))
