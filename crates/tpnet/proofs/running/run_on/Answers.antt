@@ -1,4 +1,4 @@
-use Rattle.std.proofs.Common.{◌≡◌, ◌∙◌, sym, subst, ◌≤◌}
+use Rattle.std.proofs.Common.{◌∙◌, sym, subst, ◌≤◌}
 use Rattle.tpnet.proofs.Statuses.{status_few, status_words, status_unopened}
 use Rattle.tpnet.proofs.running.run_on.Goals as goal
 
