@@ -6,7 +6,7 @@ use std::test::Fail;
 use tp_run::Job;
 
 /// How many workers make how many turns.
-const TEAMS: &[(u8, u32)] = &[(1, 200), (2, 200), (4, 200), (16, 200)];
+const TEAMS: &[(u8, u32)] = &[(1, 4000), (2, 4000), (4, 1000), (16, 4000)];
 
 #[test]
 fn workers_leave_a_device_that_opens(rt: HostRuntime) -> Result<(), Fail> {
@@ -22,8 +22,9 @@ fn workers_leave_a_device_that_opens(rt: HostRuntime) -> Result<(), Fail> {
         let (disk, done) = play(&rt, alloc, disk, job, b"", &mut out);
         let (disk, opened) = left(alloc, disk)?;
         assert!(rt; done == Ok(opened.next()) && opened.next() > 0 && out.is_empty());
-        // What comes of it goes on as one that was never opened again.
-        let (disk, done) = play(&rt, alloc, disk, job, b"", &mut out);
+        // It goes on from there.
+        let more = Job { turns: 100, ..job };
+        let (disk, done) = play(&rt, alloc, disk, more, b"", &mut out);
         let (_, later) = left(alloc, disk)?;
         assert!(rt; done == Ok(later.next()) && later.next() > opened.next());
     }
