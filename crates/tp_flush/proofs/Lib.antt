@@ -10,3 +10,5 @@ mod Closed
 mod Standing
 mod Beside
 pub mod Settling
+mod Switches
+mod Tails
