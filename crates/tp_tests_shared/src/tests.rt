@@ -27,7 +27,7 @@ fn two_threads_make_turns_of_two_nodes(rt: HostRuntime) -> Result<(), Fail> {
 #[test]
 fn a_snapshot_is_copied_and_the_book_is_trimmed(rt: HostRuntime) -> Result<(), Fail> {
     let alloc = rt.alloc();
-    let image = image(alloc)?;
+    let image = letter(alloc)?;
     let parts = parts_of_pair(alloc, &image, 4).ok_or("parts")?;
     let done = checkpoint_of_pair(&rt, alloc, parts)?.ok_or("no copy")?;
     assert!(rt; done.first.len() == image.len() && done.first != image);
