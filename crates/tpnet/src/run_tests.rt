@@ -1,5 +1,7 @@
 //! What `tpnet run` makes of a device, prints and refuses.
 
+ghost use Rattle.tpnet.specs.Args.{IsRun};
+
 use crate::args::Run;
 use crate::faults::{Faults, FaultyFiles};
 use crate::format_tests::{AREA, format_in_memory, images_of};
@@ -15,7 +17,7 @@ use std::sync::Wait;
 use std::sync::atomic::Ordering;
 use std::test::Fail;
 use std::thread::Threads;
-use tp_disk::{MemDisk, PlannedFault};
+use tp_disk::{Disk, MemDisk, PlannedFault};
 
 /// The image of a node that sends back each byte that it gets on link 0.
 fn echo(alloc: Global) -> Result<Vec<u8>, Fail> {
@@ -366,16 +368,12 @@ impl InMemory {
     }
 }
 
-/// Runs a device in memory by one worker, with room for so many bytes of output.
-fn run_in_memory<R: AllocGlobal + Threads + Wait + Sync>(
-    rt: &R,
-    disk: MemDisk,
-    turns: u32,
-    input: &[u8],
-    room: usize,
-) -> InMemory {
-    let alloc = rt.alloc();
-    let asked = Run {
+/// What a run by one worker is asked, for so many turns of 16 steps.
+#[tactic(auto, unfolding(crate::specs::Args::IsRun))]
+fn asked_of(alloc: Global, turns: u32) -> Run
+    ensures { IsRun result }
+{
+    Run {
         device: String::new(alloc),
         turns,
         workers: 1,
@@ -384,14 +382,38 @@ fn run_in_memory<R: AllocGlobal + Threads + Wait + Sync>(
         every: None,
         port: 0,
         input: None,
-    };
+    }
+}
+
+/// Runs a device by one worker, with room for so many bytes of output. Answers the device, the status, and both outputs.
+fn run_by_one<D: Disk + Drop + Send, R: AllocGlobal + Threads + Wait + Sync>(
+    rt: &R,
+    disk: D,
+    turns: u32,
+    input: &[u8],
+    room: usize,
+) -> (D, u8, Vec<u8>, Vec<u8>) {
+    let alloc = rt.alloc();
+    let asked = asked_of(alloc, turns);
     let taken = Vec::new(alloc);
     let (mut out, mut err) = (Narrow { taken, room }, Vec::new(alloc));
     let (disk, status) = run_on(rt, alloc, &asked, disk, input, &mut out, &mut err);
+    (disk, status, out.taken, err)
+}
+
+/// The same with a device in memory, and what a crash leaves of it.
+fn run_in_memory<R: AllocGlobal + Threads + Wait + Sync>(
+    rt: &R,
+    disk: MemDisk,
+    turns: u32,
+    input: &[u8],
+    room: usize,
+) -> InMemory {
+    let (disk, status, out, err) = run_by_one(rt, disk, turns, input, room);
     InMemory {
         left: disk.crash(),
         status,
-        out: out.taken,
+        out,
         err,
     }
 }
