@@ -116,5 +116,7 @@ pub fn run<D: Disk + Send + Drop, O: Write, R: Threads + Wait + Sync>(
     let Ok((parts, raiser)) = parts_of(alloc, opened, job.spare) else {
         return (store.into_disk(), Err(RunFault::Memory));
     };
-    run_parts::<Brand, D, O, R>(rt, alloc, job, known, topology, parts, raiser, store, input, out)
+    run_parts::<Brand, D, O, R>(
+        rt, alloc, job, known, topology, parts, raiser, store, input, out,
+    )
 }
