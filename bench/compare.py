@@ -2,9 +2,13 @@
 """Compares `tpnet try` with the plain interpreter over random images, outside the gate.
 
 usage: bench/compare.py TPNET PLAIN [COUNT [SEED]]      10,000 images by default
+       bench/compare.py --cases FOLDER PLAIN [COUNT [SEED]]
 
 Each image's program ends by putting out its registers, the error flag and a block of its memory on link 0. A difference
 is kept as an image in the working folder, and the exit status is then 1.
+
+With --cases nothing is compared: the images go into a new folder, each with what the plain interpreter prints beside it. Then
+a program without any proof is compared by: cd crates/tpnet && rt try --cases FOLDER -- try {} --turns 700
 """
 import os
 import random
@@ -107,6 +111,37 @@ def memory(rng):
     return code
 
 
+def rewriting(rng):
+    """A loop that writes over instructions ahead of it, by bytes and by words, and then does them."""
+    block = arithmetic(rng)[:rng.randrange(8, 40)] + b"\x40" * 8
+    stores = []
+    for _ in range(rng.randrange(1, 5)):
+        byte = rng.choice([0x40, 0x70, 0x80, 0xC0, 0x10, 0x20, 0x60]) | rng.randrange(16) if rng.random() < 0.8 else 0xF0 | rng.choice(STACK[:8])
+        if rng.random() < 0.6:
+            stores.append((do("ldc", byte), op(0x3B)))
+        else:
+            stores.append((do("ldc", byte * 0x01010101), do("stnl", 0)))
+    setting = do("ldc", 0) + do("stl", 20) + do("ldc", rng.randrange(1, 4)) + do("stl", 21)
+    ahead = CODE + len(setting) + sum(len(value) + 8 + len(store) for value, store in stores)
+    body = b"".join(value + do("ldc", ahead + rng.randrange(len(block) - 4)) + store for value, store in stores) + block
+    back = len(body) + len(do("ldlp", 20)) + 2 + 2
+    back += len(do("ldc", back)) - 2
+    return setting + body + do("ldlp", 20) + do("ldc", back) + op(0x21)
+
+
+def prefixes(rng):
+    """Instructions behind many prefix bytes, some behind one too many."""
+    code = b""
+    for _ in range(rng.randrange(3, 16)):
+        many = rng.choice([0, 1, 2, 5, 7, 8, 9, 12, 15, 16]) if rng.random() < 0.98 else 17
+        code += bytes(rng.choice([0x20, 0x20, 0x60]) | rng.randrange(16) for _ in range(many))
+        code += bytes([FUNCTIONS[rng.choice(["ldc", "adc", "eqc", "ldnlp", "ldlp"])] << 4 | rng.randrange(16)])
+        if rng.random() < 0.5:
+            number = rng.choice(STACK)
+            code += b"\x20" * rng.choice([0, 3, 14]) + bytes([0x20 | number >> 4, 0xF0 | number & 15])
+    return code
+
+
 def processes(rng):
     """Partners that talk over channels, at random priorities, with alternatives; the main one puts out."""
     channel = WORK + 4 * 40
@@ -187,6 +222,10 @@ def image(rng, kind):
     elif kind == "processes":
         code, more = processes(rng)
         writes += more
+    elif kind == "rewriting":
+        code = rewriting(rng)
+    elif kind == "prefixes":
+        code = prefixes(rng)
     else:
         code = bytes(rng.getrandbits(8) for _ in range(rng.randrange(2, 60)))
     for k in range(24):
@@ -208,19 +247,34 @@ def run(command):
     return done.returncode, done.stdout
 
 
+KINDS = ["arithmetic", "memory", "processes", "processes", "wild", "rewriting", "prefixes"]
+
+
+def cases(folder, plain, count, seed):
+    os.mkdir(folder)
+    for k in range(count):
+        path = os.path.join(folder, "%d.img" % k)
+        with open(path, "wb") as out:
+            out.write(image(random.Random(seed * 1000003 + k), KINDS[k % len(KINDS)]))
+        with open(path + ".stdout", "wb") as out:
+            out.write(run([plain, "try", path, str(TURNS)])[1])
+
+
 def main():
     if len(sys.argv) < 3:
         sys.exit(__doc__)
+    if sys.argv[1] == "--cases":
+        count = int(sys.argv[4]) if len(sys.argv) > 4 else 10000
+        return cases(sys.argv[2], sys.argv[3], count, int(sys.argv[5]) if len(sys.argv) > 5 else 1)
     tpnet, plain = sys.argv[1], sys.argv[2]
     count = int(sys.argv[3]) if len(sys.argv) > 3 else 10000
     seed = int(sys.argv[4]) if len(sys.argv) > 4 else 1
-    kinds = ["arithmetic", "memory", "processes", "processes", "wild"]
     folder = tempfile.mkdtemp(prefix="compare-")
     spoke, different = 0, 0
 
     def one(k):
         rng = random.Random(seed * 1000003 + k)
-        kind = kinds[k % len(kinds)]
+        kind = KINDS[k % len(KINDS)]
         path = os.path.join(folder, "%d.img" % k)
         with open(path, "wb") as out:
             out.write(image(rng, kind))

@@ -16,8 +16,9 @@ echo "bench_steps: tp_cpu tp_mem tp_model" >> "$work/crates.txt"
 proved=$work/crates/bench_steps/out/bench_steps
 [ -x "$proved" ] || { tail -20 "$work/build.log"; exit 1; }
 
-for loop in compute talk; do
-    "$top/tools/make-image" "$top/examples/$loop.txt" "$work/$loop.img"
+for listing in "$top"/examples/{compute,talk}.txt "$top"/bench/loops/*.txt; do
+    loop=$(basename "$listing" .txt)
+    "$top/tools/make-image" "$listing" "$work/$loop.img"
     python3 - "$proved" "$work/plain" "$work" "$loop" "$rounds" <<'PY'
 import os, resource, shutil, subprocess, sys
 proved, plain, work, loop, rounds = sys.argv[1:6]
@@ -36,7 +37,7 @@ for _ in range(int(rounds)):
     other.append(took)
     if ended != expected:
         sys.exit("%s: the registers differ: %s %s" % (loop, ended, expected))
-print("%-8s proved %5.1f million steps a second, plain %5.1f, ratio %.2f (best of %s: %.2f s, %.2f s)" % (
+print("%-9s proved %5.1f million steps a second, plain %5.1f, ratio %.2f (best of %s: %.2f s, %.2f s)" % (
     loop, 100 / min(mine), 100 / min(other), min(other) / min(mine), rounds, min(mine), min(other)))
 PY
 done

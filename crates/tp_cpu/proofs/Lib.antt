@@ -1,1 +1,2 @@
+pub mod Advances
 pub mod Ahead

@@ -1,9 +1,13 @@
 //! The processor: one step at a time.
 #![tactic(auto)]
 
+mod advancing;
 mod effect;
 mod fetch;
 mod operation;
+mod plain;
+mod plain_operation;
 mod stepping;
 
+pub use advancing::advance;
 pub use stepping::step;

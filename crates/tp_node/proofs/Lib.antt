@@ -6,5 +6,6 @@ pub mod Keeps
 pub mod OneMore
 pub mod Pieces
 pub mod Room
+pub mod Runs
 pub mod Taken
 pub mod IdleLinks

@@ -12,6 +12,7 @@ use crate::head::Head;
 use crate::step::{StepOutcome, make_step};
 use arrayvec::ArrayVec;
 use std::marker::Model;
+use tp_cpu::advance;
 use tp_mem::Mem;
 use tp_model::{Fault, Token};
 
@@ -86,7 +87,7 @@ fn why_none(halt: Option<Fault>) -> Why
     }
 }
 
-/// Makes at most `max` steps.
+/// Makes at most `max` steps. `advance` makes those that need no look at queues, links and the halt code.
 pub(crate) fn run<M: Mem>(
     head: &mut Head,
     mem: &mut M,
@@ -100,7 +101,8 @@ pub(crate) fn run<M: Mem>(
     ensures kept { M.kept mem.new ≡ kept_behind_steps result.count (state_with head.old (M.bytes mem.old)) (M.kept mem.old) }
     ensures frozen { (M.kept mem.new).frozen ≡ (M.kept mem.old).frozen }
 {
-    for count in 0..max {
+    let mut count = advance(&mut head.cpu, mem, max);
+    while count < max {
         match make_step(head, mem) {
             StepOutcome::Step(token) => push(sent, token),
             StepOutcome::Idle => {
@@ -112,10 +114,12 @@ pub(crate) fn run<M: Mem>(
                 return Ran { max, count, why };
             }
         }
+        count += 1;
+        count += advance(&mut head.cpu, mem, max - count);
     }
     Ran {
         max,
-        count: max,
+        count,
         why: Why::Full,
     }
 }
