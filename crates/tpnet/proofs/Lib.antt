@@ -1,3 +1,1 @@
 mod Fronts
-mod Histories
-mod Statuses

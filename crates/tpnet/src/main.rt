@@ -4,7 +4,6 @@
 mod args;
 mod checking;
 mod commands;
-mod damage;
 mod entries;
 mod explain;
 #[cfg(test)]
@@ -15,12 +14,10 @@ mod files;
 #[cfg(test)]
 mod format_tests;
 mod formatting;
-mod found;
 mod help;
 mod image_rules;
 #[cfg(test)]
 mod limit_tests;
-mod numbers;
 mod opening;
 #[cfg(test)]
 mod opening_tests;
@@ -31,9 +28,6 @@ mod program_tests;
 mod refusal;
 mod registers;
 #[cfg(test)]
-mod run_tests;
-mod running;
-#[cfg(test)]
 mod scratch;
 mod shown;
 #[cfg(test)]
@@ -43,7 +37,6 @@ mod two_nodes_tests;
 mod view;
 #[cfg(test)]
 mod view_tests;
-mod words;
 
 use program::answer;
 use std::env;
