@@ -2,7 +2,7 @@ use Rattle.std.proofs.Common.{inl, arith, rules}
 use Rattle.tp_flush.specs.Flushing.{Goes}
 use Rattle.tp_flush.specs.Ends.{WaitsBehind}
 use Rattle.tp_flush.proofs.Endings.{looked_waits, stored_ended, waits_then}
-use Rattle.tp_flush.proofs.Goings.{behind_ended, goes_looked, goes_then, raised_behind, rested_then}
+use Rattle.tp_flush.proofs.Goings.{behind_ended, done_generation, done_rested, goes_looked, goes_then, raised_behind, went_on_mark}
 use Rattle.tp_flush.proofs.flusher.Flusher.go.Given as given
 use Rattle.tp_flush.proofs.flusher.Flusher.go.Goals as goal
 
@@ -32,51 +32,63 @@ returns-in_err-store-clause-ended g c =
 
 -- ## The mark was raised, and a call failed behind it
 
-raised_failed : (g : given.Over) (c : goal.After-drop-backlog-in_err-checkpoint g) → WaitsBehind c.args.self.now c.raise-mark.new.self
+raised_failed : (g : given.Over) (c : goal.After-drop-backlog-in_err-checkpoint g) → WaitsBehind c.args.self.now c.raise.new.self
 raised_failed g c =
     let S = c.in_ok-store.ensures.stored in
-    let R = c.raise-mark.ensures in
-    raised_behind c.args.self.now c.store.new.self c.raise-mark.new.self
+    let R = c.raise.ensures in
+    raised_behind c.args.self.now c.store.new.self c.raise.new.self
     (waits_then c.args.self.now c.copy_under.new.self c.store.new.self (looked_waits c.args.self.now c.copy_under.new.self c.requires.rests c.copy_under.ensures.looked c.copy_under.ensures.mark) S.0)
     R.looked (omega (arith, R.up, R.mark)) (omega (arith, R.reaches, R.mark))
 
-went_on_failed : (g : given.Over) (c : goal.After-drop-backlog-in_err-checkpoint g) → Goes g.D.Disk.keeps g.J.Naming.formatted g.J.Naming.before c.args.self.now c.raise-mark.new.self
+went_on_failed : (g : given.Over) (c : goal.After-drop-backlog-in_err-checkpoint g) → Goes g.D.Disk.keeps g.J.Naming.formatted g.J.Naming.before c.args.self.now c.raise.new.self
 went_on_failed g c =
-    goes_then g.D.Disk.keeps g.J.Naming.formatted g.J.Naming.before c.args.self.now c.store.new.self c.raise-mark.new.self
+    goes_then g.D.Disk.keeps g.J.Naming.formatted g.J.Naming.before c.args.self.now c.store.new.self c.raise.new.self
     (goes_then g.D.Disk.keeps g.J.Naming.formatted g.J.Naming.before c.args.self.now c.copy_under.new.self c.store.new.self
     (goes_looked g.D.Disk.keeps g.J.Naming.formatted g.J.Naming.before c.args.self.now c.copy_under.new.self c.known.ensures.disk c.copy_under.ensures.looked)
     (record { walks = c.store.ensures.walks; process = c.store.ensures.process }))
-    c.raise-mark.ensures.goes
+    c.raise.ensures.goes
 
 pub returns-in_err-checkpoint-clause-goes : goal.returns-in_err-checkpoint-clause-goes
 returns-in_err-checkpoint-clause-goes g c =
-    goes_then g.D.Disk.keeps g.J.Naming.formatted g.J.Naming.before c.args.self.now c.raise-mark.new.self c.checkpoint.new.self (went_on_failed g c) c.checkpoint.ensures.goes
+    goes_then g.D.Disk.keeps g.J.Naming.formatted g.J.Naming.before c.args.self.now c.raise.new.self c.checkpoint.new.self (went_on_failed g c) c.checkpoint.ensures.goes
 
 pub returns-in_err-checkpoint-clause-ended : goal.returns-in_err-checkpoint-clause-ended
 returns-in_err-checkpoint-clause-ended g c =
-    behind_ended (Unit {0}) c.from_residual-in_err-checkpoint.result c.in_err-checkpoint.field-0.0 (search rules) c.args.self.now c.raise-mark.new.self c.checkpoint.new.self (raised_failed g c) c.in_err-checkpoint.ensures.tried
+    behind_ended c.from_residual-in_err-checkpoint.result c.in_err-checkpoint.field-0.0 (search rules) c.args.self.now c.raise.new.self c.checkpoint.new.self (raised_failed g c) c.in_err-checkpoint.ensures.checkpointed
 
 -- ## All was done
 
-raised : (g : given.Over) (c : goal.After-drop-backlog-2 g) → WaitsBehind c.args.self.now c.raise-mark.new.self
+raised : (g : given.Over) (c : goal.After-drop-backlog-2 g) → WaitsBehind c.args.self.now c.raise.new.self
 raised g c =
     let S = c.in_ok-store.ensures.stored in
-    let R = c.raise-mark.ensures in
-    raised_behind c.args.self.now c.store.new.self c.raise-mark.new.self
+    let R = c.raise.ensures in
+    raised_behind c.args.self.now c.store.new.self c.raise.new.self
     (waits_then c.args.self.now c.copy_under.new.self c.store.new.self (looked_waits c.args.self.now c.copy_under.new.self c.requires.rests c.copy_under.ensures.looked c.copy_under.ensures.mark) S.0)
     R.looked (omega (arith, R.up, R.mark)) (omega (arith, R.reaches, R.mark))
 
-went_on : (g : given.Over) (c : goal.After-drop-backlog-2 g) → Goes g.D.Disk.keeps g.J.Naming.formatted g.J.Naming.before c.args.self.now c.raise-mark.new.self
+went_on : (g : given.Over) (c : goal.After-drop-backlog-2 g) → Goes g.D.Disk.keeps g.J.Naming.formatted g.J.Naming.before c.args.self.now c.raise.new.self
 went_on g c =
-    goes_then g.D.Disk.keeps g.J.Naming.formatted g.J.Naming.before c.args.self.now c.store.new.self c.raise-mark.new.self
+    goes_then g.D.Disk.keeps g.J.Naming.formatted g.J.Naming.before c.args.self.now c.store.new.self c.raise.new.self
     (goes_then g.D.Disk.keeps g.J.Naming.formatted g.J.Naming.before c.args.self.now c.copy_under.new.self c.store.new.self
     (goes_looked g.D.Disk.keeps g.J.Naming.formatted g.J.Naming.before c.args.self.now c.copy_under.new.self c.known.ensures.disk c.copy_under.ensures.looked)
     (record { walks = c.store.ensures.walks; process = c.store.ensures.process }))
-    c.raise-mark.ensures.goes
+    c.raise.ensures.goes
 
 pub returns-clause-goes : goal.returns-clause-goes
 returns-clause-goes g c =
-    goes_then g.D.Disk.keeps g.J.Naming.formatted g.J.Naming.before c.args.self.now c.raise-mark.new.self c.checkpoint.new.self (went_on g c) c.checkpoint.ensures.goes
+    goes_then g.D.Disk.keeps g.J.Naming.formatted g.J.Naming.before c.args.self.now c.checkpoint.new.self c.raise-mark.new.self
+    (goes_then g.D.Disk.keeps g.J.Naming.formatted g.J.Naming.before c.args.self.now c.raise.new.self c.checkpoint.new.self (went_on g c) c.checkpoint.ensures.goes) c.raise-mark.ensures.goes
 
 pub returns-clause-ended : goal.returns-clause-ended
-returns-clause-ended g c = rested_then c.args.self.now c.raise-mark.new.self c.checkpoint.new.self (raised g c).rested c.in_ok-checkpoint.ensures.tried.waits.rested
+returns-clause-ended g c =
+    done_rested c.in_ok-checkpoint.field-0 c.args.self.now c.raise.new.self c.checkpoint.new.self c.raise-mark.new.self (raised g c) c.in_ok-checkpoint.ensures.checkpointed c.raise-mark.ensures.looked
+
+pub returns-clause-switched : goal.returns-clause-switched
+returns-clause-switched g c =
+    done_generation c.in_ok-checkpoint.field-0 c.args.self.now c.raise.new.self c.checkpoint.new.self c.raise-mark.new.self (raised g c) c.in_ok-checkpoint.ensures.checkpointed c.raise-mark.ensures.looked
+
+pub returns-clause-mark : goal.returns-clause-mark
+returns-clause-mark g c =
+    let S = c.in_ok-store.ensures.stored in
+    let C = c.in_ok-copy_under.ensures.copied in
+    (c.raise-mark.ensures.mark, omega (arith, C.reaches, S.1, c.raise.ensures.reaches, c.raise.ensures.mark, went_on_mark c.in_ok-checkpoint.field-0 c.raise.new.self c.checkpoint.new.self c.in_ok-checkpoint.ensures.checkpointed, c.raise-mark.ensures.up))
