@@ -1,12 +1,15 @@
 //! The flusher.
 
 ghost use Rattle.std.specs.Prelude.{◌≡◌, Ok, Some, true, false};
+ghost use Rattle.std.specs.List.{AllByRecursion};
+ghost use Rattle.tp_law_machine.specs.NodeOfBytes.{IsNodeOfBytes};
 ghost use Rattle.tp_model.specs.DiskHistory.{IsSynced};
 ghost use Rattle.tp_model.specs.Journal.{is_roomy, room};
+ghost use Rattle.tp_model.specs.Node.{t414_ends};
 ghost use Rattle.tp_model.specs.Opening.{held_of, next_of, verdict};
 ghost use Rattle.tp_model.specs.Runs.{reopened};
+ghost use Rattle.tp_model.specs.Spelling.{IsCut};
 ghost use Rattle.tp_shared.specs.Told.{IsFirst};
-ghost use Rattle.tp_law_tail.specs.CutSpelt.{CutSpelt};
 ghost use Rattle.tp_flush.specs.Known.{Began, Reached};
 ghost use Rattle.tp_flush.specs.Flushing.{position};
 
@@ -103,7 +106,8 @@ impl<J: Naming, D: Disk> Flusher<J, D> {
         requires area { store.place.area ≡ opened.value.head.area }
         requires roomy { is_roomy opened.value.head.topology opened.value.head.area ≡ true }
         requires bound { J.room ≡ Some (room opened.value.head.topology opened.value.head.area) }
-        requires spelt { CutSpelt opened.value.head.topology opened.value.base opened.value.cut }
+        requires cut { IsCut t414_ends opened.value.head.topology opened.value.base opened.value.cut }
+        requires bytes { AllByRecursion IsNodeOfBytes opened.value.cut.nodes }
         ensures world { result.world ≡ reopened J.before (D.state store.disk).now.bytes (held_of opened.value) opened.value.now }
         ensures opened { result.opened ≡ (D.state store.disk).now.bytes }
         ensures place { (result.place ≡ store.place) × (result.topology ≡ topology) }

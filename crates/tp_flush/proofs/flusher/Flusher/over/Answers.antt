@@ -34,7 +34,7 @@ invariant_of-result g c =
       },
       subst (λ (k : Known). IsOfDevice g.D.Disk.keeps g.J.Naming.room k.world s place broken c.args.topology) (sym c.of-whole.ensures)
           (first_device g.D.Disk.keeps g.J.Naming.room (begun g.J.Naming.before key.net key.base key.journal s.now.bytes place.next) s place broken c.args.topology c.args.opened.value c.requires.topology c.requires.area c.requires.told.base
-          (ap (λ (n : MarkedNetwork NodeState). n.start) c.requires.told.net) c.requires.spelt c.requires.bound c.requires.read),
+          (ap (λ (n : MarkedNetwork NodeState). n.start) c.requires.told.net) (record { cut = c.requires.cut; bytes = c.requires.bytes }) c.requires.bound c.requires.read),
     )
 
 pub returns-clause-world : goal.returns-clause-world
