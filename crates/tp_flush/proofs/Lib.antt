@@ -14,3 +14,4 @@ pub mod Settling
 mod Switches
 mod Tails
 mod Trimming
+mod Rooms

@@ -1,8 +1,10 @@
-use Rattle.std.proofs.Common.{inl, arith, rules}
+use Rattle.std.proofs.Common.{inl, subst, sym, arith, rules}
 use Rattle.tp_flush.specs.Flushing.{Goes}
 use Rattle.tp_flush.specs.Ends.{WaitsBehind}
 use Rattle.tp_flush.proofs.Endings.{looked_waits, stored_ended, waits_then}
 use Rattle.tp_flush.proofs.Goings.{behind_ended, done_generation, done_rested, goes_looked, goes_then, raised_behind, went_on_mark}
+use Rattle.tp_flush.specs.Known.{Began}
+use Rattle.tp_flush.proofs.Rooms.{checkpoint_not_full, not_full_on}
 use Rattle.tp_flush.proofs.flusher.Flusher.go.Given as given
 use Rattle.tp_flush.proofs.flusher.Flusher.go.Goals as goal
 
@@ -30,6 +32,10 @@ returns-in_err-store-clause-ended g c =
     stored_ended c.from_residual.result c.in_err-store.field-0.0 (search rules) _ c.args.self.now c.copy_under.new.self c.store.new.self
     (looked_waits c.args.self.now c.copy_under.new.self c.requires.rests c.copy_under.ensures.looked c.copy_under.ensures.mark) c.in_err-store.ensures.stored
 
+pub returns-in_err-store-clause-room : goal.returns-in_err-store-clause-room
+returns-in_err-store-clause-room g c k began =
+    not_full_on (Unit {0}) c.from_residual.result c.in_err-store.field-0.0 (search rules) (c.in_err-store.ensures.room k (subst (Began g.J.Naming.formatted g.J.Naming.before) (sym c.copy_under.ensures.looked.opened) began))
+
 -- ## The mark was raised, and a call failed behind it
 
 raised_failed : (g : given.Over) (c : goal.After-drop-backlog-in_err-checkpoint g) → WaitsBehind c.args.self.now c.raise.new.self
@@ -55,6 +61,10 @@ returns-in_err-checkpoint-clause-goes g c =
 pub returns-in_err-checkpoint-clause-ended : goal.returns-in_err-checkpoint-clause-ended
 returns-in_err-checkpoint-clause-ended g c =
     behind_ended c.from_residual-in_err-checkpoint.result c.in_err-checkpoint.field-0.0 (search rules) c.args.self.now c.raise.new.self c.checkpoint.new.self (raised_failed g c) c.in_err-checkpoint.ensures.checkpointed
+
+pub returns-in_err-checkpoint-clause-room : goal.returns-in_err-checkpoint-clause-room
+returns-in_err-checkpoint-clause-room g c k began =
+    checkpoint_not_full c.from_residual-in_err-checkpoint.result c.in_err-checkpoint.field-0.0 (search rules) c.raise.new.self c.checkpoint.new.self c.in_err-checkpoint.ensures.checkpointed
 
 -- ## All was done
 
