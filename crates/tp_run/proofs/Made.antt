@@ -6,14 +6,11 @@ use Rattle.tp_model.specs.declared.entry.Entry.{Entry}
 use Rattle.tp_model.specs.NodeState.{NodeState}
 use Rattle.tp_model.specs.Node.{t414, t414_ends}
 use Rattle.tp_model.specs.Network.{Network}
-use Rattle.tp_model.specs.Journal.{room}
 use Rattle.tp_model.specs.Opening.{Opened, held_of, next_of}
 use Rattle.tp_model.specs.OpensTo.{book_of}
 use Rattle.tp_model.specs.Order.{after}
 use Rattle.tp_model.specs.Runs.{World, reopened}
 use Rattle.tp_model.specs.Spelling.{IsCut}
-use Rattle.std.specs.List.{AllByRecursion}
-use Rattle.tp_law_machine.specs.NodeOfBytes.{IsNodeOfBytes}
 use Rattle.tp_law_machine.proofs.LinkLaws.{has_four_links}
 use Rattle.tp_law_network.proofs.Reorder.{after_shape}
 use Rattle.tp_replay.specs.Replaying.{numbered}
@@ -35,11 +32,11 @@ pub kept_is : (s : NetState) (o : Opened) → map numbered s.kept.items ≡ o.ke
 kept_is s o same = kept_entries s.kept.items ∙ ap (λ ns. map (λ e. e.0) ns) same
 
 -- the parts of the book of a state that was opened
-pub stands : (s : NetState) (o : Opened) (most : ℕ) (parts : PartsValue) (raiser : RaiserValue) → most ≡ room o.head.topology o.head.area → AllByRecursion IsNodeOfBytes o.cut.nodes → now_of s ≡ o.now → s.base ≡ o.base → s.next ≡ next_of o
+pub stands : (s : NetState) (o : Opened) (room : Option ℕ) (parts : PartsValue) (raiser : RaiserValue) → now_of s ≡ o.now → s.base ≡ o.base → s.next ≡ next_of o
     → map numbered s.kept.items ≡ o.kept → IsCut t414_ends o.head.topology o.base o.cut → after t414 o.cut (map (λ e. e.0) o.kept) ≡ Some o.now
-    → world_of (opened_book s (Some most)) ≡ book_of o → parts.book ≡ opened_book s (Some most) → parts.first ≡ next_number (opened_book s (Some most))
+    → world_of (opened_book s room) ≡ book_of o → parts.book ≡ opened_book s room → parts.first ≡ next_number (opened_book s room)
     → raiser ≡ record { mark = parts.mark; at = s.next } → StandsFor o parts raiser
-stands s o most parts raiser bound bytes now base next kept cut leads world book first raised = record {
+stands s o room parts raiser now base next kept cut leads world book first raised = record {
   book = ap world_of book ∙ world;
   base = ap (λ (b : BookValue). b.base) book ∙ base;
   first =
@@ -49,9 +46,6 @@ stands s o most parts raiser bound bytes now base next kept cut leads world book
       ap (λ (b : BookValue). length b.state.ports) book ∙ ap (λ (n : Network NodeState). length n.ports) now
       ∙ (after_shape t414 has_four_links o.cut o.now (map (λ e. e.0) o.kept) leads).ports ∙ cut.count;
   raised = raised ∙ ap (λ n. record { mark = parts.mark; at = n }) next;
-  bound = ap (λ (b : BookValue). b.room) book ∙ ap Some bound;
-  cut = cut;
-  bytes = bytes;
 }
 
 -- what is first told of their book is the world that goes on from what was opened

@@ -6,16 +6,10 @@ use Rattle.tp_run.proofs.Runs.{served_ran, still_ran}
 use Rattle.tp_run.proofs.running.run_parts.Goals as goal
 
 pub over-flusher-requires-clause-bound : goal.over-flusher-requires-clause-bound
-over-flusher-requires-clause-bound g c = sym c.requires.names.room_is ∙ c.requires.stands.bound
+over-flusher-requires-clause-bound g c = sym c.requires.names.room_is ∙ c.requires.bound
 
 pub over-flusher-requires-clause-first : goal.over-flusher-requires-clause-first
 over-flusher-requires-clause-first g c = sym c.requires.names.first_is ∙ c.requires.stands.first
-
-pub over-flusher-requires-clause-cut : goal.over-flusher-requires-clause-cut
-over-flusher-requires-clause-cut g c = c.requires.stands.cut
-
-pub over-flusher-requires-clause-bytes : goal.over-flusher-requires-clause-bytes
-over-flusher-requires-clause-bytes g c = c.requires.stands.bytes
 
 pub returns-in_default-clause-ran : goal.returns-in_default-clause-ran
 returns-in_default-clause-ran g c k began =
