@@ -14,5 +14,5 @@ pub mod Settling
 mod Switches
 mod Tails
 mod Trimming
-mod Switching
+mod SwitchingCalls
 mod SwitchingEnds
