@@ -90,7 +90,7 @@ raise_device keeps most w s place broken t D = same_device keeps most w (raised 
 
 -- ## A group
 
-group_base : (broke : Bool) (next : ℕ) (w : World NodeState) (disk : Moment) → (after_group broke next w disk).base ≡ w.base
+pub group_base : (broke : Bool) (next : ℕ) (w : World NodeState) (disk : Moment) → (after_group broke next w disk).base ≡ w.base
 group_base true next w disk = refl
 group_base false next w disk = refl
 

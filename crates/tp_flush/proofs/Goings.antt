@@ -1,6 +1,5 @@
 -- Parts of a turn, one behind the other.
 use Rattle.std.proofs.Common.{◌≡◌, ℕ, ◌≤◌, ◌+◌, inr, sym, subst, refl, ◌∙◌, ap, Bool, true, false, Result, Ok, Err, arith}
-use Rattle.std.specs.Prelude.{if◌then◌else◌}
 use Rattle.tp_model.specs.NodeState.{NodeState}
 use Rattle.tp_model.specs.FrozenAs.{IsFrozenAs}
 use Rattle.tp_model.specs.Network.{Network}
@@ -151,20 +150,15 @@ pub went_on_mark : (switched : Bool) (a b : Flushing) → WentOn switched a b �
 went_on_mark true a b on = on.mark
 went_on_mark false a b on = on.waits.mark
 
-went_on_generation : (switched : Bool) (a b : Flushing) → WentOn switched a b → generation_after switched a b
-went_on_generation true a b on = on.generation
-went_on_generation false a b on = omega (arith, on.waits.generation)
-
 -- a turn that was done, behind whose checkpoint the mark was raised again
-module _ (switched : Bool) (a b c d : Flushing) (first : WaitsBehind a b) (on : WentOn switched b c) (L : Looked c d) where
-  pub done_rested : Rested a d
-  done_rested =
-      let R = went_on_rested switched b c on in
-      record { began = first.rested.began; rests = L.at ∙ R.rests; failures = L.failures ∙ R.failures ∙ first.rested.failures }
+pub done_rested : (switched : Bool) (a b c d : Flushing) → WaitsBehind a b → WentOn switched b c → Looked c d → Rested a d
+done_rested switched a b c d first on L =
+    let R = went_on_rested switched b c on in
+    record { began = first.rested.began; rests = L.at ∙ R.rests; failures = L.failures ∙ R.failures ∙ first.rested.failures }
 
-  pub done_generation : generation_after switched a d
-  done_generation =
-      ap (λ (p : Place). p.generation) L.place ∙ went_on_generation switched b c on ∙ ap (λ n. n + (if switched then 1 else 0)) first.raised.generation
+pub done_generation : (switched : Bool) (a b c d : Flushing) → WaitsBehind a b → WentOn switched b c → Looked c d → generation_after switched a d
+done_generation true a b c d first on L = omega (arith, ap (λ (p : Place). p.generation) L.place, on.generation, first.raised.generation)
+done_generation false a b c d first on L = omega (arith, ap (λ (p : Place). p.generation) L.place, on.waits.generation, first.raised.generation)
 
 pub went_looked : (a b : Flushing) → a.world.at ≡ Resting → Looked a b → b.world.mark ≡ a.world.mark → ((i : ℕ) (node : NodeState) → IsFrozenAs a.world.net i node → IsFrozenAs b.world.net i node) → Went a b
 went_looked a b rests L mark frozen = record {

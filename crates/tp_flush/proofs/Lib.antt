@@ -16,3 +16,4 @@ mod Tails
 mod Trimming
 mod SwitchingCalls
 mod SwitchingEnds
+mod Rooms

@@ -119,6 +119,10 @@ pub put_net : (broke : Bool) (w : World NodeState) (disk : Moment) → (after_pu
 put_net true w disk = refl
 put_net false w disk = refl
 
+pub put_stored : (broke : Bool) (w : World NodeState) (disk : Moment) → (after_put broke w disk).stored ≡ w.stored
+put_stored true w disk = refl
+put_stored false w disk = refl
+
 -- ## How it ended
 
 pub put_tried : (r : Result Unit StoreFault) (q : Result Unit FlushFault) → MatchResult r (λ unit. q ≡ Ok unit) (λ fault. q ≡ Err DeviceFailed)

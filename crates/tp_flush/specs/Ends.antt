@@ -53,6 +53,14 @@ Ended (Err StoreBroken) old new = (old.world.at ≡ Broken) × (new ≡ old)
 Ended (Err Memory) old new = (Waits old new × Looked old new) ⊎ WaitsBehind old new
 Ended (Err AreaFull) old new = Waits old new
 
+-- The area isn't said to be full.
+abbrev pub IsNotFull : {A : Type 0} → Result A FlushFault → Type 0
+IsNotFull (Ok given) = Unit {0}
+IsNotFull (Err DeviceFailed) = Unit {0}
+IsNotFull (Err StoreBroken) = Unit {0}
+IsNotFull (Err Memory) = Unit {0}
+IsNotFull (Err AreaFull) = ⊥
+
 -- the generation of the open area grew by one exactly where the flusher switched to the other area
 abbrev pub generation_after : Bool → Flushing → Flushing → Type 0
 generation_after switched old new = new.place.generation ≡ old.place.generation + (if switched then 1 else 0)

@@ -46,7 +46,7 @@ pub struct Flusher<J: Naming, D: Disk> {
 }
 
 impl<J: Naming, D: Disk> Model for Flusher<J, D> {
-    ghost use Rattle.std.specs.Prelude.{◌≡◌};
+    ghost use Rattle.std.specs.Prelude.{◌≡◌, ◌≤◌};
     ghost use Rattle.tp_shared.specs.Told.{IsFirst};
     ghost use Rattle.tp_flush.specs.Flushing.{Copies, Flushing, IsOfDevice, Keeps};
 
@@ -54,7 +54,7 @@ impl<J: Naming, D: Disk> Model for Flusher<J, D> {
 
     ghost view = { λ f. record { world = f.parts.whole.known.world; state = D.state f.parts.store.disk; size = D.size_of f.parts.store.disk; failures = D.failures_of f.parts.store.disk; opened = f.parts.whole.known.opened; place = f.parts.store.place; topology = f.parts.topology; progress = f.parts.progress } };
 
-    ghost invariant = { λ f. (f.parts.key.name ≡ J.flusher) × (f.parts.raiser.mark ≡ J.mark) × IsFirst f.parts.key.value f.parts.whole.known.world × Keeps D.keeps J.formatted J.before f.parts.whole.known (D.state f.parts.store.disk) f.parts.store.place f.parts.store.broken f.parts.raiser.at × Copies D.keeps f.parts.whole.known.world.net (D.state f.parts.store.disk) f.parts.store.place f.parts.store.broken f.parts.topology f.parts.progress × IsOfDevice D.keeps J.room f.parts.whole.known.world (D.state f.parts.store.disk) f.parts.store.place f.parts.store.broken f.parts.topology };
+    ghost invariant = { λ f. (f.parts.key.name ≡ J.flusher) × (f.parts.raiser.mark ≡ J.mark) × IsFirst f.parts.key.value f.parts.whole.known.world × Keeps D.keeps J.formatted J.before f.parts.whole.known (D.state f.parts.store.disk) f.parts.store.place f.parts.store.broken f.parts.raiser.at × Copies D.keeps f.parts.whole.known.world.net (D.state f.parts.store.disk) f.parts.store.place f.parts.store.broken f.parts.topology f.parts.progress × IsOfDevice D.keeps J.room f.parts.whole.known.world (D.state f.parts.store.disk) f.parts.store.place f.parts.store.broken f.parts.topology × (J.first ≤ f.parts.whole.known.world.stored) };
 }
 
 impl<J: Naming, D: Disk> Flusher<J, D> {
@@ -78,6 +78,7 @@ impl<J: Naming, D: Disk> Flusher<J, D> {
         requires area { store.place.area ≡ opened.now.head.area }
         requires roomy { is_roomy opened.now.head.topology opened.now.head.area ≡ true }
         requires bound { J.room ≡ Some (room opened.now.head.topology opened.now.head.area) }
+        requires first { J.first ≡ next_of opened.now }
         ensures world { result.world ≡ reopened J.before (D.state store.disk).now.bytes (held_of opened.now) opened.now.now }
         ensures opened { result.opened ≡ (D.state store.disk).now.bytes }
         ensures place { (result.place ≡ store.place) × (result.topology ≡ topology) }
@@ -106,6 +107,7 @@ impl<J: Naming, D: Disk> Flusher<J, D> {
         requires area { store.place.area ≡ opened.value.head.area }
         requires roomy { is_roomy opened.value.head.topology opened.value.head.area ≡ true }
         requires bound { J.room ≡ Some (room opened.value.head.topology opened.value.head.area) }
+        requires first { J.first ≡ next_of opened.value }
         requires cut { IsCut t414_ends opened.value.head.topology opened.value.base opened.value.cut }
         requires bytes { AllByRecursion IsNodeOfBytes opened.value.cut.nodes }
         ensures world { result.world ≡ reopened J.before (D.state store.disk).now.bytes (held_of opened.value) opened.value.now }

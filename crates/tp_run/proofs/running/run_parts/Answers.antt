@@ -8,6 +8,9 @@ use Rattle.tp_run.proofs.running.run_parts.Goals as goal
 pub over-flusher-requires-clause-bound : goal.over-flusher-requires-clause-bound
 over-flusher-requires-clause-bound g c = sym c.requires.names.room_is ∙ c.requires.stands.bound
 
+pub over-flusher-requires-clause-first : goal.over-flusher-requires-clause-first
+over-flusher-requires-clause-first g c = sym c.requires.names.first_is ∙ c.requires.stands.first
+
 pub over-flusher-requires-clause-cut : goal.over-flusher-requires-clause-cut
 over-flusher-requires-clause-cut g c = c.requires.stands.cut
 

@@ -1,8 +1,5 @@
-use Rattle.std.proofs.Common.{rules, ◌∙◌}
-use Rattle.tp_flush.specs.Flushing.{Goes}
-use Rattle.tp_flush.specs.Ends.{Went}
+use Rattle.std.proofs.Common.{rules}
 use Rattle.tp_flush.proofs.Goings.{checkpointed_before, checkpointed_on, goes_then, went_still, went_then}
-use Rattle.tp_flush.proofs.flusher.Flusher.copy_snapshot.Given as given
 use Rattle.tp_flush.proofs.flusher.Flusher.copy_snapshot.Goals as goal
 
 pub returns-in_err-clear-clause-checkpointed : goal.returns-in_err-clear-clause-checkpointed

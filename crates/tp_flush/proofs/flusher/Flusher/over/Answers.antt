@@ -1,4 +1,4 @@
-use Rattle.std.proofs.Common.{◌≡◌, true, refl, sym, subst, ap, ◌∙◌}
+use Rattle.std.proofs.Common.{◌≡◌, true, refl, sym, subst, ap, ◌∙◌, ◌≤◌, arith}
 use Rattle.tp_mark.specs.Seen.{RaiserValue}
 use Rattle.tp_shared.specs.Told.{IsFirst}
 use Rattle.tp_model.specs.Journal.{is_roomy}
@@ -35,6 +35,7 @@ invariant_of-result g c =
       subst (λ (k : Known). IsOfDevice g.D.Disk.keeps g.J.Naming.room k.world s place broken c.args.topology) (sym c.of-whole.ensures)
           (first_device g.D.Disk.keeps g.J.Naming.room (begun g.J.Naming.before key.net key.base key.journal s.now.bytes place.next) s place broken c.args.topology c.args.opened.value c.requires.topology c.requires.area c.requires.told.base
           (ap (λ (n : MarkedNetwork NodeState). n.start) c.requires.told.net) (record { cut = c.requires.cut; bytes = c.requires.bytes }) c.requires.bound c.requires.read),
+      subst (λ (k : Known). g.J.Naming.first ≤ k.world.stored) (sym c.of-whole.ensures) (omega (arith, c.requires.first, c.requires.next)),
     )
 
 pub returns-clause-world : goal.returns-clause-world

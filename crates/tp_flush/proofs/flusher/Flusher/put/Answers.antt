@@ -26,7 +26,7 @@ use Rattle.tp_flush.proofs.Devices.{piece_head, put_device, says}
 use Rattle.tp_flush.proofs.Beside.{put_content}
 use Rattle.tp_area.specs.declared.place.Place.{Place}
 use Rattle.tp_model.specs.Disk.{written}
-use Rattle.tp_flush.proofs.Puts.{if_answered, piece_inside, Answered, after_put, on_ok, on_ok_same, piece_fits, piece_walks, put_answered, put_keeps, put_known, put_net, put_tried, told_put}
+use Rattle.tp_flush.proofs.Puts.{if_answered, piece_inside, Answered, after_put, on_ok, on_ok_same, piece_fits, piece_walks, put_answered, put_keeps, put_known, put_net, put_stored, put_tried, told_put}
 use Rattle.tp_flush.proofs.flusher.Flusher.put.Given as given
 use Rattle.tp_flush.proofs.flusher.Flusher.put.Goals as goal
 
@@ -103,6 +103,7 @@ invariant_of-self g c =
           (λ k. on_ok a.result (PutBehind p.store.place (piece_place p.topology c.args.node c.args.piece) c.args.bytes.now s new) (head_of new.now.bytes ≡ Ok (says p.topology p.store.place))
           (λ P. piece_head p.store.place (piece_place p.topology c.args.node c.args.piece) c.args.bytes.now s new (says p.topology p.store.place) (omega (arith, p.store.whole, g.met.D.Disk.whole k p.store.disk)) (omega (arith, inside g c, c.requires.whole)) P.called
           (c.self.invariant.5.head k (unbroken g c))) (a.ensures.put k))),
+      subst (λ (k : Known). g.J.Naming.first ≤ k.world.stored) (sym c.of-parts.ensures) (omega (arith, put_stored a.new.self.broken p.whole.known.world new.now, c.self.invariant.6)),
     )
 
 abbrev behind : (g : given.Over) (c : goal.After-answer_of g) → Flushing

@@ -1,4 +1,4 @@
-use Rattle.std.proofs.Common.{refl, sym, subst, ap, ◌∙◌, arith}
+use Rattle.std.proofs.Common.{refl, sym, subst, ap, ◌∙◌, arith, ◌≤◌}
 use Rattle.std.specs.Prelude.{max}
 use Rattle.tp_mark.specs.Seen.{RaiserValue}
 use Rattle.tp_model.specs.DiskHistory.{State}
@@ -39,6 +39,7 @@ invariant_of-self g c =
       subst (λ (k : Known). Copies g.D.Disk.keeps k.world.net (g.D.Disk.state p.store.disk) p.store.place p.store.broken p.topology p.progress) (sym c.of-parts.ensures) c.self.invariant.4,
       subst (λ (k : Known). IsOfDevice g.D.Disk.keeps g.J.Naming.room k.world (g.D.Disk.state p.store.disk) p.store.place p.store.broken p.topology) (sym c.of-parts.ensures)
           (raise_device g.D.Disk.keeps g.J.Naming.room p.whole.known.world (g.D.Disk.state p.store.disk) p.store.place p.store.broken p.topology c.self.invariant.5),
+      subst (λ (k : Known). g.J.Naming.first ≤ k.world.stored) (sym c.of-parts.ensures) c.self.invariant.6,
     )
 
 pub returns-clause-mark : goal.returns-clause-mark
