@@ -14,4 +14,6 @@ pub mod Settling
 mod Switches
 mod Tails
 mod Trimming
+mod SwitchingCalls
+mod SwitchingEnds
 mod Rooms
