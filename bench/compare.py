@@ -1,11 +1,12 @@
 #!/usr/bin/env python3
 """Compares `tpnet try` with the plain interpreter over random images, outside the gate.
 
-usage: bench/compare.py TPNET PLAIN [COUNT [SEED]]      10,000 images by default
+usage: bench/compare.py TPNET PLAIN [COUNT [SEED [FIRST]]]      10,000 images by default, from image FIRST on
        bench/compare.py --cases FOLDER PLAIN [COUNT [SEED]]
 
 Each image's program ends by putting out its registers, the error flag and a block of its memory on link 0. A difference
-is kept as an image in the working folder, and the exit status is then 1.
+is kept as an image in the working folder, and the exit status is then 1. Each run has 120 seconds of processor, however busy the
+machine is; one that is killed counts as a difference.
 
 With --cases nothing is compared: the images go into a new folder, each with what the plain interpreter prints beside it. Then
 a program without any proof is compared by: cd crates/tpnet && rt try --cases FOLDER -- try {} --turns 700
@@ -243,7 +244,8 @@ def image(rng, kind):
 
 
 def run(command):
-    done = subprocess.run(command, capture_output=True, timeout=120)
+    limited = ["sh", "-c", 'ulimit -t 120; exec "$0" "$@"', *command]
+    done = subprocess.run(limited, capture_output=True)
     return done.returncode, done.stdout
 
 
@@ -269,6 +271,7 @@ def main():
     tpnet, plain = sys.argv[1], sys.argv[2]
     count = int(sys.argv[3]) if len(sys.argv) > 3 else 10000
     seed = int(sys.argv[4]) if len(sys.argv) > 4 else 1
+    first = int(sys.argv[5]) if len(sys.argv) > 5 else 0
     folder = tempfile.mkdtemp(prefix="compare-")
     spoke, different = 0, 0
 
@@ -280,14 +283,14 @@ def main():
             out.write(image(rng, kind))
         mine = run([tpnet, "try", path, "--turns", str(TURNS)])
         other = run([plain, "try", path, str(TURNS)])
-        same = mine == other
+        same = mine == other and mine[0] >= 0
         if same:
             os.unlink(path)
         return kind, path, len(other[1]), same
 
     told = {}
     with ThreadPoolExecutor(os.cpu_count()) as pool:
-        for kind, path, length, same in pool.map(one, range(count)):
+        for kind, path, length, same in pool.map(one, range(first, count)):
             row = told.setdefault(kind, [0, 0])
             row[0] += 1
             row[1] += length > 0
@@ -296,7 +299,7 @@ def main():
                 print("different: %s" % path)
     for kind in sorted(told):
         print("%-10s %6d images, %6d put something out" % (kind, told[kind][0], told[kind][1]))
-    print("%d images, %d differences" % (count, different))
+    print("%d images, %d differences" % (count - first, different))
     sys.exit(1 if different else 0)
 
 
