@@ -6,7 +6,7 @@ use std::sync::Wait;
 use std::thread::{Threads, join};
 use tp_disk::Disk;
 use tp_flush::{FLUSHER, Flusher};
-use tp_shared::gate::{BACKLOG_COPIED, RUN_DONE};
+use tp_shared::gate::{BACKLOG_COPIED, PAGE_COPIED, RUN_DONE};
 use tp_shared::{Gate, Naming, NoGate, Seat, Shared};
 
 /// How many steps a turn has.
@@ -125,4 +125,32 @@ pub fn is_stored_by_the_next_turn<
         _ => false,
     };
     (flusher, is_between && hold.was_let_go())
+}
+
+/// Whether the node `number` records, and then makes a run while the flusher is held behind a page of its image; that turn of the flusher
+/// is done, and stores only what was journalled before the run.
+pub fn is_run_beside_a_copy<J: Naming + Send + Sync, D: Disk + Drop, R: Threads + Wait + Sync>(
+    rt: &R,
+    alloc: Global,
+    shared: &Shared<J>,
+    flusher: Flusher<J, D>,
+    number: u8,
+) -> (Flusher<J, D>, bool) {
+    let is_begun = flusher.snapshot(rt, alloc, shared).is_ok();
+    let is_recorded = is_run(rt, shared, &NoGate, number);
+    let hold = Hold::new(FLUSHER, PAGE_COPIED);
+    let gate = &hold;
+    let (run, (flusher, mark)) = join(
+        rt,
+        move || run_beside(rt, shared, gate, number),
+        move || flush_held(rt, alloc, shared, flusher, gate),
+    );
+    let is_below = match (mark, run) {
+        (Some(mark), Some(run)) => mark <= run,
+        _ => false,
+    };
+    (
+        flusher,
+        is_begun && is_recorded && is_below && hold.was_let_go(),
+    )
 }

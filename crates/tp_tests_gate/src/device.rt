@@ -1,17 +1,10 @@
-//! A device of sixteen nodes, in memory, opened.
-
-ghost use Rattle.std.specs.Prelude.{◌≡◌, IfOk};
+//! A device of sixteen nodes, in memory.
 
 use std::alloc::{AllocError, Global};
 use std::test::Fail;
 use tp_area::format;
-use tp_book::Book;
 use tp_disk::MemDisk;
-use tp_mark::{Mark, Raiser};
 use tp_net::Topology;
-use tp_recover::{Opened, open};
-use tp_shared::Parts;
-use tp_work::nodes_of;
 
 /// Bytes of an area, and of the device.
 const AREA: u64 = 131_072;
@@ -79,28 +72,4 @@ pub(crate) fn formatted(alloc: Global) -> Result<MemDisk, Fail> {
     let mut disk = MemDisk::zeroed(alloc, SIZE)?;
     format(alloc, &mut disk, &topology, &images, AREA)?;
     Ok(disk)
-}
-
-/// The book and the nodes of what was opened, the raiser of their mark, and the number of the first entry.
-pub(crate) fn parts_of(alloc: Global, opened: Opened) -> Result<(Parts, Raiser, u64), AllocError>
-    ensures { IfOk result (λ made. (made.1.mark ≡ made.0.mark) × (made.2 ≡ made.0.first)) }
-{
-    let room = opened.journal_room();
-    let state = opened.into_state(alloc)?;
-    let book = Book::open(alloc, &state, Some(room))?;
-    let nodes = nodes_of(alloc, &state, 4)?;
-    let (mark, raiser, _) = Mark::start(alloc, state.next, 0)?;
-    let first = book.next();
-    let parts = Parts::opened(alloc, &state, book, nodes, mark)?;
-    Ok((parts, raiser, first))
-}
-
-/// The same of the device, freshly formatted and opened.
-pub(crate) fn parts_of_device(alloc: Global) -> Result<(Parts, Raiser, u64), Fail>
-    ensures { IfOk result (λ made. (made.1.mark ≡ made.0.mark) × (made.2 ≡ made.0.first)) }
-{
-    let mut disk = formatted(alloc)?;
-    let opened = open(alloc, &mut disk)?;
-    let made = parts_of(alloc, opened)?;
-    Ok(made)
 }

@@ -6,7 +6,16 @@ pub mod beside;
 mod device;
 pub mod hold;
 #[cfg(test)]
-mod overlap;
-pub mod team;
+mod left;
 #[cfg(test)]
-mod teams;
+mod limits;
+pub mod meanwhile;
+#[cfg(test)]
+mod opening;
+#[cfg(test)]
+mod overlap;
+pub mod pace;
+#[cfg(test)]
+mod scenes;
+pub mod team;
+pub mod teams;

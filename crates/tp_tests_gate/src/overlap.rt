@@ -3,8 +3,9 @@
 ghost use Rattle.std.specs.Prelude.{◌≡◌, ◌<◌, ◌≤◌, length};
 ghost use Rattle.tp_shared.specs.Named.{Names};
 
-use crate::device::parts_of_device;
+use crate::device::formatted;
 use crate::hold::Hold;
+use crate::opening::{Opening, opening_of};
 use std::alloc::{AllocError, Global};
 use std::marker::Brand;
 use std::sync::Wait;
@@ -114,7 +115,7 @@ fn overlap_in<R: Threads + Wait + Sync>(rt: &R, parts: Parts, numbers: Vec<u8>) 
 fn others_make_turns_while_one_node_is_held(rt: HostRuntime) -> Result<(), Fail> {
     let alloc = rt.alloc();
     for count in TEAMS {
-        let (parts, _, _) = parts_of_device(alloc)?;
+        let Opening { parts, .. } = opening_of(alloc, formatted(alloc)?)?;
         let numbers = numbers_of(alloc, *count)?;
         assert!(rt; overlap_in(&rt, parts, numbers));
     }

@@ -1,29 +1,27 @@
-//! What teams of workers journalled, while a host hands in bytes.
+//! Teams of workers and a host, beside the flusher.
 
-ghost use Rattle.std.specs.Prelude.{◌≡◌, ◌<◌, ◌≤◌, [], All, Some, IfSome, vec_len};
-ghost use Rattle.tp_model.specs.declared.limits.TheConstants.{MAX_STEPS};
-ghost use Rattle.tp_shared.specs.Named.{Names};
-ghost use Rattle.tp_work.specs.declared.start.TheConstants.{MAX_SEATS};
+ghost use Rattle.std.specs.Prelude.{◌≡◌, [], All, Some, IfSome};
 
-use crate::device::parts_of_device;
+use crate::meanwhile::flush_meanwhile;
 use crate::team::{Work, offer_pairs, work_as_team};
 use std::alloc::{AllocError, Global};
-use std::marker::Brand;
 use std::sync::Wait;
-use std::test::Fail;
+use std::sync::atomic::{AtomicBool, Ordering};
 use std::thread::{Threads, join};
+use tp_disk::Disk;
+use tp_flush::Flusher;
 use tp_host::Session;
-use tp_shared::{Naming, NoGate, Parts};
+use tp_shared::{Gate, Naming};
 use tp_work::{Net, Seat};
-
-/// How many workers a team has, and how many turns it makes.
-const TEAMS: &[(u8, u32)] = &[(2, 60), (4, 120), (16, 400)];
 
 /// How many pairs of bytes are handed in meanwhile.
 const PAIRS: u64 = 40;
 
 /// The first seat, and the others.
-fn parted<J: Naming>(net: &Net<J, NoGate>, seats: Vec<Seat<J>>) -> Option<(Seat<J>, Vec<Seat<J>>)>
+fn parted<J: Naming, G: Gate>(
+    net: &Net<J, G>,
+    seats: Vec<Seat<J>>,
+) -> Option<(Seat<J>, Vec<Seat<J>>)>
     requires { All (λ seat. (seat.hand ≡ Some net.now.queue) × (seat.slips ≡ [])) seats.items }
     ensures first { IfSome result (λ both. (both.0.hand ≡ Some net.now.queue) × (both.0.slips ≡ [])) }
     ensures others { IfSome result (λ both. All (λ seat. (seat.hand ≡ Some net.now.queue) × (seat.slips ≡ [])) both.1.items) }
@@ -34,55 +32,92 @@ fn parted<J: Naming>(net: &Net<J, NoGate>, seats: Vec<Seat<J>>) -> Option<(Seat<
     Some((first, seats))
 }
 
-/// Whether what a team and a host journalled is all of the journal, each entry once, whose first has the number `first`.
-fn are_all<J: Naming + Send + Sync, R: Threads + Wait + Sync>(
+/// What a team and a host journal side by side. Tells then that they have ended.
+fn work_and_end<J: Naming + Send + Sync, G: Gate + Send + Sync, R: Threads + Wait + Sync>(
     rt: &R,
-    alloc: Global,
-    parts: Parts,
-    first: u64,
-    team: (u8, u32),
-) -> Result<bool, Fail>
-    requires names { Names J.roll J.first J.start J.node J.mark J.flusher J.room parts }
-    requires first { first ≡ J.first }
-    requires seats { (0 < team.0) × (team.0 ≤ MAX_SEATS) }
+    net: &Net<J, G>,
+    session: &Session<'_, J>,
+    turns: u32,
+    one: Seat<J>,
+    others: Vec<Seat<J>>,
+    ended: &AtomicBool,
+) -> Result<Work<J>, AllocError>
+    requires one { (one.hand ≡ Some net.now.queue) × (one.slips ≡ []) }
+    requires others { All (λ seat. (seat.hand ≡ Some net.now.queue) × (seat.slips ≡ [])) others.items }
 {
-    let (workers, turns) = team;
-    let (net, seats, _key) = Net::<J, NoGate>::start(rt, alloc, parts, 9, workers, NoGate)?;
-    let (one, others) = parted(&net, seats).ok_or("a seat")?;
-    let session = Session::new(net.shared(), 0).ok_or("a port")?;
-    let (lent, host) = (&net, &session);
     let (offered, worked) = join(
         rt,
-        move || offer_pairs(rt, host, PAIRS),
+        move || offer_pairs(rt, session, PAIRS),
         move || -> Result<Work<J>, AllocError>
-            requires { (one.hand ≡ Some lent.now.queue) × (one.slips ≡ []) × All (λ seat. (seat.hand ≡ Some lent.now.queue) × (seat.slips ≡ [])) others.items }
-        { work_as_team(rt, lent, turns, one, others) },
+            requires { (one.hand ≡ Some net.now.queue) × (one.slips ≡ []) × All (λ seat. (seat.hand ≡ Some net.now.queue) × (seat.slips ≡ [])) others.items }
+        { work_as_team(rt, net, turns, one, others) },
     );
-    let all = offered.and(worked?);
-    let mut held = net.shared().book().lock(rt);
-    Ok(all.are_all(&mut held, first))
+    ended.store(true, Ordering::SeqCst);
+    Ok(offered.and(worked?))
 }
 
-/// The same with new names.
-fn are_all_in<R: Threads + Wait + Sync>(
+/// The same, while the flusher makes its turns. Nothing is answered of the team where one of them wasn't done.
+fn work_beside<
+    J: Naming + Send + Sync,
+    D: Disk + Drop,
+    G: Gate + Send + Sync,
+    R: Threads + Wait + Sync,
+>(
     rt: &R,
     alloc: Global,
-    parts: Parts,
-    first: u64,
-    team: (u8, u32),
-) -> Result<bool, Fail>
-    requires first { first ≡ parts.first }
-    requires seats { (0 < team.0) × (team.0 ≤ MAX_SEATS) }
+    net: &Net<J, G>,
+    turns: u32,
+    one: Seat<J>,
+    others: Vec<Seat<J>>,
+    flusher: Flusher<J, D>,
+    gate: &G,
+) -> (Flusher<J, D>, Option<Work<J>>)
+    requires one { (one.hand ≡ Some net.now.queue) × (one.slips ≡ []) }
+    requires others { All (λ seat. (seat.hand ≡ Some net.now.queue) × (seat.slips ≡ [])) others.items }
 {
-    are_all::<Brand, R>(rt, alloc, parts, first, team)
+    let Some(session) = Session::new(net.shared(), 0) else {
+        return (flusher, None);
+    };
+    let ended = AtomicBool::new(false);
+    let (host, told) = (&session, &ended);
+    let (worked, (flusher, is_done)) = join(
+        rt,
+        move || -> Result<Work<J>, AllocError>
+            requires { (one.hand ≡ Some net.now.queue) × (one.slips ≡ []) × All (λ seat. (seat.hand ≡ Some net.now.queue) × (seat.slips ≡ [])) others.items }
+        { work_and_end(rt, net, host, turns, one, others, told) },
+        move || flush_meanwhile(rt, alloc, net.shared(), flusher, gate, told),
+    );
+    (flusher, if is_done { worked.ok() } else { None })
 }
 
-#[test]
-fn one_worker_ends_early_and_others_make_the_rest(rt: HostRuntime) -> Result<(), Fail> {
-    let alloc = rt.alloc();
-    for team in TEAMS {
-        let (parts, _, first) = parts_of_device(alloc)?;
-        assert!(rt; are_all_in(&rt, alloc, parts, first, *team)?);
-    }
-    Ok(())
+/// One worker ends after its first turn, and the others make the rest of `turns`, while a host hands in bytes and the flusher makes its
+/// turns. Answers whether what they journalled is all of the journal, each entry once, whose first has the number `first`.
+pub fn are_all_beside<
+    J: Naming + Send + Sync,
+    D: Disk + Drop,
+    G: Gate + Send + Sync,
+    R: Threads + Wait + Sync,
+>(
+    rt: &R,
+    alloc: Global,
+    net: &Net<J, G>,
+    seats: Vec<Seat<J>>,
+    turns: u32,
+    first: u64,
+    flusher: Flusher<J, D>,
+    gate: &G,
+) -> (Flusher<J, D>, bool)
+    requires seats { All (λ seat. (seat.hand ≡ Some net.now.queue) × (seat.slips ≡ [])) seats.items }
+    requires first { first ≡ J.first }
+{
+    let Some((one, others)) = parted(net, seats) else {
+        return (flusher, false);
+    };
+    let (flusher, worked) = work_beside(rt, alloc, net, turns, one, others, flusher, gate);
+    let Some(all) = worked else {
+        return (flusher, false);
+    };
+    let mut held = net.shared().book().lock(rt);
+    let are_all = all.are_all(&mut held, first);
+    (flusher, are_all)
 }

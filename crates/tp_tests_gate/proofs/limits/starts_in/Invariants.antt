@@ -2,11 +2,11 @@ use Rattle.std.proofs.Common.{[]}
 use Rattle.tp_model.specs.Runs.{fresh}
 use Rattle.tp_model.specs.WriteOrder.{Resting}
 use Rattle.tp_shared.specs.Parted.{name_of}
-use Rattle.tp_tests_gate.proofs.teams.are_all_in.Given as goal
+use Rattle.tp_tests_gate.proofs.limits.starts_in.Given as goal
 
 -- No history is told of: nothing here speaks of crashes.
-abbrev pub ghosts-are_all : goal.ghosts-are_all
-ghosts-are_all g a = record {
+abbrev pub ghosts-starts : goal.ghosts-starts
+ghosts-starts g a = record {
   roll = a.parts.roll;
   first = a.parts.first;
   start = record { wires = a.parts.book.state.start.wires; nodes = a.parts.book.state.start.nodes; ports = a.parts.book.state.ports; lines = [] };

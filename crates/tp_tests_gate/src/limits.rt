@@ -1,0 +1,130 @@
+//! The least and the most that a network in threads may begin with.
+
+ghost use Rattle.std.specs.Prelude.{◌≡◌, ◌<◌, ◌≤◌, [], All, IfSome, Some};
+ghost use Rattle.tp_model.specs.declared.limits.TheConstants.{MAX_STEPS};
+ghost use Rattle.tp_shared.specs.Named.{Names};
+ghost use Rattle.tp_work.specs.declared.start.TheConstants.{MAX_SEATS};
+
+use crate::device::{NODES, formatted};
+use crate::opening::{Opening, opening_of};
+use std::alloc::Global;
+use std::marker::Brand;
+use std::sync::Wait;
+use std::test::Fail;
+use tp_mark::Mark;
+use tp_shared::{Naming, NoGate, Parts};
+use tp_work::{Net, Seat, Turn};
+
+/// How many steps a turn has, and how many seats there are.
+const STARTS: &[(u16, u8)] = &[(1, 1), (4096, 1), (1, 32)];
+
+/// Whether it is the turn of the process `number`: the host's without a run; that of the first node, which sends a letter; and that of
+/// another, which goes round, of a whole quantum.
+fn is_whole(turn: &Turn, number: u8, quantum: u16) -> bool {
+    let steps = turn.ran.as_ref().map(|ran| ran.count());
+    let wanted = if number == NODES {
+        None
+    } else if number == 0 {
+        Some(quantum.min(3))
+    } else {
+        Some(quantum)
+    };
+    turn.process == number && steps == wanted
+}
+
+/// Whether the process `number` makes a whole turn at a seat.
+fn is_made<J: Naming, R: Wait>(
+    rt: &R,
+    net: &Net<J, NoGate>,
+    seat: &mut Seat<J>,
+    number: u8,
+    quantum: u16,
+) -> bool
+    requires { seat.old.hand ≡ Some net.now.queue }
+    ensures { seat.new.hand ≡ Some net.now.queue }
+{
+    match net.turn(rt, seat) {
+        Ok(turn) => is_whole(&turn, number, quantum),
+        Err(_) => false,
+    }
+}
+
+/// One of the seats that are left.
+fn next_seat<J: Naming>(net: &Net<J, NoGate>, seats: &mut Vec<Seat<J>>) -> Option<Seat<J>>
+    requires { All (λ seat. (seat.hand ≡ Some net.now.queue) × (seat.slips ≡ [])) seats.old.items }
+    ensures seat { IfSome result (λ seat. seat.hand ≡ Some net.now.queue) }
+    ensures others { All (λ seat. (seat.hand ≡ Some net.now.queue) × (seat.slips ≡ [])) seats.new.items }
+{
+    let _net = net;
+    seats.pop()
+}
+
+/// Whether there are so many seats, and two processes make whole turns at each, all of them in their order.
+fn are_made<J: Naming, R: Wait>(
+    rt: &R,
+    net: &Net<J, NoGate>,
+    seats: Vec<Seat<J>>,
+    count: u8,
+    quantum: u16,
+) -> bool
+    requires { All (λ seat. (seat.hand ≡ Some net.now.queue) × (seat.slips ≡ [])) seats.items }
+{
+    let mut seats = seats;
+    for place in 0..count {
+        let Some(mut seat) = next_seat(net, &mut seats) else {
+            return false;
+        };
+        let first = place.wrapping_mul(2) % (NODES + 1);
+        let second = place.wrapping_mul(2).wrapping_add(1) % (NODES + 1);
+        if !is_made(rt, net, &mut seat, first, quantum)
+            || !is_made(rt, net, &mut seat, second, quantum)
+        {
+            return false;
+        }
+    }
+    seats.is_empty()
+}
+
+/// Whether a network begins with so many steps a turn and so many seats.
+fn starts<J: Naming, R: Wait>(rt: &R, alloc: Global, parts: Parts, quantum: u16, seats: u8) -> bool
+    requires names { Names J.roll J.first J.start J.node J.mark J.flusher J.room parts }
+    requires quantum { (0 < quantum) × (quantum ≤ MAX_STEPS) }
+    requires seats { (0 < seats) × (seats ≤ MAX_SEATS) }
+{
+    let Ok((net, given, _key)) = Net::<J, NoGate>::start(rt, alloc, parts, quantum, seats, NoGate)
+    else {
+        return false;
+    };
+    are_made(rt, &net, given, seats, quantum)
+}
+
+/// The same with new names.
+fn starts_in<R: Wait>(rt: &R, alloc: Global, parts: Parts, quantum: u16, seats: u8) -> bool
+    requires quantum { (0 < quantum) × (quantum ≤ MAX_STEPS) }
+    requires seats { (0 < seats) × (seats ≤ MAX_SEATS) }
+{
+    starts::<Brand, R>(rt, alloc, parts, quantum, seats)
+}
+
+#[test]
+fn networks_begin_with_the_least_and_the_most(rt: HostRuntime) -> Result<(), Fail> {
+    let alloc = rt.alloc();
+    for (quantum, seats) in STARTS {
+        let Opening { parts, .. } = opening_of(alloc, formatted(alloc)?)?;
+        assert!(rt; starts_in(&rt, alloc, parts, *quantum, *seats));
+    }
+    Ok(())
+}
+
+#[test]
+fn a_mark_gives_as_many_passes_as_are_asked_for(rt: HostRuntime) -> Result<(), Fail> {
+    for count in [0, 1, 32, 33, 255] {
+        let (mark, mut raiser, mut passes) = Mark::start(rt.alloc(), 7, count)?;
+        assert!(rt; passes.len() == count as usize);
+        mark.raise(&mut raiser, 9);
+        for pass in &mut passes {
+            assert!(rt; pass.seen() == 7 && mark.load(pass) == 9);
+        }
+    }
+    Ok(())
+}

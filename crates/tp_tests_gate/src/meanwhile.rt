@@ -1,0 +1,152 @@
+//! The flusher's turns while others go on.
+
+ghost use Rattle.std.specs.Prelude.{◌≡◌};
+
+use crate::hold::{LOOKS, comes};
+use std::alloc::{AllocError, Global};
+use std::sync::Wait;
+use std::sync::atomic::{AtomicBool, Ordering};
+use std::thread::{Threads, join, yield_now};
+use tp_disk::Disk;
+use tp_flush::Flusher;
+use tp_host::Session;
+use tp_mark::Pass;
+use tp_shared::{Gate, Naming, NoGate, Receipt, Shared};
+
+/// Makes turns of the flusher until the others have ended. Answers whether all of them were done.
+pub fn flush_meanwhile<J: Naming, D: Disk, G: Gate, R: Wait>(
+    rt: &R,
+    alloc: Global,
+    shared: &Shared<J>,
+    flusher: Flusher<J, D>,
+    gate: &G,
+    ended: &AtomicBool,
+) -> (Flusher<J, D>, bool) {
+    let mut flusher = flusher;
+    let mut is_done = true;
+    for _ in 0..LOOKS {
+        if ended.load(Ordering::SeqCst) {
+            break;
+        }
+        if flusher.turn_with(rt, alloc, shared, gate).is_err() {
+            is_done = false;
+        }
+        yield_now();
+    }
+    (flusher, is_done)
+}
+
+/// Whether a receipt's entries come to be stored.
+fn comes_stored<J: Naming>(session: &Session<'_, J>, receipt: &Receipt<J>, pass: &mut Pass) -> bool
+    requires { pass.old.mark ≡ J.mark }
+    ensures { pass.new.mark ≡ J.mark }
+{
+    for _ in 0..LOOKS {
+        if session.is_stored(receipt, pass) {
+            return true;
+        }
+        yield_now();
+    }
+    false
+}
+
+/// Whether the pass says of each receipt that its entries are stored.
+fn are_stored<J: Naming>(session: &Session<'_, J>, receipts: &[Receipt<J>], pass: &mut Pass) -> bool
+    requires { pass.old.mark ≡ J.mark }
+    ensures { pass.new.mark ≡ J.mark }
+{
+    for receipt in receipts {
+        if !session.is_stored(receipt, pass) {
+            return false;
+        }
+    }
+    true
+}
+
+/// Hands in a pair of bytes, and waits until the pass says that it is stored. Answers its receipt then.
+fn store_pair<J: Naming, R: Wait>(
+    rt: &R,
+    session: &Session<'_, J>,
+    at: u64,
+    pass: &mut Pass,
+) -> Option<Receipt<J>>
+    requires { pass.old.mark ≡ J.mark }
+    ensures { pass.new.mark ≡ J.mark }
+{
+    let receipt = session.offer(rt, at, b"ab").ok()?;
+    if comes_stored(session, &receipt, pass) {
+        Some(receipt)
+    } else {
+        None
+    }
+}
+
+/// Stores `count` pairs of bytes, one after another, from the position `from` on. Answers whether the pass says of each that it is
+/// stored, and goes on saying so.
+fn store_pairs<J: Naming, R: Wait>(
+    rt: &R,
+    alloc: Global,
+    session: &Session<'_, J>,
+    from: u64,
+    count: u64,
+    pass: &mut Pass,
+) -> Result<bool, AllocError>
+    requires { pass.old.mark ≡ J.mark }
+    ensures { pass.new.mark ≡ J.mark }
+{
+    let mut receipts = Vec::new(alloc);
+    for place in 0..count {
+        let at = place.wrapping_mul(2).wrapping_add(from);
+        let Some(receipt) = store_pair(rt, session, at, pass) else {
+            return Ok(false);
+        };
+        receipts.push(receipt)?;
+        if !are_stored(session, &receipts, pass) {
+            return Ok(false);
+        }
+    }
+    Ok(true)
+}
+
+/// Whether a pair of bytes is taken, and isn't stored yet.
+fn is_early<J: Naming, R: Wait>(rt: &R, session: &Session<'_, J>, pass: &mut Pass) -> bool
+    requires { pass.old.mark ≡ J.mark }
+    ensures { pass.new.mark ≡ J.mark }
+{
+    match session.offer(rt, 0, b"ab") {
+        Ok(receipt) => !session.is_stored(&receipt, pass),
+        Err(_) => false,
+    }
+}
+
+/// Whether a pass says of each pair of bytes first that it isn't stored while nobody flushes, and then, once it says that one is stored,
+/// goes on saying so while the flusher makes its turns in a thread of its own.
+pub fn stays_stored<J: Naming + Send + Sync, D: Disk + Drop, R: Threads + Wait + Sync>(
+    rt: &R,
+    alloc: Global,
+    shared: &Shared<J>,
+    flusher: Flusher<J, D>,
+    count: u64,
+    mut pass: Pass,
+) -> (Flusher<J, D>, bool)
+    requires { pass.mark ≡ J.mark }
+{
+    let Some(session) = Session::new(shared, 0) else {
+        return (flusher, false);
+    };
+    let is_early = is_early(rt, &session, &mut pass);
+    let ended = AtomicBool::new(false);
+    let (lent, told) = (&session, &ended);
+    let (stored, (flusher, is_done)) = join(
+        rt,
+        move || -> Result<bool, AllocError>
+            requires { pass.mark ≡ J.mark }
+        {
+            let stored = store_pairs(rt, alloc, lent, 2, count, &mut pass);
+            told.store(true, Ordering::SeqCst);
+            stored
+        },
+        move || flush_meanwhile(rt, alloc, shared, flusher, &NoGate, told),
+    );
+    (flusher, is_early && is_done && stored.is_ok_and(|all| all))
+}

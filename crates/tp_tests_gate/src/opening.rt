@@ -1,0 +1,114 @@
+//! What is made of a device that opened: a network in threads, and its flusher.
+
+ghost use Rattle.std.specs.Prelude.{◌≡◌, ◌<◌, ◌≤◌, [], true, false, Ok, All, IfOk, Some};
+ghost use Rattle.tp_area.specs.Places.{place_at};
+ghost use Rattle.tp_model.specs.DiskHistory.{IsSynced};
+ghost use Rattle.tp_model.specs.Journal.{is_roomy};
+ghost use Rattle.tp_model.specs.Opening.{verdict};
+ghost use Rattle.tp_run.specs.Made.{StandsFor};
+ghost use Rattle.tp_shared.specs.Named.{Names};
+ghost use Rattle.tp_work.specs.declared.start.TheConstants.{MAX_SEATS};
+
+use std::alloc::{AllocError, Global};
+use std::snapshot::Snapshot;
+use std::sync::Wait;
+use std::test::Fail;
+use tp_area::Store;
+use tp_book::{Book, opened_books_begin};
+use tp_disk::Disk;
+use tp_flush::{Flusher, topology_of};
+use tp_mark::{Mark, Pass, Raiser};
+use tp_net::Topology;
+use tp_recover::{Opened, open};
+use tp_shared::{Gate, Naming, Parts};
+use tp_work::{Net, Seat, nodes_of};
+
+/// How many steps a node's turn has.
+pub(crate) const QUANTUM: u16 = 9;
+
+/// A device that opened: what it held, its topology, the parts of its network, the number of their first entry, the raiser of their mark
+/// and a pass, and its store.
+#[derive(Drop)]
+pub(crate) struct Opening<D: Disk> {
+    opened: Snapshot<Opened>,
+    topology: Topology,
+    pub(crate) parts: Parts,
+    pub(crate) first: u64,
+    raiser: Raiser,
+    pass: Pass,
+    store: Store<D>,
+    pub ghost stands: { StandsFor opened.value parts raiser },
+    pub ghost first_is: { first ≡ parts.first },
+    pub ghost passes: { pass.mark ≡ parts.mark },
+    pub ghost topology_is: { topology ≡ opened.value.head.topology },
+    pub ghost roomy: { is_roomy opened.value.head.topology opened.value.head.area ≡ true },
+    pub ghost place: { store.place ≡ place_at opened.value },
+    pub ghost unbroken: { store.broken ≡ false },
+    pub ghost read: { D.keeps → verdict (D.state store.disk).now.bytes ≡ Ok opened.value },
+    pub ghost synced: { D.keeps → IsSynced (D.state store.disk) },
+}
+
+/// The book and the nodes of what was opened, the raiser of their mark, and a pass.
+fn parts_of(alloc: Global, opened: Opened) -> Result<(Parts, Raiser, Pass), AllocError>
+    ensures stands { IfOk result (λ made. StandsFor opened made.0 made.1) }
+    ensures pass { IfOk result (λ made. made.2.mark ≡ made.0.mark) }
+{
+    opened_books_begin();
+    opened.known();
+    let room = opened.journal_room();
+    let state = opened.into_state(alloc)?;
+    let book = Book::open(alloc, &state, Some(room))?;
+    let nodes = nodes_of(alloc, &state, 4)?;
+    let (mark, mut raiser, _) = Mark::start(alloc, state.next, 0)?;
+    let pass = mark.pass(&mut raiser);
+    let parts = Parts::opened(alloc, &state, book, nodes, mark)?;
+    Ok((parts, raiser, pass))
+}
+
+/// Opens a device.
+pub(crate) fn opening_of<D: Disk + Drop>(alloc: Global, disk: D) -> Result<Opening<D>, Fail> {
+    let mut disk = disk;
+    let opened = open(alloc, &mut disk)?;
+    let known = Snapshot::of(&opened);
+    let topology = topology_of(&opened);
+    let _area = opened.head().area();
+    let first = opened.next();
+    let store = opened.store(disk);
+    let (parts, raiser, pass) = parts_of(alloc, opened)?;
+    Ok(Opening {
+        opened: known,
+        topology,
+        parts,
+        first,
+        raiser,
+        pass,
+        store,
+    })
+}
+
+/// Puts it under locks, and makes its flusher, with as many seats as `workers` says.
+pub(crate) fn begin<J: Naming, D: Disk + Drop, G: Gate + Drop, R: Wait>(
+    rt: &R,
+    alloc: Global,
+    opening: Opening<D>,
+    workers: u8,
+    gate: G,
+) -> Result<(Net<J, G>, Vec<Seat<J>>, Flusher<J, D>, Pass), AllocError>
+    requires names { Names J.roll J.first J.start J.node J.mark J.flusher J.room opening.parts }
+    requires workers { (0 < workers) × (workers ≤ MAX_SEATS) }
+    ensures seats { IfOk result (λ begun. All (λ seat. (seat.hand ≡ Some begun.0.queue) × (seat.slips ≡ [])) begun.1.items) }
+    ensures pass { IfOk result (λ begun. begun.3.mark ≡ J.mark) }
+{
+    let Opening {
+        opened,
+        topology,
+        parts,
+        raiser,
+        pass,
+        store,
+        ..
+    } = opening;
+    let (net, seats, key) = Net::<J, G>::start(rt, alloc, parts, QUANTUM, workers, gate)?;
+    let flusher = Flusher::over(opened, topology, store, key, raiser);
+    Ok((net, seats, flusher, pass))
+}
