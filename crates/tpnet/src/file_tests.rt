@@ -6,15 +6,18 @@ use crate::tests::{letter, place};
 use std::fs;
 use std::fs::{Files, OpenFile};
 use std::os::unix::fs::{FileExt, MetadataExt};
+use std::sync::Wait;
+use std::sync::atomic::Ordering;
 use std::test::Fail;
+use std::thread::Threads;
 
 const FORMAT: &[&str] = &["format", "@device", "@net.txt", "@", "16384"];
 
 /// A folder with a network of one node, and the bytes of its device.
-fn network<R: Files<File = F> + AllocGlobal, F: FileExt + OpenFile + Drop>(
-    rt: &R,
-    name: &str,
-) -> Result<(Scratch, Vec<u8>), Fail> {
+fn network<
+    R: Files<File = F> + AllocGlobal + Threads + Wait + Sync,
+    F: FileExt + OpenFile + Drop + Send,
+>(rt: &R, name: &str) -> Result<(Scratch, Vec<u8>), Fail> {
     let scratch = Scratch::new(rt, name)?;
     scratch.put(rt, "net.txt", b"node a 4\nport h\nwire a.0 h\n")?;
     scratch.put(rt, "a.img", letter(rt.alloc())?.as_slice())?;
@@ -79,12 +82,10 @@ fn a_file_that_was_made_stays(rt: HostRuntime) -> Result<(), Fail> {
 }
 
 /// What the program does with faults of the device's file.
-fn faulty<R: Files<File = F> + AllocGlobal, F: FileExt + OpenFile + Drop>(
-    rt: &R,
-    scratch: &Scratch,
-    words: &[&str],
-    faults: &Faults,
-) -> Result<Output, Fail> {
+fn faulty<
+    R: Files<File = F> + AllocGlobal + Threads + Wait + Sync,
+    F: FileExt + OpenFile + Drop + Send,
+>(rt: &R, scratch: &Scratch, words: &[&str], faults: &Faults) -> Result<Output, Fail> {
     let files = FaultyFiles { below: rt, faults };
     scratch.run(&files, words)
 }
@@ -173,7 +174,7 @@ fn how_files_are_opened(rt: HostRuntime) -> Result<(), Fail> {
     for words in [["recover", "@device"], ["show", "@device"]] {
         let faults = Faults::short(usize::MAX);
         assert_eq!(rt; faulty(&rt, &scratch, &words, &faults)?.status, 0);
-        assert!(rt; !faults.writable.get());
+        assert!(rt; !faults.writable.load(Ordering::SeqCst));
     }
     let after = fs::metadata(&rt, path.as_str())?;
     assert_eq!(rt; after.mtime(), before.mtime());
@@ -182,10 +183,10 @@ fn how_files_are_opened(rt: HostRuntime) -> Result<(), Fail> {
     assert_eq!(rt; scratch.read(&rt, "device")?.as_slice(), device.as_slice());
     let faults = Faults::short(usize::MAX);
     assert_eq!(rt; faulty(&rt, &scratch, FORMAT, &faults)?.status, 0);
-    assert_eq!(rt; faults.synced.get(), 0);
+    assert_eq!(rt; faults.synced.load(Ordering::SeqCst), 0);
     fs::remove_file(&rt, path.as_str())?;
     assert_eq!(rt; faulty(&rt, &scratch, FORMAT, &faults)?.status, 0);
-    assert_eq!(rt; faults.synced.get(), 1);
+    assert_eq!(rt; faults.synced.load(Ordering::SeqCst), 1);
     assert_eq!(rt; scratch.read(&rt, "device")?.as_slice(), device.as_slice());
     scratch.remove(&rt)
 }
