@@ -159,8 +159,14 @@ impl<'a, F: OpenFile + Drop> OpenFile for FaultyFile<'a, F> {
 /// The files below, with faults of those whose path ends with `device`.
 #[derive(Drop)]
 pub(crate) struct FaultyFiles<'a, R> {
-    pub(crate) below: &'a R,
-    pub(crate) faults: &'a Faults,
+    below: &'a R,
+    faults: &'a Faults,
+}
+
+impl<'a, R> FaultyFiles<'a, R> {
+    pub(crate) fn new(below: &'a R, faults: &'a Faults) -> FaultyFiles<'a, R> {
+        FaultyFiles { below, faults }
+    }
 }
 
 impl<'a, R: Alloc<A = Global>> Alloc for FaultyFiles<'a, R> {

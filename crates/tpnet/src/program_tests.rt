@@ -72,13 +72,15 @@ fn the_greatest_numbers(rt: HostRuntime) -> Result<(), Fail> {
     let line = scratch.line(alloc, &["try", "a.img", "--turns", "4294967295"])?;
     let is_tried = match read_args(alloc, line.as_slice()) {
         Ok(Asked::Try { image, turns }) => image.as_str() == "a.img" && turns == 4_294_967_295,
-        _ => false,
+        Ok(_other) => false,
+        Err(_fault) => false,
     };
     assert!(rt; is_tried);
     let line = scratch.line(alloc, &["format", "d", "t", "i", "1099511627776"])?;
     let is_made = match read_args(alloc, line.as_slice()) {
         Ok(Asked::Format(new)) => is_device(&new),
-        _ => false,
+        Ok(_other) => false,
+        Err(_fault) => false,
     };
     assert!(rt; is_made);
     scratch.remove(&rt)
@@ -145,7 +147,8 @@ fn each_option_of_a_run(rt: HostRuntime) -> Result<(), Fail> {
         let line = scratch.line(rt.alloc(), words.as_slice())?;
         let is_wanted = match read_args(rt.alloc(), line.as_slice()) {
             Ok(Asked::Run(run)) => is_run(&run, wanted),
-            _ => false,
+            Ok(_other) => false,
+            Err(_fault) => false,
         };
         assert!(rt; is_wanted);
     }

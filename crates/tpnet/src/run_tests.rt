@@ -6,7 +6,7 @@ use crate::args::Run;
 use crate::faults::{Faults, FaultyFiles};
 use crate::format_tests::{AREA, format_in_memory, images_of};
 use crate::running::run_on;
-use crate::scratch::{Lines, Scratch};
+use crate::scratch::{Lines, Output, Scratch};
 use crate::tests::{letter, place};
 use std::alloc::Global;
 use std::fs::{Files, OpenFile};
@@ -270,30 +270,27 @@ fn a_full_journal(rt: HostRuntime) -> Result<(), Fail> {
     Ok(())
 }
 
-/// What becomes of a run whose call of that number on the device's file fails, and those behind it: whether it was done, and whether
-/// the next one goes on, which prints again what wasn't confirmed.
-fn fails_at<
+/// Whether a run that ended so was done or is refused as a failure of the device, and the next one goes on, which prints again what
+/// wasn't confirmed.
+fn goes_on<
     R: Files<File = F> + AllocGlobal + Threads + Wait + Sync,
     F: FileExt + OpenFile + Drop + Send,
->(rt: &R, scratch: &Scratch, number: u64) -> Result<(bool, bool), Fail> {
-    let faults = Faults::at(number, false);
-    let files = FaultyFiles {
-        below: rt,
-        faults: &faults,
-    };
-    let ran = scratch.run(&files, FOUR)?;
+>(rt: &R, scratch: &Scratch, ran: &Output) -> Result<bool, Fail> {
     let said = ran.err.as_slice();
-    let is_said = said == b"tpnet: ReadFailed\n".as_slice()
+    let is_said = ran.status == 0
+        || said == b"tpnet: ReadFailed\n".as_slice()
         || said == b"tpnet: DeviceFailed\n".as_slice();
+    let has_printed = !ran.out.is_empty();
     let unconfirmed = scratch.run(rt, &["port", "@device", "0"])?;
-    let again = scratch.run(rt, if ran.out.is_empty() { FOUR } else { NONE })?;
-    let printed = if ran.out.is_empty() {
-        b"A".as_slice()
+    let again = scratch.run(rt, if has_printed { NONE } else { FOUR })?;
+    let prints_letter = again.out.as_slice() == b"A".as_slice();
+    let prints_unconfirmed = again.out.as_slice() == unconfirmed.out.as_slice();
+    let prints = if has_printed {
+        prints_unconfirmed
     } else {
-        unconfirmed.out.as_slice()
+        prints_letter
     };
-    let goes_on = unconfirmed.status == 0 && again.status == 0 && again.out.as_slice() == printed;
-    Ok((ran.status == 0, goes_on && (is_said || ran.status == 0)))
+    Ok(is_said && unconfirmed.status == 0 && again.status == 0 && prints)
 }
 
 #[test]
@@ -303,9 +300,10 @@ fn each_call_of_the_file_may_fail(rt: HostRuntime) -> Result<(), Fail> {
     let mut calls = 0u64;
     for number in 0..200u64 {
         scratch.put(&rt, "device", fresh.as_slice())?;
-        let (is_done, goes_on) = fails_at(&rt, &scratch, number)?;
-        assert!(rt; goes_on);
-        if is_done {
+        let faults = Faults::at(number, false);
+        let ran = scratch.run(&FaultyFiles::new(&rt, &faults), FOUR)?;
+        assert!(rt; goes_on(&rt, &scratch, &ran)?);
+        if ran.status == 0 {
             break;
         }
         calls = number;
@@ -320,10 +318,7 @@ fn a_file_to_read_alone(rt: HostRuntime) -> Result<(), Fail> {
     let scratch = device(&rt, "run_reads", letter(rt.alloc())?.as_slice(), "16384")?;
     let before = scratch.read(&rt, "device")?;
     let faults = Faults::to_read();
-    let files = FaultyFiles {
-        below: &rt,
-        faults: &faults,
-    };
+    let files = FaultyFiles::new(&rt, &faults);
     assert!(rt; scratch.is_refused(&files, FOUR, "tpnet: ReadFailed\n")?);
     assert!(rt; faults.writable.load(Ordering::SeqCst));
     assert_eq!(rt; scratch.read(&rt, "device")?.as_slice(), before.as_slice());
