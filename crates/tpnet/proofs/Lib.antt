@@ -1,1 +1,3 @@
 mod Fronts
+mod Histories
+mod Statuses

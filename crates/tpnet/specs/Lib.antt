@@ -1,6 +1,9 @@
+pub mod Typed
+pub mod Given
 pub mod Args
 pub mod Front
 pub mod Shown
 pub mod Opens
 pub mod Attempt
 pub mod Formats
+pub mod Running

@@ -1,14 +1,19 @@
-//! The words of the command line.
+//! What the command line asks for.
 
-ghost use Rattle.std.specs.Prelude.{◌≡◌, ◌≤◌, true, IfOk, IfSome, string_bytes};
+ghost use Rattle.std.specs.Prelude.{◌≡◌, IfOk, codes};
 ghost use Rattle.std.specs.Fmt.{decimal};
-ghost use Rattle.tpnet.specs.Args.{HasTyped, IsInRange, WasTyped, has_value, has_word, is_value, is_word, was_typed};
+ghost use Rattle.std.specs.Option.{option_map};
+ghost use Rattle.tpnet.specs.Args.{HasTyped, IsEvery, IsInRange, WasTyped};
+ghost use Rattle.tpnet.specs.Given.{given};
 
-use crate::help::{CHECK_REFUSALS, FORMAT_REFUSALS, OPENING_REFUSALS, TRY_REFUSALS};
+use crate::found::{area_of, option_number, option_or, option_string, place_of, text_of, turns_of};
 use crate::view::View;
-use clap::{Arg, ArgAction, ArgMatches, Command};
+use crate::words::command;
+use clap::ArgMatches;
 use std::alloc::{AllocError, AllocFailed, Global};
 use std::fmt;
+use tp_model::limits::MAX_STEPS;
+use tp_run::MAX_WORKERS;
 
 /// What the command line asks for.
 #[derive(Drop)]
@@ -19,6 +24,8 @@ pub enum Asked {
     Try { image: String, turns: u32 },
     /// A new device.
     Format(NewDevice),
+    /// A run of a device's network.
+    Run(Run),
     /// Opens a device and says what the next entry's number is.
     Recover { device: String },
     /// Opens a device and says what it holds.
@@ -40,10 +47,27 @@ pub struct NewDevice {
     pub only_new: bool,
 }
 
+/// A run of a device's network: its file, how many turns are made and how, the port that input goes to and output comes from, and the
+/// file of that port's whole input.
+#[derive(Drop)]
+pub struct Run {
+    pub device: String,
+    pub turns: u32,
+    pub workers: u8,
+    /// The most steps of a turn.
+    pub quantum: u16,
+    /// The spare frames of each node.
+    pub spare: u64,
+    /// The entries since the kept cut after which a snapshot begins; `None`: where the journal is half full.
+    pub every: Option<u32>,
+    pub port: u64,
+    pub input: Option<String>,
+}
+
 /// The most bytes that an area is made with.
 pub const MAX_AREA: u64 = 1 << 40;
 
-/// The most turns of a trial.
+/// The most turns of a trial or a run.
 pub const MAX_TURNS: u64 = 4_294_967_295;
 
 /// Why the words ask for nothing. Each ends the program with status 2.
@@ -51,8 +75,12 @@ pub const MAX_TURNS: u64 = 4_294_967_295;
 pub enum ArgFault {
     /// `clap`'s own text, which says what is wrong and how to call.
     Words(clap::Error),
-    /// The number of turns is no decimal in its range.
-    Turns,
+    /// What was typed for the option `id` is no decimal in its range.
+    Range {
+        id: &'static str,
+        least: u64,
+        most: u64,
+    },
     /// The number of bytes of an area is no decimal in its range.
     Area,
     /// The number of a node, a port or an entry is no decimal.
@@ -66,9 +94,9 @@ impl fmt::Display for ArgFault {
     fn fmt<W: fmt::Write>(&self, f: &mut fmt::Formatter<W>) -> fmt::Result {
         match self {
             ArgFault::Words(error) => write!(f, "{error}"),
-            ArgFault::Turns => write!(
+            ArgFault::Range { id, least, most } => write!(
                 f,
-                "tpnet: --turns takes a decimal from 0 to 4294967295, without a sign or leading zeros\n"
+                "tpnet: --{id} takes a decimal from {least} to {most}, without a sign or leading zeros\n"
             ),
             ArgFault::Area => write!(
                 f,
@@ -102,281 +130,6 @@ impl<T: Drop> From<AllocFailed<T>> for ArgFault {
     }
 }
 
-/// The program's version, and what it was proved with.
-const VERSION: &str = "0.1.0\nproved with rattle-kit-13b, logic dac8208d650f15bf";
-
-/// A word that has to be there.
-fn word<'a>(alloc: Global, id: &'a str, help: &'a str) -> Arg<'a> {
-    Arg::new(alloc, id)
-        .required(true)
-        .action(ArgAction::Set)
-        .help(help)
-}
-
-/// An option without a value.
-fn flag<'a>(alloc: Global, id: &'a str, help: &'a str) -> Arg<'a> {
-    Arg::new(alloc, id)
-        .long(id)
-        .action(ArgAction::SetTrue)
-        .help(help)
-}
-
-/// A command that says more of a refusal where it is asked to.
-fn explained<'a>(
-    alloc: Global,
-    name: &'a str,
-    about: &'a str,
-    refusals: &'a str,
-) -> Result<Command<'a>, AllocError> {
-    Command::new(alloc, name)
-        .about(about)
-        .after_help(refusals)
-        .arg(flag(
-            alloc,
-            "explain",
-            "after a refusal, say which file, why, and what to do",
-        ))
-}
-
-fn try_command<'a>(alloc: Global) -> Result<Command<'a>, AllocError> {
-    let turns = Arg::new(alloc, "turns")
-        .long("turns")
-        .required(true)
-        .action(ArgAction::Set)
-        .value_name("N")
-        .help("how many turns: node, host, node, host ..");
-    explained(
-        alloc,
-        "try",
-        "Runs one node without a device, its link 0 wired to port 0, and prints what port 0 puts out",
-        TRY_REFUSALS,
-    )?
-    .arg(word(alloc, "IMAGE", "the node's image: 172 bytes and its memory"))?
-    .arg(turns)
-}
-
-fn format_command<'a>(alloc: Global) -> Result<Command<'a>, AllocError> {
-    explained(
-        alloc,
-        "format",
-        "Makes a device from a topology and the nodes' images",
-        FORMAT_REFUSALS,
-    )?
-    .arg(flag(alloc, "new", "refuse a file that is there already"))?
-    .arg(word(
-        alloc,
-        "DEVICE",
-        "the file that is made, with 512 + 2 AREA bytes",
-    ))?
-    .arg(word(
-        alloc,
-        "TOPOLOGY",
-        "the text that names nodes, ports and wires",
-    ))?
-    .arg(word(
-        alloc,
-        "DIR",
-        "the folder with an image NAME.img for each node NAME",
-    ))?
-    .arg(word(
-        alloc,
-        "AREA",
-        "how many bytes each of the two areas has, up to 2^40",
-    ))
-}
-
-fn check_command<'a>(alloc: Global) -> Result<Command<'a>, AllocError> {
-    explained(
-        alloc,
-        "check",
-        "Reads a topology and its images as format does, writes nothing, and says how large an area has to be",
-        CHECK_REFUSALS,
-    )?
-    .arg(word(
-        alloc,
-        "TOPOLOGY",
-        "the text that names nodes, ports and wires",
-    ))?
-    .arg(word(
-        alloc,
-        "DIR",
-        "the folder with an image NAME.img for each node NAME",
-    ))
-}
-
-/// A command that opens a device.
-fn opening<'a>(alloc: Global, name: &'a str, about: &'a str) -> Result<Command<'a>, AllocError> {
-    explained(alloc, name, about, OPENING_REFUSALS)?.arg(word(alloc, "DEVICE", "the device's file"))
-}
-
-fn journal_command<'a>(alloc: Global) -> Result<Command<'a>, AllocError> {
-    let from = Arg::new(alloc, "from")
-        .long("from")
-        .action(ArgAction::Set)
-        .value_name("N")
-        .help("the first number that is shown");
-    opening(
-        alloc,
-        "journal",
-        "Prints each entry behind the cut in a line, with its number",
-    )?
-    .arg(from)
-}
-
-fn port_command<'a>(alloc: Global) -> Result<Command<'a>, AllocError> {
-    opening(
-        alloc,
-        "port",
-        "Prints a port's bytes as they are: the outputs that aren't confirmed, or the inputs that are pending",
-    )?
-    .arg(word(alloc, "P", "the port's number"))?
-    .arg(flag(alloc, "pending", "the inputs that no node has taken"))?
-    .arg(flag(
-        alloc,
-        "outputs",
-        "the outputs that aren't confirmed (this is the default)",
-    ))
-}
-
-/// The commands that open a device and write nothing.
-fn with_views<'a>(alloc: Global, command: Command<'a>) -> Result<Command<'a>, AllocError> {
-    let number = word(alloc, "I", "the node's number, as in tpnet show");
-    let again = word(alloc, "I", "the node's number, as in tpnet show");
-    let recover = "Opens a device, writes nothing, and prints the number of the next entry";
-    let show = "Opens a device, writes nothing, and prints what it holds";
-    let node = "Prints a node's registers, queues and link ends, addresses in hexadecimal";
-    let image = "Prints a node's image, as bytes";
-    command
-        .subcommand(opening(alloc, "recover", recover)?)?
-        .subcommand(opening(alloc, "show", show)?)?
-        .subcommand(opening(alloc, "node", node)?.arg(number)?)?
-        .subcommand(opening(alloc, "image", image)?.arg(again)?)?
-        .subcommand(journal_command(alloc)?)?
-        .subcommand(port_command(alloc)?)
-}
-
-/// The commands that there are so far.
-fn command<'a>(alloc: Global) -> Result<Command<'a>, AllocError> {
-    let command = Command::new(alloc, "tpnet")
-        .version(VERSION)
-        .about("A network of transputers whose computations survive any crash")
-        .subcommand_required(true)
-        .subcommand(try_command(alloc)?)?
-        .subcommand(check_command(alloc)?)?
-        .subcommand(format_command(alloc)?)?;
-    with_views(alloc, command)
-}
-
-/// Whether a word is this one.
-fn is_word(word: &String, text: &str) -> bool
-    ensures { result ≡ is_word text.now word.now }
-{
-    word.as_bytes() == text.as_bytes()
-}
-
-/// Whether a word is an option with this value: it ends with `=` and the value.
-fn is_value(word: &String, ending: &str) -> bool
-    ensures { result ≡ is_value ending.now word.now }
-{
-    word.as_bytes().ends_with(ending.as_bytes())
-}
-
-/// Whether one of the words is this one.
-pub fn has_word(words: &[String], text: &str) -> bool
-    ensures { result ≡ has_word text.now words.now }
-{
-    words.iter().any(|word| is_word(word, text))
-}
-
-fn has_value(words: &[String], ending: &str) -> bool
-    ensures { result ≡ has_value ending.now words.now }
-{
-    words.iter().any(|word| is_value(word, ending))
-}
-
-/// Whether this value was typed: a word is it, or ends with `=` and it.
-fn was_typed(alloc: Global, words: &[String], text: &str) -> Result<bool, AllocError>
-    ensures { IfOk result (λ typed. typed ≡ was_typed words.now text.now) }
-{
-    let ending = format!(in alloc; "={text}")?;
-    Ok(has_word(words, text) || has_value(words, ending.as_str()))
-}
-
-/// The number whose decimal this text is.
-fn number_of(alloc: Global, text: &str) -> Result<Option<u64>, AllocError>
-    ensures { IfOk result (λ found. IfSome found (λ number. text.now ≡ decimal number)) }
-{
-    let Ok(number) = text.parse::<u64>() else {
-        return Ok(None);
-    };
-    let spelt = format!(in alloc; "{number}")?;
-    if spelt.as_bytes() == text.as_bytes() {
-        Ok(Some(number))
-    } else {
-        Ok(None)
-    }
-}
-
-/// The number that was typed for `id`, which has to be at most `most`.
-fn number_in(
-    alloc: Global,
-    words: &[String],
-    found: &ArgMatches,
-    id: &str,
-    most: u64,
-) -> Result<Option<u64>, ArgFault>
-    ensures range { IfOk result (λ found. IfSome found (λ number. number ≤ most)) }
-    ensures typed { IfOk result (λ found. IfSome found (λ number. was_typed words.now (decimal number) ≡ true)) }
-{
-    let Some(text) = found.get_str(id) else {
-        return Err(ArgFault::Missing);
-    };
-    if !was_typed(alloc, words, text)? {
-        return Err(ArgFault::Missing);
-    }
-    match number_of(alloc, text)? {
-        Some(number) if number <= most => Ok(Some(number)),
-        _ => Ok(None),
-    }
-}
-
-fn turns_of(alloc: Global, words: &[String], found: &ArgMatches) -> Result<u32, ArgFault>
-    ensures { IfOk result (λ turns. was_typed words.now (decimal turns) ≡ true) }
-{
-    match number_in(alloc, words, found, "turns", MAX_TURNS)? {
-        Some(turns) => Ok(turns as u32),
-        None => Err(ArgFault::Turns),
-    }
-}
-
-fn area_of(alloc: Global, words: &[String], found: &ArgMatches) -> Result<u64, ArgFault>
-    ensures range { IfOk result (λ area. area ≤ MAX_AREA) }
-    ensures typed { IfOk result (λ area. was_typed words.now (decimal area) ≡ true) }
-{
-    match number_in(alloc, words, found, "AREA", MAX_AREA)? {
-        Some(area) => Ok(area),
-        None => Err(ArgFault::Area),
-    }
-}
-
-/// The text that was typed for `id`.
-fn text_of(
-    alloc: Global,
-    words: &[String],
-    found: &ArgMatches,
-    id: &str,
-) -> Result<String, ArgFault>
-    ensures { IfOk result (λ text. has_word (string_bytes text) words.now ≡ true) }
-{
-    let Some(text) = found.get_str(id) else {
-        return Err(ArgFault::Missing);
-    };
-    if !has_word(words, text) {
-        return Err(ArgFault::Missing);
-    }
-    Ok(String::from_str(alloc, text)?)
-}
-
 fn asked_try(alloc: Global, words: &[String], found: &ArgMatches) -> Result<Asked, ArgFault>
     ensures range { IfOk result IsInRange }
     ensures typed { IfOk result (WasTyped words.now) }
@@ -400,25 +153,40 @@ fn asked_format(alloc: Global, words: &[String], found: &ArgMatches) -> Result<A
     }))
 }
 
-/// The number of a node, a port or an entry.
-fn place_of(alloc: Global, words: &[String], found: &ArgMatches, id: &str) -> Result<u64, ArgFault>
-    ensures { IfOk result (λ number. was_typed words.now (decimal number) ≡ true) }
+/// The entries after which a snapshot begins.
+fn every_of(alloc: Global, words: &[String], found: &ArgMatches) -> Result<Option<u32>, ArgFault>
+    ensures range { IfOk result IsEvery }
+    ensures typed { IfOk result (λ every. given (codes "every") words.now ≡ option_map decimal every) }
 {
-    match number_in(alloc, words, found, id, u64::MAX)? {
-        Some(number) => Ok(number),
-        None => Err(ArgFault::Number),
+    match option_number(alloc, words, found, "every", 1, u32::MAX as u64)? {
+        Some(every) => Ok(Some(every as u32)),
+        None => Ok(None),
     }
+}
+
+#[tactic(auto, unfolding(crate::specs::Args::IsRun))]
+fn asked_run(alloc: Global, words: &[String], found: &ArgMatches) -> Result<Asked, ArgFault>
+    ensures range { IfOk result IsInRange }
+    ensures typed { IfOk result (WasTyped words.now) }
+{
+    let (workers, quantum) = (MAX_WORKERS as u64, MAX_STEPS as u64);
+    Ok(Asked::Run(Run {
+        device: text_of(alloc, words, found, "DEVICE")?,
+        turns: turns_of(alloc, words, found)?,
+        workers: option_or(alloc, words, found, "workers", 1, workers, 2)? as u8,
+        quantum: option_or(alloc, words, found, "quantum", 1, quantum, 1024)? as u16,
+        spare: option_or(alloc, words, found, "spare", 0, u64::MAX, 4)?,
+        every: every_of(alloc, words, found)?,
+        port: option_or(alloc, words, found, "port", 0, u64::MAX, 0)?,
+        input: option_string(alloc, words, found, "in")?,
+    }))
 }
 
 /// The first entry of a journal that is shown.
 fn first_of(alloc: Global, words: &[String], found: &ArgMatches) -> Result<View, ArgFault>
     ensures { IfOk result (HasTyped words.now) }
 {
-    if found.get_str("from").is_some() {
-        Ok(View::Journal(place_of(alloc, words, found, "from")?))
-    } else {
-        Ok(View::Journal(0))
-    }
+    Ok(View::Journal(option_or(alloc, words, found, "from", 0, u64::MAX, 0)?))
 }
 
 /// The bytes of a port that are shown.
@@ -459,6 +227,7 @@ fn asked_in(alloc: Global, words: &[String], matches: &ArgMatches) -> Result<Ask
     match matches.subcommand() {
         Some(("try", found)) => asked_try(alloc, words, found),
         Some(("format", found)) => asked_format(alloc, words, found),
+        Some(("run", found)) => asked_run(alloc, words, found),
         Some(("check", found)) => Ok(Asked::Check {
             topology: text_of(alloc, words, found, "TOPOLOGY")?,
             images: text_of(alloc, words, found, "DIR")?,

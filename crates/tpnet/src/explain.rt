@@ -1,21 +1,26 @@
 //! What `--explain` says of a refusal: which file, why, and the way out. It looks again at what the command looked at.
 
-use crate::args::{Asked, NewDevice};
+use crate::args::{Asked, NewDevice, Run};
+use crate::damage::push_fault;
 use crate::image_rules::broken_rule;
-use crate::places::{Layout, Record, layout_of};
 use std::alloc::{AllocError, Global};
 use std::fmt::Write as Push;
 use std::fs::{Files, OpenFile};
 use std::io::Write;
 use std::os::unix::fs::FileExt;
 use std::{fs, io};
-use tp_disk::{Counted, Disk, NotedFile, RawFile};
-use tp_layout::head_places::VERSION_PLACE;
-use tp_layout::{area_for, area_start, image_length};
-use tp_model::limits::HEAD_BYTES;
-use tp_model::{NetFault, OpenFault};
+use tp_disk::{Counted, NotedFile, RawFile};
+use tp_layout::area_for;
+use tp_model::NetFault;
+use tp_model::limits::MAX_HELD;
 use tp_net::{Named, Topology};
-use tp_recover::{Unopened, open};
+use tp_recover::{Opened, Unopened, open};
+
+/// The bytes that an entry may take in the journal.
+const ENTRY_ROOM: u64 = 32;
+
+/// The bytes that are kept back for each line, to finish a snapshot.
+const KEPT_ROOM: u64 = 96;
 
 /// A file that can't be opened or read.
 fn push_file(text: &mut String, path: &str, error: &io::Error) -> Result<(), AllocError> {
@@ -228,163 +233,89 @@ fn push_try<R: Files + AllocGlobal>(
     }
 }
 
-/// The bytes of a device at a place, where it has them and they can be read.
-fn bytes_at<D: Disk, const N: usize>(disk: &mut D, at: u64) -> Option<[u8; N]> {
-    let mut bytes = [0; N];
-    let size = disk.size();
-    if N as u64 <= size && at <= size - N as u64 && disk.read(at, &mut bytes).is_ok() {
-        Some(bytes)
-    } else {
-        None
-    }
-}
-
-/// The gate of an area, in words.
-fn push_gate<D: Disk>(text: &mut String, disk: &mut D, at: u64) -> Result<(), AllocError> {
-    match bytes_at::<D, 1>(disk, at) {
-        Some(bytes) => {
-            let gate = bytes[0];
-            write!(
-                text,
-                "  the gate at {at} is {gate:02X}, and an open one is A5\n"
-            )
-        }
-        None => write!(text, "  the gate at {at} can't be read\n"),
-    }
-}
-
-/// Says which rule the image of a node on a device breaks.
-fn push_node<D: Disk>(
-    alloc: Global,
-    text: &mut String,
-    disk: &mut D,
-    start: u64,
-    pages: u16,
-) -> Result<(), AllocError> {
-    let count = image_length(pages);
-    let mut image = Vec::new(alloc);
-    image.resize(count, 0)?;
-    let size = disk.size();
-    if count as u64 > size || start > size - count as u64 || disk.read(start, &mut image).is_err() {
-        return Ok(());
-    }
-    match broken_rule(alloc, &image, Some(pages), false)? {
-        Some(rule) => write!(text, "  {rule}\n"),
-        None => Ok(()),
-    }
-}
-
-/// Says what is wrong with the head of a device of `size` bytes whose areas have `area` bytes each by its head.
-fn push_head(text: &mut String, size: u64, area: u64) -> Result<(), AllocError> {
-    let needed = area.saturating_mul(2).saturating_add(HEAD_BYTES as u64);
-    if size < needed {
-        return write!(
-            text,
-            "  the device has {size} bytes, and its head says areas of {area}, for which it needs {needed}\n"
-        );
-    }
-    write!(
-        text,
-        "  its numbers of nodes, ports and pages, or its wires, break a rule: docs/FORMATS.md, section 4\n"
-    )
-}
-
-/// Says what is wrong at a place of a device.
-fn push_damage<D: Disk>(
-    alloc: Global,
-    text: &mut String,
-    disk: &mut D,
-    layout: &Layout,
-    at: u64,
-) -> Result<(), AllocError> {
-    let place = layout.place(at);
-    let size = disk.size();
-    write!(text, "  offset {at} is in ")?;
-    layout.push_record(text, place.record)?;
-    let start = place.start;
-    write!(text, ", from {start} on\n")?;
-    match place.record {
-        Record::Head => push_head(text, size, layout.area),
-        Record::Image { pages, .. } => push_node(alloc, text, disk, start, pages),
-        Record::Front => write!(
-            text,
-            "  both areas are open with one generation, or a field breaks its rule: docs/FORMATS.md, section 5\n"
-        ),
-        Record::Line(_) => write!(
-            text,
-            "  its tokens don't agree with the wire's ends: docs/FORMATS.md, section 6, tests 8 and 9\n"
-        ),
-        Record::Port(_) => write!(
-            text,
-            "  its counts or positions break their rule: docs/FORMATS.md, section 5\n"
-        ),
-        Record::Journal => write!(
-            text,
-            "  its header, its number or what it says isn't possible there: docs/FORMATS.md, section 6, tests 10 and 11\n"
-        ),
-    }
-}
-
-/// Says why a device doesn't open.
-fn push_fault<D: Disk>(
-    alloc: Global,
-    text: &mut String,
-    disk: &mut D,
-    fault: OpenFault,
-) -> Result<(), AllocError> {
-    let size = disk.size();
-    let Some(head) = bytes_at::<D, HEAD_BYTES>(disk, 0) else {
-        return write!(
-            text,
-            "  it has {size} bytes, fewer than the 512 of a head\n  It is no device: make one with tpnet format.\n"
-        );
-    };
-    let layout = layout_of(&head);
-    match fault {
-        OpenFault::NotFormatted => write!(
-            text,
-            "  it doesn't begin with TPNET\n  It is no device, or its format was stopped: make one with tpnet format.\n"
-        ),
-        OpenFault::BadVersion => {
-            let version = head[VERSION_PLACE];
-            write!(
-                text,
-                "  byte 7, the version, is {version}, and this program reads 1\n  Open it with the program that made it.\n"
-            )
-        }
-        OpenFault::NoOpenArea => {
-            push_gate(text, disk, area_start(0, false))?;
-            push_gate(text, disk, layout.second())?;
-            write!(text, "  Restore a copy, or make the device anew.\n")
-        }
-        OpenFault::Damaged(at) => {
-            push_damage(alloc, text, disk, &layout, at)?;
-            write!(text, "  Restore a copy of the device.\n")
-        }
-    }
-}
-
-/// Says why a device's file wasn't opened.
+/// Opens a device's file again, and says why it wasn't opened, where it doesn't open now either.
 fn push_opening<R: Files<File = F> + AllocGlobal, F: FileExt + OpenFile + Drop>(
     rt: &R,
     text: &mut String,
     device: &str,
-) -> Result<(), AllocError> {
+) -> Result<Option<Opened>, AllocError> {
     let mut disk: Counted<RawFile<NotedFile<F>>> = match Counted::open_to_read(rt, device) {
         Ok(disk) => disk,
-        Err(error) => return push_file(text, device, &error),
+        Err(error) => {
+            push_file(text, device, &error)?;
+            return Ok(None);
+        }
     };
     match open(rt.alloc(), &mut disk) {
-        Ok(_) => push_rest(text),
+        Ok(opened) => return Ok(Some(opened)),
         Err(Unopened::Fault(fault)) => {
             write!(text, "  {device}:\n")?;
-            push_fault(rt.alloc(), text, &mut disk, fault)
+            push_fault(rt.alloc(), text, &mut disk, fault)?;
         }
         Err(Unopened::ReadFailed) => match disk.raw().failure() {
-            Some(error) => push_file(text, device, error),
-            None => write!(text, "  {device}: a read or a sync failed\n"),
+            Some(error) => push_file(text, device, error)?,
+            None => write!(text, "  {device}: a read or a sync failed\n")?,
         },
-        Err(Unopened::Memory) => write!(text, "  memory is wanting\n"),
+        Err(Unopened::Memory) => write!(text, "  memory is wanting\n")?,
+    }
+    Ok(None)
+}
+
+/// Says how full a device's journal is, where a run's input or the confirmation of its output has no room.
+fn push_journal(
+    text: &mut String,
+    run: &Run,
+    opened: &Opened,
+    input: usize,
+) -> Result<(), AllocError> {
+    let device = run.device.as_str();
+    let entries = opened.kept().len() as u64;
+    let lines = opened.head().topology().line_count() as u64;
+    let most = opened
+        .journal_room()
+        .saturating_sub(lines.saturating_mul(KEPT_ROOM))
+        / ENTRY_ROOM;
+    let wanted = match opened.network().ports().iter().nth(run.port as usize) {
+        Some(port) => {
+            let accepted = port.in_base().saturating_add(port.pending().len() as u64);
+            let room = (MAX_HELD as u64).saturating_sub(port.pending().len() as u64);
+            (input as u64).saturating_sub(accepted).min(room).max(1)
+        }
+        None => 1,
+    };
+    if entries.saturating_add(wanted) <= most {
+        return push_rest(text);
+    }
+    write!(
+        text,
+        "  {device}: its journal has {entries} entries since the checkpoint, and room for {most}.\n  No more is taken than that: no input, no turn's steps, and not that output was confirmed, which each run then prints again.\n  Nothing that was acknowledged or shown is lost, but the network doesn't go on: make a device with a larger AREA\n  (tpnet check says how large), confirm the output of each port often, and watch unconfirmed in tpnet show.\n"
+    )
+}
+
+/// Says why a run was refused.
+fn push_run<R: Files<File = F> + AllocGlobal, F: FileExt + OpenFile + Drop>(
+    rt: &R,
+    text: &mut String,
+    run: &Run,
+    system: Option<&io::Error>,
+) -> Result<(), AllocError> {
+    if let Some(error) = system {
+        push_file(text, run.device.as_str(), error)?;
+        return write!(
+            text,
+            "  A run reads and writes it: mend that, and give the same command again. Nothing that was acknowledged or shown is lost.\n"
+        );
+    }
+    let mut input = 0;
+    if let Some(path) = &run.input {
+        match fs::read(rt, path.as_str()) {
+            Ok(bytes) => input = bytes.len(),
+            Err(error) => return push_file(text, path.as_str(), &error),
+        }
+    }
+    match push_opening(rt, text, run.device.as_str())? {
+        Some(opened) => push_journal(text, run, &opened, input),
+        None => Ok(()),
     }
 }
 
@@ -398,20 +329,23 @@ fn explanation<R: Files<File = F> + AllocGlobal, F: FileExt + OpenFile + Drop>(
         Asked::Help(_) => push_rest(&mut text)?,
         Asked::Try { image, .. } => push_try(rt, &mut text, image.as_str())?,
         Asked::Format(new) => push_format(rt, &mut text, new, system)?,
+        Asked::Run(run) => push_run(rt, &mut text, run, system)?,
         Asked::Check { topology, images } => {
             if !push_network(rt, &mut text, topology.as_str(), images.as_str(), u64::MAX)? {
                 push_rest(&mut text)?;
             }
         }
         Asked::Recover { device } | Asked::Show { device } | Asked::View { device, .. } => {
-            push_opening(rt, &mut text, device.as_str())?;
+            if push_opening(rt, &mut text, device.as_str())?.is_some() {
+                push_rest(&mut text)?;
+            }
         }
     }
     Ok(text)
 }
 
 /// Says more of a refusal on standard error: it looks again at what the command looked at. `system` is what the system said
-/// where a call on a new device failed.
+/// where a call on a device failed.
 pub fn explain<R: Files<File = F> + AllocGlobal, F: FileExt + OpenFile + Drop, E: Write>(
     rt: &R,
     asked: &Asked,

@@ -1,59 +1,73 @@
 //! A file system in which calls on one file fail.
 
 use std::alloc::{Allocator, Global};
-use std::cell::Cell;
 use std::fs::{Files, Metadata, OpenFile, OpenOptions};
 use std::io;
 use std::io::{Read, Seek, SeekFrom, Write};
 use std::os::unix::fs::FileExt;
+use std::sync::Wait;
+use std::sync::atomic::{AtomicBool, AtomicU64, Ordering};
+use std::thread::Threads;
 
 /// What becomes of the calls on a file.
 #[derive(Drop)]
 pub(crate) struct Faults {
     /// How many calls are done before the one that fails.
-    pub(crate) left: Cell<u64>,
+    pub(crate) left: AtomicU64,
     /// Whether the calls behind it are done.
     pub(crate) goes_on: bool,
     /// The most bytes of one read or write.
     pub(crate) most: usize,
-    /// Whether the file was opened for writing.
-    pub(crate) writable: Cell<bool>,
+    /// Whether opening it for writing is refused.
+    only_reads: bool,
+    /// Whether that was asked for.
+    pub(crate) writable: AtomicBool,
     /// How many other files and folders were synced.
-    pub(crate) synced: Cell<u64>,
+    pub(crate) synced: AtomicU64,
 }
 
 impl Faults {
     /// The call of that number fails, and those behind it unless it goes on.
     pub(crate) fn at(number: u64, goes_on: bool) -> Faults {
         Faults {
-            left: Cell::new(number),
+            left: AtomicU64::new(number),
             goes_on,
             most: usize::MAX,
-            writable: Cell::new(false),
-            synced: Cell::new(0),
+            only_reads: false,
+            writable: AtomicBool::new(false),
+            synced: AtomicU64::new(0),
         }
     }
 
     /// No call fails, and none moves more than `most` bytes.
     pub(crate) fn short(most: usize) -> Faults {
         Faults {
-            left: Cell::new(u64::MAX),
+            left: AtomicU64::new(u64::MAX),
             goes_on: true,
             most,
-            writable: Cell::new(false),
-            synced: Cell::new(0),
+            only_reads: false,
+            writable: AtomicBool::new(false),
+            synced: AtomicU64::new(0),
+        }
+    }
+
+    /// No call fails, but the file may only be read.
+    pub(crate) fn to_read() -> Faults {
+        Faults {
+            only_reads: true,
+            ..Faults::short(usize::MAX)
         }
     }
 
     /// Whether the next call is done.
     fn pass(&self) -> io::Result<()> {
-        let left = self.left.get();
+        let left = self.left.load(Ordering::SeqCst);
         if left > 0 {
-            self.left.set(left - 1);
+            self.left.store(left - 1, Ordering::SeqCst);
             return Ok(());
         }
         if self.goes_on {
-            self.left.set(u64::MAX);
+            self.left.store(u64::MAX, Ordering::SeqCst);
         }
         Err(io::Error::from(io::ErrorKind::StorageFull))
     }
@@ -131,9 +145,7 @@ impl<'a, F: OpenFile + Drop> OpenFile for FaultyFile<'a, F> {
     fn sync_all(&self) -> io::Result<()> {
         self.pass()?;
         if !self.is_device {
-            self.faults
-                .synced
-                .set(self.faults.synced.get().saturating_add(1));
+            self.faults.synced.fetch_add(1, Ordering::SeqCst);
         }
         self.file.sync_all()
     }
@@ -147,8 +159,14 @@ impl<'a, F: OpenFile + Drop> OpenFile for FaultyFile<'a, F> {
 /// The files below, with faults of those whose path ends with `device`.
 #[derive(Drop)]
 pub(crate) struct FaultyFiles<'a, R> {
-    pub(crate) below: &'a R,
-    pub(crate) faults: &'a Faults,
+    below: &'a R,
+    faults: &'a Faults,
+}
+
+impl<'a, R> FaultyFiles<'a, R> {
+    pub(crate) fn new(below: &'a R, faults: &'a Faults) -> FaultyFiles<'a, R> {
+        FaultyFiles { below, faults }
+    }
 }
 
 impl<'a, R: Alloc<A = Global>> Alloc for FaultyFiles<'a, R> {
@@ -159,6 +177,10 @@ impl<'a, R: Alloc<A = Global>> Alloc for FaultyFiles<'a, R> {
     }
 }
 
+impl<'a, R: Wait> Wait for FaultyFiles<'a, R> {}
+
+impl<'a, R: Threads> Threads for FaultyFiles<'a, R> {}
+
 impl<'a, R: Files> Files for FaultyFiles<'a, R> {
     type File = FaultyFile<'a, R::File>;
 
@@ -167,7 +189,10 @@ impl<'a, R: Files> Files for FaultyFiles<'a, R> {
     fn open_file(&self, how: &OpenOptions, path: &str) -> io::Result<FaultyFile<'a, R::File>> {
         let is_device = path.ends_with("device");
         if is_device && how.asks_write() {
-            self.faults.writable.set(true);
+            self.faults.writable.store(true, Ordering::SeqCst);
+            if self.faults.only_reads {
+                return Err(io::Error::from(io::ErrorKind::PermissionDenied));
+            }
         }
         Ok(FaultyFile {
             file: self.below.open_file(how, path)?,

@@ -1,20 +1,23 @@
 //! What the commands do to files: what a refusal leaves, which calls they make, and what follows where one fails.
 
 use crate::faults::{Faults, FaultyFiles};
-use crate::scratch::{Output, Scratch};
+use crate::scratch::Scratch;
 use crate::tests::{letter, place};
 use std::fs;
 use std::fs::{Files, OpenFile};
 use std::os::unix::fs::{FileExt, MetadataExt};
+use std::sync::Wait;
+use std::sync::atomic::Ordering;
 use std::test::Fail;
+use std::thread::Threads;
 
 const FORMAT: &[&str] = &["format", "@device", "@net.txt", "@", "16384"];
 
 /// A folder with a network of one node, and the bytes of its device.
-fn network<R: Files<File = F> + AllocGlobal, F: FileExt + OpenFile + Drop>(
-    rt: &R,
-    name: &str,
-) -> Result<(Scratch, Vec<u8>), Fail> {
+fn network<
+    R: Files<File = F> + AllocGlobal + Threads + Wait + Sync,
+    F: FileExt + OpenFile + Drop + Send,
+>(rt: &R, name: &str) -> Result<(Scratch, Vec<u8>), Fail> {
     let scratch = Scratch::new(rt, name)?;
     scratch.put(rt, "net.txt", b"node a 4\nport h\nwire a.0 h\n")?;
     scratch.put(rt, "a.img", letter(rt.alloc())?.as_slice())?;
@@ -78,17 +81,6 @@ fn a_file_that_was_made_stays(rt: HostRuntime) -> Result<(), Fail> {
     scratch.remove(&rt)
 }
 
-/// What the program does with faults of the device's file.
-fn faulty<R: Files<File = F> + AllocGlobal, F: FileExt + OpenFile + Drop>(
-    rt: &R,
-    scratch: &Scratch,
-    words: &[&str],
-    faults: &Faults,
-) -> Result<Output, Fail> {
-    let files = FaultyFiles { below: rt, faults };
-    scratch.run(&files, words)
-}
-
 /// The other network's device opens after no stop before the last write: all behind the head is written and synced before
 /// the head is.
 #[test]
@@ -101,7 +93,7 @@ fn a_format_that_stops_opens_nothing_else(rt: HostRuntime) -> Result<(), Fail> {
         scratch.put(&rt, "device", old.as_slice())?;
         scratch.put(&rt, "a.img", other.as_slice())?;
         let faults = Faults::at(number, false);
-        let output = faulty(&rt, &scratch, FORMAT, &faults)?;
+        let output = scratch.run(&FaultyFiles::new(&rt, &faults), FORMAT)?;
         let left = scratch.read(&rt, "device")?;
         let opens = scratch.run(&rt, &["recover", "@device"])?.status == 0;
         if output.status == 0 {
@@ -132,7 +124,8 @@ fn each_call_of_a_file_may_fail(rt: HostRuntime) -> Result<(), Fail> {
         let mut calls = 0u64;
         for number in 0..100 {
             let _again = network(&rt, "fails")?;
-            let output = faulty(&rt, &scratch, words, &Faults::at(number, true))?;
+            let faults = Faults::at(number, true);
+            let output = scratch.run(&FaultyFiles::new(&rt, &faults), words)?;
             if output.status == 0 {
                 calls = number;
                 break;
@@ -150,13 +143,15 @@ fn each_call_of_a_file_may_fail(rt: HostRuntime) -> Result<(), Fail> {
 fn short_reads_and_writes_go_on(rt: HostRuntime) -> Result<(), Fail> {
     let (scratch, device) = network(&rt, "short")?;
     let shown = scratch.run(&rt, &["show", "@device"])?;
-    let output = faulty(&rt, &scratch, FORMAT, &Faults::short(7))?;
+    let sevens = Faults::short(7);
+    let output = scratch.run(&FaultyFiles::new(&rt, &sevens), FORMAT)?;
     assert_eq!(rt; output.status, 0);
     assert_eq!(rt; scratch.read(&rt, "device")?.as_slice(), device.as_slice());
-    let again = faulty(&rt, &scratch, &["show", "@device"], &Faults::short(7))?;
+    let again = scratch.run(&FaultyFiles::new(&rt, &sevens), &["show", "@device"])?;
     assert_eq!(rt; again.out.as_slice(), shown.out.as_slice());
     for words in [FORMAT, &["show", "@device"]] {
-        let none = faulty(&rt, &scratch, words, &Faults::short(0))?;
+        let nothing = Faults::short(0);
+        let none = scratch.run(&FaultyFiles::new(&rt, &nothing), words)?;
         assert_eq!(rt; none.status, 1);
         assert!(rt; none.out.is_empty());
     }
@@ -172,8 +167,11 @@ fn how_files_are_opened(rt: HostRuntime) -> Result<(), Fail> {
     let before = fs::metadata(&rt, path.as_str())?;
     for words in [["recover", "@device"], ["show", "@device"]] {
         let faults = Faults::short(usize::MAX);
-        assert_eq!(rt; faulty(&rt, &scratch, &words, &faults)?.status, 0);
-        assert!(rt; !faults.writable.get());
+        assert_eq!(rt;
+            scratch.run(&FaultyFiles::new(&rt, &faults), &words)?.status,
+            0
+        );
+        assert!(rt; !faults.writable.load(Ordering::SeqCst));
     }
     let after = fs::metadata(&rt, path.as_str())?;
     assert_eq!(rt; after.mtime(), before.mtime());
@@ -181,11 +179,17 @@ fn how_files_are_opened(rt: HostRuntime) -> Result<(), Fail> {
     assert_eq!(rt; after.ctime_nsec(), before.ctime_nsec());
     assert_eq!(rt; scratch.read(&rt, "device")?.as_slice(), device.as_slice());
     let faults = Faults::short(usize::MAX);
-    assert_eq!(rt; faulty(&rt, &scratch, FORMAT, &faults)?.status, 0);
-    assert_eq!(rt; faults.synced.get(), 0);
+    assert_eq!(rt;
+        scratch.run(&FaultyFiles::new(&rt, &faults), FORMAT)?.status,
+        0
+    );
+    assert_eq!(rt; faults.synced.load(Ordering::SeqCst), 0);
     fs::remove_file(&rt, path.as_str())?;
-    assert_eq!(rt; faulty(&rt, &scratch, FORMAT, &faults)?.status, 0);
-    assert_eq!(rt; faults.synced.get(), 1);
+    assert_eq!(rt;
+        scratch.run(&FaultyFiles::new(&rt, &faults), FORMAT)?.status,
+        0
+    );
+    assert_eq!(rt; faults.synced.load(Ordering::SeqCst), 1);
     assert_eq!(rt; scratch.read(&rt, "device")?.as_slice(), device.as_slice());
     scratch.remove(&rt)
 }

@@ -2,18 +2,22 @@
 
 ghost use Rattle.std.specs.Prelude.{◌≡◌, ◌≤◌, true};
 ghost use Rattle.tp_model.specs.Topology.{is_topology};
+ghost use Rattle.tpnet.specs.Args.{IsRun};
 ghost use Rattle.tpnet.specs.declared.args.TheConstants.{MAX_AREA};
 
-use crate::args::NewDevice;
+use crate::args::{NewDevice, Run};
 use crate::checking::check_on;
 use crate::commands::{refuse, try_on};
 use crate::formatting::format_on;
 use crate::opening::{recover_on, show_on};
 use crate::refusal::Refusal;
+use crate::running::run_on;
 use crate::view::{View, view_on};
 use std::fs::{Files, OpenFile};
 use std::io::Write;
 use std::os::unix::fs::FileExt;
+use std::sync::Wait;
+use std::thread::Threads;
 use std::{fs, io};
 use tp_disk::{Counted, NewDisk, NotedFile, RawFile};
 use tp_model::limits::HEAD_BYTES;
@@ -236,4 +240,48 @@ pub fn show_file<
         Ok(mut disk) => show_on(rt.alloc(), &mut disk, out, err),
         Err(refusal) => refuse(err, refusal),
     }
+}
+
+/// The input of a run, which has none where no file was named.
+fn read_input<R: Files + AllocGlobal>(rt: &R, run: &Run) -> Result<Vec<u8>, Refusal> {
+    match &run.input {
+        Some(path) => read_file(rt, path.as_str()),
+        None => Ok(Vec::new(rt.alloc())),
+    }
+}
+
+/// The same error of the system.
+fn said_again(error: &io::Error) -> io::Error {
+    match error.raw_os_error() {
+        Some(code) => io::Error::from_raw_os_error(code),
+        None => io::Error::from(error.kind()),
+    }
+}
+
+/// `tpnet run`, on files. The input is read first. The device's file is opened as it is, and keeps its length. What the system said of
+/// a call on it that failed is put into `system`.
+pub fn run_file<
+    R: Files<File = F> + AllocGlobal + Threads + Wait + Sync,
+    F: FileExt + OpenFile + Drop + Send,
+    O: Write,
+    E: Write,
+>(rt: &R, run: &Run, system: &mut Option<io::Error>, out: &mut O, err: &mut E) -> u8
+    requires { IsRun run.now }
+    ensures { result ≤ 2 }
+{
+    let input = match read_input(rt, run) {
+        Ok(input) => input,
+        Err(refusal) => return refuse(err, refusal),
+    };
+    let disk = match Counted::open(rt, run.device.as_str()) {
+        Ok(disk) => disk,
+        Err(error) => {
+            let refusal = read_refusal(&error);
+            *system = Some(error);
+            return refuse(err, refusal);
+        }
+    };
+    let (disk, status) = run_on(rt, rt.alloc(), run, disk, input.as_slice(), out, err);
+    *system = disk.raw().failure().map(said_again);
+    status
 }

@@ -65,6 +65,21 @@ pub(crate) fn images_of(alloc: Global, image: Vec<u8>) -> Result<Vec<Vec<u8>>, F
     Ok(images)
 }
 
+/// What stands on the device of one node beside its image.
+const DEVICE: &[(usize, &[u8])] = &[
+    (0, b"TPNET\0\0\x01\x01\x01\0\0\0\0\0\0"),
+    (16, &[0, 0x40, 0, 0, 0, 0, 0, 0, 4, 0]),
+    (56, &[0x80, 0, 0, 0]),
+    (
+        512,
+        &[
+            0xA5, 1, 0, 0, 0, 0, 0, 0, 0, 0xDC, 0x30, 0, 0, 0, 0, 0, 0, 0, 0, 0, 0,
+        ],
+    ),
+    (13_033, &[0]),
+    (16_896, &[0]),
+];
+
 #[test]
 fn the_device_of_one_node(rt: HostRuntime) -> Result<(), Fail> {
     let alloc = rt.alloc();
@@ -72,26 +87,12 @@ fn the_device_of_one_node(rt: HostRuntime) -> Result<(), Fail> {
     let images = images_of(alloc, letter(alloc)?)?;
     let disk = MemDisk::zeroed(alloc, 33_280)?;
     let made = format_in_memory(alloc, disk, images.as_slice(), AREA)?;
-    assert_eq!(rt; made.status, 0);
-    assert_eq!(rt; made.out.as_slice(), b"formatted\n".as_slice());
-    assert!(rt; made.err.is_empty());
     let bytes = made.bytes.as_slice();
-    assert_eq!(rt;
-        part(bytes, 0, 16),
-        b"TPNET\0\0\x01\x01\x01\0\0\0\0\0\0".as_slice()
-    );
-    assert_eq!(rt;
-        part(bytes, 16, 10),
-        [0, 0x40, 0, 0, 0, 0, 0, 0, 4, 0].as_slice()
-    );
-    assert_eq!(rt; part(bytes, 56, 4), [0x80, 0, 0, 0].as_slice());
-    let front = [
-        0xA5, 1, 0, 0, 0, 0, 0, 0, 0, 0xDC, 0x30, 0, 0, 0, 0, 0, 0, 0, 0, 0, 0,
-    ];
-    assert_eq!(rt; part(bytes, 512, 21), front.as_slice());
-    assert_eq!(rt; part(bytes, 533, 4268), image.as_slice());
-    assert_eq!(rt; part(bytes, 13_033, 1), [0].as_slice());
-    assert_eq!(rt; part(bytes, 16_896, 1), [0].as_slice());
+    let is_said = made.out.as_slice() == b"formatted\n".as_slice() && made.err.is_empty();
+    assert!(rt; made.status == 0 && is_said && part(bytes, 533, 4268) == image.as_slice());
+    for (at, wanted) in DEVICE {
+        assert_eq!(rt; part(bytes, *at, wanted.len()), *wanted);
+    }
     Ok(())
 }
 

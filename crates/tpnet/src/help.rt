@@ -41,3 +41,17 @@ pub const OPENING_REFUSALS: &str = "Refusals (status 1); nothing is written to D
   Damaged AT    what stands at offset AT breaks its rule: restore a copy
   DeviceFailed  standard output can't be written
   Memory        there is no memory left";
+
+/// What `tpnet run` refuses.
+pub const RUN_REFUSALS: &str =
+    "All that is read before DEVICE opens is refused without a change of it.
+Refusals (status 1):
+  ReadFailed    FILE can't be read, or DEVICE can't be opened to read and write, or be read: look at paths and rights
+  NotFormatted  DEVICE is none: make one with tpnet format
+  BadVersion    DEVICE is of another version of tpnet
+  NoOpenArea    neither area is open: format was stopped, or the device was written over
+  Damaged AT    what stands at offset AT breaks its rule: restore a copy
+  JournalFull   DEVICE has no room for FILE's bytes, or for the confirm, whose output was printed: see --explain
+  DeviceFailed  DEVICE can't be written or synced, or standard output can't: look at rights and room
+  Memory        there is no memory left
+A --spare above a node's pages and a --port that isn't there end with status 2, once DEVICE is open.";

@@ -4,6 +4,7 @@
 mod args;
 mod checking;
 mod commands;
+mod damage;
 mod entries;
 mod explain;
 #[cfg(test)]
@@ -14,10 +15,12 @@ mod files;
 #[cfg(test)]
 mod format_tests;
 mod formatting;
+mod found;
 mod help;
 mod image_rules;
 #[cfg(test)]
 mod limit_tests;
+mod numbers;
 mod opening;
 #[cfg(test)]
 mod opening_tests;
@@ -28,6 +31,9 @@ mod program_tests;
 mod refusal;
 mod registers;
 #[cfg(test)]
+mod run_tests;
+mod running;
+#[cfg(test)]
 mod scratch;
 mod shown;
 #[cfg(test)]
@@ -37,6 +43,7 @@ mod two_nodes_tests;
 mod view;
 #[cfg(test)]
 mod view_tests;
+mod words;
 
 use program::answer;
 use std::env;

@@ -4,6 +4,7 @@ use thiserror::Error;
 use tp_area::FormatFault;
 use tp_model::NetFault;
 use tp_recover::Unopened;
+use tp_run::RunFault;
 use tp_turn::TryFault;
 
 /// The program then ends with status 1 and this name on standard error.
@@ -21,6 +22,9 @@ pub enum Refusal {
     /// The device wasn't opened.
     #[error(transparent)]
     Opening(Unopened),
+    /// The device's network wasn't run to its end.
+    #[error(transparent)]
+    Run(RunFault),
     /// A file can't be read.
     #[error("ReadFailed")]
     ReadFailed,

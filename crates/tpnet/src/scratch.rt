@@ -5,7 +5,9 @@ use std::alloc::Global;
 use std::fs;
 use std::fs::{Files, OpenFile};
 use std::os::unix::fs::FileExt;
+use std::sync::Wait;
 use std::test::Fail;
+use std::thread::Threads;
 
 /// The folder. It is made empty, and `remove` removes it.
 #[derive(Drop)]
@@ -20,6 +22,9 @@ pub(crate) struct Output {
     pub(crate) out: Vec<u8>,
     pub(crate) err: Vec<u8>,
 }
+
+/// Command lines one after the other, and the status, standard output and standard error of each.
+pub(crate) type Lines<'a> = &'a [(&'a [&'a str], u8, &'a str, &'a str)];
 
 impl Scratch {
     /// The folder `scratch/NAME`. Each test has a name of its own.
@@ -79,11 +84,10 @@ impl Scratch {
     }
 
     /// What the program does for `words`.
-    pub(crate) fn run<R: Files<File = F> + AllocGlobal, F: FileExt + OpenFile + Drop>(
-        &self,
-        rt: &R,
-        words: &[&str],
-    ) -> Result<Output, Fail> {
+    pub(crate) fn run<
+        R: Files<File = F> + AllocGlobal + Threads + Wait + Sync,
+        F: FileExt + OpenFile + Drop + Send,
+    >(&self, rt: &R, words: &[&str]) -> Result<Output, Fail> {
         let alloc = rt.alloc();
         let line = self.line(alloc, words)?;
         let (mut out, mut err) = (Vec::new(alloc), Vec::new(alloc));
@@ -92,14 +96,29 @@ impl Scratch {
     }
 
     /// Whether `words` are refused with that line on standard error, and print nothing.
-    pub(crate) fn is_refused<R: Files<File = F> + AllocGlobal, F: FileExt + OpenFile + Drop>(
-        &self,
-        rt: &R,
-        words: &[&str],
-        name: &str,
-    ) -> Result<bool, Fail> {
+    pub(crate) fn is_refused<
+        R: Files<File = F> + AllocGlobal + Threads + Wait + Sync,
+        F: FileExt + OpenFile + Drop + Send,
+    >(&self, rt: &R, words: &[&str], name: &str) -> Result<bool, Fail> {
         let output = self.run(rt, words)?;
         Ok(output.status == 1 && output.out.is_empty() && output.err.as_slice() == name.as_bytes())
+    }
+
+    /// Does what the lines ask for, each after the one before it. A failure says what stood on standard error.
+    pub(crate) fn plays<
+        R: Files<File = F> + AllocGlobal + Threads + Wait + Sync,
+        F: FileExt + OpenFile + Drop + Send,
+    >(&self, rt: &R, lines: Lines<'_>) -> Result<(), Fail> {
+        for (words, status, out, err) in lines {
+            let output = self.run(rt, words)?;
+            if output.status != *status
+                || output.out.as_slice() != out.as_bytes()
+                || output.err.as_slice() != err.as_bytes()
+            {
+                return Err(Fail::new(String::from_utf8(output.err)?));
+            }
+        }
+        Ok(())
     }
 
     /// Removes the folder.

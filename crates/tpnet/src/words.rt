@@ -1,0 +1,209 @@
+//! The words that `clap` takes.
+
+use crate::help::{CHECK_REFUSALS, FORMAT_REFUSALS, OPENING_REFUSALS, RUN_REFUSALS, TRY_REFUSALS};
+use clap::{Arg, ArgAction, Command};
+use std::alloc::{AllocError, Global};
+
+/// The program's version, and what it was proved with.
+const VERSION: &str = "0.1.0\nproved with rattle-kit-13b, logic dac8208d650f15bf";
+
+/// A word that has to be there.
+fn word<'a>(alloc: Global, id: &'a str, help: &'a str) -> Arg<'a> {
+    Arg::new(alloc, id)
+        .required(true)
+        .action(ArgAction::Set)
+        .help(help)
+}
+
+/// An option without a value.
+fn flag<'a>(alloc: Global, id: &'a str, help: &'a str) -> Arg<'a> {
+    Arg::new(alloc, id)
+        .long(id)
+        .action(ArgAction::SetTrue)
+        .help(help)
+}
+
+/// An option with a value.
+fn option<'a>(alloc: Global, id: &'a str, value: &'a str, help: &'a str) -> Arg<'a> {
+    Arg::new(alloc, id)
+        .long(id)
+        .action(ArgAction::Set)
+        .value_name(value)
+        .help(help)
+}
+
+/// A command that says more of a refusal where it is asked to.
+fn explained<'a>(
+    alloc: Global,
+    name: &'a str,
+    about: &'a str,
+    refusals: &'a str,
+) -> Result<Command<'a>, AllocError> {
+    Command::new(alloc, name)
+        .about(about)
+        .after_help(refusals)
+        .arg(flag(
+            alloc,
+            "explain",
+            "after a refusal, say which file, why, and what to do",
+        ))
+}
+
+fn try_command<'a>(alloc: Global) -> Result<Command<'a>, AllocError> {
+    let turns = option(
+        alloc,
+        "turns",
+        "N",
+        "how many turns: node, host, node, host ..",
+    );
+    explained(
+        alloc,
+        "try",
+        "Runs one node without a device, its link 0 wired to port 0, and prints what port 0 puts out",
+        TRY_REFUSALS,
+    )?
+    .arg(word(alloc, "IMAGE", "the node's image: 172 bytes and its memory"))?
+    .arg(turns.required(true))
+}
+
+fn format_command<'a>(alloc: Global) -> Result<Command<'a>, AllocError> {
+    explained(
+        alloc,
+        "format",
+        "Makes a device from a topology and the nodes' images",
+        FORMAT_REFUSALS,
+    )?
+    .arg(flag(alloc, "new", "refuse a file that is there already"))?
+    .arg(word(
+        alloc,
+        "DEVICE",
+        "the file that is made, with 512 + 2 AREA bytes",
+    ))?
+    .arg(word(
+        alloc,
+        "TOPOLOGY",
+        "the text that names nodes, ports and wires",
+    ))?
+    .arg(word(
+        alloc,
+        "DIR",
+        "the folder with an image NAME.img for each node NAME",
+    ))?
+    .arg(word(
+        alloc,
+        "AREA",
+        "how many bytes each of the two areas has, up to 2^40",
+    ))
+}
+
+fn check_command<'a>(alloc: Global) -> Result<Command<'a>, AllocError> {
+    explained(
+        alloc,
+        "check",
+        "Reads a topology and its images as format does, writes nothing, and says how large an area has to be",
+        CHECK_REFUSALS,
+    )?
+    .arg(word(
+        alloc,
+        "TOPOLOGY",
+        "the text that names nodes, ports and wires",
+    ))?
+    .arg(word(
+        alloc,
+        "DIR",
+        "the folder with an image NAME.img for each node NAME",
+    ))
+}
+
+/// A command that opens a device.
+fn opening<'a>(alloc: Global, name: &'a str, about: &'a str) -> Result<Command<'a>, AllocError> {
+    explained(alloc, name, about, OPENING_REFUSALS)?.arg(word(alloc, "DEVICE", "the device's file"))
+}
+
+fn journal_command<'a>(alloc: Global) -> Result<Command<'a>, AllocError> {
+    let from = option(alloc, "from", "N", "the first number that is shown");
+    opening(
+        alloc,
+        "journal",
+        "Prints each entry behind the cut in a line, with its number",
+    )?
+    .arg(from)
+}
+
+fn port_command<'a>(alloc: Global) -> Result<Command<'a>, AllocError> {
+    opening(
+        alloc,
+        "port",
+        "Prints a port's bytes as they are: the outputs that aren't confirmed, or the inputs that are pending",
+    )?
+    .arg(word(alloc, "P", "the port's number"))?
+    .arg(flag(alloc, "pending", "the inputs that no node has taken"))?
+    .arg(flag(
+        alloc,
+        "outputs",
+        "the outputs that aren't confirmed (this is the default)",
+    ))
+}
+
+/// The options of a run.
+fn with_run_options<'a>(alloc: Global, command: Command<'a>) -> Result<Command<'a>, AllocError> {
+    let turns = "turns that all workers make together, 0 to 4294967295";
+    let workers = "threads that make turns, 1 to 16 (2 where it isn't given)";
+    let quantum = "steps that a turn may run, 1 to 4096 (1024)";
+    let spare =
+        "spare frames of each node, for writes while pages are frozen, 0 to the pages of the smallest node (4)";
+    let every =
+        "entries since the kept cut after which a snapshot begins, 1 to 4294967295 (where the journal is half full; none begins yet)";
+    let port = "the port that input goes to and output comes from (0)";
+    let input =
+        "the port's whole input, from position 0; what was accepted before is passed over (no input)";
+    command
+        .arg(option(alloc, "turns", "N", turns).required(true))?
+        .arg(option(alloc, "workers", "W", workers))?
+        .arg(option(alloc, "quantum", "Q", quantum))?
+        .arg(option(alloc, "spare", "S", spare))?
+        .arg(option(alloc, "every", "E", every))?
+        .arg(option(alloc, "port", "P", port))?
+        .arg(option(alloc, "in", "FILE", input))
+}
+
+fn run_command<'a>(alloc: Global) -> Result<Command<'a>, AllocError> {
+    let command = explained(
+        alloc,
+        "run",
+        "Opens a device, runs its network, keeps the journal on it, prints what the port puts out, and says next M on standard error",
+        RUN_REFUSALS,
+    )?
+    .arg(word(alloc, "DEVICE", "the device's file, which is written"))?;
+    with_run_options(alloc, command)
+}
+
+/// The commands that open a device and write nothing.
+fn with_views<'a>(alloc: Global, command: Command<'a>) -> Result<Command<'a>, AllocError> {
+    let number = word(alloc, "I", "the node's number, as in tpnet show");
+    let again = word(alloc, "I", "the node's number, as in tpnet show");
+    let recover = "Opens a device, writes nothing, and prints the number of the next entry";
+    let show = "Opens a device, writes nothing, and prints what it holds";
+    let node = "Prints a node's registers, queues and link ends, addresses in hexadecimal";
+    let image = "Prints a node's image, as bytes";
+    command
+        .subcommand(opening(alloc, "recover", recover)?)?
+        .subcommand(opening(alloc, "show", show)?)?
+        .subcommand(opening(alloc, "node", node)?.arg(number)?)?
+        .subcommand(opening(alloc, "image", image)?.arg(again)?)?
+        .subcommand(journal_command(alloc)?)?
+        .subcommand(port_command(alloc)?)
+}
+
+/// The words that the program takes.
+pub fn command<'a>(alloc: Global) -> Result<Command<'a>, AllocError> {
+    let command = Command::new(alloc, "tpnet")
+        .version(VERSION)
+        .about("A network of transputers whose computations survive any crash")
+        .subcommand_required(true)
+        .subcommand(try_command(alloc)?)?
+        .subcommand(check_command(alloc)?)?
+        .subcommand(format_command(alloc)?)?
+        .subcommand(run_command(alloc)?)?;
+    with_views(alloc, command)
+}
