@@ -123,7 +123,7 @@ group_net false next w disk = refl
 
 -- ## Bytes behind the other area's gate
 
-closed_when : (r : Result Unit StoreFault) (broke : Bool) (failures_old failures_new : ℕ) → PutAnswered r broke failures_old failures_new → (X : Type 0) → OnOk r X → broke ≡ false → X
+pub closed_when : (r : Result Unit StoreFault) (broke : Bool) (failures_old failures_new : ℕ) → PutAnswered r broke failures_old failures_new → (X : Type 0) → OnOk r X → broke ≡ false → X
 closed_when (Ok x) broke failures_old failures_new A X is unbroken = is
 closed_when (Err e) broke failures_old failures_new A X is unbroken = let no = A.failed.0 in cc
 

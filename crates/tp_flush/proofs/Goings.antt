@@ -1,5 +1,5 @@
 -- Parts of a turn, one behind the other.
-use Rattle.std.proofs.Common.{◌≡◌, ℕ, ◌≤◌, ◌+◌, inr, sym, subst, refl, ◌∙◌, ap, Result, Ok, Err, arith}
+use Rattle.std.proofs.Common.{◌≡◌, ℕ, ◌≤◌, ◌+◌, inr, sym, subst, refl, ◌∙◌, ap, Bool, true, false, Result, Ok, Err, arith}
 use Rattle.tp_model.specs.NodeState.{NodeState}
 use Rattle.tp_model.specs.FrozenAs.{IsFrozenAs}
 use Rattle.tp_model.specs.Network.{Network}
@@ -15,7 +15,7 @@ use Rattle.tp_flush.specs.declared.fault.FlushFault.TheVariants.{AreaFull, Devic
 use Rattle.tp_flush.specs.declared.progress.Progress.{Progress}
 use Rattle.tp_flush.specs.Known.{Began}
 use Rattle.tp_flush.specs.Flushing.{Flushing, Goes, IsSameProcess, Looked}
-use Rattle.tp_flush.specs.Ends.{Ended, Rested, Tried, Waits, WaitsBehind, Went}
+use Rattle.tp_flush.specs.Ends.{Checkpointed, Ended, Rested, Tried, Waits, WaitsBehind, Went, WentOn, generation_after}
 use Rattle.tp_flush.proofs.Kept.{looked_walks}
 use Rattle.tp_flush.proofs.Endings.{failed_then, looked_waits, waits_still, waits_then}
 use Rattle.tp_flush.proofs.Turns.{walked_nowhere, walked_then}
@@ -77,10 +77,10 @@ tried_on (Err Memory) a b c first then = then
 tried_on (Err AreaFull) a b c first then = then
 
 -- a turn whose backlog was stored and whose mark was raised, and that then ended with a fault
-pub behind_ended : {A : Type 0} (B : Type 0) (q : Result A FlushFault) (fault : FlushFault) → q ≡ Err fault → (a b c : Flushing) → WaitsBehind a b → Tried {A = B} (Err fault) b c → Ended q a c
-behind_ended {A} B q fault is a b c first then = subst (λ (x : Result A FlushFault). Ended x a c) (sym is) (by fault then)
+pub behind_ended : {A : Type 0} (q : Result A FlushFault) (fault : FlushFault) → q ≡ Err fault → (a b c : Flushing) → WaitsBehind a b → Checkpointed (Err fault) b c → Ended q a c
+behind_ended {A} q fault is a b c first then = subst (λ (x : Result A FlushFault). Ended x a c) (sym is) (by fault then)
   where
-    by : (fault : FlushFault) → Tried {A = B} (Err fault) b c → Ended {A = A} (Err fault) a c
+    by : (fault : FlushFault) → Checkpointed (Err fault) b c → Ended {A = A} (Err fault) a c
     by DeviceFailed then = inr (record {
       raised = record {
         mark = omega (arith, first.raised.mark, then.0.mark);
@@ -92,7 +92,14 @@ behind_ended {A} B q fault is a b c first then = subst (λ (x : Result A FlushFa
       failures = then.0.failures ∙ ap (λ n. n + 1) first.rested.failures;
     })
     by StoreBroken then = absurd then
-    by Memory then = absurd then
+    by Memory then = inr (record {
+      raised = record {
+        mark = omega (arith, first.raised.mark, then.waits.mark);
+        reaches = omega (arith, first.raised.reaches, then.waits.mark, then.stored);
+        generation = then.waits.generation ∙ first.raised.generation;
+      };
+      rested = record { began = first.rested.began; rests = then.waits.rested.rests; failures = then.waits.rested.failures ∙ first.rested.failures };
+    })
     by AreaFull then = absurd then
 
 -- no call failed so far, and the mark was raised
@@ -104,6 +111,54 @@ raised_behind a b c first L up reaches = record {
 
 pub rested_then : (a b c : Flushing) → Rested a b → Rested b c → Rested a c
 rested_then a b c first then = record { began = first.began; rests = then.rests; failures = then.failures ∙ first.failures }
+
+-- ## The end of a checkpoint
+
+-- whether the store switched, behind what went on
+pub went_on : (switched : Bool) (a b c : Flushing) → Went a b → WentOn switched b c → WentOn switched a c
+went_on true a b c first then = record {
+  rested = rested_then a b c first.waits.rested then.rested;
+  mark = then.mark ∙ first.waits.mark;
+  stored = omega (arith, then.stored, first.stored);
+  generation = then.generation ∙ ap (λ n. n + 1) first.waits.generation;
+}
+went_on false a b c first then = went_then a b c first then
+
+pub checkpointed_on : (q : Result Bool FlushFault) (a b c : Flushing) → Went a b → Checkpointed q b c → Checkpointed q a c
+checkpointed_on (Ok switched) a b c first then = went_on switched a b c first then
+checkpointed_on (Err DeviceFailed) a b c first then = (failed_then a b c first.waits then.0, then.1 ∙ first.stored)
+checkpointed_on (Err StoreBroken) a b c first then = then
+checkpointed_on (Err Memory) a b c first then = went_then a b c first then
+checkpointed_on (Err AreaFull) a b c first then = then
+
+-- a fault before the switch
+pub checkpointed_before : (B : Type 0) (q : Result Bool FlushFault) (fault : FlushFault) → q ≡ Err fault → (a b c : Flushing) → Went a b → Tried {A = B} (Err fault) b c → Checkpointed q a c
+checkpointed_before B q fault is a b c first then = subst (λ (x : Result Bool FlushFault). Checkpointed x a c) (sym is) (by fault then)
+  where
+    by : (fault : FlushFault) → Tried {A = B} (Err fault) b c → Checkpointed (Err fault) a c
+    by DeviceFailed then = (failed_then a b c first.waits then.0, then.1 ∙ first.stored)
+    by StoreBroken then = absurd then
+    by Memory then = absurd then
+    by AreaFull then = absurd then
+
+-- what a switch, or none, leaves
+pub went_on_rested : (switched : Bool) (a b : Flushing) → WentOn switched a b → Rested a b
+went_on_rested true a b on = on.rested
+went_on_rested false a b on = on.waits.rested
+
+pub went_on_mark : (switched : Bool) (a b : Flushing) → WentOn switched a b → b.world.mark ≡ a.world.mark
+went_on_mark true a b on = on.mark
+went_on_mark false a b on = on.waits.mark
+
+-- a turn that was done, behind whose checkpoint the mark was raised again
+pub done_rested : (switched : Bool) (a b c d : Flushing) → WaitsBehind a b → WentOn switched b c → Looked c d → Rested a d
+done_rested switched a b c d first on L =
+    let R = went_on_rested switched b c on in
+    record { began = first.rested.began; rests = L.at ∙ R.rests; failures = L.failures ∙ R.failures ∙ first.rested.failures }
+
+pub done_generation : (switched : Bool) (a b c d : Flushing) → WaitsBehind a b → WentOn switched b c → Looked c d → generation_after switched a d
+done_generation true a b c d first on L = omega (arith, ap (λ (p : Place). p.generation) L.place, on.generation, first.raised.generation)
+done_generation false a b c d first on L = omega (arith, ap (λ (p : Place). p.generation) L.place, on.waits.generation, first.raised.generation)
 
 pub went_looked : (a b : Flushing) → a.world.at ≡ Resting → Looked a b → b.world.mark ≡ a.world.mark → ((i : ℕ) (node : NodeState) → IsFrozenAs a.world.net i node → IsFrozenAs b.world.net i node) → Went a b
 went_looked a b rests L mark frozen = record {

@@ -7,8 +7,13 @@ mod Endings
 mod Goings
 mod Puts
 mod Closed
+mod Devices
 mod Standing
 mod Beside
 pub mod Settling
 mod Switches
 mod Tails
+mod Trimming
+mod SwitchingCalls
+mod SwitchingEnds
+mod Rooms

@@ -119,6 +119,10 @@ pub put_net : (broke : Bool) (w : World NodeState) (disk : Moment) → (after_pu
 put_net true w disk = refl
 put_net false w disk = refl
 
+pub put_stored : (broke : Bool) (w : World NodeState) (disk : Moment) → (after_put broke w disk).stored ≡ w.stored
+put_stored true w disk = refl
+put_stored false w disk = refl
+
 -- ## How it ended
 
 pub put_tried : (r : Result Unit StoreFault) (q : Result Unit FlushFault) → MatchResult r (λ unit. q ≡ Ok unit) (λ fault. q ≡ Err DeviceFailed)
@@ -167,7 +171,7 @@ on_ok_same (Err e) P given = tt
 
 -- ## A piece of an image lies inside the other area
 
-sum_front : (pages : List ℕ) (i : ℕ) → i < length pages → sum_by image_length (take i pages) + image_length (get_or pages i 0) ≤ sum_by image_length pages
+pub sum_front : (pages : List ℕ) (i : ℕ) → i < length pages → sum_by image_length (take i pages) + image_length (get_or pages i 0) ≤ sum_by image_length pages
 sum_front [] i low = absurd (omega (arith, low))
 sum_front (p ∷ ps) zero low = omega (arith, sum_by-cons image_length p ps)
 sum_front (p ∷ ps) (suc i) low = omega (arith, sum_front ps i (omega (arith, low)), sum_by-cons image_length p ps, sum_by-cons image_length p (take i ps))

@@ -1,5 +1,5 @@
 -- How a turn of the flusher ended.
-use Rattle.std.specs.Prelude.{◌≡◌, ◌≤◌, ◌⊎◌, ℕ, ◌+◌, Bool, true, if◌then◌else◌, drop, Result, Ok, Err}
+use Rattle.std.specs.Prelude.{◌≡◌, ◌≤◌, ◌⊎◌, ℕ, ◌+◌, Bool, true, false, if◌then◌else◌, drop, Result, Ok, Err}
 use Rattle.tp_model.specs.NodeState.{NodeState}
 use Rattle.tp_model.specs.FrozenAs.{IsFrozenAs}
 use Rattle.tp_model.specs.WriteOrder.{Resting, Broken}
@@ -53,6 +53,14 @@ Ended (Err StoreBroken) old new = (old.world.at ≡ Broken) × (new ≡ old)
 Ended (Err Memory) old new = (Waits old new × Looked old new) ⊎ WaitsBehind old new
 Ended (Err AreaFull) old new = Waits old new
 
+-- The area isn't said to be full.
+abbrev pub IsNotFull : {A : Type 0} → Result A FlushFault → Type 0
+IsNotFull (Ok given) = Unit {0}
+IsNotFull (Err DeviceFailed) = Unit {0}
+IsNotFull (Err StoreBroken) = Unit {0}
+IsNotFull (Err Memory) = Unit {0}
+IsNotFull (Err AreaFull) = ⊥
+
 -- the generation of the open area grew by one exactly where the flusher switched to the other area
 abbrev pub generation_after : Bool → Flushing → Flushing → Type 0
 generation_after switched old new = new.place.generation ≡ old.place.generation + (if switched then 1 else 0)
@@ -82,3 +90,24 @@ Stored (Err DeviceFailed) count old new = Failed old new
 Stored (Err StoreBroken) count old new = ⊥
 Stored (Err Memory) count old new = ⊥
 Stored (Err AreaFull) count old new = Waits old new
+
+-- The store switched to its other area, which holds all that was copied of the book then. No call failed, and the mark is where it
+-- was.
+pub record Switched (old new : Flushing) : Type 0 where
+  pub rested : Rested old new
+  pub mark : new.world.mark ≡ old.world.mark
+  pub stored : old.world.stored ≤ new.world.stored
+  pub generation : new.place.generation ≡ old.place.generation + 1
+
+-- whether the store switched; where it didn't, nothing was stored
+abbrev pub WentOn : Bool → Flushing → Flushing → Type 0
+WentOn true old new = Switched old new
+WentOn false old new = Went old new
+
+-- That was done, or a call of the device failed, or memory was refused for the copy of the whole cut's tail.
+abbrev pub Checkpointed : Result Bool FlushFault → Flushing → Flushing → Type 0
+Checkpointed (Ok switched) old new = WentOn switched old new
+Checkpointed (Err DeviceFailed) old new = Failed old new × (new.world.stored ≡ old.world.stored)
+Checkpointed (Err StoreBroken) old new = ⊥
+Checkpointed (Err Memory) old new = Went old new
+Checkpointed (Err AreaFull) old new = ⊥

@@ -1,5 +1,5 @@
 -- What contracts see of the flusher, what it keeps, and what it did.
-use Rattle.std.specs.Prelude.{◌≡◌, ◌<◌, ◌≤◌, ℕ, ◌+◌, Bool, true, false, if◌then◌else◌, List, length, get_or}
+use Rattle.std.specs.Prelude.{◌≡◌, ◌<◌, ◌≤◌, ℕ, ◌+◌, Bool, true, false, if◌then◌else◌, List, length, get_or, Option, Some, Ok}
 use Rattle.std.specs.List.{AllByRecursion}
 use Rattle.tp_model.specs.declared.entry.Entry.{Entry}
 use Rattle.tp_model.specs.declared.limits.TheConstants.{NUMBER_LIMIT}
@@ -8,7 +8,8 @@ use Rattle.tp_model.specs.NodeState.{NodeState}
 use Rattle.tp_model.specs.Node.{t414}
 use Rattle.tp_model.specs.Network.{Network}
 use Rattle.tp_model.specs.Topology.{Topology}
-use Rattle.tp_model.specs.Journal.{is_roomy}
+use Rattle.tp_model.specs.Journal.{is_roomy, room}
+use Rattle.tp_model.specs.Head.{head_of}
 use Rattle.tp_model.specs.DiskHistory.{State}
 use Rattle.tp_model.specs.WriteOrder.{Position, Resting, Broken}
 use Rattle.tp_model.specs.DeviceAreas.{device_areas}
@@ -18,6 +19,7 @@ use Rattle.tp_area.specs.declared.place.Place.{Place}
 use Rattle.tp_area.specs.Other.{OtherIsClosed}
 use Rattle.tp_area.specs.Tails.{content_beside}
 use Rattle.tp_model.specs.Snapshot.{MarkedNetwork}
+use Rattle.tp_law_tail.specs.CutSpelt.{CutSpelt}
 use Rattle.tp_flush.specs.Copying.{IsPartOut}
 use Rattle.tp_flush.specs.Progress.{is_out}
 use Rattle.tp_flush.specs.declared.progress.Progress.{Progress}
@@ -57,6 +59,13 @@ pub record Copies (keeps : Type 0) (net : MarkedNetwork NodeState) (state : Stat
   pub roomy : is_roomy t place.area ≡ true
   pub closed : keeps → broken ≡ false → progress.cleared ≡ true → OtherIsClosed place state
   pub images : keeps → broken ≡ false → (i : ℕ) → i < length t.pages → is_out progress i ≡ true → IsPartOut t net (content_beside place state) i (get_or t.pages i 0)
+
+-- What it keeps for the switch to the other area: the kept cut has an image on a device of its topology; the book is bound to the
+-- room of its areas; and the device's head says the topology, and how many bytes an area has.
+pub record IsOfDevice (keeps : Type 0) (most : Option ℕ) (w : World NodeState) (state : State) (place : Place) (broken : Bool) (t : Topology) : Type 0 where
+  pub spelt : CutSpelt t w.base w.net.start
+  pub bound : most ≡ Some (room t place.area)
+  pub head : keeps → broken ≡ false → head_of state.now.bytes ≡ Ok (record { topology = t; area = place.area })
 
 -- Each moment of the device since is that of a world on the way of one run.
 abbrev pub Walked : Flushing → Flushing → Type 0

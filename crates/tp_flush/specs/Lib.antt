@@ -5,3 +5,4 @@ pub mod Flushing
 pub mod Ends
 pub mod Refused
 pub mod Settled
+pub mod Switching

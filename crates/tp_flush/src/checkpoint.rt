@@ -3,11 +3,12 @@
 ghost use Rattle.std.specs.Prelude.{◌≡◌};
 ghost use Rattle.tp_model.specs.WriteOrder.{Resting};
 ghost use Rattle.tp_flush.specs.Flushing.{Goes};
-ghost use Rattle.tp_flush.specs.Ends.{Tried};
+ghost use Rattle.tp_flush.specs.Ends.{Checkpointed};
 
 use crate::fault::FlushFault;
 use crate::flusher::Flusher;
 use crate::turn::break_book;
+use std::alloc::Global;
 use std::sync::Wait;
 use tp_disk::Disk;
 use tp_shared::{Gate, Look, Naming, Shared};
@@ -19,39 +20,42 @@ fn look<J: Naming, R: Wait>(rt: &R, shared: &Shared<J>) -> Look {
 }
 
 impl<J: Naming, D: Disk> Flusher<J, D> {
-    /// While a snapshot runs: closes the other area's gate, and copies the frozen images there. No lock of a node is taken while none
-    /// runs.
+    /// While a snapshot runs: closes the other area's gate, copies the frozen images there, and once all are out and the cut is
+    /// whole switches to that area. Answers whether it did. No lock of a node is taken while none runs.
     fn copy_snapshot<R: Wait, G: Gate>(
         &mut self,
         rt: &R,
+        alloc: Global,
         shared: &Shared<J>,
         gate: &G,
-    ) -> Result<(), FlushFault>
+    ) -> Result<bool, FlushFault>
         requires rests { self.old.world.at ≡ Resting }
-        ensures tried { Tried result self.old self.new }
+        ensures checkpointed { Checkpointed result self.old self.new }
         ensures goes { Goes D.keeps J.formatted J.before self.old self.new }
     {
         self.known();
         let look = look(rt, shared);
         if !look.running {
-            return Ok(());
+            return Ok(false);
         }
         self.clear()?;
-        self.copy_images(rt, shared, gate, &look)
+        self.copy_images(rt, shared, gate, &look)?;
+        self.switch(rt, alloc, shared)
     }
 
     /// The same. Where a call of the device failed, the book is told.
     pub(crate) fn checkpoint<R: Wait, G: Gate>(
         &mut self,
         rt: &R,
+        alloc: Global,
         shared: &Shared<J>,
         gate: &G,
-    ) -> Result<(), FlushFault>
+    ) -> Result<bool, FlushFault>
         requires rests { self.old.world.at ≡ Resting }
-        ensures tried { Tried result self.old self.new }
+        ensures checkpointed { Checkpointed result self.old self.new }
         ensures goes { Goes D.keeps J.formatted J.before self.old self.new }
     {
-        let done = self.copy_snapshot(rt, shared, gate);
+        let done = self.copy_snapshot(rt, alloc, shared, gate);
         if self.is_broken() {
             break_book(rt, shared);
         }

@@ -13,8 +13,8 @@ pub enum FlushFault {
     /// Memory was refused. No call of the device was made, nothing is lost, and the next turn does all of it.
     #[error("Memory")]
     Memory,
-    /// The open area has no room for a group. What was appended before in this turn stays, the mark isn't raised, and nothing is
-    /// lost.
+    /// The open area has no room for a group, which a device that does what devices do never answers: all entries of the book find
+    /// room. What was appended before in this turn stays, the mark isn't raised, and nothing is lost.
     #[error("AreaFull")]
     AreaFull,
 }

@@ -1,10 +1,14 @@
 //! The flusher.
 
-ghost use Rattle.std.specs.Prelude.{◌≡◌, Ok, true, false};
+ghost use Rattle.std.specs.Prelude.{◌≡◌, Ok, Some, true, false};
+ghost use Rattle.std.specs.List.{AllByRecursion};
+ghost use Rattle.tp_law_machine.specs.NodeOfBytes.{IsNodeOfBytes};
 ghost use Rattle.tp_model.specs.DiskHistory.{IsSynced};
-ghost use Rattle.tp_model.specs.Journal.{is_roomy};
+ghost use Rattle.tp_model.specs.Journal.{is_roomy, room};
+ghost use Rattle.tp_model.specs.Node.{t414_ends};
 ghost use Rattle.tp_model.specs.Opening.{held_of, next_of, verdict};
 ghost use Rattle.tp_model.specs.Runs.{reopened};
+ghost use Rattle.tp_model.specs.Spelling.{IsCut};
 ghost use Rattle.tp_shared.specs.Told.{IsFirst};
 ghost use Rattle.tp_flush.specs.Known.{Began, Reached};
 ghost use Rattle.tp_flush.specs.Flushing.{position};
@@ -42,15 +46,15 @@ pub struct Flusher<J: Naming, D: Disk> {
 }
 
 impl<J: Naming, D: Disk> Model for Flusher<J, D> {
-    ghost use Rattle.std.specs.Prelude.{◌≡◌};
+    ghost use Rattle.std.specs.Prelude.{◌≡◌, ◌≤◌};
     ghost use Rattle.tp_shared.specs.Told.{IsFirst};
-    ghost use Rattle.tp_flush.specs.Flushing.{Copies, Flushing, Keeps};
+    ghost use Rattle.tp_flush.specs.Flushing.{Copies, Flushing, IsOfDevice, Keeps};
 
     ghost Value = { Flushing };
 
     ghost view = { λ f. record { world = f.parts.whole.known.world; state = D.state f.parts.store.disk; size = D.size_of f.parts.store.disk; failures = D.failures_of f.parts.store.disk; opened = f.parts.whole.known.opened; place = f.parts.store.place; topology = f.parts.topology; progress = f.parts.progress } };
 
-    ghost invariant = { λ f. (f.parts.key.name ≡ J.flusher) × (f.parts.raiser.mark ≡ J.mark) × IsFirst f.parts.key.value f.parts.whole.known.world × Keeps D.keeps J.formatted J.before f.parts.whole.known (D.state f.parts.store.disk) f.parts.store.place f.parts.store.broken f.parts.raiser.at × Copies D.keeps f.parts.whole.known.world.net (D.state f.parts.store.disk) f.parts.store.place f.parts.store.broken f.parts.topology f.parts.progress };
+    ghost invariant = { λ f. (f.parts.key.name ≡ J.flusher) × (f.parts.raiser.mark ≡ J.mark) × IsFirst f.parts.key.value f.parts.whole.known.world × Keeps D.keeps J.formatted J.before f.parts.whole.known (D.state f.parts.store.disk) f.parts.store.place f.parts.store.broken f.parts.raiser.at × Copies D.keeps f.parts.whole.known.world.net (D.state f.parts.store.disk) f.parts.store.place f.parts.store.broken f.parts.topology f.parts.progress × IsOfDevice D.keeps J.room f.parts.whole.known.world (D.state f.parts.store.disk) f.parts.store.place f.parts.store.broken f.parts.topology × (J.first ≤ f.parts.whole.known.world.stored) };
 }
 
 impl<J: Naming, D: Disk> Flusher<J, D> {
@@ -73,11 +77,14 @@ impl<J: Naming, D: Disk> Flusher<J, D> {
         requires topology { topology ≡ opened.now.head.topology }
         requires area { store.place.area ≡ opened.now.head.area }
         requires roomy { is_roomy opened.now.head.topology opened.now.head.area ≡ true }
+        requires bound { J.room ≡ Some (room opened.now.head.topology opened.now.head.area) }
+        requires first { J.first ≡ next_of opened.now }
         ensures world { result.world ≡ reopened J.before (D.state store.disk).now.bytes (held_of opened.now) opened.now.now }
         ensures opened { result.opened ≡ (D.state store.disk).now.bytes }
         ensures place { (result.place ≡ store.place) × (result.topology ≡ topology) }
         ensures device { (result.state ≡ D.state store.disk) × (result.size ≡ D.size_of store.disk) × (result.failures ≡ D.failures_of store.disk) }
     {
+        opened.known();
         Flusher::over(Snapshot::of(opened), topology, store, key, raiser)
     }
 
@@ -99,6 +106,10 @@ impl<J: Naming, D: Disk> Flusher<J, D> {
         requires topology { topology ≡ opened.value.head.topology }
         requires area { store.place.area ≡ opened.value.head.area }
         requires roomy { is_roomy opened.value.head.topology opened.value.head.area ≡ true }
+        requires bound { J.room ≡ Some (room opened.value.head.topology opened.value.head.area) }
+        requires first { J.first ≡ next_of opened.value }
+        requires cut { IsCut t414_ends opened.value.head.topology opened.value.base opened.value.cut }
+        requires bytes { AllByRecursion IsNodeOfBytes opened.value.cut.nodes }
         ensures world { result.world ≡ reopened J.before (D.state store.disk).now.bytes (held_of opened.value) opened.value.now }
         ensures opened { result.opened ≡ (D.state store.disk).now.bytes }
         ensures place { (result.place ≡ store.place) × (result.topology ≡ topology) }

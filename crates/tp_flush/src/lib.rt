@@ -14,6 +14,7 @@ mod progress;
 mod raising;
 mod settle;
 mod snapshot;
+mod switching;
 mod topology;
 mod turn;
 mod whole;

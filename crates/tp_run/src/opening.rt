@@ -1,6 +1,7 @@
 //! What is made of a device that opened.
 
-ghost use Rattle.std.specs.Prelude.{◌≡◌, IfOk};
+ghost use Rattle.std.specs.Prelude.{◌≡◌, IfOk, Some};
+ghost use Rattle.tp_model.specs.Journal.{room};
 ghost use Rattle.tp_run.specs.Made.{StandsFor, fault_by, has_pages, job_fault};
 
 use crate::fault::RunFault;
@@ -46,7 +47,8 @@ pub(crate) fn parts_of(
     opened: Opened,
     spare: u16,
 ) -> Result<(Parts, Raiser), AllocError>
-    ensures { IfOk result (λ made. StandsFor opened made.0 made.1) }
+    ensures parts { IfOk result (λ made. StandsFor opened made.0 made.1) }
+    ensures bound { IfOk result (λ made. made.0.book.room ≡ Some (room opened.head.topology opened.head.area)) }
 {
     opened_books_begin();
     opened.known();

@@ -1,11 +1,15 @@
 //! A run, from a device to a device.
 
-ghost use Rattle.std.specs.Prelude.{◌≡◌, ◌<◌, ◌≤◌, true, false, Ok, Err, IfErr, IsErr};
+ghost use Rattle.std.specs.List.{AllByRecursion};
+ghost use Rattle.std.specs.Prelude.{◌≡◌, ◌<◌, ◌≤◌, true, false, Ok, Err, Some, IfErr, IsErr};
 ghost use Rattle.tp_area.specs.Places.{place_at};
 ghost use Rattle.tp_flush.specs.Known.{Began};
 ghost use Rattle.tp_model.specs.DiskHistory.{IsSynced};
-ghost use Rattle.tp_model.specs.Journal.{is_roomy};
+ghost use Rattle.tp_law_machine.specs.NodeOfBytes.{IsNodeOfBytes};
+ghost use Rattle.tp_model.specs.Journal.{is_roomy, room};
+ghost use Rattle.tp_model.specs.Node.{t414_ends};
 ghost use Rattle.tp_model.specs.Opening.{verdict};
+ghost use Rattle.tp_model.specs.Spelling.{IsCut};
 ghost use Rattle.tp_model.specs.declared.limits.TheConstants.{MAX_STEPS};
 ghost use Rattle.tp_recover.specs.Reading.{LeavesNothingNew};
 ghost use Rattle.tp_run.specs.Faults.{IsBegun, IsSilent, IsUnbegun};
@@ -53,6 +57,9 @@ fn run_parts<J: Naming + Send + Sync, D: Disk + Send + Drop, O: Write, R: Thread
     requires port { job.port < opened.value.head.topology.ports }
     requires names { Names J.roll J.first J.start J.node J.mark J.flusher J.room parts }
     requires stands { StandsFor opened.value parts raiser }
+    requires bound { parts.book.room ≡ Some (room opened.value.head.topology opened.value.head.area) }
+    requires cut { IsCut t414_ends opened.value.head.topology opened.value.base opened.value.cut }
+    requires bytes { AllByRecursion IsNodeOfBytes opened.value.cut.nodes }
     requires place { store.place ≡ place_at opened.value }
     requires topology { topology ≡ opened.value.head.topology }
     requires roomy { is_roomy opened.value.head.topology opened.value.head.area ≡ true }
@@ -111,6 +118,7 @@ pub fn run<D: Disk + Send + Drop, O: Write, R: Threads + Wait + Sync>(
     if let Some(fault) = job_fault(job, opened.head().topology()) {
         return (disk, Err(fault));
     }
+    opened.known();
     let known = Snapshot::of(&opened);
     let topology = topology_of(&opened);
     let _area = opened.head().area();

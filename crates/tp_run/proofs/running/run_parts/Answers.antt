@@ -1,9 +1,15 @@
-use Rattle.std.proofs.Common.{Err, sym, subst}
+use Rattle.std.proofs.Common.{Err, sym, subst, ◌∙◌}
 use Rattle.tp_flush.specs.Known.{Began}
 use Rattle.tp_run.specs.declared.fault.RunFault.TheVariants.{Memory}
 use Rattle.tp_run.specs.Ran.{Ran}
 use Rattle.tp_run.proofs.Runs.{served_ran, still_ran}
 use Rattle.tp_run.proofs.running.run_parts.Goals as goal
+
+pub over-flusher-requires-clause-bound : goal.over-flusher-requires-clause-bound
+over-flusher-requires-clause-bound g c = sym c.requires.names.room_is ∙ c.requires.bound
+
+pub over-flusher-requires-clause-first : goal.over-flusher-requires-clause-first
+over-flusher-requires-clause-first g c = sym c.requires.names.first_is ∙ c.requires.stands.first
 
 pub returns-in_default-clause-ran : goal.returns-in_default-clause-ran
 returns-in_default-clause-ran g c k began =

@@ -1,4 +1,4 @@
-use Rattle.std.proofs.Common.{◌≡◌, true, false, refl, sym, subst, ap, ◌∙◌, ℕ, ◌<◌, length, get_or, arith}
+use Rattle.std.proofs.Common.{◌≡◌, true, false, refl, sym, subst, ap, ◌∙◌, ℕ, ◌<◌, length, get_or, arith, ◌≤◌}
 use Rattle.std.specs.Prelude.{Ok}
 use Rattle.tp_model.specs.NodeState.{NodeState}
 use Rattle.tp_model.specs.Node.{t414}
@@ -16,12 +16,14 @@ use Rattle.tp_area.specs.Tails.{content_beside}
 use Rattle.tp_flush.specs.Copying.{IsPartOut}
 use Rattle.tp_flush.specs.Progress.{is_out}
 use Rattle.tp_flush.specs.Known.{Began, Known}
-use Rattle.tp_flush.specs.Flushing.{Copies, Flushing, Goes, Keeps}
+use Rattle.tp_flush.specs.Flushing.{Copies, Flushing, Goes, IsOfDevice, Keeps}
 use Rattle.tp_flush.specs.Ends.{Tried}
 use Rattle.tp_flush.proofs.Appends.{opens, rests_unbroken}
 use Rattle.tp_flush.proofs.Closed.{clear_content, put_copies}
+use Rattle.tp_model.specs.Head.{head_of}
+use Rattle.tp_flush.proofs.Devices.{clear_head, put_device, says}
 use Rattle.tp_flush.proofs.Goings.{goes_still}
-use Rattle.tp_flush.proofs.Puts.{Answered, after_put, cleared_walks, on_ok, on_ok_same, put_answered, put_keeps, put_known, put_net, put_tried, told_put}
+use Rattle.tp_flush.proofs.Puts.{Answered, after_put, cleared_walks, on_ok, on_ok_same, put_answered, put_keeps, put_known, put_net, put_stored, put_tried, told_put}
 use Rattle.tp_flush.proofs.flusher.Flusher.clear.Given as given
 use Rattle.tp_flush.proofs.flusher.Flusher.clear.Goals as goal
 
@@ -80,6 +82,12 @@ invariant_of-self-2 g c =
           (λ k. on_ok a.result (Cleared p.store.place s new) ((i : ℕ) → i < length p.topology.pages → is_out (record p.progress { cleared = true }) i ≡ true → IsPartOut p.topology p.whole.known.world.net (content_beside p.store.place new) i (get_or p.topology.pages i 0))
           (λ C i there out. subst (λ xs. IsPartOut p.topology p.whole.known.world.net xs i (get_or p.topology.pages i 0))
           (sym (clear_content p.store.place s new (omega (arith, p.store.whole, g.met.D.Disk.whole k p.store.disk)) (omega (arith, p.store.behind, p.store.inside)) C.called)) (c.self.invariant.4.images k (unbroken g c) i there out)) (a.ensures.cleared k)))),
+      subst (λ (k : Known). IsOfDevice g.D.Disk.keeps g.J.Naming.room k.world new a.new.self.place a.new.self.broken p.topology) (sym c.of-parts.ensures)
+          (put_device g.D.Disk.keeps g.J.Naming.room p.whole.known.world s new p.store.place a.new.self.place p.topology a.result a.new.self.broken (g.D.Disk.failures_of p.store.disk) (g.D.Disk.failures_of a.new.self.disk)
+          (subst (λ broken. IsOfDevice g.D.Disk.keeps g.J.Naming.room p.whole.known.world s p.store.place broken p.topology) (unbroken g c) c.self.invariant.5) (answered g c) a.ensures.place
+          (λ k. on_ok a.result (Cleared p.store.place s new) (head_of new.now.bytes ≡ Ok (says p.topology p.store.place))
+          (λ P. clear_head p.store.place s new (says p.topology p.store.place) (omega (arith, p.store.whole, g.met.D.Disk.whole k p.store.disk)) (omega (arith, p.store.behind, p.store.inside)) P.called (c.self.invariant.5.head k (unbroken g c))) (a.ensures.cleared k))),
+      subst (λ (k : Known). g.J.Naming.first ≤ k.world.stored) (sym c.of-parts.ensures) (omega (arith, put_stored a.new.self.broken p.whole.known.world new.now, c.self.invariant.6)),
     )
 
 abbrev behind : (g : given.Over) (c : goal.After-answer_of g) → Flushing

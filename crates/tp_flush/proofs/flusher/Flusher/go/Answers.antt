@@ -1,8 +1,10 @@
-use Rattle.std.proofs.Common.{inl, arith, rules}
+use Rattle.std.proofs.Common.{inl, subst, sym, arith, rules}
 use Rattle.tp_flush.specs.Flushing.{Goes}
 use Rattle.tp_flush.specs.Ends.{WaitsBehind}
 use Rattle.tp_flush.proofs.Endings.{looked_waits, stored_ended, waits_then}
-use Rattle.tp_flush.proofs.Goings.{behind_ended, goes_looked, goes_then, raised_behind, rested_then}
+use Rattle.tp_flush.proofs.Goings.{behind_ended, done_generation, done_rested, goes_looked, goes_then, raised_behind, went_on_mark}
+use Rattle.tp_flush.specs.Known.{Began}
+use Rattle.tp_flush.proofs.Rooms.{checkpoint_not_full, not_full_on}
 use Rattle.tp_flush.proofs.flusher.Flusher.go.Given as given
 use Rattle.tp_flush.proofs.flusher.Flusher.go.Goals as goal
 
@@ -30,53 +32,73 @@ returns-in_err-store-clause-ended g c =
     stored_ended c.from_residual.result c.in_err-store.field-0.0 (search rules) _ c.args.self.now c.copy_under.new.self c.store.new.self
     (looked_waits c.args.self.now c.copy_under.new.self c.requires.rests c.copy_under.ensures.looked c.copy_under.ensures.mark) c.in_err-store.ensures.stored
 
+pub returns-in_err-store-clause-room : goal.returns-in_err-store-clause-room
+returns-in_err-store-clause-room g c k began =
+    not_full_on (Unit {0}) c.from_residual.result c.in_err-store.field-0.0 (search rules) (c.in_err-store.ensures.room k (subst (Began g.J.Naming.formatted g.J.Naming.before) (sym c.copy_under.ensures.looked.opened) began))
+
 -- ## The mark was raised, and a call failed behind it
 
-raised_failed : (g : given.Over) (c : goal.After-drop-backlog-in_err-checkpoint g) → WaitsBehind c.args.self.now c.raise-mark.new.self
+raised_failed : (g : given.Over) (c : goal.After-drop-backlog-in_err-switched g) → WaitsBehind c.args.self.now c.raise.new.self
 raised_failed g c =
     let S = c.in_ok-store.ensures.stored in
-    let R = c.raise-mark.ensures in
-    raised_behind c.args.self.now c.store.new.self c.raise-mark.new.self
+    let R = c.raise.ensures in
+    raised_behind c.args.self.now c.store.new.self c.raise.new.self
     (waits_then c.args.self.now c.copy_under.new.self c.store.new.self (looked_waits c.args.self.now c.copy_under.new.self c.requires.rests c.copy_under.ensures.looked c.copy_under.ensures.mark) S.0)
     R.looked (omega (arith, R.up, R.mark)) (omega (arith, R.reaches, R.mark))
 
-went_on_failed : (g : given.Over) (c : goal.After-drop-backlog-in_err-checkpoint g) → Goes g.D.Disk.keeps g.J.Naming.formatted g.J.Naming.before c.args.self.now c.raise-mark.new.self
+went_on_failed : (g : given.Over) (c : goal.After-drop-backlog-in_err-switched g) → Goes g.D.Disk.keeps g.J.Naming.formatted g.J.Naming.before c.args.self.now c.raise.new.self
 went_on_failed g c =
-    goes_then g.D.Disk.keeps g.J.Naming.formatted g.J.Naming.before c.args.self.now c.store.new.self c.raise-mark.new.self
+    goes_then g.D.Disk.keeps g.J.Naming.formatted g.J.Naming.before c.args.self.now c.store.new.self c.raise.new.self
     (goes_then g.D.Disk.keeps g.J.Naming.formatted g.J.Naming.before c.args.self.now c.copy_under.new.self c.store.new.self
     (goes_looked g.D.Disk.keeps g.J.Naming.formatted g.J.Naming.before c.args.self.now c.copy_under.new.self c.known.ensures.disk c.copy_under.ensures.looked)
     (record { walks = c.store.ensures.walks; process = c.store.ensures.process }))
-    c.raise-mark.ensures.goes
+    c.raise.ensures.goes
 
-pub returns-in_err-checkpoint-clause-goes : goal.returns-in_err-checkpoint-clause-goes
-returns-in_err-checkpoint-clause-goes g c =
-    goes_then g.D.Disk.keeps g.J.Naming.formatted g.J.Naming.before c.args.self.now c.raise-mark.new.self c.checkpoint.new.self (went_on_failed g c) c.checkpoint.ensures.goes
+pub returns-in_err-switched-clause-goes : goal.returns-in_err-switched-clause-goes
+returns-in_err-switched-clause-goes g c =
+    goes_then g.D.Disk.keeps g.J.Naming.formatted g.J.Naming.before c.args.self.now c.raise.new.self c.checkpoint.new.self (went_on_failed g c) c.checkpoint.ensures.goes
 
-pub returns-in_err-checkpoint-clause-ended : goal.returns-in_err-checkpoint-clause-ended
-returns-in_err-checkpoint-clause-ended g c =
-    behind_ended (Unit {0}) c.from_residual-in_err-checkpoint.result c.in_err-checkpoint.field-0.0 (search rules) c.args.self.now c.raise-mark.new.self c.checkpoint.new.self (raised_failed g c) c.in_err-checkpoint.ensures.tried
+pub returns-in_err-switched-clause-ended : goal.returns-in_err-switched-clause-ended
+returns-in_err-switched-clause-ended g c =
+    behind_ended c.from_residual-in_err-switched.result c.in_err-switched.field-0.0 (search rules) c.args.self.now c.raise.new.self c.checkpoint.new.self (raised_failed g c) c.in_err-switched.ensures.checkpointed
+
+pub returns-in_err-switched-clause-room : goal.returns-in_err-switched-clause-room
+returns-in_err-switched-clause-room g c k began =
+    checkpoint_not_full c.from_residual-in_err-switched.result c.in_err-switched.field-0.0 (search rules) c.raise.new.self c.checkpoint.new.self c.in_err-switched.ensures.checkpointed
 
 -- ## All was done
 
-raised : (g : given.Over) (c : goal.After-drop-backlog-2 g) → WaitsBehind c.args.self.now c.raise-mark.new.self
+raised : (g : given.Over) (c : goal.After-drop-backlog-2 g) → WaitsBehind c.args.self.now c.raise.new.self
 raised g c =
     let S = c.in_ok-store.ensures.stored in
-    let R = c.raise-mark.ensures in
-    raised_behind c.args.self.now c.store.new.self c.raise-mark.new.self
+    let R = c.raise.ensures in
+    raised_behind c.args.self.now c.store.new.self c.raise.new.self
     (waits_then c.args.self.now c.copy_under.new.self c.store.new.self (looked_waits c.args.self.now c.copy_under.new.self c.requires.rests c.copy_under.ensures.looked c.copy_under.ensures.mark) S.0)
     R.looked (omega (arith, R.up, R.mark)) (omega (arith, R.reaches, R.mark))
 
-went_on : (g : given.Over) (c : goal.After-drop-backlog-2 g) → Goes g.D.Disk.keeps g.J.Naming.formatted g.J.Naming.before c.args.self.now c.raise-mark.new.self
+went_on : (g : given.Over) (c : goal.After-drop-backlog-2 g) → Goes g.D.Disk.keeps g.J.Naming.formatted g.J.Naming.before c.args.self.now c.raise.new.self
 went_on g c =
-    goes_then g.D.Disk.keeps g.J.Naming.formatted g.J.Naming.before c.args.self.now c.store.new.self c.raise-mark.new.self
+    goes_then g.D.Disk.keeps g.J.Naming.formatted g.J.Naming.before c.args.self.now c.store.new.self c.raise.new.self
     (goes_then g.D.Disk.keeps g.J.Naming.formatted g.J.Naming.before c.args.self.now c.copy_under.new.self c.store.new.self
     (goes_looked g.D.Disk.keeps g.J.Naming.formatted g.J.Naming.before c.args.self.now c.copy_under.new.self c.known.ensures.disk c.copy_under.ensures.looked)
     (record { walks = c.store.ensures.walks; process = c.store.ensures.process }))
-    c.raise-mark.ensures.goes
+    c.raise.ensures.goes
 
 pub returns-clause-goes : goal.returns-clause-goes
 returns-clause-goes g c =
-    goes_then g.D.Disk.keeps g.J.Naming.formatted g.J.Naming.before c.args.self.now c.raise-mark.new.self c.checkpoint.new.self (went_on g c) c.checkpoint.ensures.goes
+    goes_then g.D.Disk.keeps g.J.Naming.formatted g.J.Naming.before c.args.self.now c.checkpoint.new.self c.raise-mark.new.self
+    (goes_then g.D.Disk.keeps g.J.Naming.formatted g.J.Naming.before c.args.self.now c.raise.new.self c.checkpoint.new.self (went_on g c) c.checkpoint.ensures.goes) c.raise-mark.ensures.goes
 
 pub returns-clause-ended : goal.returns-clause-ended
-returns-clause-ended g c = rested_then c.args.self.now c.raise-mark.new.self c.checkpoint.new.self (raised g c).rested c.in_ok-checkpoint.ensures.tried.waits.rested
+returns-clause-ended g c =
+    done_rested c.in_ok-switched.switched c.args.self.now c.raise.new.self c.checkpoint.new.self c.raise-mark.new.self (raised g c) c.in_ok-switched.ensures.checkpointed c.raise-mark.ensures.looked
+
+pub returns-clause-switched : goal.returns-clause-switched
+returns-clause-switched g c =
+    done_generation c.in_ok-switched.switched c.args.self.now c.raise.new.self c.checkpoint.new.self c.raise-mark.new.self (raised g c) c.in_ok-switched.ensures.checkpointed c.raise-mark.ensures.looked
+
+pub returns-clause-mark : goal.returns-clause-mark
+returns-clause-mark g c =
+    let S = c.in_ok-store.ensures.stored in
+    let C = c.in-Ok.ensures.copied in
+    (c.raise-mark.ensures.mark, omega (arith, C.reaches, S.1, c.raise.ensures.reaches, c.raise.ensures.mark, went_on_mark c.in_ok-switched.switched c.raise.new.self c.checkpoint.new.self c.in_ok-switched.ensures.checkpointed, c.raise-mark.ensures.up))

@@ -1,14 +1,17 @@
-use Rattle.std.proofs.Common.{◌≡◌, true, refl, sym, subst, ap, ◌∙◌}
+use Rattle.std.proofs.Common.{◌≡◌, true, refl, sym, subst, ap, ◌∙◌, ◌≤◌, arith}
 use Rattle.tp_mark.specs.Seen.{RaiserValue}
 use Rattle.tp_shared.specs.Told.{IsFirst}
 use Rattle.tp_model.specs.Journal.{is_roomy}
 use Rattle.tp_flush.specs.declared.progress.Progress.{Progress}
 use Rattle.tp_flush.specs.Progress.{not_begun}
 use Rattle.tp_flush.specs.Known.{Known}
-use Rattle.tp_flush.specs.Flushing.{Keeps}
+use Rattle.tp_flush.specs.Flushing.{IsOfDevice, Keeps}
+use Rattle.tp_model.specs.NodeState.{NodeState}
+use Rattle.tp_model.specs.Snapshot.{MarkedNetwork}
 use Rattle.std.proofs.lemmas.Bool.{true≢false}
 use Rattle.tp_flush.proofs.Closed.{none_out}
-use Rattle.tp_flush.proofs.Begins.{begun_is, first_keeps}
+use Rattle.tp_flush.proofs.Begins.{begun, begun_is, first_keeps}
+use Rattle.tp_flush.proofs.Devices.{first_device}
 use Rattle.tp_flush.proofs.flusher.Flusher.over.Goals as goal
 
 pub invariant_of-result : goal.invariant_of-result
@@ -29,6 +32,10 @@ invariant_of-result g c =
         closed = λ k unbroken cleared. let no : not_begun.cleared ≡ true = subst (λ (p : Progress). p.cleared ≡ true) c.new.ensures cleared in cc;
         images = λ k unbroken i there out. absurd (true≢false (sym out ∙ none_out c.new.result c.new.ensures i));
       },
+      subst (λ (k : Known). IsOfDevice g.D.Disk.keeps g.J.Naming.room k.world s place broken c.args.topology) (sym c.of-whole.ensures)
+          (first_device g.D.Disk.keeps g.J.Naming.room (begun g.J.Naming.before key.net key.base key.journal s.now.bytes place.next) s place broken c.args.topology c.args.opened.value c.requires.topology c.requires.area c.requires.told.base
+          (ap (λ (n : MarkedNetwork NodeState). n.start) c.requires.told.net) (record { cut = c.requires.cut; bytes = c.requires.bytes }) c.requires.bound c.requires.read),
+      subst (λ (k : Known). g.J.Naming.first ≤ k.world.stored) (sym c.of-whole.ensures) (omega (arith, c.requires.first, c.requires.next)),
     )
 
 pub returns-clause-world : goal.returns-clause-world

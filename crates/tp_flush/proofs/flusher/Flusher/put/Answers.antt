@@ -17,14 +17,16 @@ use Rattle.tp_area.specs.Tails.{content_beside}
 use Rattle.tp_flush.specs.Copying.{IsPartOut}
 use Rattle.tp_flush.specs.Progress.{is_out}
 use Rattle.tp_flush.specs.Known.{Began, Known}
-use Rattle.tp_flush.specs.Flushing.{Copies, Flushing, Goes, Keeps}
+use Rattle.tp_flush.specs.Flushing.{Copies, Flushing, Goes, IsOfDevice, Keeps}
 use Rattle.tp_flush.specs.Ends.{Tried}
 use Rattle.tp_flush.proofs.Appends.{opens, rests_unbroken}
 use Rattle.tp_flush.proofs.Closed.{piece_images, piece_room, put_copies}
+use Rattle.tp_model.specs.Head.{head_of}
+use Rattle.tp_flush.proofs.Devices.{piece_head, put_device, says}
 use Rattle.tp_flush.proofs.Beside.{put_content}
 use Rattle.tp_area.specs.declared.place.Place.{Place}
 use Rattle.tp_model.specs.Disk.{written}
-use Rattle.tp_flush.proofs.Puts.{if_answered, piece_inside, Answered, after_put, on_ok, on_ok_same, piece_fits, piece_walks, put_answered, put_keeps, put_known, put_net, put_tried, told_put}
+use Rattle.tp_flush.proofs.Puts.{if_answered, piece_inside, Answered, after_put, on_ok, on_ok_same, piece_fits, piece_walks, put_answered, put_keeps, put_known, put_net, put_stored, put_tried, told_put}
 use Rattle.tp_flush.proofs.flusher.Flusher.put.Given as given
 use Rattle.tp_flush.proofs.flusher.Flusher.put.Goals as goal
 
@@ -67,6 +69,13 @@ walked g c k began =
     (on_ok a.result (PutBehind p.store.place at c.args.bytes.now s new) (Called (put_calls ((other_gate p.store.place + 1 + at, c.args.bytes.now) ∷ [])) s new) (λ P. P.called) (a.ensures.put k))
     (a.ensures.broke k (none g c))
 
+inside : (g : given.Over) (c : goal.After-answer_of g) → piece_place c.self.inside.parts.topology c.args.node c.args.piece + piece_length c.args.piece < c.self.inside.parts.store.place.area
+inside g c =
+    let p = c.self.inside.parts in
+    piece_inside p.topology p.store.place.area c.args.node c.args.piece c.self.invariant.4.roomy
+    (subst (λ (v : Flushing). c.args.node < length v.topology.pages) (sym c.self.view_is) c.requires.node)
+    (subst (λ (v : Flushing). c.args.piece ≤ get_or v.topology.pages c.args.node 0) (sym c.self.view_is) c.requires.piece)
+
 pub invariant_of-self : goal.invariant_of-self
 invariant_of-self g c =
     let p = c.self.inside.parts in
@@ -88,6 +97,13 @@ invariant_of-self g c =
           (λ P. piece_images p.topology p.whole.known.world.net p.store.place s new c.args.node c.args.piece c.args.bytes.now p.progress (omega (arith, p.store.whole, g.met.D.Disk.whole k p.store.disk)) c.self.invariant.4.roomy
           (subst (λ (v : Flushing). c.args.node < length v.topology.pages) (sym c.self.view_is) c.requires.node) (subst (λ (v : Flushing). c.args.piece ≤ get_or v.topology.pages c.args.node 0) (sym c.self.view_is) c.requires.piece)
           c.requires.whole (subst (λ (v : Flushing). is_out v.progress c.args.node ≡ false) (sym c.self.view_is) c.requires.free) P.called (c.self.invariant.4.images k (unbroken g c))) (a.ensures.put k)))),
+      subst (λ (k : Known). IsOfDevice g.D.Disk.keeps g.J.Naming.room k.world new a.new.self.place a.new.self.broken p.topology) (sym c.of-parts.ensures)
+          (put_device g.D.Disk.keeps g.J.Naming.room p.whole.known.world s new p.store.place a.new.self.place p.topology a.result a.new.self.broken (g.D.Disk.failures_of p.store.disk) (g.D.Disk.failures_of a.new.self.disk)
+          (subst (λ broken. IsOfDevice g.D.Disk.keeps g.J.Naming.room p.whole.known.world s p.store.place broken p.topology) (unbroken g c) c.self.invariant.5) (answered g c) a.ensures.place
+          (λ k. on_ok a.result (PutBehind p.store.place (piece_place p.topology c.args.node c.args.piece) c.args.bytes.now s new) (head_of new.now.bytes ≡ Ok (says p.topology p.store.place))
+          (λ P. piece_head p.store.place (piece_place p.topology c.args.node c.args.piece) c.args.bytes.now s new (says p.topology p.store.place) (omega (arith, p.store.whole, g.met.D.Disk.whole k p.store.disk)) (omega (arith, inside g c, c.requires.whole)) P.called
+          (c.self.invariant.5.head k (unbroken g c))) (a.ensures.put k))),
+      subst (λ (k : Known). g.J.Naming.first ≤ k.world.stored) (sym c.of-parts.ensures) (omega (arith, put_stored a.new.self.broken p.whole.known.world new.now, c.self.invariant.6)),
     )
 
 abbrev behind : (g : given.Over) (c : goal.After-answer_of g) → Flushing
@@ -146,13 +162,6 @@ returns-clause-same g c =
       ap (λ (k : Known). k.world.net) c.of-parts.ensures ∙ put_net a.new.self.broken p.whole.known.world (g.D.Disk.state a.new.self.disk).now ∙ ap (λ (v : Flushing). v.world.net) c.self.view_is,
       ap (λ (v : Flushing). v.progress) c.self.view_is,
     )
-
-inside : (g : given.Over) (c : goal.After-answer_of g) → piece_place c.self.inside.parts.topology c.args.node c.args.piece + piece_length c.args.piece < c.self.inside.parts.store.place.area
-inside g c =
-    let p = c.self.inside.parts in
-    piece_inside p.topology p.store.place.area c.args.node c.args.piece c.self.invariant.4.roomy
-    (subst (λ (v : Flushing). c.args.node < length v.topology.pages) (sym c.self.view_is) c.requires.node)
-    (subst (λ (v : Flushing). c.args.piece ≤ get_or v.topology.pages c.args.node 0) (sym c.self.view_is) c.requires.piece)
 
 pub returns-clause-room : goal.returns-clause-room
 returns-clause-room g c k =

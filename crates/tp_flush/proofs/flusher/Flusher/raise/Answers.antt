@@ -1,4 +1,4 @@
-use Rattle.std.proofs.Common.{refl, sym, subst, ap, ◌∙◌, arith}
+use Rattle.std.proofs.Common.{refl, sym, subst, ap, ◌∙◌, arith, ◌≤◌}
 use Rattle.std.specs.Prelude.{max}
 use Rattle.tp_mark.specs.Seen.{RaiserValue}
 use Rattle.tp_model.specs.DiskHistory.{State}
@@ -7,7 +7,8 @@ use Rattle.tp_model.specs.DeviceAreas.{device_areas}
 use Rattle.tp_model.specs.Walks.{Leads}
 use Rattle.tp_shared.specs.Told.{IsFirst}
 use Rattle.tp_flush.specs.Known.{Known}
-use Rattle.tp_flush.specs.Flushing.{Copies, Flushing, Keeps, Looked}
+use Rattle.tp_flush.specs.Flushing.{Copies, Flushing, IsOfDevice, Keeps, Looked}
+use Rattle.tp_flush.proofs.Devices.{raise_device}
 use Rattle.tp_flush.proofs.Kept.{raise_keeps}
 use Rattle.tp_flush.proofs.Goings.{goes_looked}
 use Rattle.tp_flush.proofs.Looks.{raises}
@@ -36,6 +37,9 @@ invariant_of-self g c =
       subst (λ (k : Known). IsFirst p.key.value k.world) (sym c.of-parts.ensures) (record { net = F.net; base = F.base; journal = F.journal }),
       kept g c,
       subst (λ (k : Known). Copies g.D.Disk.keeps k.world.net (g.D.Disk.state p.store.disk) p.store.place p.store.broken p.topology p.progress) (sym c.of-parts.ensures) c.self.invariant.4,
+      subst (λ (k : Known). IsOfDevice g.D.Disk.keeps g.J.Naming.room k.world (g.D.Disk.state p.store.disk) p.store.place p.store.broken p.topology) (sym c.of-parts.ensures)
+          (raise_device g.D.Disk.keeps g.J.Naming.room p.whole.known.world (g.D.Disk.state p.store.disk) p.store.place p.store.broken p.topology c.self.invariant.5),
+      subst (λ (k : Known). g.J.Naming.first ≤ k.world.stored) (sym c.of-parts.ensures) c.self.invariant.6,
     )
 
 pub returns-clause-mark : goal.returns-clause-mark

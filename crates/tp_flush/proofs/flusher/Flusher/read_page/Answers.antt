@@ -1,11 +1,12 @@
-use Rattle.std.proofs.Common.{refl, sym, subst, ap, ◌∙◌}
+use Rattle.std.proofs.Common.{refl, sym, subst, ap, ◌∙◌, ◌≤◌}
 use Rattle.tp_model.specs.DiskHistory.{State}
 use Rattle.tp_shared.specs.Told.{IsFirst}
 use Rattle.tp_shared.specs.Pieces.{IsFrozenPage}
 use Rattle.tp_flush.specs.Known.{Known}
-use Rattle.tp_flush.specs.Flushing.{Copies, Flushing, Keeps, Looked}
+use Rattle.tp_flush.specs.Flushing.{Copies, Flushing, IsOfDevice, Keeps, Looked}
 use Rattle.tp_model.specs.FrozenAs.{IsFrozenAs}
 use Rattle.tp_flush.proofs.Closed.{frozen_told, look_copies}
+use Rattle.tp_flush.proofs.Devices.{look_device}
 use Rattle.tp_flush.proofs.Goings.{goes_looked, went_looked}
 use Rattle.tp_flush.proofs.Kept.{learn_keeps, learned_looked}
 use Rattle.tp_flush.proofs.flusher.Flusher.read_page.Given as given
@@ -23,6 +24,9 @@ invariant_of-self g c =
           (learn_keeps g.D.Disk.keeps g.J.Naming.formatted g.J.Naming.before p.whole.known s p.store.place p.store.broken p.raiser.at c.self.invariant.3 p.key.value now c.self.invariant.2 c.frozen_page-found.ensures.since),
       subst (λ (k : Known). Copies g.D.Disk.keeps k.world.net s p.store.place p.store.broken p.topology p.progress) (sym c.of-parts.ensures)
           (look_copies g.D.Disk.keeps p.whole.known.world p.key.value now s p.store.place p.store.broken p.topology p.progress c.self.invariant.2 c.frozen_page-found.ensures.since c.self.invariant.4),
+      subst (λ (k : Known). IsOfDevice g.D.Disk.keeps g.J.Naming.room k.world s p.store.place p.store.broken p.topology) (sym c.of-parts.ensures)
+          (look_device g.D.Disk.keeps g.J.Naming.room p.whole.known.world p.key.value now s p.store.place p.store.broken p.topology c.self.invariant.2 c.frozen_page-found.ensures.since c.self.invariant.5),
+      subst (λ (k : Known). g.J.Naming.first ≤ k.world.stored) (sym c.of-parts.ensures) c.self.invariant.6,
     )
 
 abbrev flushing : (g : given.Over) (c : goal.After-parts-2-1 g) → Known → Flushing

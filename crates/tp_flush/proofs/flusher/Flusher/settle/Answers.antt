@@ -1,4 +1,4 @@
-use Rattle.std.proofs.Common.{◌≡◌, sym, subst, arith}
+use Rattle.std.proofs.Common.{sym, subst, arith}
 use Rattle.tp_model.specs.Disk.{MayBe}
 use Rattle.tp_flush.specs.Flushing.{Flushing}
 use Rattle.tp_flush.specs.Known.{Began}

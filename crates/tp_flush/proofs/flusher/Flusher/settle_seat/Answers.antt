@@ -1,7 +1,6 @@
-use Rattle.std.proofs.Common.{◌≡◌, ◌∙◌, sym, ap, subst}
+use Rattle.std.proofs.Common.{subst}
 use Rattle.tp_shared.specs.Told.{IsFirst, Since, told_of}
 use Rattle.tp_flush.specs.Flushing.{Flushing}
-use Rattle.tp_flush.specs.Settled.{Stand}
 use Rattle.tp_flush.proofs.Settling.{length-journal, slips_stand}
 use Rattle.tp_flush.proofs.flusher.Flusher.settle_seat.Goals as goal
 

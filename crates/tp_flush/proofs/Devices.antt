@@ -1,0 +1,148 @@
+-- The kept cut stays spelt and the device's head stays, whatever is appended, put into the other area, or looked at in the book.
+use Rattle.std.proofs.Common.{◌≡◌, ℕ, ◌+◌, ◌*◌, ◌≤◌, ◌<◌, List, [], ◌∷◌, length, refl, sym, ap, subst, ◌∙◌, Bool, true, false, Option, Some, None, Result, Ok, Err, OnOk, arith}
+use Rattle.std.specs.Prelude.{not, if◌then◌else◌}
+use Rattle.std.specs.List.{AllByRecursion}
+use Rattle.tp_model.specs.declared.entry.Entry.{Entry}
+use Rattle.tp_model.specs.declared.limits.TheConstants.{AREA_HEAD_BYTES, HEAD_BYTES}
+use Rattle.tp_model.specs.Bytes.{u8_at}
+use Rattle.tp_model.specs.NodeState.{NodeState}
+use Rattle.tp_model.specs.Node.{t414, t414_ends}
+use Rattle.tp_model.specs.Network.{Network}
+use Rattle.tp_model.specs.Snapshot.{MarkedNetwork}
+use Rattle.tp_model.specs.Acts.{Act, acted, happens}
+use Rattle.tp_model.specs.Areas.{gate_closed}
+use Rattle.tp_model.specs.Runs.{World, is_trim}
+use Rattle.tp_model.specs.Device.{area_start, is_open}
+use Rattle.tp_model.specs.Disk.{Moment, SameOutside}
+use Rattle.tp_model.specs.DiskHistory.{State}
+use Rattle.tp_model.specs.StoreCalls.{Called, clear_calls, group_calls, put_calls}
+use Rattle.tp_model.specs.Head.{Head, head_of}
+use Rattle.tp_model.specs.Opening.{Opened, verdict}
+use Rattle.tp_model.specs.Journal.{room}
+use Rattle.tp_model.specs.Topology.{Topology}
+use Rattle.tp_area.specs.declared.place.Place.{Place}
+use Rattle.tp_area.specs.declared.fault.StoreFault.{StoreFault}
+use Rattle.tp_area.specs.Appended.{Appended, body_of}
+use Rattle.tp_area.specs.Other.{if_open, other_gate}
+use Rattle.tp_area.specs.Places.{has_room}
+use Rattle.tp_area.proofs.Behind.{CanBeAppended}
+use Rattle.tp_shared.specs.declared.told.Told.{Told}
+use Rattle.tp_shared.specs.Told.{IsFirst, Since}
+use Rattle.tp_law_cuts.proofs.Stays.{start_stays}
+use Rattle.tp_law_device.proofs.Opens.{reads_of}
+use Rattle.tp_law_network.proofs.Partial.{bind_some}
+use Rattle.tp_law_runs.proofs.Moments.{written_same_outside}
+use Rattle.tp_law_tail.specs.CutSpelt.{CutSpelt}
+use Rattle.tp_flush.specs.Flushing.{IsOfDevice}
+use Rattle.tp_flush.proofs.Appends.{Answered, after_group}
+use Rattle.tp_flush.proofs.Beside.{areas_fit, head_first, head_kept, put_same}
+use Rattle.tp_flush.proofs.Closed.{closed_when, group_outside}
+use Rattle.tp_flush.proofs.Looks.{copied, learned, raised}
+use Rattle.tp_flush.proofs.Puts.{Answered as PutAnswered, after_put}
+
+-- what the head says
+abbrev pub says : Topology → Place → Head
+says t place = record { topology = t; area = place.area }
+
+-- over a world of the same kept cut, in areas as long
+pub same_device : (keeps : Type 0) (most : Option ℕ) (w v : World NodeState) (s new : State) (place to : Place) (broken broke : Bool) (t : Topology) → v.base ≡ w.base → v.net.start ≡ w.net.start → to.area ≡ place.area
+    → (keeps → broke ≡ false → head_of new.now.bytes ≡ Ok (says t place)) → IsOfDevice keeps most w s place broken t → IsOfDevice keeps most v new to broke t
+same_device keeps most w v s new place to broken broke t base start area head D = record {
+  spelt = subst (λ (n : ℕ). CutSpelt t n v.net.start) (sym base) (subst (λ (net : Network NodeState). CutSpelt t w.base net) (sym start) D.spelt);
+  bound = D.bound ∙ ap (λ n. Some (room t n)) (sym area);
+  head = λ k unbroken. head k unbroken ∙ ap (λ n. Ok (record { topology = t; area = n })) (sym area);
+}
+
+-- ## The opening
+
+pub first_device : (keeps : Type 0) (most : Option ℕ) (w : World NodeState) (s : State) (place : Place) (broken : Bool) (t : Topology) (o : Opened) → t ≡ o.head.topology → place.area ≡ o.head.area → w.base ≡ o.base → w.net.start ≡ o.cut
+    → CutSpelt o.head.topology o.base o.cut → most ≡ Some (room o.head.topology o.head.area) → (keeps → verdict s.now.bytes ≡ Ok o) → IsOfDevice keeps most w s place broken t
+unfolding verdict
+first_device keeps most w s place broken t o topology area base start spelt bound reads = record {
+  spelt =
+      subst (λ (u : Topology). CutSpelt u w.base w.net.start) (sym topology) (subst (λ (n : ℕ). CutSpelt o.head.topology n w.net.start) (sym base)
+      (subst (λ (net : Network NodeState). CutSpelt o.head.topology o.base net) (sym start) spelt));
+  bound = bound ∙ (λ i. Some (room (sym topology i) (sym area i)));
+  head = λ k unbroken. (reads_of t414 t414_ends s.now.bytes o (reads k)).head ∙ (λ i. Ok (record { topology = sym topology i; area = sym area i }));
+}
+
+-- ## A look at the book
+
+pub start_since : (acts : List Act) (w v : MarkedNetwork NodeState) → AllByRecursion (λ act. is_trim act ≡ false) acts → acted t414 w acts ≡ Some v → v.start ≡ w.start
+unfolding acted
+start_since [] w v none e = let same : w ≡ v = cc in ap (λ (n : MarkedNetwork NodeState). n.start) (sym same)
+start_since (act ∷ acts) w v none e =
+    let B = bind_some (happens t414 w act) (λ u. acted t414 u acts) v e in
+    start_since acts B.0 v none.1 B.2 ∙ start_stays t414 w B.0 act none.0 B.1
+
+pub start_told : (w : World NodeState) (old now : Told) → IsFirst old w → Since old now → now.net.start ≡ w.net.start
+start_told w old now first since = start_since since.acts old.net now.net since.none since.net ∙ ap (λ (n : MarkedNetwork NodeState). n.start) first.net
+
+module _ (keeps : Type 0) (most : Option ℕ) (w : World NodeState) (old now : Told) (s : State) (place : Place) (broken : Bool) (t : Topology) (first : IsFirst old w) (since : Since old now) (D : IsOfDevice keeps most w s place broken t) where
+  pub look_device : IsOfDevice keeps most (learned w now) s place broken t
+  look_device = same_device keeps most w (learned w now) s s place place broken broken t (since.base ∙ first.base) (start_told w old now first since) refl D.head D
+
+  pub copy_device : IsOfDevice keeps most (copied w now) s place broken t
+  copy_device = same_device keeps most w (copied w now) s s place place broken broken t (since.base ∙ first.base) (start_told w old now first since) refl D.head D
+
+pub raise_device : (keeps : Type 0) (most : Option ℕ) (w : World NodeState) (s : State) (place : Place) (broken : Bool) (t : Topology) → IsOfDevice keeps most w s place broken t → IsOfDevice keeps most (raised w) s place broken t
+raise_device keeps most w s place broken t D = same_device keeps most w (raised w) s s place place broken broken t refl refl refl D.head D
+
+-- ## A group
+
+pub group_base : (broke : Bool) (next : ℕ) (w : World NodeState) (disk : Moment) → (after_group broke next w disk).base ≡ w.base
+group_base true next w disk = refl
+group_base false next w disk = refl
+
+group_start : (broke : Bool) (next : ℕ) (w : World NodeState) (disk : Moment) → (after_group broke next w disk).net.start ≡ w.net.start
+group_start true next w disk = refl
+group_start false next w disk = refl
+
+pub append_device : (keeps : Type 0) (most : Option ℕ) (w : World NodeState) (s new : State) (place to : Place) (t : Topology) (es : List Entry) (r : Result Unit StoreFault) (broke : Bool) (filled : Option Place) (failures_old failures_new : ℕ)
+    → IsOfDevice keeps most w s place false t → Answered r es place to broke filled failures_old failures_new → CanBeAppended place.next es → has_room place (length es) ≡ true
+    → area_start place.area place.second + AREA_HEAD_BYTES ≤ place.end → (keeps → HEAD_BYTES + 2 * place.area ≤ length s.now.bytes) → (keeps → OnOk r (Appended es place s new))
+    → IsOfDevice keeps most (after_group broke to.next w new.now) new to broke t
+append_device keeps most w s new place to t es (Ok x) broke filled failures_old failures_new D A can fits low whole did =
+    same_device keeps most w (after_group broke to.next w new.now) s new place to false broke t (group_base broke to.next w new.now) (group_start broke to.next w new.now) (ap (λ (q : Place). q.area) A.done.0)
+    (λ k unbroken.
+    head_kept place.end (1 + length (body_of place.next es)) s.now.bytes new.now.bytes (says t place) (group_outside place s new es can fits low (whole k) (did k).called)
+    (omega (arith, low, head_first place.area place.second)) (D.head k refl)) D
+append_device keeps most w s new place to t es (Err e) broke filled failures_old failures_new D A can fits low whole did =
+    same_device keeps most w (after_group broke to.next w new.now) s new place to false broke t (group_base broke to.next w new.now) (group_start broke to.next w new.now) (ap (λ (q : Place). q.area) A.failed.1)
+    (λ k unbroken. let no = A.failed.2 in cc) D
+
+-- ## Bytes in the other area
+
+put_base : (broke : Bool) (w : World NodeState) (disk : Moment) → (after_put broke w disk).base ≡ w.base
+put_base true w disk = refl
+put_base false w disk = refl
+
+put_start : (broke : Bool) (w : World NodeState) (disk : Moment) → (after_put broke w disk).net.start ≡ w.net.start
+put_start true w disk = refl
+put_start false w disk = refl
+
+pub put_device : (keeps : Type 0) (most : Option ℕ) (w : World NodeState) (s new : State) (place to : Place) (t : Topology) (r : Result Unit StoreFault) (broke : Bool) (failures_old failures_new : ℕ)
+    → IsOfDevice keeps most w s place false t → PutAnswered r broke failures_old failures_new → to ≡ place → (keeps → OnOk r (head_of new.now.bytes ≡ Ok (says t place)))
+    → IsOfDevice keeps most (after_put broke w new.now) new to broke t
+put_device keeps most w s new place to t r broke failures_old failures_new D A same head =
+    same_device keeps most w (after_put broke w new.now) s new place to false broke t (put_base broke w new.now) (put_start broke w new.now) (ap (λ (q : Place). q.area) same)
+    (λ k unbroken. closed_when r broke failures_old failures_new A (head_of new.now.bytes ≡ Ok (says t place)) (head k) unbroken) D
+
+-- the head, behind a piece
+pub piece_head : (place : Place) (at : ℕ) (bytes : List ℕ) (s new : State) (head : Head) → HEAD_BYTES + 2 * place.area ≤ length s.now.bytes → at + length bytes < place.area
+    → Called (put_calls ((other_gate place + 1 + at, bytes) ∷ [])) s new → head_of s.now.bytes ≡ Ok head → head_of new.now.bytes ≡ Ok head
+piece_head place at bytes s new head whole small called is =
+    head_kept (other_gate place + 1 + at) (length bytes) s.now.bytes new.now.bytes head (put_same place at bytes s new whole small called) (omega (arith, head_first place.area (not place.second))) is
+
+-- and behind the other area's gate, which was closed, or was closed before
+pub clear_head : (place : Place) (s new : State) (head : Head) → HEAD_BYTES + 2 * place.area ≤ length s.now.bytes → 1 ≤ place.area
+    → Called (clear_calls (if_open (other_gate place) s.now.bytes)) s new → head_of s.now.bytes ≡ Ok head → head_of new.now.bytes ≡ Ok head
+clear_head place s new head whole some called is = go (is_open (u8_at s.now.bytes (other_gate place))) called
+  where
+    go : (found : Bool) → Called (clear_calls (if found then Some (other_gate place) else None)) s new → head_of new.now.bytes ≡ Ok head
+    go false did = ap (λ (m : Moment). head_of m.bytes) did.now ∙ is
+    go true did =
+        let room = areas_fit place.area (length s.now.bytes) (not place.second) whole in
+        head_kept (other_gate place) 1 s.now.bytes new.now.bytes head
+        (subst (SameOutside (other_gate place) 1 s.now.bytes) (sym (ap (λ (m : Moment). m.bytes) did.now)) (written_same_outside s.now.bytes (other_gate place) gate_closed (omega (arith, room, some))))
+        (head_first place.area (not place.second)) is
