@@ -1,3 +1,4 @@
+pub mod Every
 pub mod Faults
 pub mod Input
 pub mod Made

@@ -14,7 +14,7 @@ pub struct Job {
     pub quantum: u16,
     /// How many spare frames each node has, at most its pages, for pages that it writes while it is frozen.
     pub spare: u16,
-    /// How many entries since the kept cut begin a snapshot; none: as many as fill half of the journal. Nothing begins one yet.
+    /// How many entries since the kept cut begin a snapshot; none: as many as fill half of the journal, and at least one.
     pub every: Option<u32>,
     /// The port that input goes to and output comes from.
     pub port: u8,

@@ -19,6 +19,7 @@ ghost use Rattle.tp_recover.specs.declared.unopened.Unopened.{Unopened};
 ghost use Rattle.tp_run.specs.declared.job.TheConstants.{MAX_WORKERS};
 ghost use Rattle.tp_shared.specs.Named.{Names};
 
+use crate::beginning::every_of;
 use crate::fault::RunFault;
 use crate::job::{Job, MAX_WORKERS};
 use crate::opening::{job_fault, parts_of};
@@ -80,9 +81,10 @@ fn run_parts<J: Naming + Send + Sync, D: Disk + Send + Drop, O: Write, R: Thread
     ) else {
         return (store.into_disk(), Err(RunFault::Memory));
     };
+    let every = every_of(job.every, &topology, store.place.area);
     let flusher = Flusher::over(opened, topology, store, key, raiser);
     flusher.known();
-    let (flusher, done) = serve(rt, alloc, job, &net, &mut seats, flusher, input, out);
+    let (flusher, done) = serve(rt, alloc, job, every, &net, &mut seats, flusher, input, out);
     (flusher.into_disk(), done)
 }
 

@@ -59,14 +59,13 @@ fn work<J: Naming + Send + Sync, D: Disk + Send + Drop, R: Threads + Wait + Sync
     alloc: Global,
     net: &Net<J, NoGate>,
     seats: &mut [Seat<J>],
-    turns: u32,
+    watch: Watch,
     flusher: Flusher<J, D>,
 ) -> Flusher<J, D>
     requires seats { All (λ seat. seat.hand ≡ Some net.now.queue) seats.old }
     ensures walks { D.keeps → Began J.formatted J.before flusher.opened → Walked flusher result }
     ensures process { IsSameProcess flusher result }
 {
-    let watch = Watch::new(turns);
     let watching = &watch;
     let shared = net.shared();
     let (flusher, ()) = join(
@@ -76,7 +75,7 @@ fn work<J: Naming + Send + Sync, D: Disk + Send + Drop, R: Threads + Wait + Sync
         { flush_meanwhile(rt, alloc, shared, watching, flusher) },
         ||
             requires { All (λ seat. seat.hand ≡ Some net.now.queue) seats.now }
-        { work_all(rt, net, watching, seats) },
+        { work_all(rt, alloc, net, watching, seats) },
     );
     flusher
 }
@@ -117,6 +116,7 @@ pub(crate) fn serve<
     rt: &R,
     alloc: Global,
     job: Job,
+    every: u64,
     net: &Net<J, NoGate>,
     seats: &mut [Seat<J>],
     flusher: Flusher<J, D>,
@@ -137,7 +137,8 @@ pub(crate) fn serve<
         Ok(offered) => offered,
         Err(fault) => return (flusher, Err(fault)),
     };
-    let mut flusher = work(rt, alloc, net, seats, job.turns, flusher);
+    let watch = Watch::new(job.turns, every);
+    let mut flusher = work(rt, alloc, net, seats, watch, flusher);
     let done = finish(rt, alloc, shared, job.port, &offered, &mut flusher, out);
     (flusher, done)
 }

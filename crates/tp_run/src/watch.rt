@@ -10,17 +10,20 @@ struct Round {
     ended: bool,
 }
 
-/// The round under a lock that nobody holds for longer than a look, and the bell by which the flusher is woken.
+/// The round under a lock that nobody holds for longer than a look, the bell by which the flusher is woken, and how many entries since
+/// the kept cut begin a snapshot.
 #[derive(Drop)]
 pub(crate) struct Watch {
+    every: u64,
     round: Mutex<Round>,
     bell: Condvar,
 }
 
 impl Watch {
-    /// A watch over a round of so many turns.
-    pub(crate) fn new(turns: u32) -> Watch {
+    /// A watch over a round of `turns` turns, in which `every` entries begin a snapshot.
+    pub(crate) fn new(turns: u32, every: u64) -> Watch {
         Watch {
+            every,
             round: Mutex::new(Round {
                 left: turns,
                 news: 0,
@@ -28,6 +31,11 @@ impl Watch {
             }),
             bell: Condvar::new(),
         }
+    }
+
+    /// How many entries since the kept cut begin a snapshot.
+    pub(crate) fn every(&self) -> u64 {
+        self.every
     }
 
     /// Takes one of the turns that are left; false where none is.

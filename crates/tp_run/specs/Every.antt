@@ -1,0 +1,18 @@
+-- When a snapshot begins.
+use Rattle.std.specs.Prelude.{ℕ, ◌-◌, ◌*◌, ◌/◌, Bool, nat_le, if◌then◌else◌, Option, Some, None}
+use Rattle.tp_model.specs.Topology.{Topology, line_count}
+use Rattle.tp_model.specs.Journal.{entry_room, reserve, room}
+use Rattle.tp_book.specs.Book.{BookValue, next_number}
+
+-- how many entries of their own groups fill half of what a journal has room for beside the reserve
+abbrev pub half_of : Topology → ℕ → ℕ
+half_of t area = (room t area - reserve (line_count t)) / (2 * entry_room)
+
+-- how many entries since the kept cut begin a snapshot: those that were asked for, else half of a journal, and at least one
+abbrev pub every_of : Option ℕ → Topology → ℕ → ℕ
+every_of (Some asked) t area = asked
+every_of None t area = if nat_le (half_of t area) 1 then 1 else half_of t area
+
+-- as many entries have been made since the kept cut
+abbrev pub is_due : ℕ → BookValue → Bool
+is_due every b = nat_le every (next_number b - b.base)

@@ -1,0 +1,52 @@
+//! When a run begins a snapshot.
+
+ghost use Rattle.std.specs.Prelude.{◌≡◌, true, false, Ok, IfOk, OnErr};
+ghost use Rattle.tp_book.specs.Marked.{after_begin, begin_refusal};
+ghost use Rattle.tp_book.specs.Refusals.{IsAnswer};
+ghost use Rattle.tp_run.specs.Every.{every_of, half_of, is_due};
+
+use std::alloc::Global;
+use tp_book::Refusal;
+use tp_entry::ENTRY_ROOM;
+use tp_layout::journal_room;
+use tp_model::limits::RESERVED;
+use tp_net::Topology;
+use tp_shared::{Locked, Naming};
+
+/// How many entries fill half of a journal, beside what is kept for a running snapshot.
+fn half_of(topology: &Topology, area: u64) -> u64
+    ensures { result ≡ half_of topology.now area }
+{
+    let reserve = (RESERVED * ENTRY_ROOM) as u64 * topology.line_count() as u64;
+    journal_room(topology, area).saturating_sub(reserve) / (2 * ENTRY_ROOM as u64)
+}
+
+/// How many entries since the kept cut begin a snapshot, where `asked` were asked for; by default half of a journal.
+pub(crate) fn every_of(asked: Option<u32>, topology: &Topology, area: u64) -> u64
+    ensures { result ≡ every_of asked topology.now area }
+{
+    match asked {
+        Some(entries) => entries.into(),
+        None => half_of(topology, area).max(1),
+    }
+}
+
+/// Begins a snapshot, under the book's lock, where `every` entries have been made since the kept cut. Whether one was begun.
+pub(crate) fn begin_where_due<J: Naming>(
+    held: &mut Locked<J>,
+    alloc: Global,
+    every: u64,
+) -> Result<bool, Refusal>
+    ensures due { IfOk result (λ begun. begun ≡ is_due every held.old.book) }
+    ensures begun { result ≡ Ok true → held.new ≡ record held.old { book = after_begin held.old.book } }
+    ensures early { result ≡ Ok false → held.new ≡ held.old }
+    ensures refused { is_due every held.old.book ≡ true → IsAnswer (begin_refusal held.old.book) result }
+    ensures err { OnErr result (held.new ≡ held.old) }
+{
+    let made = held.book().next().saturating_sub(held.book().base());
+    if made < every {
+        return Ok(false);
+    }
+    held.begin_snapshot(alloc)?;
+    Ok(true)
+}
