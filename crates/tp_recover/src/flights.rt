@@ -9,7 +9,6 @@ ghost use Rattle.tp_recover.specs.Parts.{network_in};
 
 use tp_model::limits::{LINE_BYTES, MAX_NODES, MAX_PORTS};
 use tp_model::{OpenFault, Token, WireEnd};
-use tp_net::port_line;
 use tp_node::Node;
 use tp_port::PortParts;
 
@@ -54,11 +53,11 @@ fn end_waits(parts: CutParts<'_>, line: usize) -> bool
     requires there { line < 4 * length parts.nodes.now + length parts.ports.now }
     ensures { result ≡ end_waits t414_ends (network_in parts.entry) line }
 {
-    let first_port = port_line(parts.nodes.len(), 0);
-    if line < first_port {
+    let links = 4 * parts.nodes.len();
+    if line < links {
         parts.nodes[line / 4].waits((line % 4) as u8)
     } else {
-        !parts.ports[line - first_port].pending.is_empty()
+        !parts.ports[line - links].pending.is_empty()
     }
 }
 
@@ -67,8 +66,7 @@ fn end_holds(parts: CutParts<'_>, line: usize) -> bool
     requires few { length parts.nodes.now ≤ MAX_NODES }
     ensures { result ≡ end_holds t414_ends (network_in parts.entry) line }
 {
-    let first_port = port_line(parts.nodes.len(), 0);
-    if line < first_port {
+    if line < 4 * parts.nodes.len() {
         parts.nodes[line / 4].holds((line % 4) as u8)
     } else {
         false

@@ -2,6 +2,7 @@
 #![tactic(auto)]
 
 #[cfg(test)]
+mod checkpoints;
 mod devices;
 #[cfg(test)]
 mod faults;

@@ -1,0 +1,84 @@
+//! Runs with checkpoints.
+
+use crate::devices::{LETTER, ONE, PASSES, RING, formatted, letter};
+use crate::players::{FOUR, left, play};
+use std::test::Fail;
+use tp_recover::Opened;
+use tp_run::Job;
+
+/// Two hundred turns of a worker. Each twentieth entry since the kept cut begins a snapshot.
+const OFTEN: Job = Job {
+    turns: 200,
+    every: Some(20),
+    ..FOUR
+};
+
+/// How many workers make how many turns.
+const TEAMS: &[(u8, u32)] = &[(1, 4000), (2, 4000), (16, 4000)];
+
+/// Whether entries are in the cut, and the areas were switched at least `times` times.
+fn is_switched(opened: &Opened, times: u64) -> bool {
+    opened.base() > 0 && opened.generation() > times
+}
+
+/// The journal has room for 105 entries. With checkpoints a network that never ends goes on all the same, and its letter is printed
+/// once.
+#[test]
+fn a_short_journal_never_stays_full(rt: HostRuntime) -> Result<(), Fail> {
+    let alloc = rt.alloc();
+    let mut disk = letter(alloc)?;
+    let mut out = Vec::new(alloc);
+    let mut next = 0;
+    for _ in 0..8 {
+        let (again, done) = play(&rt, alloc, disk, OFTEN, b"", &mut out);
+        disk = again;
+        let reached = done?;
+        assert!(rt; reached > next);
+        next = reached;
+    }
+    let (_, opened) = left(alloc, disk)?;
+    assert!(rt; out.as_slice() == b"A".as_slice());
+    assert!(rt; opened.next() == next && next > 420);
+    assert!(rt; is_switched(&opened, 8));
+    Ok(())
+}
+
+/// Half of the journal begins a snapshot where nothing else is asked for.
+#[test]
+fn half_of_the_journal_begins_a_snapshot(rt: HostRuntime) -> Result<(), Fail> {
+    let alloc = rt.alloc();
+    let mut out = Vec::new(alloc);
+    let few = Job { turns: 40, ..FOUR };
+    let (disk, done) = play(&rt, alloc, formatted(alloc, ONE, LETTER, 0, 16_384)?, few, b"", &mut out);
+    let (disk, early) = left(alloc, disk)?;
+    assert!(rt; done.is_ok() && early.base() == 0);
+    let more = Job { turns: 200, ..FOUR };
+    let (disk, done) = play(&rt, alloc, disk, more, b"", &mut out);
+    let (_, opened) = left(alloc, disk)?;
+    assert!(rt; done.is_ok() && is_switched(&opened, 1));
+    Ok(())
+}
+
+/// Eight nodes in a ring, whose areas are switched while they run.
+#[test]
+fn a_ring_goes_on_over_its_checkpoints(rt: HostRuntime) -> Result<(), Fail> {
+    let alloc = rt.alloc();
+    for (workers, turns) in TEAMS {
+        let mut out = Vec::new(alloc);
+        let job = Job {
+            turns: *turns,
+            workers: *workers,
+            every: Some(50),
+            ..FOUR
+        };
+        let disk = formatted(alloc, RING, PASSES, 6, 1_048_576)?;
+        let (disk, done) = play(&rt, alloc, disk, job, b"", &mut out);
+        let (disk, opened) = left(alloc, disk)?;
+        assert!(rt; done == Ok(opened.next()) && is_switched(&opened, 1));
+        let (disk, done) = play(&rt, alloc, disk, job, b"", &mut out);
+        let (_, later) = left(alloc, disk)?;
+        assert!(rt; done == Ok(later.next()) && later.next() > opened.next());
+        assert!(rt; is_switched(&later, opened.generation()));
+    }
+    Ok(())
+}
