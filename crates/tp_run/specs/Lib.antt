@@ -1,5 +1,6 @@
 pub mod Faults
 pub mod Input
 pub mod Made
+pub mod Outset
 pub mod Output
 pub mod Ran
