@@ -1,8 +1,7 @@
 -- What is made of a device that opened, and what the flusher is first told.
-use Rattle.std.proofs.Common.{◌≡◌, ℕ, ◌+◌, List, [], ◌∷◌, ◌++◌, length, take, Option, Some, refl, sym, ap, subst, ◌∙◌, arith, append-nil}
+use Rattle.std.proofs.Common.{◌≡◌, ℕ, ◌+◌, List, [], ◌∷◌, length, take, Option, Some, refl, sym, ap, ◌∙◌, arith, append-nil}
 use Rattle.std.specs.Prelude.{get_or, map}
 use Rattle.std.proofs.lemmas.List.{length-map}
-use Rattle.tp_model.specs.declared.entry.Entry.{Entry}
 use Rattle.tp_model.specs.NodeState.{NodeState}
 use Rattle.tp_model.specs.Node.{t414, t414_ends}
 use Rattle.tp_model.specs.Network.{Network, Port}
@@ -17,7 +16,7 @@ use Rattle.tp_replay.specs.Replaying.{numbered}
 use Rattle.tp_book.specs.declared.note.Numbered.{Numbered}
 use Rattle.tp_book.specs.declared.state.NetState.{NetState}
 use Rattle.tp_book.specs.Book.{BookValue, next_number, world_of}
-use Rattle.tp_book.specs.Opened.{cut_of, kept_of, now_of, opened_book}
+use Rattle.tp_book.specs.Opened.{kept_of, now_of, opened_book}
 use Rattle.tp_mark.specs.Seen.{RaiserValue}
 use Rattle.tp_shared.specs.Parted.{PartsValue}
 use Rattle.tp_shared.specs.Told.{IsFirst, told_of}

@@ -1,4 +1,4 @@
-use Rattle.std.proofs.Common.{sym, subst, ◌∙◌}
+use Rattle.std.proofs.Common.{◌≤◌, sym, subst, ◌∙◌, arith}
 use Rattle.tp_flush.specs.Known.{Began}
 use Rattle.tp_flush.specs.Flushing.{Flushing, Walked}
 use Rattle.tp_flush.proofs.Turns.{walked_then}
@@ -23,7 +23,13 @@ returns-clause-settled g c k began =
     let now = g.O.Write.contents c.print.new.out in
     let there = c.flush_upto-2.new.flusher in
     let next = c.later-next.result in
+    let one = c.number-number.ensures in
+    let other = c.number.ensures in
+    let up = c.later-next.ensures.first in
+    let high = c.later-next.ensures.second in
+    let first : c.args.offered.number ≤ next = omega (arith, one, up) in
+    let second : c.in_ok-confirmed.confirmed.number ≤ next = omega (arith, other, high) in
     let S = c.settle.ensures in
     let stand = S.stand k (subst (Began g.J.Naming.formatted g.J.Naming.before) (sym (c.flush_upto-2.ensures.process.opened ∙ c.flush_upto.ensures.process.opened)) began) in
     subst (λ (f : Flushing). Settled c.args.outset c.args.offered.seat was now f.world.journal next) (sym S.same)
-    (both_settled c.args.outset was now there.world.journal next c.args.offered c.in_ok-confirmed.confirmed c.in_ok-confirmed.ensures.receipt ? ? S.below.0 S.below.1 stand.0 stand.1)
+    (both_settled c.args.outset was now there.world.journal next c.args.offered c.in_ok-confirmed.confirmed c.in_ok-confirmed.ensures.receipt first second S.below.0 S.below.1 stand.0 stand.1)
