@@ -1,5 +1,5 @@
 -- What runs leave of a device.
-use Rattle.std.proofs.Common.{◌≡◌, ℕ, ◌≤◌, ◌⊎◌, inl, inr, List, [], Result, Ok, Err, arith}
+use Rattle.std.proofs.Common.{◌≡◌, ℕ, ◌≤◌, ◌⊎◌, inl, inr, List, [], Option, Result, Ok, Err, subst, arith}
 use Rattle.std.specs.Prelude.{IfOk}
 use Rattle.tp_model.specs.declared.entry.Entry.{Entry}
 use Rattle.tp_model.specs.NodeState.{NodeState}
@@ -8,20 +8,26 @@ use Rattle.tp_model.specs.Network.{Network}
 use Rattle.tp_model.specs.Disk.{MayBe}
 use Rattle.tp_model.specs.DiskHistory.{State, LeavesOnly}
 use Rattle.tp_model.specs.DeviceAreas.{device_areas}
+use Rattle.tp_model.specs.Opening.{Opened, verdict}
 use Rattle.tp_model.specs.Walks.{RecoversTo}
 use Rattle.tp_disk.proofs.Calls.{and_then, started, weaker}
 use Rattle.tp_law_runs.proofs.Walks.{chain_leads}
 use Rattle.tp_recover.specs.Reading.{LeavesNothingNew}
+use Rattle.tp_shared.specs.Receipted.{AreBelow}
 use Rattle.tp_flush.specs.Known.{Reached}
 use Rattle.tp_flush.specs.Flushing.{Flushing, Walked}
+use Rattle.tp_flush.specs.Settled.{RecoversWith, Stand}
 use Rattle.tp_flush.proofs.Kept.{reached_then}
 use Rattle.tp_flush.proofs.Turns.{walked_nowhere, walked_recovers}
 use Rattle.tp_run.specs.declared.fault.RunFault.{RunFault}
-use Rattle.tp_run.specs.Ran.{Ran}
+use Rattle.tp_run.specs.Input.{input_slips}
+use Rattle.tp_run.specs.Outset.{outset_in}
+use Rattle.tp_run.specs.Ran.{Carried, Ran, Settled}
+use Rattle.tp_run.proofs.Slips.{if_ok}
 
-if_ok : {A E : Type 0} (r : Result A E) (P Q : A → Type 0) → ((x : A) → P x → Q x) → IfOk r P → IfOk r Q
-if_ok (Ok x) P Q turn p = turn x p
-if_ok (Err e) P Q turn p = p
+if_both : {A E : Type 0} (r : Result A E) (P Q R : A → Type 0) → ((x : A) → P x → Q x → R x) → IfOk r P → IfOk r Q → IfOk r R
+if_both (Ok x) P Q R turn p q = turn x p q
+if_both (Err e) P Q R turn p q = p
 
 -- what recovers to a prefix with all below a mark has all below a lesser number
 recovers_less : (start : Network NodeState) (journal : List Entry) (mark next : ℕ) (left : List ℕ) → next ≤ mark → RecoversTo t414 device_areas start journal mark left
@@ -36,30 +42,55 @@ recovers_less start journal mark next left low r = record {
   no_more = r.no_more;
 }
 
--- a device that was opened, and whose flusher walked on from there
-pub served_ran : (start : Network NodeState) (old new : Flushing) (result : Result ℕ RunFault) → Reached start old.world → Walked old new
-    → IfOk result (λ next. next ≤ new.world.mark) → Ran start result old.state new.state
-served_ran start old new result R W stored =
+-- The law of slips that stand in a journal.
+abbrev pub SlipsAreRecovered : Type 0
+SlipsAreRecovered =
+    (start : Network NodeState) (journal : List Entry) (least : ℕ) (slips : List (ℕ × Entry)) (bytes : List ℕ)
+    → RecoversTo t414 device_areas start journal least bytes → AreBelow least slips → Stand journal slips → RecoversWith start journal least slips bytes
+
+-- a device that was opened, and whose flusher walked on from there until it was settled with
+pub served_ran : SlipsAreRecovered → (start : Network NodeState) (opened : Opened) (port : ℕ) (input : List ℕ) (was now : Option (List ℕ)) (old new : Flushing) (result : Result ℕ RunFault)
+    → verdict old.state.now.bytes ≡ Ok opened → Reached start old.world → Walked old new → IfOk result (λ next. next ≤ new.world.mark)
+    → IfOk result (Settled (outset_in opened port) (input_slips (outset_in opened port) input) was now new.world.journal)
+    → Ran start port input was now result old.state new.state
+served_ran law start opened port input was now old new result reads R W stored settled =
     let there : Reached start new.world = reached_then start old.world new.world R (chain_leads t414 device_areas old.world new.world W.worlds W.chain) in
     let last : LeavesOnly new.state new.state (RecoversTo t414 device_areas start new.world.journal new.world.mark) = walked_recovers start new new there (walked_nowhere new W.now) in
+    let less : (next : ℕ) → next ≤ new.world.mark → (left : List ℕ) → MayBe new.state.now left → RecoversTo t414 device_areas start new.world.journal next left =
+    λ next low left may. recovers_less start new.world.journal new.world.mark next left low (last.each left (inr may)) in
     record {
       journal = new.world.journal;
       first = old.world.mark;
       leaves = weaker old.state new.state (RecoversTo t414 device_areas start new.world.journal old.world.mark) _ (λ left r. inr r) (walked_recovers start old new R W);
-      stored = if_ok result (λ next. next ≤ new.world.mark) _ (λ next low left may. recovers_less start new.world.journal new.world.mark next left low (last.each left (inr may))) stored;
+      stored = if_ok result (λ next. next ≤ new.world.mark) _ (λ next low left may. less next low left may) stored;
+      carried =
+          if_both result (λ next. next ≤ new.world.mark) (Settled (outset_in opened port) (input_slips (outset_in opened port) input) was now new.world.journal)
+          (λ next. Carried start new.world.journal port input was now next old.state new.state)
+          (λ next low s. record {
+            opened = opened;
+            reads = reads;
+            printed = s.printed;
+            appended = s.appended;
+            number = s.number;
+            below = s.below;
+            stored = λ left may. law start new.world.journal next _ left (less next low left may) s.below s.stand;
+          }) stored settled;
     }
 
 -- a device of which no call was made
-pub still_ran : (start : Network NodeState) (fault : RunFault) (s : State) → Ran start (Err fault) s s
-still_ran start fault s = record { journal = []; first = 0; leaves = started s _ (λ left may. inl may); stored = tt }
+pub still_ran : (start : Network NodeState) (port : ℕ) (input : List ℕ) (was now : Option (List ℕ)) (fault : RunFault) (s : State) → Ran start port input was now (Err fault) s s
+still_ran start port input was now fault s = record { journal = []; first = 0; leaves = started s _ (λ left may. inl may); stored = tt; carried = tt }
 
 -- a device that was only read
-pub unwritten_ran : (start : Network NodeState) (fault : RunFault) (old new : State) → LeavesNothingNew old new → Ran start (Err fault) old new
-unwritten_ran start fault old new L = record { journal = []; first = 0; leaves = weaker old new (MayBe old.now) _ (λ left may. inl may) L; stored = tt }
+pub unwritten_ran : (start : Network NodeState) (port : ℕ) (input : List ℕ) (was now : Option (List ℕ)) (fault : RunFault) (old new : State) → LeavesNothingNew old new
+    → Ran start port input was now (Err fault) old new
+unwritten_ran start port input was now fault old new L =
+    record { journal = []; first = 0; leaves = weaker old new (MayBe old.now) _ (λ left may. inl may) L; stored = tt; carried = tt }
 
--- a device that was read, and then more
-pub opened_ran : (start : Network NodeState) (result : Result ℕ RunFault) (old read new : State) → LeavesNothingNew old read → Ran start result read new → Ran start result old new
-opened_ran start result old read new L R = record {
+-- a device that was read, so that its bytes are the same, and then more
+pub opened_ran : (start : Network NodeState) (port : ℕ) (input : List ℕ) (was now : Option (List ℕ)) (result : Result ℕ RunFault) (old read new : State) → LeavesNothingNew old read
+    → read.now.bytes ≡ old.now.bytes → Ran start port input was now result read new → Ran start port input was now result old new
+opened_ran start port input was now result old read new L same R = record {
   journal = R.journal;
   first = R.first;
   leaves =
@@ -67,4 +98,15 @@ opened_ran start result old read new L R = record {
       (weaker read new (λ left. MayBe read.now left ⊎ RecoversTo t414 device_areas start R.journal R.first left) _
       (λ left either. elim either [ inl may ↦ inl (L.each left (inr may)) | inr r ↦ inr r ]) R.leaves);
   stored = R.stored;
+  carried =
+      if_ok result (λ next. Carried start R.journal port input was now next read new) (λ next. Carried start R.journal port input was now next old new)
+      (λ next c. record {
+        opened = c.opened;
+        reads = subst (λ bytes. verdict bytes ≡ Ok c.opened) same c.reads;
+        printed = c.printed;
+        appended = c.appended;
+        number = c.number;
+        below = c.below;
+        stored = c.stored;
+      }) R.carried;
 }

@@ -1,8 +1,26 @@
 -- The input that a run hands in.
-use Rattle.std.specs.Prelude.{ℕ, List, take, drop}
+use Rattle.std.specs.Prelude.{◌≡◌, ℕ, ◌+◌, List, length, map, take, drop}
+use Rattle.std.specs.List.{enumerate_from}
+use Rattle.tp_model.specs.declared.entry.Entry.{Entry}
+use Rattle.tp_model.specs.declared.entry.Entry.TheVariants.{HostIn}
 use Rattle.tp_book.specs.Book.{BookValue}
 use Rattle.tp_book.specs.Host.{accepted_of, port_in, room_of}
+use Rattle.tp_shared.specs.Receipted.{Receipted}
+use Rattle.tp_run.specs.declared.outset.Outset.{Outset}
 
 -- of a port's whole input, the bytes that it hasn't accepted, as many as it has room for
 abbrev pub rest_of : BookValue → ℕ → List ℕ → List ℕ
 rest_of b port input = take (room_of (port_in b port)) (drop (accepted_of (port_in b port)) input)
+
+-- of a port that stands so
+abbrev pub rest_at : Outset → List ℕ → List ℕ
+rest_at outset input = take outset.room (drop outset.accepted input)
+
+-- their entries, under the numbers from the next one on
+abbrev pub input_slips : Outset → List ℕ → List (ℕ × Entry)
+input_slips outset input = enumerate_from outset.next (map (HostIn outset.port) (rest_at outset input))
+
+-- The receipt is for just these, and its number is the next one behind them.
+pub record IsForInput (outset : Outset) (input : List ℕ) (receipt : Receipted) : Type 0 where
+  pub slips : receipt.seat ≡ input_slips outset input
+  pub number : receipt.number ≡ outset.next + length (rest_at outset input)

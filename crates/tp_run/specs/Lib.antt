@@ -2,5 +2,6 @@ pub mod Every
 pub mod Faults
 pub mod Input
 pub mod Made
+pub mod Outset
 pub mod Output
 pub mod Ran

@@ -1,5 +1,7 @@
 -- What a run leaves, whatever becomes of the device in it.
-use Rattle.std.specs.Prelude.{◌≡◌, ◌⊎◌, ℕ, List, Result, IfOk}
+use Rattle.std.specs.Prelude.{◌≡◌, ◌⊎◌, ℕ, List, ◌++◌, Option, Result, Ok, IfOk}
+use Rattle.std.specs.List.{enumerate_from}
+use Rattle.std.specs.Io.KnownBytes.{Appends}
 use Rattle.tp_model.specs.declared.entry.Entry.{Entry}
 use Rattle.tp_model.specs.NodeState.{NodeState}
 use Rattle.tp_model.specs.Node.{t414}
@@ -7,19 +9,57 @@ use Rattle.tp_model.specs.Network.{Network}
 use Rattle.tp_model.specs.Disk.{MayBe}
 use Rattle.tp_model.specs.DiskHistory.{State, LeavesOnly}
 use Rattle.tp_model.specs.DeviceAreas.{device_areas}
+use Rattle.tp_model.specs.Opening.{Opened, verdict}
 use Rattle.tp_model.specs.Runs.{World}
 use Rattle.tp_model.specs.Walks.{RecoversTo}
+use Rattle.tp_shared.specs.Receipted.{AreBelow}
+use Rattle.tp_flush.specs.Settled.{RecoversWith, Stand}
 use Rattle.tp_run.specs.declared.fault.RunFault.{RunFault}
+use Rattle.tp_run.specs.declared.outset.Outset.{Outset}
+use Rattle.tp_run.specs.Input.{input_slips}
+use Rattle.tp_run.specs.Outset.{outset_in}
+use Rattle.tp_run.specs.Output.{confirms}
 
 -- What a process goes on from: the network of the images that the device was formatted with, and the world before it was opened.
 pub record History : Type 0 where
   pub formatted : Network NodeState
   pub before : World NodeState
 
+-- the entry that confirms what a run printed, under this number; none where nothing was printed
+abbrev pub output_slips : Outset → ℕ → List ℕ → List (ℕ × Entry)
+output_slips outset number printed = enumerate_from number (confirms outset.port outset.confirmed printed)
+
+-- What was settled with the flusher as a run ended: bytes were printed, and in the flusher's journal, as far as that reaches, stand
+-- the entries of some slips and, under a number of its own, the entry that confirms what was printed. All numbers are below `next`.
+pub record Settled (outset : Outset) (handed : List (ℕ × Entry)) (was now : Option (List ℕ)) (journal : List Entry) (next : ℕ) : Type 0 where
+  pub printed : List ℕ
+  pub appended : Appends was now printed
+  pub number : ℕ
+  pub below : AreBelow next (handed ++ output_slips outset number printed)
+  pub stand : Stand journal (handed ++ output_slips outset number printed)
+
+-- What was handed in and printed by a run that was done is in the journal. The device opened, and its port stood somewhere. Behind
+-- all that the device had there are the entries of the input from what the port had accepted on, as many bytes as it had room for.
+-- Some bytes were printed, and there is the entry that confirms just so many outputs behind those confirmed before. All these have
+-- numbers below `next`, and whatever a crash leaves of the device opens to where a prefix of the journal leads in which each stands
+-- at its number.
+pub record Carried (start : Network NodeState) (journal : List Entry) (port : ℕ) (input : List ℕ) (was now : Option (List ℕ)) (next : ℕ) (old new : State) : Type 0 where
+  pub opened : Opened
+  pub reads : verdict old.now.bytes ≡ Ok opened
+  pub printed : List ℕ
+  pub appended : Appends was now printed
+  pub number : ℕ
+  pub below : AreBelow next (input_slips (outset_in opened port) input ++ output_slips (outset_in opened port) number printed)
+  pub stored :
+      (left : List ℕ) → MayBe new.now left
+      → RecoversWith start journal next (input_slips (outset_in opened port) input ++ output_slips (outset_in opened port) number printed) left
+
 -- A crash at any moment of the run leaves what one just before might have left, or what opens to where a prefix of the journal leads,
--- with all that the device had as it was opened. After a run that was done, the prefix has each entry below the answered number.
-pub record Ran (start : Network NodeState) (result : Result ℕ RunFault) (old new : State) : Type 0 where
+-- with all that the device had as it was opened. After a run that was done, the prefix has each entry below the answered number, and
+-- the input and what confirms the output are among them.
+pub record Ran (start : Network NodeState) (port : ℕ) (input : List ℕ) (was now : Option (List ℕ)) (result : Result ℕ RunFault) (old new : State) : Type 0 where
   pub journal : List Entry
   pub first : ℕ
   pub leaves : LeavesOnly old new (λ left. MayBe old.now left ⊎ RecoversTo t414 device_areas start journal first left)
   pub stored : IfOk result (λ next. (left : List ℕ) → MayBe new.now left → RecoversTo t414 device_areas start journal next left)
+  pub carried : IfOk result (λ next. Carried start journal port input was now next old new)

@@ -7,6 +7,7 @@ mod flushing;
 mod job;
 mod offering;
 mod opening;
+mod outset;
 mod printing;
 mod running;
 mod serving;

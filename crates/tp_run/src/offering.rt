@@ -5,10 +5,11 @@ ghost use Rattle.tp_book.specs.Book.{next_number};
 ghost use Rattle.tp_book.specs.Host.{after_input};
 ghost use Rattle.tp_host.specs.Receipts.{IsFor};
 ghost use Rattle.tp_model.specs.declared.entry.Entry.TheVariants.{HostIn};
-ghost use Rattle.tp_run.specs.Input.{rest_of};
+ghost use Rattle.tp_run.specs.Input.{IsForInput, rest_of};
 ghost use Rattle.tp_run.specs.Faults.{IsBegun};
 
 use crate::fault::RunFault;
+use crate::outset::Outset;
 use tp_host::{OfferFault, offer};
 use tp_shared::{Locked, Naming, Receipt};
 
@@ -51,4 +52,20 @@ pub(crate) fn offer_rest<J: Naming>(
             unreachable!()
         }
     }
+}
+
+/// The same, where the port stands in the book as `outset` says. Else none is handed in; but while no other thread was there since the
+/// device was opened, it does.
+pub(crate) fn offer_at<J: Naming>(
+    held: &mut Locked<J>,
+    outset: Outset,
+    input: &[u8],
+) -> Result<Receipt<J>, RunFault>
+    requires there { outset.port < length held.old.book.state.ports }
+    ensures receipt { IfOk result (IsForInput outset input.now) }
+    ensures begun { IfErr result IsBegun }
+    ensures err { OnErr result (held.new ≡ held.old) }
+{
+    outset.stands_in(held.book())?;
+    offer_rest(held, outset.port, input)
 }

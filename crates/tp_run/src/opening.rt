@@ -1,11 +1,13 @@
 //! What is made of a device that opened.
 
-ghost use Rattle.std.specs.Prelude.{◌≡◌, IfOk, Some};
+ghost use Rattle.std.specs.Prelude.{◌≡◌, ◌<◌, IfOk, Some};
 ghost use Rattle.tp_model.specs.Journal.{room};
 ghost use Rattle.tp_run.specs.Made.{StandsFor, fault_by, has_pages, job_fault};
+ghost use Rattle.tp_run.specs.Outset.{outset_in};
 
 use crate::fault::RunFault;
 use crate::job::Job;
+use crate::outset::Outset;
 use std::alloc::{AllocError, Global};
 use tp_book::{Book, opened_books_begin};
 use tp_mark::{Mark, Raiser};
@@ -40,23 +42,27 @@ pub(crate) fn job_fault(job: Job, topology: &Topology) -> Option<RunFault>
     fault_by(has_pages(job.spare, topology), has_port)
 }
 
-/// The book and the nodes of what was opened, and the raiser of their mark. Each node has `spare` frames for pages that it writes while
-/// it is frozen.
+/// The book and the nodes of what was opened, the raiser of their mark, and where the port `port` stands. Each node has `spare` frames
+/// for pages that it writes while it is frozen.
 pub(crate) fn parts_of(
     alloc: Global,
     opened: Opened,
     spare: u16,
-) -> Result<(Parts, Raiser), AllocError>
+    port: u8,
+) -> Result<(Parts, Raiser, Outset), AllocError>
+    requires { port < opened.head.topology.ports }
     ensures parts { IfOk result (λ made. StandsFor opened made.0 made.1) }
     ensures bound { IfOk result (λ made. made.0.book.room ≡ Some (room opened.head.topology opened.head.area)) }
+    ensures outset { IfOk result (λ made. made.2 ≡ outset_in opened port) }
 {
     opened_books_begin();
     opened.known();
     let room = opened.journal_room();
     let state = opened.into_state(alloc)?;
     let book = Book::open(alloc, &state, Some(room))?;
+    let outset = Outset::of(&book, port);
     let nodes = nodes_of(alloc, &state, spare as usize)?;
     let (mark, raiser, _) = Mark::start(alloc, state.next, 0)?;
     let parts = Parts::opened(alloc, &state, book, nodes, mark)?;
-    Ok((parts, raiser))
+    Ok((parts, raiser, outset))
 }

@@ -4,10 +4,13 @@ ghost use Rattle.std.specs.Prelude.{◌≡◌, ◌<◌, length, IfOk, IfErr, OnO
 ghost use Rattle.std.specs.Io.KnownBytes.{Appends};
 ghost use Rattle.tp_book.specs.Book.{next_number};
 ghost use Rattle.tp_book.specs.Host.{after_confirm, port_in, shown_from, shown_upto_of};
+ghost use Rattle.tp_shared.specs.Entries.{confirm_entries};
+ghost use Rattle.tp_host.specs.Receipts.{IsFor};
 ghost use Rattle.tp_run.specs.Faults.{IsBegun, IsLate};
-ghost use Rattle.tp_run.specs.Output.{AppendsFront, Printed};
+ghost use Rattle.tp_run.specs.Output.{AppendsFront, IsForOutput, Printed};
 
 use crate::fault::RunFault;
+use crate::outset::Outset;
 use std::io::{ErrorKind, Write};
 use tp_host::{ConfirmFault, confirm};
 use tp_shared::{Locked, Naming, Receipt};
@@ -42,6 +45,7 @@ fn confirm_shown<J: Naming>(
     requires there { port < length held.old.book.state.ports }
     ensures book { IfOk result (λ receipt. held.new.book ≡ after_confirm held.old.book port (shown_upto_of held.old.book port mark)) }
     ensures number { IfOk result (λ receipt. receipt.number ≡ next_number held.new.book) }
+    ensures receipt { IfOk result (IsFor (confirm_entries held.old.book port (shown_upto_of held.old.book port mark))) }
     ensures late { IfErr result IsLate }
     ensures begun { IfErr result IsBegun }
     ensures err { OnErr result (held.new ≡ held.old) }
@@ -68,6 +72,7 @@ pub(crate) fn print_shown<J: Naming, O: Write>(
     ensures printed { Printed (O.contents out.old) (O.contents out.new) (shown_from held.old.book port mark (port_in held.old.book port).out_base) result }
     ensures book { IfOk result (λ receipt. held.new.book ≡ after_confirm held.old.book port (shown_upto_of held.old.book port mark)) }
     ensures number { IfOk result (λ receipt. receipt.number ≡ next_number held.new.book) }
+    ensures receipt { IfOk result (IsForOutput port (port_in held.old.book port).out_base (O.contents out.old) (O.contents out.new)) }
     ensures late { IfErr result IsLate }
     ensures begun { IfErr result IsBegun }
     ensures err { OnErr result (held.new ≡ held.old) }
@@ -75,4 +80,22 @@ pub(crate) fn print_shown<J: Naming, O: Write>(
     let from = held.book().out_base(port);
     put(out, held.book().shown(port, mark, from))?;
     confirm_shown(held, port, mark)
+}
+
+/// The same, where as many outputs are confirmed in the book as `outset` says. Else none is printed; but while only workers were there
+/// since the device was opened, they are.
+pub(crate) fn print_from<J: Naming, O: Write>(
+    held: &mut Locked<J>,
+    outset: Outset,
+    mark: u64,
+    out: &mut O,
+) -> Result<Receipt<J>, RunFault>
+    requires there { outset.port < length held.old.book.state.ports }
+    ensures receipt { IfOk result (IsForOutput outset.port outset.confirmed (O.contents out.old) (O.contents out.new)) }
+    ensures late { IfErr result IsLate }
+    ensures begun { IfErr result IsBegun }
+    ensures err { OnErr result (held.new ≡ held.old) }
+{
+    outset.is_confirmed_in(held.book())?;
+    print_shown(held, outset.port, mark, out)
 }

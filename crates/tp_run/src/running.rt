@@ -14,6 +14,7 @@ ghost use Rattle.tp_model.specs.declared.limits.TheConstants.{MAX_STEPS};
 ghost use Rattle.tp_recover.specs.Reading.{LeavesNothingNew};
 ghost use Rattle.tp_run.specs.Faults.{IsBegun, IsSilent, IsUnbegun};
 ghost use Rattle.tp_run.specs.Made.{StandsFor};
+ghost use Rattle.tp_run.specs.Outset.{outset_in};
 ghost use Rattle.tp_run.specs.Ran.{History, Ran};
 ghost use Rattle.tp_recover.specs.declared.unopened.Unopened.{Unopened};
 ghost use Rattle.tp_run.specs.declared.job.TheConstants.{MAX_WORKERS};
@@ -23,6 +24,7 @@ use crate::beginning::every_of;
 use crate::fault::RunFault;
 use crate::job::{Job, MAX_WORKERS};
 use crate::opening::{job_fault, parts_of};
+use crate::outset::Outset;
 use crate::serving::serve;
 use std::alloc::Global;
 use std::io::Write;
@@ -32,7 +34,7 @@ use std::sync::Wait;
 use std::thread::Threads;
 use tp_area::Store;
 use tp_disk::Disk;
-use tp_flush::{Flusher, topology_of};
+use tp_flush::{Flusher, stored_slips_are_recovered, topology_of};
 use tp_mark::Raiser;
 use tp_net::Topology;
 use tp_recover::{Opened, open};
@@ -48,6 +50,7 @@ fn run_parts<J: Naming + Send + Sync, D: Disk + Send + Drop, O: Write, R: Thread
     topology: Topology,
     parts: Parts,
     raiser: Raiser,
+    outset: Outset,
     store: Store<D>,
     input: &[u8],
     out: &mut O,
@@ -60,6 +63,7 @@ fn run_parts<J: Naming + Send + Sync, D: Disk + Send + Drop, O: Write, R: Thread
     requires bound { parts.book.room ≡ Some (room opened.value.head.topology opened.value.head.area) }
     requires cut { IsCut t414_ends opened.value.head.topology opened.value.base opened.value.cut }
     requires bytes { AllByRecursion IsNodeOfBytes opened.value.cut.nodes }
+    requires outset { outset ≡ outset_in opened.value job.port }
     requires place { store.place ≡ place_at opened.value }
     requires topology { topology ≡ opened.value.head.topology }
     requires roomy { is_roomy opened.value.head.topology opened.value.head.area ≡ true }
@@ -67,7 +71,8 @@ fn run_parts<J: Naming + Send + Sync, D: Disk + Send + Drop, O: Write, R: Thread
     requires read { D.keeps → verdict (D.state store.disk).now.bytes ≡ Ok opened.value }
     requires synced { D.keeps → IsSynced (D.state store.disk) }
     ensures size { D.size_of result.0 ≡ D.size_of store.disk }
-    ensures ran { D.keeps → Began J.formatted J.before (D.state store.disk).now.bytes → Ran J.formatted result.1 (D.state store.disk) (D.state result.0) }
+    ensures ran { D.keeps → Began J.formatted J.before (D.state store.disk).now.bytes
+        → Ran J.formatted job.port input.now (O.contents out.old) (O.contents out.new) result.1 (D.state store.disk) (D.state result.0) }
     ensures silent { IsSilent result.1 → O.contents out.new ≡ O.contents out.old }
     ensures begun { IfErr result.1 IsBegun }
 {
@@ -84,7 +89,10 @@ fn run_parts<J: Naming + Send + Sync, D: Disk + Send + Drop, O: Write, R: Thread
     let every = every_of(job.every, &topology, store.place.area);
     let flusher = Flusher::over(opened, topology, store, key, raiser);
     flusher.known();
-    let (flusher, done) = serve(rt, alloc, job, every, &net, &mut seats, flusher, input, out);
+    stored_slips_are_recovered();
+    let (flusher, done) = serve(
+        rt, alloc, job, every, outset, &net, &mut seats, flusher, input, out,
+    );
     (flusher.into_disk(), done)
 }
 
@@ -92,7 +100,8 @@ fn run_parts<J: Naming + Send + Sync, D: Disk + Send + Drop, O: Write, R: Thread
 /// confirms what the port shows. Answers the device, and the number that the next entry gets.
 ///
 /// Whatever a crash leaves at any moment of the call is what one just before might have left, or opens to where a prefix of the journal
-/// leads, with all that the device had. After a run that was done it has each entry below the number that is answered.
+/// leads, with all that the device had. After a run that was done it has each entry below the number that is answered: among them are
+/// those of the input, behind what the device had, and the one that confirms what was printed.
 pub fn run<D: Disk + Send + Drop, O: Write, R: Threads + Wait + Sync>(
     rt: &R,
     alloc: Global,
@@ -105,7 +114,8 @@ pub fn run<D: Disk + Send + Drop, O: Write, R: Threads + Wait + Sync>(
     requires workers { (0 < job.workers) × (job.workers ≤ MAX_WORKERS) }
     requires quantum { (0 < job.quantum) × (job.quantum ≤ MAX_STEPS) }
     ensures size { D.size_of result.0 ≡ D.size_of disk }
-    ensures ran { D.keeps → Began history.formatted history.before (D.state disk).now.bytes → Ran history.formatted result.1 (D.state disk) (D.state result.0) }
+    ensures ran { D.keeps → Began history.formatted history.before (D.state disk).now.bytes
+        → Ran history.formatted job.port input.now (O.contents out.old) (O.contents out.new) result.1 (D.state disk) (D.state result.0) }
     ensures unwritten { D.keeps → IsUnbegun result.1 → LeavesNothingNew (D.state disk) (D.state result.0) }
     ensures silent { IsSilent result.1 → O.contents out.new ≡ O.contents out.old }
     ensures unopened { D.keeps → IsErr (verdict (D.state disk).now.bytes) → (unopened : Unopened) × (result.1 ≡ Err (RunFault.Opening unopened)) }
@@ -123,10 +133,10 @@ pub fn run<D: Disk + Send + Drop, O: Write, R: Threads + Wait + Sync>(
     let topology = topology_of(&opened);
     let _area = opened.head().area();
     let store = opened.store(disk);
-    let Ok((parts, raiser)) = parts_of(alloc, opened, job.spare) else {
+    let Ok((parts, raiser, outset)) = parts_of(alloc, opened, job.spare, job.port) else {
         return (store.into_disk(), Err(RunFault::Memory));
     };
     run_parts::<Brand, D, O, R>(
-        rt, alloc, job, known, topology, parts, raiser, store, input, out,
+        rt, alloc, job, known, topology, parts, raiser, outset, store, input, out,
     )
 }

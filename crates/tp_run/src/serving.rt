@@ -1,15 +1,21 @@
 //! What a run does with a network in threads, and its flusher.
 
-ghost use Rattle.std.specs.Prelude.{◌≡◌, ◌<◌, ◌≤◌, All, length, IfErr, IfOk, Some};
+ghost use Rattle.std.specs.Prelude.{◌≡◌, ◌<◌, ◌≤◌, ◌++◌, All, length, IfErr, IfOk, Some};
+ghost use Rattle.tp_shared.specs.Receipted.{AreBelow};
 ghost use Rattle.tp_flush.specs.Known.{Began};
 ghost use Rattle.tp_flush.specs.Flushing.{IsSameProcess, Walked};
+ghost use Rattle.tp_flush.specs.Settled.{Stand};
 ghost use Rattle.tp_run.specs.Faults.{IsBegun, IsLate, IsSilent};
+ghost use Rattle.tp_run.specs.Input.{IsForInput, input_slips};
+ghost use Rattle.tp_run.specs.Output.{IsForOutput};
+ghost use Rattle.tp_run.specs.Ran.{Settled};
 
 use crate::fault::RunFault;
 use crate::flushing::{flush_meanwhile, flush_upto};
 use crate::job::Job;
-use crate::offering::offer_rest;
-use crate::printing::print_shown;
+use crate::offering::offer_at;
+use crate::outset::Outset;
+use crate::printing::print_from;
 use crate::watch::Watch;
 use crate::working::work_all;
 use std::alloc::Global;
@@ -25,32 +31,34 @@ use tp_work::{Net, Seat};
 fn offer<J: Naming, R: Wait>(
     rt: &R,
     shared: &Shared<J>,
-    port: u8,
+    outset: Outset,
     input: &[u8],
 ) -> Result<Receipt<J>, RunFault>
-    requires { port < length J.start.ports }
-    ensures { IfErr result IsBegun }
+    requires { outset.port < length J.start.ports }
+    ensures receipt { IfOk result (IsForInput outset input.now) }
+    ensures begun { IfErr result IsBegun }
 {
     let mut held = shared.book().lock(rt);
     held.known();
-    offer_rest(&mut held, port, input)
+    offer_at(&mut held, outset, input)
 }
 
 /// Prints and confirms, under the book's lock, what `mark` shows.
 fn print<J: Naming, O: Write, R: Wait>(
     rt: &R,
     shared: &Shared<J>,
-    port: u8,
+    outset: Outset,
     mark: u64,
     out: &mut O,
 ) -> Result<Receipt<J>, RunFault>
-    requires { port < length J.start.ports }
+    requires { outset.port < length J.start.ports }
+    ensures receipt { IfOk result (IsForOutput outset.port outset.confirmed (O.contents out.old) (O.contents out.new)) }
     ensures late { IfErr result IsLate }
     ensures begun { IfErr result IsBegun }
 {
     let mut held = shared.book().lock(rt);
     held.known();
-    print_shown(&mut held, port, mark, out)
+    print_from(&mut held, outset, mark, out)
 }
 
 /// Lets workers make turns, and the flusher its own in a thread of its own meanwhile, where one can be made, and else behind them.
@@ -80,28 +88,59 @@ fn work<J: Naming + Send + Sync, D: Disk + Send + Drop, R: Threads + Wait + Sync
     flusher
 }
 
-/// Flushes, prints what is shown, confirms it, and flushes again. Answers the number that the next entry gets.
+/// The later one of two numbers.
+fn later(one: u64, other: u64) -> u64
+    ensures first { one ≤ result }
+    ensures second { other ≤ result }
+{
+    one.max(other)
+}
+
+/// Settles two receipts with the flusher, under the book's lock, once its last flush is done. It changes nothing.
+fn settle<J: Naming, D: Disk, R: Wait>(
+    rt: &R,
+    shared: &Shared<J>,
+    flusher: &mut Flusher<J, D>,
+    offered: Receipt<J>,
+    confirmed: Receipt<J>,
+)
+    ensures same { flusher.new ≡ flusher.old }
+    ensures below { AreBelow offered.number offered.seat × AreBelow confirmed.number confirmed.seat }
+    ensures stand { D.keeps → Began J.formatted J.before flusher.old.opened → Stand flusher.old.world.journal offered.seat × Stand flusher.old.world.journal confirmed.seat }
+{
+    let mut offered = offered;
+    let mut confirmed = confirmed;
+    let mut held = shared.book().lock(rt);
+    flusher.settle_receipt(&mut held, &mut offered);
+    flusher.settle_receipt(&mut held, &mut confirmed);
+}
+
+/// Flushes, prints what is shown, confirms it, and flushes again. Answers the number that the next entry gets. What is in the receipt
+/// of the input, and in that of the output, is then in the journal.
 fn finish<J: Naming, D: Disk, O: Write, R: Wait>(
     rt: &R,
     alloc: Global,
     shared: &Shared<J>,
-    port: u8,
-    offered: &Receipt<J>,
+    outset: Outset,
+    offered: Receipt<J>,
     flusher: &mut Flusher<J, D>,
     out: &mut O,
 ) -> Result<u64, RunFault>
-    requires there { port < length J.start.ports }
+    requires there { outset.port < length J.start.ports }
     ensures walks { D.keeps → Began J.formatted J.before flusher.old.opened → Walked flusher.old flusher.new }
     ensures process { IsSameProcess flusher.old flusher.new }
     ensures stored { IfOk result (λ next. next ≤ flusher.new.world.mark) }
+    ensures settled { D.keeps → Began J.formatted J.before flusher.old.opened
+        → IfOk result (Settled outset offered.seat (O.contents out.old) (O.contents out.new) flusher.new.world.journal) }
     ensures silent { IsSilent result → O.contents out.new ≡ O.contents out.old }
     ensures begun { IfErr result IsBegun }
 {
     let number = offered.number();
     let mark = flush_upto(rt, alloc, shared, flusher, number, RunFault::FlushFailed)?;
-    let confirmed = print(rt, shared, port, mark, out)?;
-    let next = confirmed.number();
+    let confirmed = print(rt, shared, outset, mark, out)?;
+    let next = later(number, confirmed.number());
     let _mark = flush_upto(rt, alloc, shared, flusher, next, RunFault::LastFlushFailed)?;
+    settle(rt, shared, flusher, offered, confirmed);
     Ok(next)
 }
 
@@ -117,28 +156,31 @@ pub(crate) fn serve<
     alloc: Global,
     job: Job,
     every: u64,
+    outset: Outset,
     net: &Net<J, NoGate>,
     seats: &mut [Seat<J>],
     flusher: Flusher<J, D>,
     input: &[u8],
     out: &mut O,
 ) -> (Flusher<J, D>, Result<u64, RunFault>)
-    requires there { job.port < length J.start.ports }
+    requires there { outset.port < length J.start.ports }
     requires seats { All (λ seat. seat.hand ≡ Some net.now.queue) seats.old }
     ensures walks { D.keeps → Began J.formatted J.before flusher.opened → Walked flusher result.0 }
     ensures process { IsSameProcess flusher result.0 }
     ensures stored { IfOk result.1 (λ next. next ≤ result.0.world.mark) }
+    ensures settled { D.keeps → Began J.formatted J.before flusher.opened
+        → IfOk result.1 (Settled outset (input_slips outset input.now) (O.contents out.old) (O.contents out.new) result.0.world.journal) }
     ensures silent { IsSilent result.1 → O.contents out.new ≡ O.contents out.old }
     ensures begun { IfErr result.1 IsBegun }
 {
     flusher.known();
     let shared = net.shared();
-    let offered = match offer(rt, shared, job.port, input) {
+    let offered = match offer(rt, shared, outset, input) {
         Ok(offered) => offered,
         Err(fault) => return (flusher, Err(fault)),
     };
     let watch = Watch::new(job.turns, every);
     let mut flusher = work(rt, alloc, net, seats, watch, flusher);
-    let done = finish(rt, alloc, shared, job.port, &offered, &mut flusher, out);
+    let done = finish(rt, alloc, shared, outset, offered, &mut flusher, out);
     (flusher, done)
 }

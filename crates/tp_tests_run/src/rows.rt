@@ -29,6 +29,9 @@ const OFFERS: &[Row] = &[
     (NONE, b"abc", b"", Ok(3)),
 ];
 
+/// Input and output in one run; then more of the input.
+const TAKES: &[Row] = &[(FOUR, b"ab", b"A", Ok(8)), (NONE, b"abc", b"", Ok(9))];
+
 /// A port and spare frames that aren't there; the spare frames are told first.
 const REFUSED: &[Row] = &[
     (Job { port: 1, ..FOUR }, b"", b"", Err(RunFault::Port)),
@@ -102,6 +105,28 @@ fn input_is_handed_in_once(rt: HostRuntime) -> Result<(), Fail> {
     let (_, opened) = left(alloc, disk)?;
     let byte = |byte: u8| Entry::HostIn { port: 0, byte };
     assert!(rt; is_kept(&opened, &[byte(b'a'), byte(b'b'), byte(b'c')]));
+    Ok(())
+}
+
+#[test]
+fn input_stands_before_what_is_done_with_it(rt: HostRuntime) -> Result<(), Fail> {
+    let alloc = rt.alloc();
+    let disk = play_rows(&rt, alloc, letter(alloc)?, TAKES);
+    let (_, opened) = left(alloc, disk)?;
+    let byte = |byte: u8| Entry::HostIn { port: 0, byte };
+    let take = |line: u8, token: Token| Entry::Take { line, token };
+    let entries = [
+        byte(b'a'),
+        byte(b'b'),
+        take(4, Token::Data(b'a')),
+        Entry::Run { node: 0, count: 3 },
+        take(0, Token::Data(0x41)),
+        take(4, Token::Ack),
+        Entry::Run { node: 0, count: 16 },
+        Entry::Confirm { port: 0, upto: 1 },
+        byte(b'c'),
+    ];
+    assert!(rt; is_kept(&opened, &entries));
     Ok(())
 }
 

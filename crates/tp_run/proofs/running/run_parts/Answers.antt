@@ -1,7 +1,11 @@
-use Rattle.std.proofs.Common.{Err, sym, subst, ◌∙◌}
+use Rattle.std.proofs.Common.{◌≡◌, Ok, Err, sym, subst, ◌∙◌}
+use Rattle.std.specs.Prelude.{IfOk}
+use Rattle.tp_model.specs.DiskHistory.{State}
+use Rattle.tp_model.specs.Opening.{verdict}
 use Rattle.tp_flush.specs.Known.{Began}
 use Rattle.tp_run.specs.declared.fault.RunFault.TheVariants.{Memory}
-use Rattle.tp_run.specs.Ran.{Ran}
+use Rattle.tp_run.specs.Input.{input_slips}
+use Rattle.tp_run.specs.Ran.{Ran, Settled}
 use Rattle.tp_run.proofs.Runs.{served_ran, still_ran}
 use Rattle.tp_run.proofs.running.run_parts.Goals as goal
 
@@ -13,15 +17,24 @@ over-flusher-requires-clause-first g c = sym c.requires.names.first_is ∙ c.req
 
 pub returns-in_default-clause-ran : goal.returns-in_default-clause-ran
 returns-in_default-clause-ran g c k began =
-    subst (λ d. Ran g.J.Naming.formatted (Err Memory) (g.D.Disk.state c.args.store.disk) (g.D.Disk.state d)) (sym c.into_disk.ensures)
-    (still_ran g.J.Naming.formatted Memory (g.D.Disk.state c.args.store.disk))
+    let out = g.O.Write.contents c.args.out.now in
+    subst (λ d. Ran g.J.Naming.formatted c.args.job.port c.args.input.now out out (Err Memory) (g.D.Disk.state c.args.store.disk) (g.D.Disk.state d)) (sym c.into_disk.ensures)
+    (still_ran g.J.Naming.formatted c.args.job.port c.args.input.now out out Memory (g.D.Disk.state c.args.store.disk))
 
 pub returns-clause-ran : goal.returns-clause-ran
 returns-clause-ran g c k began =
     let start = g.J.Naming.formatted in
+    let port = c.args.job.port in
+    let input = c.args.input.now in
+    let was = g.O.Write.contents c.args.out.now in
+    let now = g.O.Write.contents c.serve-flusher.new.out in
+    let opened = c.args.opened.value in
     let old = c.over-flusher.result in
     let new = c.serve-flusher.result.0 in
     let done = c.serve-flusher.result.1 in
     let first : Began start g.J.Naming.before old.opened = subst (Began start g.J.Naming.before) (sym c.over-flusher.ensures.opened) began in
-    let ran : Ran start done old.state new.state = served_ran start old new done (c.known.ensures.reached k first) (c.serve-flusher.ensures.walks k first) c.serve-flusher.ensures.stored in
-    subst (λ s. Ran start done (g.D.Disk.state c.args.store.disk) s) (sym c.into_disk-2.ensures.state) (subst (λ s. Ran start done s new.state) c.over-flusher.ensures.device.0 ran)
+    let reads : verdict old.state.now.bytes ≡ Ok opened = subst (λ (s : State). verdict s.now.bytes ≡ Ok opened) (sym c.over-flusher.ensures.device.0) (c.requires.read k) in
+    let settled = subst (λ u. IfOk done (Settled u (input_slips u input) was now new.world.journal)) c.requires.outset (c.serve-flusher.ensures.settled k first) in
+    let ran : Ran start port input was now done old.state new.state =
+    served_ran c.stored_slips_are_recovered.ensures start opened port input was now old new done reads (c.known.ensures.reached k first) (c.serve-flusher.ensures.walks k first) c.serve-flusher.ensures.stored settled in
+    subst (λ s. Ran start port input was now done (g.D.Disk.state c.args.store.disk) s) (sym c.into_disk-2.ensures.state) (subst (λ s. Ran start port input was now done s new.state) c.over-flusher.ensures.device.0 ran)

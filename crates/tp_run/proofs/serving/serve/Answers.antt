@@ -1,6 +1,7 @@
-use Rattle.std.proofs.Common.{sym, subst}
+use Rattle.std.proofs.Common.{sym, subst, IfOk}
 use Rattle.tp_flush.specs.Known.{Began}
 use Rattle.tp_flush.proofs.Turns.{walked_nowhere, walked_then}
+use Rattle.tp_run.specs.Ran.{Settled}
 use Rattle.tp_run.proofs.serving.serve.Goals as goal
 
 pub returns-in-Err-clause-walks : goal.returns-in-Err-clause-walks
@@ -10,3 +11,10 @@ pub returns-clause-walks : goal.returns-clause-walks
 returns-clause-walks g c k began =
     walked_then c.args.flusher c.work-flusher.result c.finish-done.new.flusher (c.work-flusher.ensures.walks k began)
     (c.finish-done.ensures.walks k (subst (Began g.J.Naming.formatted g.J.Naming.before) (sym c.work-flusher.ensures.process.opened) began))
+
+pub returns-clause-settled : goal.returns-clause-settled
+returns-clause-settled g c k began =
+    let was = g.O.Write.contents c.args.out.now in
+    let now = g.O.Write.contents c.finish-done.new.out in
+    subst (λ slips. IfOk c.finish-done.result (Settled c.args.outset slips was now c.finish-done.new.flusher.world.journal)) c.in-Ok.ensures.receipt.slips
+    (c.finish-done.ensures.settled k (subst (Began g.J.Naming.formatted g.J.Naming.before) (sym c.work-flusher.ensures.process.opened) began))

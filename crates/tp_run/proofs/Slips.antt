@@ -1,0 +1,103 @@
+-- Slips of receipts: their numbers, and where they stand.
+use Rattle.std.proofs.Common.{◌≡◌, ℕ, ◌+◌, ◌-◌, ◌<◌, ◌≤◌, List, [], ◌∷◌, ◌++◌, length, take, drop, Option, Result, Ok, Err, sym, ap, subst, ◌∙◌, arith, cond, length-append}
+use Rattle.std.specs.Prelude.{nat_le, map, if◌then◌else◌, IfOk}
+use Rattle.std.specs.List.{AllByRecursion, enumerate_from}
+use Rattle.std.proofs.lemmas.Bool.{le-leb, lt-leb}
+use Rattle.std.proofs.lemmas.List.{length-take-le, length-map}
+use Rattle.std.proofs.lemmas.List.Sums.{count_by-le-length}
+use Rattle.tp_model.specs.declared.entry.Entry.{Entry}
+use Rattle.tp_model.specs.declared.entry.Entry.TheVariants.{Confirm, HostIn}
+use Rattle.tp_book.specs.Book.{BookValue, next_number}
+use Rattle.tp_book.specs.Host.{accepted_of, after_input, port_in, shown_from, shown_of, shown_upto_of}
+use Rattle.tp_book.specs.Calls.{marks_of}
+use Rattle.tp_shared.specs.Entries.{confirm_entries}
+use Rattle.tp_shared.specs.Receipted.{AreBelow, Receipted}
+use Rattle.tp_flush.specs.Settled.{Stand}
+use Rattle.tp_host.specs.Receipts.{IsFor}
+use Rattle.tp_run.specs.declared.outset.Outset.{Outset}
+use Rattle.tp_run.specs.Input.{IsForInput, rest_at, rest_of}
+use Rattle.tp_run.specs.Outset.{StandsIn}
+use Rattle.tp_run.specs.Output.{IsForOutput, confirms}
+use Rattle.tp_run.specs.Ran.{Settled, output_slips}
+
+pub if_ok : {A E : Type 0} (r : Result A E) (P Q : A → Type 0) → ((x : A) → P x → Q x) → IfOk r P → IfOk r Q
+if_ok (Ok x) P Q turn p = turn x p
+if_ok (Err e) P Q turn p = p
+
+both : {A : Type 0} (P : A → Type 0) (xs ys : List A) → AllByRecursion P xs → AllByRecursion P ys → AllByRecursion P (xs ++ ys)
+both P [] ys one other = other
+both P (x ∷ xs) ys one other = (one.0, both P xs ys one.1 other)
+
+below_more : (m n : ℕ) (slips : List (ℕ × Entry)) → m ≤ n → AreBelow m slips → AreBelow n slips
+below_more m n [] up below = tt
+below_more m n (slip ∷ slips) up below = (let low = below.0 in omega (arith, low, up), below_more m n slips up below.1)
+
+-- ## What is confirmed
+
+entries_of : (port from count : ℕ) (bytes : List ℕ) → length bytes ≡ count
+    → (if nat_le (from + count) from then [] else Confirm port (from + count) ∷ []) ≡ confirms port from bytes
+entries_of port from count [] many = ap (λ test. cond test [] (Confirm port (from + count) ∷ [])) (le-leb (from + count) from (omega (arith, many)))
+entries_of port from count (x ∷ xs) many =
+    ap (λ test. cond test [] (Confirm port (from + count) ∷ [])) (lt-leb (from + count) from (omega (arith, many)))
+    ∙ ap (λ n. Confirm port (from + n) ∷ []) (sym many)
+
+length_shown : (b : BookValue) (port mark : ℕ) → length (marks_of b port) ≡ length (port_in b port).outputs
+    → length (shown_from b port mark (port_in b port).out_base) ≡ shown_of b port mark
+length_shown b port mark each =
+    let from = (port_in b port).out_base in
+    let none : from - from ≡ 0 = omega arith in
+    let few = count_by-le-length (λ least. nat_le least mark) (marks_of b port) in
+    ap (λ n. length (drop n (take (shown_of b port mark) (port_in b port).outputs))) none
+    ∙ length-take-le (shown_of b port mark) (port_in b port).outputs (omega (arith, few, each))
+
+-- the entry that confirms all that a mark shows confirms just what is shown
+pub confirms_shown : (b : BookValue) (port mark : ℕ) → length (marks_of b port) ≡ length (port_in b port).outputs
+    → confirm_entries b port (shown_upto_of b port mark) ≡ confirms port (port_in b port).out_base (shown_from b port mark (port_in b port).out_base)
+confirms_shown b port mark each =
+    entries_of port (port_in b port).out_base (shown_of b port mark) (shown_from b port mark (port_in b port).out_base) (length_shown b port mark each)
+
+-- ## What is handed in
+
+next_after : (b : BookValue) (port : ℕ) (bytes : List ℕ) → next_number (after_input b port bytes) ≡ next_number b + length (map (HostIn port) bytes)
+next_after b port bytes = let long = length-append b.state.entries (map (HostIn port) bytes) in omega (arith, long)
+
+input_offered : (b new : BookValue) (outset : Outset) (input : List ℕ) (receipt : Receipted) → StandsIn outset b
+    → new ≡ after_input b outset.port (rest_of b outset.port input) → receipt.number ≡ next_number new → IsFor (map (HostIn outset.port) (rest_of b outset.port input)) receipt
+    → IsForInput outset input receipt
+input_offered b new outset input receipt S after number F =
+    let bytes = rest_of b outset.port input in
+    let rest : bytes ≡ rest_at outset input = ap (λ n. take n (drop (accepted_of (port_in b outset.port)) input)) S.2 ∙ ap (λ n. take outset.room (drop n input)) S.1 in
+    let next = ap next_number after in
+    let many = next_after b outset.port bytes in
+    let behind = F.number in
+    let there = S.0 in
+    let first : F.first ≡ outset.next = omega (arith, next, many, number, behind, there) in record {
+      slips = F.slips ∙ ap (λ n. enumerate_from n (map (HostIn outset.port) bytes)) first ∙ ap (λ part. enumerate_from outset.next (map (HostIn outset.port) part)) rest;
+      number =
+          behind ∙ ap (λ n. n + length (map (HostIn outset.port) bytes)) first
+          ∙ ap (λ n. outset.next + n) (length-map bytes (HostIn outset.port) ∙ ap length rest);
+    }
+
+-- the receipt of the rest of the input, where the port stands as it did
+pub offered_at : {E : Type 0} (b new : BookValue) (outset : Outset) (input : List ℕ) (r : Result Receipted E) → StandsIn outset b
+    → IfOk r (λ receipt. new ≡ after_input b outset.port (rest_of b outset.port input)) → IfOk r (λ receipt. receipt.number ≡ next_number new)
+    → IfOk r (IsFor (map (HostIn outset.port) (rest_of b outset.port input))) → IfOk r (IsForInput outset input)
+offered_at b new outset input (Ok receipt) S after number F = input_offered b new outset input receipt S after number F
+offered_at b new outset input (Err e) S after number F = tt
+
+-- ## What is settled
+
+-- two receipts, of which one is for what was printed
+pub both_settled : (outset : Outset) (was now : Option (List ℕ)) (journal : List Entry) (next : ℕ) (offered confirmed : Receipted)
+    → IsForOutput outset.port outset.confirmed was now confirmed → offered.number ≤ next → confirmed.number ≤ next → AreBelow offered.number offered.seat
+    → AreBelow confirmed.number confirmed.seat → Stand journal offered.seat → Stand journal confirmed.seat → Settled outset offered.seat was now journal next
+both_settled outset was now journal next offered confirmed O first second handed told one other =
+    let F = O.confirmed in record {
+      printed = O.printed;
+      appended = O.appended;
+      number = F.first;
+      below =
+          both (λ slip. slip.0 < next) offered.seat (output_slips outset F.first O.printed) (below_more offered.number next offered.seat first handed)
+          (subst (AreBelow next) F.slips (below_more confirmed.number next confirmed.seat second told));
+      stand = both _ offered.seat (output_slips outset F.first O.printed) one (subst (Stand journal) F.slips other);
+    }

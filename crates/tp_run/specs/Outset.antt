@@ -1,0 +1,28 @@
+-- Where a port stands.
+use Rattle.std.specs.Prelude.{◌≡◌, ℕ, [], get_or}
+use Rattle.tp_model.specs.Network.{Port}
+use Rattle.tp_model.specs.Opening.{Opened, next_of}
+use Rattle.tp_book.specs.Book.{BookValue, next_number}
+use Rattle.tp_book.specs.Host.{accepted_of, port_in, room_of}
+use Rattle.tp_run.specs.declared.outset.Outset.{Outset}
+
+-- a port of what was opened; where there is none, one at which nothing has happened
+abbrev pub port_at : Opened → ℕ → Port
+port_at o port = get_or o.now.ports port (record { pending = []; in_base = 0; outputs = []; out_base = 0 })
+
+-- where a port that is so stands, when the next entry gets this number
+abbrev pub outset_with : ℕ → ℕ → Port → Outset
+outset_with port next there = record { port = port; next = next; accepted = accepted_of there; room = room_of there; confirmed = there.out_base }
+
+-- in a book
+abbrev pub outset_of : BookValue → ℕ → Outset
+outset_of b port = outset_with port (next_number b) (port_in b port)
+
+-- The port stands so in a book, as to the next entry and its input.
+abbrev pub StandsIn : Outset → BookValue → Type 0
+StandsIn outset b =
+    (next_number b ≡ outset.next) × (accepted_of (port_in b outset.port) ≡ outset.accepted) × (room_of (port_in b outset.port) ≡ outset.room)
+
+-- in what was opened
+abbrev pub outset_in : Opened → ℕ → Outset
+outset_in o port = outset_with port (next_of o) (port_at o port)

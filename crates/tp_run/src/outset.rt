@@ -1,0 +1,66 @@
+//! Where a port stands as a device is opened.
+
+ghost use Rattle.std.specs.Prelude.{◌≡◌, ◌<◌, length, IfOk, IfErr};
+ghost use Rattle.tp_book.specs.Host.{port_in};
+ghost use Rattle.tp_run.specs.Outset.{StandsIn, outset_of};
+
+use crate::fault::RunFault;
+use tp_book::Book;
+
+/// Where a port stands in a book, and the number that the next entry gets.
+#[derive(Clone, Copy)]
+pub(crate) struct Outset {
+    /// The port.
+    pub(crate) port: u8,
+    /// The number of the next entry.
+    pub(crate) next: u64,
+    /// How many bytes the port has accepted.
+    pub(crate) accepted: u64,
+    /// How many bytes more it has room for.
+    pub(crate) room: usize,
+    /// How many of its outputs are confirmed.
+    pub(crate) confirmed: u64,
+}
+
+impl Outset {
+    /// Where the port `port` stands in a book.
+    pub(crate) fn of(book: &Book, port: u8) -> Outset
+        requires { port < length book.now.state.ports }
+        ensures { result ≡ outset_of book.now port }
+    {
+        Outset {
+            port,
+            next: book.next(),
+            accepted: book.accepted(port),
+            room: book.room(port),
+            confirmed: book.out_base(port),
+        }
+    }
+
+    /// Tests that the port stands so in a book, before its input is handed in.
+    pub(crate) fn stands_in(self, book: &Book) -> Result<(), RunFault>
+        requires { self.port < length book.now.state.ports }
+        ensures stands { IfOk result (λ done. StandsIn self book.now) }
+        ensures refused { IfErr result (λ fault. fault ≡ RunFault.OfferRefused) }
+    {
+        if book.next() == self.next
+            && book.accepted(self.port) == self.accepted
+            && book.room(self.port) == self.room
+        {
+            return Ok(());
+        }
+        Err(RunFault::OfferRefused)
+    }
+
+    /// Tests that as many outputs of the port are confirmed in a book, before more are printed.
+    pub(crate) fn is_confirmed_in(self, book: &Book) -> Result<(), RunFault>
+        requires { self.port < length book.now.state.ports }
+        ensures confirmed { IfOk result (λ done. (port_in book.now self.port).out_base ≡ self.confirmed) }
+        ensures refused { IfErr result (λ fault. fault ≡ RunFault.OutputFailed) }
+    {
+        if book.out_base(self.port) == self.confirmed {
+            return Ok(());
+        }
+        Err(RunFault::OutputFailed)
+    }
+}
