@@ -114,7 +114,7 @@ fn input_stands_before_what_is_done_with_it(rt: HostRuntime) -> Result<(), Fail>
     let disk = play_rows(&rt, alloc, letter(alloc)?, TAKES);
     let (_, opened) = left(alloc, disk)?;
     let byte = |byte: u8| Entry::HostIn { port: 0, byte };
-    let take = |line: u8, token: Token| Entry::Take { line, token };
+    let take = |line: u16, token: Token| Entry::Take { line, token };
     let entries = [
         byte(b'a'),
         byte(b'b'),
