@@ -14,7 +14,7 @@ const OFTEN: Job = Job {
 };
 
 /// How many workers make how many turns.
-const TEAMS: &[(u8, u32)] = &[(1, 4000), (2, 4000), (16, 4000)];
+const TEAMS: &[(u8, u32)] = &[(1, 2000), (2, 2000), (16, 2000)];
 
 /// Whether entries are in the cut, and the areas were switched at least `times` times.
 fn is_switched(opened: &Opened, times: u64) -> bool {
@@ -49,7 +49,14 @@ fn half_of_the_journal_begins_a_snapshot(rt: HostRuntime) -> Result<(), Fail> {
     let alloc = rt.alloc();
     let mut out = Vec::new(alloc);
     let few = Job { turns: 40, ..FOUR };
-    let (disk, done) = play(&rt, alloc, formatted(alloc, ONE, LETTER, 0, 16_384)?, few, b"", &mut out);
+    let (disk, done) = play(
+        &rt,
+        alloc,
+        formatted(alloc, ONE, LETTER, 0, 16_384)?,
+        few,
+        b"",
+        &mut out,
+    );
     let (disk, early) = left(alloc, disk)?;
     assert!(rt; done.is_ok() && early.base() == 0);
     let more = Job { turns: 200, ..FOUR };
@@ -68,7 +75,7 @@ fn a_ring_goes_on_over_its_checkpoints(rt: HostRuntime) -> Result<(), Fail> {
         let job = Job {
             turns: *turns,
             workers: *workers,
-            every: Some(50),
+            every: Some(20),
             ..FOUR
         };
         let disk = formatted(alloc, RING, PASSES, 6, 1_048_576)?;

@@ -153,7 +153,7 @@ fn with_run_options<'a>(alloc: Global, command: Command<'a>) -> Result<Command<'
     let spare =
         "spare frames of each node, for writes while pages are frozen, 0 to the pages of the smallest node (4)";
     let every =
-        "entries since the kept cut after which a snapshot begins, 1 to 4294967295 (where the journal is half full; none begins yet)";
+        "entries since the kept cut after which a snapshot begins, 1 to 4294967295 (where the journal is half full)";
     let port = "the port that input goes to and output comes from (0)";
     let input =
         "the port's whole input, from position 0; what was accepted before is passed over (no input)";
