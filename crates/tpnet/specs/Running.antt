@@ -34,10 +34,10 @@ status_of (Err ConfirmRefused) = 1
 status_of (Err LastFlushFailed) = 1
 status_of (Err Memory) = 1
 
--- A run that ended with this status, and what it left on the device and on standard output.
-pub record RanAs (keeps : Type 0) (history : History) (old new : State) (was now : Option (List ℕ)) (status : ℕ) : Type 0 where
+-- A run of this port and input that ended with this status, and what it left on the device and on standard output.
+pub record RanAs (keeps : Type 0) (history : History) (port : ℕ) (input : List ℕ) (old new : State) (was now : Option (List ℕ)) (status : ℕ) : Type 0 where
   pub done : Result ℕ RunFault
   pub is : status ≡ status_of done
-  pub ran : keeps → Began history.formatted history.before old.now.bytes → Ran history.formatted done old new
+  pub ran : keeps → Began history.formatted history.before old.now.bytes → Ran history.formatted port input was now done old new
   pub unwritten : keeps → IsUnbegun done → LeavesNothingNew old new
   pub silent : IsSilent done → now ≡ was

@@ -1,4 +1,6 @@
 use Rattle.std.proofs.Common.{◌∙◌, sym, subst, ◌≤◌}
+use Rattle.tp_run.specs.Ran.{Ran}
+use Rattle.tp_run.specs.declared.job.Job.{Job}
 use Rattle.tpnet.proofs.Statuses.{status_few, status_words, status_unopened}
 use Rattle.tpnet.proofs.running.run_on.Goals as goal
 
@@ -9,7 +11,10 @@ pub returns-clause-ran : goal.returns-clause-ran
 returns-clause-ran g c = record {
   done = c.run-disk.result.1;
   is = c.report.ensures;
-  ran = c.run-disk.ensures.ran;
+  ran =
+      λ keeps began. subst
+      (λ (j : Job). Ran g.history.formatted j.port c.args.input.now (g.O.Write.contents c.args.out.now) (g.O.Write.contents c.run-disk.new.out) c.run-disk.result.1 (g.D.Disk.state c.args.disk) (g.D.Disk.state c.run-disk.result.0))
+      c.job_of-job.ensures.value (c.run-disk.ensures.ran keeps began);
   unwritten = c.run-disk.ensures.unwritten;
   silent = c.run-disk.ensures.silent;
 }
