@@ -24,10 +24,10 @@ use tp_shared::{Gate, Naming, Parts};
 use tp_work::{Net, Seat, nodes_of};
 
 /// How many steps a node's turn has.
-pub(crate) const QUANTUM: u16 = 9;
+const QUANTUM: u16 = 9;
 
-/// A device that opened: what it held, its topology, the parts of its network, the number of their first entry, the raiser of their mark
-/// and a pass, and its store.
+/// A device that opened: what it held, its topology, the parts of its network, the number of their first entry, the raiser of their mark,
+/// and its store.
 #[derive(Drop)]
 pub(crate) struct Opening<D: Disk> {
     opened: Snapshot<Opened>,
@@ -35,11 +35,9 @@ pub(crate) struct Opening<D: Disk> {
     pub(crate) parts: Parts,
     pub(crate) first: u64,
     raiser: Raiser,
-    pass: Pass,
     store: Store<D>,
     pub ghost stands: { StandsFor opened.value parts raiser },
     pub ghost first_is: { first ≡ parts.first },
-    pub ghost passes: { pass.mark ≡ parts.mark },
     pub ghost topology_is: { topology ≡ opened.value.head.topology },
     pub ghost roomy: { is_roomy opened.value.head.topology opened.value.head.area ≡ true },
     pub ghost place: { store.place ≡ place_at opened.value },
@@ -48,10 +46,9 @@ pub(crate) struct Opening<D: Disk> {
     pub ghost synced: { D.keeps → IsSynced (D.state store.disk) },
 }
 
-/// The book and the nodes of what was opened, the raiser of their mark, and a pass.
-fn parts_of(alloc: Global, opened: Opened) -> Result<(Parts, Raiser, Pass), AllocError>
-    ensures stands { IfOk result (λ made. StandsFor opened made.0 made.1) }
-    ensures pass { IfOk result (λ made. made.2.mark ≡ made.0.mark) }
+/// The book and the nodes of what was opened, and the raiser of their mark.
+fn parts_of(alloc: Global, opened: Opened) -> Result<(Parts, Raiser), AllocError>
+    ensures { IfOk result (λ made. StandsFor opened made.0 made.1) }
 {
     opened_books_begin();
     opened.known();
@@ -59,10 +56,9 @@ fn parts_of(alloc: Global, opened: Opened) -> Result<(Parts, Raiser, Pass), Allo
     let state = opened.into_state(alloc)?;
     let book = Book::open(alloc, &state, Some(room))?;
     let nodes = nodes_of(alloc, &state, 4)?;
-    let (mark, mut raiser, _) = Mark::start(alloc, state.next, 0)?;
-    let pass = mark.pass(&mut raiser);
+    let (mark, raiser, _) = Mark::start(alloc, state.next, 0)?;
     let parts = Parts::opened(alloc, &state, book, nodes, mark)?;
-    Ok((parts, raiser, pass))
+    Ok((parts, raiser))
 }
 
 /// Opens a device.
@@ -74,19 +70,18 @@ pub(crate) fn opening_of<D: Disk + Drop>(alloc: Global, disk: D) -> Result<Openi
     let _area = opened.head().area();
     let first = opened.next();
     let store = opened.store(disk);
-    let (parts, raiser, pass) = parts_of(alloc, opened)?;
+    let (parts, raiser) = parts_of(alloc, opened)?;
     Ok(Opening {
         opened: known,
         topology,
         parts,
         first,
         raiser,
-        pass,
         store,
     })
 }
 
-/// Puts it under locks, and makes its flusher, with as many seats as `workers` says.
+/// Puts it under locks, with as many seats as `workers` says, and makes a pass and its flusher.
 pub(crate) fn begin<J: Naming, D: Disk + Drop, G: Gate + Drop, R: Wait>(
     rt: &R,
     alloc: Global,
@@ -103,12 +98,12 @@ pub(crate) fn begin<J: Naming, D: Disk + Drop, G: Gate + Drop, R: Wait>(
         opened,
         topology,
         parts,
-        raiser,
-        pass,
+        mut raiser,
         store,
         ..
     } = opening;
     let (net, seats, key) = Net::<J, G>::start(rt, alloc, parts, QUANTUM, workers, gate)?;
+    let pass = net.shared().mark().pass(&mut raiser);
     let flusher = Flusher::over(opened, topology, store, key, raiser);
     Ok((net, seats, flusher, pass))
 }
