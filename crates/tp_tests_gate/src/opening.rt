@@ -1,10 +1,14 @@
 //! What is made of a device that opened: a network in threads, and its flusher.
 
+ghost use Rattle.std.specs.List.{AllByRecursion};
 ghost use Rattle.std.specs.Prelude.{◌≡◌, ◌<◌, ◌≤◌, [], true, false, Ok, All, IfOk, Some};
 ghost use Rattle.tp_area.specs.Places.{place_at};
 ghost use Rattle.tp_model.specs.DiskHistory.{IsSynced};
-ghost use Rattle.tp_model.specs.Journal.{is_roomy};
+ghost use Rattle.tp_law_machine.specs.NodeOfBytes.{IsNodeOfBytes};
+ghost use Rattle.tp_model.specs.Journal.{is_roomy, room};
+ghost use Rattle.tp_model.specs.Node.{t414_ends};
 ghost use Rattle.tp_model.specs.Opening.{verdict};
+ghost use Rattle.tp_model.specs.Spelling.{IsCut};
 ghost use Rattle.tp_run.specs.Made.{StandsFor};
 ghost use Rattle.tp_shared.specs.Named.{Names};
 ghost use Rattle.tp_work.specs.declared.start.TheConstants.{MAX_SEATS};
@@ -37,6 +41,9 @@ pub(crate) struct Opening<D: Disk> {
     raiser: Raiser,
     store: Store<D>,
     pub ghost stands: { StandsFor opened.value parts raiser },
+    pub ghost bound: { parts.book.room ≡ Some (room opened.value.head.topology opened.value.head.area) },
+    pub ghost cut: { IsCut t414_ends opened.value.head.topology opened.value.base opened.value.cut },
+    pub ghost bytes: { AllByRecursion IsNodeOfBytes opened.value.cut.nodes },
     pub ghost first_is: { first ≡ parts.first },
     pub ghost topology_is: { topology ≡ opened.value.head.topology },
     pub ghost roomy: { is_roomy opened.value.head.topology opened.value.head.area ≡ true },
@@ -48,7 +55,8 @@ pub(crate) struct Opening<D: Disk> {
 
 /// The book and the nodes of what was opened, and the raiser of their mark.
 fn parts_of(alloc: Global, opened: Opened) -> Result<(Parts, Raiser), AllocError>
-    ensures { IfOk result (λ made. StandsFor opened made.0 made.1) }
+    ensures parts { IfOk result (λ made. StandsFor opened made.0 made.1) }
+    ensures bound { IfOk result (λ made. made.0.book.room ≡ Some (room opened.head.topology opened.head.area)) }
 {
     opened_books_begin();
     opened.known();
@@ -65,6 +73,7 @@ fn parts_of(alloc: Global, opened: Opened) -> Result<(Parts, Raiser), AllocError
 pub(crate) fn opening_of<D: Disk + Drop>(alloc: Global, disk: D) -> Result<Opening<D>, Fail> {
     let mut disk = disk;
     let opened = open(alloc, &mut disk)?;
+    opened.known();
     let known = Snapshot::of(&opened);
     let topology = topology_of(&opened);
     let _area = opened.head().area();

@@ -1,0 +1,8 @@
+use Rattle.std.proofs.Common.{sym, ◌∙◌}
+use Rattle.tp_tests_gate.proofs.opening.begin.Goals as goal
+
+pub over-flusher-requires-clause-bound : goal.over-flusher-requires-clause-bound
+over-flusher-requires-clause-bound g c = sym c.requires.names.room_is ∙ c.args.opening.bound
+
+pub over-flusher-requires-clause-first : goal.over-flusher-requires-clause-first
+over-flusher-requires-clause-first g c = sym c.requires.names.first_is ∙ c.args.opening.stands.first
