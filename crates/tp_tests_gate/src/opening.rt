@@ -1,16 +1,13 @@
 //! What is made of a device that opened: a network in threads, and its flusher.
 
-ghost use Rattle.std.specs.List.{AllByRecursion};
 ghost use Rattle.std.specs.Prelude.{◌≡◌, ◌<◌, ◌≤◌, [], true, false, Ok, All, IfOk, Some};
 ghost use Rattle.tp_area.specs.Places.{place_at};
 ghost use Rattle.tp_model.specs.DiskHistory.{IsSynced};
-ghost use Rattle.tp_law_machine.specs.NodeOfBytes.{IsNodeOfBytes};
 ghost use Rattle.tp_model.specs.Journal.{is_roomy, room};
-ghost use Rattle.tp_model.specs.Node.{t414_ends};
 ghost use Rattle.tp_model.specs.Opening.{verdict};
-ghost use Rattle.tp_model.specs.Spelling.{IsCut};
 ghost use Rattle.tp_run.specs.Made.{StandsFor};
 ghost use Rattle.tp_shared.specs.Named.{Names};
+ghost use Rattle.tp_tests_gate.specs.Spelt.{IsSpelt};
 ghost use Rattle.tp_work.specs.declared.start.TheConstants.{MAX_SEATS};
 
 use std::alloc::{AllocError, Global};
@@ -34,7 +31,7 @@ const QUANTUM: u16 = 9;
 /// and its store.
 #[derive(Drop)]
 pub(crate) struct Opening<D: Disk> {
-    opened: Snapshot<Opened>,
+    pub(crate) opened: Snapshot<Opened>,
     topology: Topology,
     pub(crate) parts: Parts,
     pub(crate) first: u64,
@@ -42,8 +39,6 @@ pub(crate) struct Opening<D: Disk> {
     store: Store<D>,
     pub ghost stands: { StandsFor opened.value parts raiser },
     pub ghost bound: { parts.book.room ≡ Some (room opened.value.head.topology opened.value.head.area) },
-    pub ghost cut: { IsCut t414_ends opened.value.head.topology opened.value.base opened.value.cut },
-    pub ghost bytes: { AllByRecursion IsNodeOfBytes opened.value.cut.nodes },
     pub ghost first_is: { first ≡ parts.first },
     pub ghost topology_is: { topology ≡ opened.value.head.topology },
     pub ghost roomy: { is_roomy opened.value.head.topology opened.value.head.area ≡ true },
@@ -70,7 +65,9 @@ fn parts_of(alloc: Global, opened: Opened) -> Result<(Parts, Raiser), AllocError
 }
 
 /// Opens a device.
-pub(crate) fn opening_of<D: Disk + Drop>(alloc: Global, disk: D) -> Result<Opening<D>, Fail> {
+pub(crate) fn opening_of<D: Disk + Drop>(alloc: Global, disk: D) -> Result<Opening<D>, Fail>
+    ensures { IfOk result (λ opening. IsSpelt opening.opened.value) }
+{
     let mut disk = disk;
     let opened = open(alloc, &mut disk)?;
     opened.known();
@@ -99,6 +96,7 @@ pub(crate) fn begin<J: Naming, D: Disk + Drop, G: Gate + Drop, R: Wait>(
     gate: G,
 ) -> Result<(Net<J, G>, Vec<Seat<J>>, Flusher<J, D>, Pass), AllocError>
     requires names { Names J.roll J.first J.start J.node J.mark J.flusher J.room opening.parts }
+    requires spelt { IsSpelt opening.opened.value }
     requires workers { (0 < workers) × (workers ≤ MAX_SEATS) }
     ensures seats { IfOk result (λ begun. All (λ seat. (seat.hand ≡ Some begun.0.queue) × (seat.slips ≡ [])) begun.1.items) }
     ensures pass { IfOk result (λ begun. begun.3.mark ≡ J.mark) }

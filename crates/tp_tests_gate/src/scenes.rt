@@ -2,6 +2,7 @@
 
 ghost use Rattle.std.specs.Prelude.{◌≡◌, ◌<◌, ◌≤◌, [], All, Some};
 ghost use Rattle.tp_shared.specs.Named.{Names};
+ghost use Rattle.tp_tests_gate.specs.Spelt.{IsSpelt};
 ghost use Rattle.tp_work.specs.declared.start.TheConstants.{MAX_SEATS};
 
 use crate::beside::{is_flushed_beside_a_run, is_run_beside_a_copy, is_stored_by_the_next_turn};
@@ -80,6 +81,7 @@ fn play<J: Naming + Send + Sync, R: Threads + Wait + Sync>(
     workers: u8,
     scene: Scene,
 ) -> Result<bool, Fail>
+    requires spelt { IsSpelt opening.opened.value }
     requires names { Names J.roll J.first J.start J.node J.mark J.flusher J.room opening.parts }
     requires workers { (0 < workers) × (workers ≤ MAX_SEATS) }
 {
@@ -101,6 +103,7 @@ fn play_in<R: Threads + Wait + Sync>(
     workers: u8,
     scene: Scene,
 ) -> Result<bool, Fail>
+    requires spelt { IsSpelt opening.opened.value }
     requires workers { (0 < workers) × (workers ≤ MAX_SEATS) }
 {
     play::<Brand, R>(rt, alloc, opening, workers, scene)
