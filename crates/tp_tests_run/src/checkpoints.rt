@@ -13,8 +13,8 @@ const OFTEN: Job = Job {
     ..FOUR
 };
 
-/// How many workers make how many turns.
-const TEAMS: &[(u8, u32)] = &[(1, 2000), (2, 2000), (16, 2000)];
+/// How many workers make how many turns. With more workers than nodes and ports, turns are used up by those that find no process.
+const TEAMS: &[(u8, u32)] = &[(1, 2000), (2, 2000), (16, 100_000)];
 
 /// Whether entries are in the cut, and the areas were switched at least `times` times.
 fn is_switched(opened: &Opened, times: u64) -> bool {
@@ -38,8 +38,8 @@ fn a_short_journal_never_stays_full(rt: HostRuntime) -> Result<(), Fail> {
     }
     let (_, opened) = left(alloc, disk)?;
     assert!(rt; out.as_slice() == b"A".as_slice());
-    assert!(rt; opened.next() == next && next > 420);
-    assert!(rt; is_switched(&opened, 8));
+    assert!(rt; opened.next() == next && next > 210);
+    assert!(rt; is_switched(&opened, 4));
     Ok(())
 }
 

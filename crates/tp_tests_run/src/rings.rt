@@ -23,7 +23,7 @@ fn workers_leave_a_device_that_opens(rt: HostRuntime) -> Result<(), Fail> {
         let (disk, opened) = left(alloc, disk)?;
         assert!(rt; done == Ok(opened.next()) && opened.next() > 0 && out.is_empty());
         // It goes on from there.
-        let more = Job { turns: 100, ..job };
+        let more = Job { turns: 4000, ..job };
         let (disk, done) = play(&rt, alloc, disk, more, b"", &mut out);
         let (_, later) = left(alloc, disk)?;
         assert!(rt; done == Ok(later.next()) && later.next() > opened.next());
