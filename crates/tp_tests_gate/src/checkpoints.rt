@@ -2,6 +2,7 @@
 
 ghost use Rattle.std.specs.Prelude.{◌≡◌};
 ghost use Rattle.tp_shared.specs.Named.{Names};
+ghost use Rattle.tp_tests_gate.specs.Spelt.{IsSpelt};
 
 use crate::device::formatted;
 use crate::left::is_journal;
@@ -164,6 +165,7 @@ fn play<J: Naming, R: Wait>(
     snapshots: u8,
 ) -> Result<Option<Vec<Vec<u8>>>, Fail>
     requires names { Names J.roll J.first J.start J.node J.mark J.flusher J.room opening.parts }
+    requires spelt { IsSpelt opening.opened.value }
 {
     let (net, _, mut flusher, _) = begin::<J, MemDisk, NoGate, R>(rt, alloc, opening, 1, NoGate)?;
     if !goes_over(rt, alloc, net.shared(), &mut flusher, snapshots) {
@@ -178,7 +180,9 @@ fn play_in<R: Wait>(
     alloc: Global,
     opening: Opening<MemDisk>,
     snapshots: u8,
-) -> Result<Option<Vec<Vec<u8>>>, Fail> {
+) -> Result<Option<Vec<Vec<u8>>>, Fail>
+    requires { IsSpelt opening.opened.value }
+{
     play::<Brand, R>(rt, alloc, opening, snapshots)
 }
 
