@@ -106,12 +106,19 @@ fn starts_in<R: Wait>(rt: &R, alloc: Global, parts: Parts, quantum: u16, seats: 
     starts::<Brand, R>(rt, alloc, parts, quantum, seats)
 }
 
+/// The same of a device that is freshly formatted.
+fn begins<R: Wait>(rt: &R, alloc: Global, quantum: u16, seats: u8) -> Result<bool, Fail>
+    requires quantum { (0 < quantum) × (quantum ≤ MAX_STEPS) }
+    requires seats { (0 < seats) × (seats ≤ MAX_SEATS) }
+{
+    let Opening { parts, .. } = opening_of(alloc, formatted(alloc)?)?;
+    Ok(starts_in(rt, alloc, parts, quantum, seats))
+}
+
 #[test]
 fn networks_begin_with_the_least_and_the_most(rt: HostRuntime) -> Result<(), Fail> {
-    let alloc = rt.alloc();
     for (quantum, seats) in STARTS {
-        let Opening { parts, .. } = opening_of(alloc, formatted(alloc)?)?;
-        assert!(rt; starts_in(&rt, alloc, parts, *quantum, *seats));
+        assert!(rt; begins(&rt, rt.alloc(), *quantum, *seats)?);
     }
     Ok(())
 }

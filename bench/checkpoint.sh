@@ -1,0 +1,107 @@
+#!/bin/bash
+# What checkpoints cost a run, as ratios of programs that run in turns on one machine, outside the gate:
+#   entries   16 busy nodes of 256 pages, one step a turn: durable entries a second with checkpoints as they come beside none
+#   copy      the seconds of a checkpoint of these nodes beside a raw copy of as many bytes with the same syncs
+# usage: bench/checkpoint.sh TPNET [ROUNDS [FOLDER ..]]      5 rounds in /dev/shm (in memory, so only our own cost shows) by default
+set -e
+top=$(cd "$(dirname "$0")/.." && pwd)
+tpnet=$(realpath "$1")
+rounds=${2:-5}
+folders=("${@:3}")
+[ ${#folders[@]} -gt 0 ] || folders=(/dev/shm)
+work=$(mktemp -d /tmp/bench-checkpoint-XXXX)
+trap 'rm -rf "$work"' EXIT
+
+# writes what a checkpoint writes: the other area's gate and a sync where it is open, images piece by piece, the rest and a sync, the gate
+# and a sync
+cat > "$work/raw.c" <<'C'
+#include <fcntl.h>
+#include <stdlib.h>
+#include <string.h>
+#include <unistd.h>
+
+static char page[8192];
+
+static void put(int file, size_t count, off_t at) {
+    if (pwrite(file, page, count, at) != (ssize_t)count) exit(1);
+}
+
+static void settle(int file) {
+    if (fsync(file) != 0) exit(1);
+}
+
+int main(int count, char **words) {
+    int file = open(words[1], O_RDWR);
+    off_t area = atoll(words[2]), at = area + 21;
+    if (count != 3 || file < 0) return 1;
+    memset(page, 1, sizeof page);
+    for (int node = 0; node < 16; node++) {
+        put(file, 172, at), at += 172;
+        for (int piece = 0; piece < 256; piece++) put(file, 1024, at), at += 1024;
+    }
+    put(file, 8, area + 13), put(file, 4 * 65, at), put(file, sizeof page, at + 4 * 65), put(file, 12, area + 1);
+    settle(file);
+    put(file, 1, area);
+    settle(file);
+    return 0;
+}
+C
+cc -O2 -o "$work/raw" "$work/raw.c"
+
+sed 's/^pages .*/pages 256/' "$top/examples/compute.txt" > "$work/node.txt"
+: > "$work/net"
+for name in a b c d e f g h i j k l m n o p; do
+    "$top/tools/make-image" "$work/node.txt" "$work/$name.img"
+    echo "node $name 256" >> "$work/net"
+done
+echo 'port host' >> "$work/net"
+"$tpnet" format "$work/device" "$work/net" "$work" $((1 << 23)) > "$work/said"
+python3 - "$tpnet" "$work" "$rounds" "${folders[@]}" <<'PY'
+import os, re, statistics, subprocess, sys, tempfile, time
+tpnet, work, rounds = sys.argv[1:4]
+rounds = range(int(rounds))
+TURNS, NEVER = 60000, (1 << 32) - 1
+
+def timed(command):
+    begun = time.monotonic()
+    subprocess.run(command, capture_output=True, check=True)
+    return time.monotonic() - begun
+
+def run(file, turns, workers, every):
+    """The seconds of a run on a new copy of the formatted device, and what `show` says of it then."""
+    subprocess.run(["cp", "--sparse=always", os.path.join(work, "device"), file], check=True)
+    subprocess.run(["sync", file], check=True)
+    took = timed([tpnet, "run", file, "--turns", str(turns), "--workers", str(workers), "--quantum", "1", "--every", str(every)])
+    shown = subprocess.run([tpnet, "show", file], capture_output=True, text=True, check=True).stdout
+    found = re.search(r"generation (\d+) base \d+ entries \d+ next (\d+)", shown)
+    return took, int(found[1]) - 1, int(found[2])
+
+def said(name, mine, other, what):
+    print("    %-8s %s; ratio %.2f best, %.2f median" % (
+        name, what, min(other) / min(mine), statistics.median(other) / statistics.median(mine)), flush=True)
+
+for folder in sys.argv[4:]:
+    kind = subprocess.run(["stat", "-f", "-c", "%T", folder], capture_output=True, text=True, check=True).stdout.strip()
+    print("%s (%s), best and median of %d:" % (folder, kind, len(rounds)))
+    with tempfile.TemporaryDirectory(prefix="bench-checkpoint-", dir=folder) as place:
+        file = os.path.join(place, "device")
+        with_them, without, switches = [], [], []
+        for _ in rounds:
+            idle = run(file, 0, 2, NEVER)[0]
+            took, count, entries = run(file, TURNS, 2, 10000)
+            with_them.append((took - idle) / entries)
+            switches.append(count)
+            took, count, entries = run(file, TURNS, 2, NEVER)
+            assert count == 0
+            without.append((took - idle) / entries)
+        said("entries", with_them, without, "with %.0f, without %.0f a second, %d checkpoints a run" % (
+            1 / min(with_them), 1 / min(without), statistics.median(switches)))
+        ours, raw = [], []
+        for _ in rounds:
+            plain = run(file, 68, 1, NEVER)[0]
+            took, count, entries = run(file, 68, 1, 30)
+            assert count == 1, count
+            ours.append(took - plain)
+            raw.append(timed([os.path.join(work, "raw"), file, str(512)]) - timed(["true"]))
+        said("copy", ours, raw, "ours %.1f, raw %.1f milliseconds" % (1e3 * min(ours), 1e3 * min(raw)))
+PY
