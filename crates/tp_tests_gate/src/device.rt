@@ -7,9 +7,9 @@ use tp_disk::MemDisk;
 use tp_net::Topology;
 
 /// Bytes of an area, and of the device.
-const AREA: u64 = 131_072;
+pub(crate) const AREA: u64 = 131_072;
 
-const SIZE: usize = 262_656;
+pub(crate) const SIZE: usize = 262_656;
 
 /// How many nodes there are.
 pub(crate) const NODES: u8 = 16;
@@ -20,7 +20,7 @@ const TEXT: &[u8] =
 
 /// Bytes of a node's image: where they are, and which. Its process sends the letter A on link 0, waits for the acknowledge, and
 /// then goes round.
-const BYTES: &[(usize, &[u8])] = &[
+pub(crate) const BYTES: &[(usize, &[u8])] = &[
     (0, &[1, 0, 4, 0]),
     (4, &[0x00, 0x01, 0x00, 0x80]),
     (8, &[0x00, 0x02, 0x00, 0x80]),
@@ -36,9 +36,9 @@ const BYTES: &[(usize, &[u8])] = &[
 ];
 
 /// The process begins where it goes round, and so makes as many steps as a turn has.
-const ROUND: (usize, &[u8]) = (4, &[0x0B]);
+pub(crate) const ROUND: (usize, &[u8]) = (4, &[0x0B]);
 
-fn place(image: &mut [u8], at: usize, bytes: &[u8]) {
+pub(crate) fn place(image: &mut [u8], at: usize, bytes: &[u8]) {
     for (slot, byte) in image.iter_mut().skip(at).zip(bytes.iter()) {
         *slot = *byte;
     }

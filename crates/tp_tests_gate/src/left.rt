@@ -10,7 +10,7 @@ use tp_recover::{Opened, open};
 use tp_shared::{Naming, Shared};
 
 /// Whether what was opened is the book's journal: the next number, and each entry under its number.
-fn is_journal(book: &Book, opened: &Opened) -> bool {
+pub(crate) fn is_journal(book: &Book, opened: &Opened) -> bool {
     let (entries, kept) = (book.entries(), opened.kept());
     opened.next() == book.next()
         && kept.len() == entries.len()

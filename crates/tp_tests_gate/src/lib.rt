@@ -3,12 +3,16 @@
 
 pub mod beside;
 #[cfg(test)]
+mod checkpoints;
+#[cfg(test)]
 mod device;
 pub mod hold;
 #[cfg(test)]
 mod left;
 #[cfg(test)]
 mod limits;
+#[cfg(test)]
+mod marked;
 pub mod meanwhile;
 #[cfg(test)]
 mod opening;

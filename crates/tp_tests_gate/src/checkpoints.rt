@@ -1,0 +1,218 @@
+//! The end of a checkpoint: a flusher goes over to the other area, with all that the nodes had.
+
+ghost use Rattle.std.specs.Prelude.{◌≡◌};
+ghost use Rattle.tp_shared.specs.Named.{Names};
+ghost use Rattle.tp_tests_gate.specs.Spelt.{IsSpelt};
+
+use crate::device::formatted;
+use crate::left::is_journal;
+use crate::marked::marked;
+use crate::opening::{Opening, begin, opening_of};
+use std::alloc::Global;
+use std::marker::Brand;
+use std::sync::Wait;
+use std::test::Fail;
+use tp_book::{Book, NetParts, NetState, Refusal};
+use tp_disk::MemDisk;
+use tp_flush::Flusher;
+use tp_recover::{Opened, open};
+use tp_shared::{Naming, NoGate, Seat, Shared};
+
+/// How many steps a node's turn has.
+const QUANTUM: u16 = 9;
+
+/// In how many rounds a snapshot has to end.
+const ROUNDS: u8 = 4;
+
+/// How often there are so many rounds.
+const PARTS: u8 = 4;
+
+/// A turn of each node, and one of the host. Answers whether all were made.
+fn turn_all<J: Naming, R: Wait>(rt: &R, shared: &Shared<J>) -> bool {
+    let mut are_made = true;
+    for number in 0..shared.nodes() {
+        let mut seat = Seat::new();
+        if shared
+            .turn(rt, &NoGate, &mut seat, number, QUANTUM)
+            .is_err()
+        {
+            are_made = false;
+        }
+    }
+    let mut seat = Seat::new();
+    shared.host_turn(rt, &NoGate, &mut seat).is_ok() && are_made
+}
+
+/// Turns of all, and one of the flusher. Answers whether it switched.
+fn round<J: Naming, R: Wait>(
+    rt: &R,
+    alloc: Global,
+    shared: &Shared<J>,
+    flusher: &mut Flusher<J, MemDisk>,
+) -> Option<bool> {
+    if !turn_all(rt, shared) {
+        return None;
+    }
+    let flushed = flusher.turn(rt, alloc, shared).ok()?;
+    Some(flushed.switched)
+}
+
+/// Makes some rounds. Answers in how many of them the flusher switched.
+fn switches<J: Naming, R: Wait>(
+    rt: &R,
+    alloc: Global,
+    shared: &Shared<J>,
+    flusher: &mut Flusher<J, MemDisk>,
+) -> Option<u8> {
+    let mut count = 0u8;
+    for _ in 0..ROUNDS {
+        if round(rt, alloc, shared, flusher)? {
+            count = count.wrapping_add(1);
+        }
+    }
+    Some(count)
+}
+
+/// Whether a snapshot begins, and no other one while it runs.
+fn begins<J: Naming, R: Wait>(
+    rt: &R,
+    alloc: Global,
+    shared: &Shared<J>,
+    flusher: &Flusher<J, MemDisk>,
+) -> bool {
+    flusher.snapshot(rt, alloc, shared).is_ok()
+        && matches!(
+            flusher.snapshot(rt, alloc, shared),
+            Err(Refusal::SnapshotRunning)
+        )
+}
+
+/// Makes all rounds, with a snapshot before each of the first `snapshots` parts of them. Answers whether the flusher switched once in
+/// each part that has a snapshot, and never in the others.
+fn goes_over<J: Naming, R: Wait>(
+    rt: &R,
+    alloc: Global,
+    shared: &Shared<J>,
+    flusher: &mut Flusher<J, MemDisk>,
+    snapshots: u8,
+) -> bool {
+    if round(rt, alloc, shared, flusher) != Some(false) {
+        return false;
+    }
+    for part in 0..PARTS {
+        let has_snapshot = part < snapshots;
+        if has_snapshot && !begins(rt, alloc, shared, flusher) {
+            return false;
+        }
+        if switches(rt, alloc, shared, flusher) != Some(has_snapshot as u8) {
+            return false;
+        }
+    }
+    true
+}
+
+/// Whether the area of a device that opened is that of so many switches, and holds the book's journal: what stands in its cut, and each
+/// entry behind it.
+fn is_behind(book: &Book, opened: &Opened, switches: u8) -> bool {
+    let base = opened.base();
+    opened.generation() == 1 + switches as u64
+        && opened.second() == (switches % 2 == 1)
+        && (base > 0) == (switches > 0)
+        && base == book.base()
+        && opened.next().checked_sub(base) == Some(opened.kept().len() as u64)
+        && is_journal(book, opened)
+}
+
+/// The same of the book under its lock.
+fn is_left_behind<J: Naming, R: Wait>(
+    rt: &R,
+    shared: &Shared<J>,
+    opened: &Opened,
+    switches: u8,
+) -> bool {
+    let held = shared.book().lock(rt);
+    is_behind(held.book(), opened, switches)
+}
+
+/// The image of each node.
+fn images_of(alloc: Global, opened: Opened) -> Result<Vec<Vec<u8>>, Fail> {
+    let NetState { net, .. } = opened.into_state(alloc)?;
+    let NetParts { images, .. } = net;
+    Ok(images)
+}
+
+/// The image of each node after a crash. None where the device doesn't open to what the book has.
+fn left<J: Naming, R: Wait>(
+    rt: &R,
+    alloc: Global,
+    shared: &Shared<J>,
+    flusher: Flusher<J, MemDisk>,
+    switches: u8,
+) -> Result<Option<Vec<Vec<u8>>>, Fail> {
+    let mut disk = MemDisk::of_bytes(flusher.into_disk().crash());
+    let opened = open(alloc, &mut disk)?;
+    if !is_left_behind(rt, shared, &opened, switches) {
+        return Ok(None);
+    }
+    Ok(Some(images_of(alloc, opened)?))
+}
+
+/// The image of each node after all rounds, with so many snapshots, and a crash. None where something didn't go as it should.
+fn play<J: Naming, R: Wait>(
+    rt: &R,
+    alloc: Global,
+    opening: Opening<MemDisk>,
+    snapshots: u8,
+) -> Result<Option<Vec<Vec<u8>>>, Fail>
+    requires names { Names J.roll J.first J.start J.node J.mark J.flusher J.room opening.parts }
+    requires spelt { IsSpelt opening.opened.value }
+{
+    let (net, _, mut flusher, _) = begin::<J, MemDisk, NoGate, R>(rt, alloc, opening, 1, NoGate)?;
+    if !goes_over(rt, alloc, net.shared(), &mut flusher, snapshots) {
+        return Ok(None);
+    }
+    left(rt, alloc, net.shared(), flusher, snapshots)
+}
+
+/// The same with new names.
+fn play_in<R: Wait>(
+    rt: &R,
+    alloc: Global,
+    opening: Opening<MemDisk>,
+    snapshots: u8,
+) -> Result<Option<Vec<Vec<u8>>>, Fail>
+    requires { IsSpelt opening.opened.value }
+{
+    play::<Brand, R>(rt, alloc, opening, snapshots)
+}
+
+/// Whether it goes as it should with so many snapshots.
+fn goes<R: Wait>(rt: &R, alloc: Global, disk: MemDisk, snapshots: u8) -> Result<bool, Fail> {
+    let opening = opening_of(alloc, disk)?;
+    Ok(play_in(rt, alloc, opening, snapshots)?.is_some())
+}
+
+/// Whether the nodes have the same after so many snapshots as after none.
+fn is_same<R: Wait>(rt: &R, alloc: Global, snapshots: u8) -> Result<bool, Fail> {
+    let without = play_in(rt, alloc, opening_of(alloc, marked(alloc)?)?, 0)?;
+    let with = play_in(rt, alloc, opening_of(alloc, marked(alloc)?)?, snapshots)?;
+    Ok(with.is_some() && with == without)
+}
+
+#[test]
+fn a_checkpoint_switches_the_areas(rt: HostRuntime) -> Result<(), Fail> {
+    let alloc = rt.alloc();
+    for snapshots in 0..PARTS {
+        assert!(rt; goes(&rt, alloc, formatted(alloc)?, snapshots)?);
+        assert!(rt; goes(&rt, alloc, marked(alloc)?, snapshots)?);
+    }
+    Ok(())
+}
+
+#[test]
+fn pieces_are_really_copied(rt: HostRuntime) -> Result<(), Fail> {
+    for snapshots in 1..PARTS {
+        assert!(rt; is_same(&rt, rt.alloc(), snapshots)?);
+    }
+    Ok(())
+}
