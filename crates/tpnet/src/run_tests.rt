@@ -57,6 +57,20 @@ const FOUR: &[&str] = &[
 
 const NONE: &[&str] = &["run", "@device", "--turns=0"];
 
+/// Four turns that begin no snapshot.
+const ALONE: &[&str] = &[
+    "run",
+    "@device",
+    "--turns",
+    "4",
+    "--workers",
+    "1",
+    "--quantum",
+    "16",
+    "--every",
+    "4294967295",
+];
+
 const SHOW: &[&str] = &["show", "@device"];
 
 /// The letter is printed once, and confirmed; no turn more makes no entry.
@@ -239,7 +253,7 @@ fn a_refused_run_leaves_the_device(rt: HostRuntime) -> Result<(), Fail> {
     scratch.remove(&rt)
 }
 
-/// An area with room for one entry, and one with room for four.
+/// An area with room for one entry, and one with room for four, where no checkpoint frees it.
 const FULL: &[(&str, Lines<'static>)] = &[
     (
         "13034",
@@ -251,7 +265,7 @@ const FULL: &[(&str, Lines<'static>)] = &[
     (
         "13130",
         &[
-            (FOUR, 1, "A", "tpnet: JournalFull\n"),
+            (ALONE, 1, "A", "tpnet: JournalFull\n"),
             (NONE, 1, "A", "tpnet: JournalFull\n"),
             (&["recover", "@device"], 0, "next 4\n", ""),
         ],
