@@ -1,2 +1,3 @@
 pub mod Advances
 pub mod Ahead
+pub mod Spelt

@@ -7,6 +7,7 @@ mod fetch;
 mod operation;
 mod plain;
 mod plain_operation;
+mod spelling;
 mod stepping;
 
 pub use advancing::advance;

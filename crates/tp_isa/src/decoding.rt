@@ -62,7 +62,7 @@ impl Decoder {
 
 /// Gives the operand register after the prefix byte `byte`.
 #[inline(always)]
-fn prefixed(operand: u32, byte: u8) -> u32
+pub fn prefixed(operand: u32, byte: u8) -> u32
     requires { operand % 16 ≡ 0 }
     ensures value { result ≡ prefixed operand byte }
     ensures aligned { result % 16 ≡ 0 }
@@ -77,7 +77,7 @@ fn prefixed(operand: u32, byte: u8) -> u32
 
 /// Puts the low four bits of `byte` into the low end of the operand register.
 #[inline(always)]
-fn filled(operand: u32, byte: u8) -> u32
+pub fn filled(operand: u32, byte: u8) -> u32
     requires { operand % 16 ≡ 0 }
     ensures whole { result ≡ operand + byte % 16 }
     ensures word { result ≡ wrap (operand + byte % 16) }
@@ -140,7 +140,7 @@ pub fn fun_at(byte: u8) -> Option<Fun>
 }
 
 /// Gives the operation that `opr` selects by the operand `number`, if one is listed.
-#[inline]
+#[inline(always)]
 pub fn op_at(number: u32) -> Option<Op>
     ensures { result ≡ op_of number }
 {

@@ -8,7 +8,7 @@ mod laws;
 mod rows;
 mod stack;
 
-pub use decoding::{Decoder, decode, fun_at, op_at};
+pub use decoding::{Decoder, decode, filled, fun_at, op_at, prefixed};
 pub use encoding::encode;
 pub use laws::{encoding_reads_back, no_spelling_is_shorter, reading_is_exact};
 pub use rows::{fun_row, op_row, register_row, registers};
