@@ -11,6 +11,7 @@ mod Devices
 mod Standing
 mod Beside
 pub mod Settling
+mod Ahead
 mod Switches
 mod Tails
 mod Trimming

@@ -35,7 +35,7 @@ reorder-length M s xs ys (same es) = refl
 reorder-length M s xs ys (swap front e f back es at is apart rest) =
     omega (arith, length-append front (e ∷ f ∷ back), length-append front (f ∷ e ∷ back), reorder-length M s (front ++ f ∷ e ∷ back) es rest)
 
-reached_holds : (start : Network NodeState) (w : World NodeState) → Reached start w → Inv t414 device_areas start w
+pub reached_holds : (start : Network NodeState) (w : World NodeState) → Reached start w → Inv t414 device_areas start w
 reached_holds start w R =
     run_keeps t414 has_four_links never_marks device_areas (areas_keep t414 t414_ends) start R.formatted.opened R.events R.first w
     (formatted_holds t414 has_four_links never_marks device_areas (areas_keep t414 t414_ends) start R.formatted.opened R.first R.formatted) R.run

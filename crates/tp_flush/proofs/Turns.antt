@@ -1,5 +1,5 @@
 -- Pieces of runs, one behind the other, and what a crash leaves on the way.
-use Rattle.std.proofs.Common.{◌≡◌}
+use Rattle.std.proofs.Common.{◌≡◌, ◌≤◌, take}
 use Rattle.tp_model.specs.NodeState.{NodeState}
 use Rattle.tp_model.specs.Node.{t414, t414_ends}
 use Rattle.tp_model.specs.Network.{Network}
@@ -8,7 +8,8 @@ use Rattle.tp_model.specs.DeviceAreas.{device_areas}
 use Rattle.tp_model.specs.Walks.{RecoversTo}
 use Rattle.tp_law_machine.proofs.LinkLaws.{has_four_links, never_marks}
 use Rattle.tp_law_device.proofs.Holds.{areas_keep}
-use Rattle.tp_law_runs.proofs.Walks.{no_step, still_walks, walks_recover, walks_then}
+use Rattle.tp_law_runs.proofs.Stay.{stays}
+use Rattle.tp_law_runs.proofs.Walks.{chain_leads, no_step, still_walks, walks_recover, walks_then}
 use Rattle.tp_flush.specs.Known.{Reached}
 use Rattle.tp_flush.specs.Flushing.{Flushing, Walked}
 
@@ -24,3 +25,10 @@ pub walked_recovers : (start : Network NodeState) (a b : Flushing) → Reached s
     → LeavesOnly a.state b.state (RecoversTo t414 device_areas start b.world.journal a.world.mark)
 walked_recovers start a b R W =
     walks_recover t414 device_areas has_four_links never_marks (areas_keep t414 t414_ends) start R.events R.first a.world R.formatted R.run b.world a.state b.state W
+
+-- the mark goes up on the way, and what the journal has below it stays
+pub walked_stays : (start : Network NodeState) (a b : Flushing) → Reached start a.world → Walked a b
+    → (a.world.mark ≤ b.world.mark) × (take a.world.mark b.world.journal ≡ take a.world.mark a.world.journal)
+walked_stays start a b R W =
+    stays t414 has_four_links never_marks device_areas (areas_keep t414 t414_ends) start R.events (chain_leads t414 device_areas a.world b.world W.worlds W.chain).events R.first a.world b.world R.formatted R.run
+    (chain_leads t414 device_areas a.world b.world W.worlds W.chain).run

@@ -5,4 +5,5 @@ pub mod Flushing
 pub mod Ends
 pub mod Refused
 pub mod Settled
+pub mod Ahead
 pub mod Switching

@@ -152,8 +152,7 @@ impl<J: Naming, D: Disk> Flusher<J, D> {
         if !self.copy_image(rt, shared, gate, node)? {
             return Ok(());
         }
-        shared.drop_frozen(rt, node);
-        self.put_out(node as usize);
+        self.let_go(rt, shared, node);
         Ok(())
     }
 

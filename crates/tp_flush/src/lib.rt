@@ -1,9 +1,11 @@
 //! The flusher: it copies what the book journalled, appends it to the store, and raises the durable mark.
 #![tactic(auto)]
 
+mod agreeing;
 mod appending;
 mod checkpoint;
 mod copying;
+mod dropping;
 mod fault;
 mod flushed;
 mod flusher;

@@ -6,7 +6,7 @@ ghost use Rattle.tp_area.specs.Tails.{content_beside};
 ghost use Rattle.tp_model.specs.Disk.{written};
 ghost use Rattle.tp_shared.specs.Pieces.{IsFrozenHead, IsFrozenPage};
 ghost use Rattle.tp_flush.specs.Copying.{IsPartOut};
-ghost use Rattle.tp_flush.specs.Progress.{is_out};
+ghost use Rattle.tp_flush.specs.Progress.{is_out, with_out};
 ghost use Rattle.tp_model.specs.declared.limits.TheConstants.{MAX_PAGES};
 ghost use Rattle.tp_model.specs.WriteOrder.{Resting};
 ghost use Rattle.tp_flush.specs.Flushing.{Goes};
@@ -118,6 +118,7 @@ impl<J: Naming, D: Disk> Flusher<J, D> {
         requires node { node < length self.old.topology.pages }
         requires stands { D.keeps → IsPartOut self.old.topology self.old.world.net (content_beside self.old.place self.old.state) node (get_or self.old.topology.pages node 0) }
         ensures went { Went self.old self.new }
+        ensures out { self.new.progress ≡ with_out self.old.progress node }
         ensures goes { Goes D.keeps J.formatted J.before self.old self.new }
     {
         self.known();

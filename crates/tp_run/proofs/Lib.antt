@@ -2,4 +2,5 @@ pub mod Faults
 pub mod Fronts
 pub mod Made
 pub mod Runs
+mod Shown
 pub mod Slips

@@ -1,5 +1,5 @@
 -- What runs leave of a device.
-use Rattle.std.proofs.Common.{◌≡◌, ℕ, ◌≤◌, ◌⊎◌, inl, inr, List, [], Option, Result, Ok, Err, subst, arith}
+use Rattle.std.proofs.Common.{◌≡◌, ℕ, ◌≤◌, ◌⊎◌, inl, inr, List, [], Option, Result, Ok, Err, refl, subst, arith}
 use Rattle.std.specs.Prelude.{IfOk}
 use Rattle.tp_model.specs.declared.entry.Entry.{Entry}
 use Rattle.tp_model.specs.NodeState.{NodeState}
@@ -23,6 +23,7 @@ use Rattle.tp_run.specs.declared.fault.RunFault.{RunFault}
 use Rattle.tp_run.specs.Input.{input_slips}
 use Rattle.tp_run.specs.Outset.{outset_in}
 use Rattle.tp_run.specs.Ran.{Carried, Ran, Settled}
+use Rattle.tp_run.specs.Shown.{MayShow}
 use Rattle.tp_run.proofs.Slips.{if_ok}
 
 if_both : {A E : Type 0} (r : Result A E) (P Q R : A → Type 0) → ((x : A) → P x → Q x → R x) → IfOk r P → IfOk r Q → IfOk r R
@@ -51,9 +52,9 @@ SlipsAreRecovered =
 -- a device that was opened, and whose flusher walked on from there until it was settled with
 pub served_ran : SlipsAreRecovered → (start : Network NodeState) (opened : Opened) (port : ℕ) (input : List ℕ) (was now : Option (List ℕ)) (old new : Flushing) (result : Result ℕ RunFault)
     → verdict old.state.now.bytes ≡ Ok opened → Reached start old.world → Walked old new → IfOk result (λ next. next ≤ new.world.mark)
-    → IfOk result (Settled (outset_in opened port) (input_slips (outset_in opened port) input) was now new.world.journal)
-    → Ran start port input was now result old.state new.state
-served_ran law start opened port input was now old new result reads R W stored settled =
+    → IfOk result (Settled start (outset_in opened port) (input_slips (outset_in opened port) input) was now new.world.journal)
+    → MayShow start new.world.journal new.world.mark port (outset_in opened port).confirmed was now → Ran start port input was now result old.state new.state
+served_ran law start opened port input was now old new result reads R W stored settled shown =
     let there : Reached start new.world = reached_then start old.world new.world R (chain_leads t414 device_areas old.world new.world W.worlds W.chain) in
     let last : LeavesOnly new.state new.state (RecoversTo t414 device_areas start new.world.journal new.world.mark) = walked_recovers start new new there (walked_nowhere new W.now) in
     let less : (next : ℕ) → next ≤ new.world.mark → (left : List ℕ) → MayBe new.state.now left → RecoversTo t414 device_areas start new.world.journal next left =
@@ -64,7 +65,7 @@ served_ran law start opened port input was now old new result reads R W stored s
       leaves = weaker old.state new.state (RecoversTo t414 device_areas start new.world.journal old.world.mark) _ (λ left r. inr r) (walked_recovers start old new R W);
       stored = if_ok result (λ next. next ≤ new.world.mark) _ (λ next low left may. less next low left may) stored;
       carried =
-          if_both result (λ next. next ≤ new.world.mark) (Settled (outset_in opened port) (input_slips (outset_in opened port) input) was now new.world.journal)
+          if_both result (λ next. next ≤ new.world.mark) (Settled start (outset_in opened port) (input_slips (outset_in opened port) input) was now new.world.journal)
           (λ next. Carried start new.world.journal port input was now next old.state new.state)
           (λ next low s. record {
             opened = opened;
@@ -74,18 +75,32 @@ served_ran law start opened port input was now old new result reads R W stored s
             number = s.number;
             below = s.below;
             stored = λ left may. law start new.world.journal next _ left (less next low left may) s.below s.stand;
+            shows = s.shows;
           }) stored settled;
+      printed = elim shown [
+        | inl same ↦ inl same
+        | inr H ↦ inr (record {
+          opened = opened;
+          reads = reads;
+          number = H.number;
+          outputs = H.outputs;
+          shows = H.shows;
+          count = H.count;
+          appended = H.appended;
+          stored = λ left may. less H.number H.few left may;
+        })
+      ];
     }
 
 -- a device of which no call was made
-pub still_ran : (start : Network NodeState) (port : ℕ) (input : List ℕ) (was now : Option (List ℕ)) (fault : RunFault) (s : State) → Ran start port input was now (Err fault) s s
-still_ran start port input was now fault s = record { journal = []; first = 0; leaves = started s _ (λ left may. inl may); stored = tt; carried = tt }
+pub still_ran : (start : Network NodeState) (port : ℕ) (input : List ℕ) (was : Option (List ℕ)) (fault : RunFault) (s : State) → Ran start port input was was (Err fault) s s
+still_ran start port input was fault s = record { journal = []; first = 0; leaves = started s _ (λ left may. inl may); stored = tt; carried = tt; printed = inl refl }
 
 -- a device that was only read
-pub unwritten_ran : (start : Network NodeState) (port : ℕ) (input : List ℕ) (was now : Option (List ℕ)) (fault : RunFault) (old new : State) → LeavesNothingNew old new
-    → Ran start port input was now (Err fault) old new
-unwritten_ran start port input was now fault old new L =
-    record { journal = []; first = 0; leaves = weaker old new (MayBe old.now) _ (λ left may. inl may) L; stored = tt; carried = tt }
+pub unwritten_ran : (start : Network NodeState) (port : ℕ) (input : List ℕ) (was : Option (List ℕ)) (fault : RunFault) (old new : State) → LeavesNothingNew old new
+    → Ran start port input was was (Err fault) old new
+unwritten_ran start port input was fault old new L =
+    record { journal = []; first = 0; leaves = weaker old new (MayBe old.now) _ (λ left may. inl may) L; stored = tt; carried = tt; printed = inl refl }
 
 -- a device that was read, so that its bytes are the same, and then more
 pub opened_ran : (start : Network NodeState) (port : ℕ) (input : List ℕ) (was now : Option (List ℕ)) (result : Result ℕ RunFault) (old read new : State) → LeavesNothingNew old read
@@ -108,5 +123,19 @@ opened_ran start port input was now result old read new L same R = record {
         number = c.number;
         below = c.below;
         stored = c.stored;
+        shows = c.shows;
       }) R.carried;
+  printed = elim R.printed [
+    | inl none ↦ inl none
+    | inr p ↦ inr (record {
+      opened = p.opened;
+      reads = subst (λ bytes. verdict bytes ≡ Ok p.opened) same p.reads;
+      number = p.number;
+      outputs = p.outputs;
+      shows = p.shows;
+      count = p.count;
+      appended = p.appended;
+      stored = p.stored;
+    })
+  ];
 }

@@ -7,6 +7,8 @@ use Rattle.std.proofs.lemmas.List.{length-take-le, length-map}
 use Rattle.std.proofs.lemmas.List.Sums.{count_by-le-length}
 use Rattle.tp_model.specs.declared.entry.Entry.{Entry}
 use Rattle.tp_model.specs.declared.entry.Entry.TheVariants.{Confirm, HostIn}
+use Rattle.tp_model.specs.NodeState.{NodeState}
+use Rattle.tp_model.specs.Network.{Network}
 use Rattle.tp_book.specs.Book.{BookValue, next_number}
 use Rattle.tp_book.specs.Host.{accepted_of, after_input, port_in, shown_from, shown_of, shown_upto_of}
 use Rattle.tp_book.specs.Calls.{marks_of}
@@ -19,6 +21,7 @@ use Rattle.tp_run.specs.Input.{IsForInput, rest_at, rest_of}
 use Rattle.tp_run.specs.Outset.{StandsIn}
 use Rattle.tp_run.specs.Output.{IsForOutput, confirms}
 use Rattle.tp_run.specs.Ran.{Settled, output_slips}
+use Rattle.tp_run.specs.Shown.{Shows}
 
 pub if_ok : {A E : Type 0} (r : Result A E) (P Q : A → Type 0) → ((x : A) → P x → Q x) → IfOk r P → IfOk r Q
 if_ok (Ok x) P Q turn p = turn x p
@@ -88,10 +91,10 @@ offered_at b new outset input (Err e) S after number F = tt
 -- ## What is settled
 
 -- two receipts, of which one is for what was printed
-pub both_settled : (outset : Outset) (was now : Option (List ℕ)) (journal : List Entry) (next : ℕ) (offered confirmed : Receipted)
-    → IsForOutput outset.port outset.confirmed was now confirmed → offered.number ≤ next → confirmed.number ≤ next → AreBelow offered.number offered.seat
-    → AreBelow confirmed.number confirmed.seat → Stand journal offered.seat → Stand journal confirmed.seat → Settled outset offered.seat was now journal next
-both_settled outset was now journal next offered confirmed O first second handed told one other =
+pub both_settled : (start : Network NodeState) (outset : Outset) (Are : ℕ → List ℕ → Type 0) (was now : Option (List ℕ)) (journal : List Entry) (next : ℕ) (offered confirmed : Receipted)
+    → (O : IsForOutput outset.port outset.confirmed Are was now confirmed) → Shows start journal O.confirmed.first outset.port outset.confirmed O.printed → offered.number ≤ next → confirmed.number ≤ next → AreBelow offered.number offered.seat
+    → AreBelow confirmed.number confirmed.seat → Stand journal offered.seat → Stand journal confirmed.seat → Settled start outset offered.seat was now journal next
+both_settled start outset Are was now journal next offered confirmed O shows first second handed told one other =
     let F = O.confirmed in record {
       printed = O.printed;
       appended = O.appended;
@@ -100,4 +103,5 @@ both_settled outset was now journal next offered confirmed O first second handed
           both (λ slip. slip.0 < next) offered.seat (output_slips outset F.first O.printed) (below_more offered.number next offered.seat first handed)
           (subst (AreBelow next) F.slips (below_more confirmed.number next confirmed.seat second told));
       stand = both _ offered.seat (output_slips outset F.first O.printed) one (subst (Stand journal) F.slips other);
+      shows = shows;
     }

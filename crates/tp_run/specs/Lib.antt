@@ -5,3 +5,4 @@ pub mod Made
 pub mod Outset
 pub mod Output
 pub mod Ran
+pub mod Shown

@@ -1,8 +1,10 @@
 -- What is left on an output, and what confirms it.
-use Rattle.std.specs.Prelude.{◌≡◌, ◌⊎◌, ℕ, ◌+◌, List, [], ◌∷◌, length, Option, take, Result, Ok, Err}
+use Rattle.std.specs.Prelude.{◌≡◌, ◌≤◌, ◌⊎◌, ℕ, ◌+◌, List, [], ◌∷◌, length, Option, take, Result, Ok, Err}
 use Rattle.std.specs.Io.KnownBytes.{Appends}
 use Rattle.tp_model.specs.declared.entry.Entry.{Entry}
 use Rattle.tp_model.specs.declared.entry.Entry.TheVariants.{Confirm}
+use Rattle.tp_book.specs.Book.{BookValue, next_number}
+use Rattle.tp_book.specs.Host.{port_in, shown_from, shown_of}
 use Rattle.tp_host.specs.Receipts.{IsFor}
 use Rattle.tp_shared.specs.Receipted.{Receipted}
 use Rattle.tp_run.specs.declared.fault.RunFault.{RunFault}
@@ -22,8 +24,28 @@ abbrev pub confirms : ℕ → ℕ → List ℕ → List Entry
 confirms port from [] = []
 confirms port from (x ∷ xs) = Confirm port (from + length (x ∷ xs)) ∷ []
 
--- Bytes were appended, and the receipt is for the entry that confirms just these as a port's outputs from a position on.
-pub record IsForOutput (port from : ℕ) (was now : Option (List ℕ)) (receipt : Receipted) : Type 0 where
+-- Bytes were appended, and the receipt is for the entry that confirms just these as a port's outputs from a position on. `Are` holds of
+-- the number of that entry, which is the next one where there is none, and of the bytes.
+pub record IsForOutput (port from : ℕ) (Are : ℕ → List ℕ → Type 0) (was now : Option (List ℕ)) (receipt : Receipted) : Type 0 where
   pub printed : List ℕ
   pub appended : Appends was now printed
   pub confirmed : IsFor (confirms port from printed) receipt
+  pub are : Are confirmed.first printed
+
+-- The bytes are those outputs of a port in a book that a mark shows, and the number is that of its next entry.
+abbrev pub AreShown : BookValue → ℕ → ℕ → ℕ → List ℕ → Type 0
+AreShown b port mark number bytes = (number ≡ next_number b) × (bytes ≡ shown_from b port mark (port_in b port).out_base)
+
+-- The bytes are all outputs of a port in a book, and the number is that of its next entry.
+abbrev pub AreOutputs : BookValue → ℕ → ℕ → List ℕ → Type 0
+AreOutputs b port number bytes = (number ≡ next_number b) × ((port_in b port).outputs ≡ bytes)
+
+-- A mark shows all outputs of a port in a book, and no entry of the book is at or above it. As many outputs are confirmed.
+pub record ShowsAll (b : BookValue) (port mark confirmed : ℕ) : Type 0 where
+  pub base : (port_in b port).out_base ≡ confirmed
+  pub all : shown_of b port mark ≡ length (port_in b port).outputs
+  pub stored : next_number b ≤ mark
+
+-- Nothing was appended; or a mark shows all outputs of a port in a book, and a front of them was.
+abbrev pub PrintedOf : BookValue → ℕ → ℕ → ℕ → Option (List ℕ) → Option (List ℕ) → Type 0
+PrintedOf b port mark confirmed was now = (now ≡ was) ⊎ (ShowsAll b port mark confirmed × AppendsFront was now (port_in b port).outputs)

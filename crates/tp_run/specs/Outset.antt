@@ -1,14 +1,15 @@
 -- Where a port stands.
-use Rattle.std.specs.Prelude.{◌≡◌, ℕ, [], get_or}
+use Rattle.std.specs.Prelude.{◌≡◌, ℕ}
 use Rattle.tp_model.specs.Network.{Port}
 use Rattle.tp_model.specs.Opening.{Opened, next_of}
 use Rattle.tp_book.specs.Book.{BookValue, next_number}
 use Rattle.tp_book.specs.Host.{accepted_of, port_in, room_of}
+use Rattle.tp_run.specs.Shown.{port_of}
 use Rattle.tp_run.specs.declared.outset.Outset.{Outset}
 
--- a port of what was opened; where there is none, one at which nothing has happened
+-- a port of what was opened
 abbrev pub port_at : Opened → ℕ → Port
-port_at o port = get_or o.now.ports port (record { pending = []; in_base = 0; outputs = []; out_base = 0 })
+port_at o port = port_of o.now port
 
 -- where a port that is so stands, when the next entry gets this number
 abbrev pub outset_with : ℕ → ℕ → Port → Outset

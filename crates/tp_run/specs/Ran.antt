@@ -1,5 +1,5 @@
 -- What a run leaves, whatever becomes of the device in it.
-use Rattle.std.specs.Prelude.{◌≡◌, ◌⊎◌, ℕ, List, ◌++◌, Option, Result, Ok, IfOk}
+use Rattle.std.specs.Prelude.{◌≡◌, ◌⊎◌, ℕ, List, ◌++◌, take, Option, Result, Ok, IfOk}
 use Rattle.std.specs.List.{enumerate_from}
 use Rattle.std.specs.Io.KnownBytes.{Appends}
 use Rattle.tp_model.specs.declared.entry.Entry.{Entry}
@@ -19,6 +19,7 @@ use Rattle.tp_run.specs.declared.outset.Outset.{Outset}
 use Rattle.tp_run.specs.Input.{input_slips}
 use Rattle.tp_run.specs.Outset.{outset_in}
 use Rattle.tp_run.specs.Output.{confirms}
+use Rattle.tp_run.specs.Shown.{Shows}
 
 -- What a process goes on from: the network of the images that the device was formatted with, and the world before it was opened.
 pub record History : Type 0 where
@@ -31,17 +32,19 @@ output_slips outset number printed = enumerate_from number (confirms outset.port
 
 -- What was settled with the flusher as a run ended: bytes were printed, and in the flusher's journal, as far as that reaches, stand
 -- the entries of some slips and, under a number of its own, the entry that confirms what was printed. All numbers are below `next`.
-pub record Settled (outset : Outset) (handed : List (ℕ × Entry)) (was now : Option (List ℕ)) (journal : List Entry) (next : ℕ) : Type 0 where
+-- Where the entries before that number lead, the bytes are all outputs of the port behind those confirmed.
+pub record Settled (start : Network NodeState) (outset : Outset) (handed : List (ℕ × Entry)) (was now : Option (List ℕ)) (journal : List Entry) (next : ℕ) : Type 0 where
   pub printed : List ℕ
   pub appended : Appends was now printed
   pub number : ℕ
   pub below : AreBelow next (handed ++ output_slips outset number printed)
   pub stand : Stand journal (handed ++ output_slips outset number printed)
+  pub shows : Shows start journal number outset.port outset.confirmed printed
 
 -- What was handed in and printed by a run that was done is in the journal. The device opened, and its port stood somewhere. Behind
 -- all that the device had there are the entries of the input from what the port had accepted on, as many bytes as it had room for.
--- Some bytes were printed, and there is the entry that confirms just so many outputs behind those confirmed before. All these have
--- numbers below `next`, and whatever a crash leaves of the device opens to where a prefix of the journal leads in which each stands
+-- Some bytes were printed, and there is the entry that confirms just so many outputs behind those confirmed before: where the entries
+-- in front of it lead, these bytes are all the outputs of the port that weren't confirmed. All these entries have numbers below `next`, and whatever a crash leaves of the device opens to where a prefix of the journal leads in which each stands
 -- at its number.
 pub record Carried (start : Network NodeState) (journal : List Entry) (port : ℕ) (input : List ℕ) (was now : Option (List ℕ)) (next : ℕ) (old new : State) : Type 0 where
   pub opened : Opened
@@ -53,13 +56,29 @@ pub record Carried (start : Network NodeState) (journal : List Entry) (port : �
   pub stored :
       (left : List ℕ) → MayBe new.now left
       → RecoversWith start journal next (input_slips (outset_in opened port) input ++ output_slips (outset_in opened port) number printed) left
+  pub shows : Shows start journal number port (outset_in opened port).confirmed printed
+
+-- What was printed, however the run ended: the device opened; where the first entries of the journal lead, so many, the port has some
+-- outputs behind those that were confirmed as it was opened, and a front of them was printed; and whatever a crash leaves of the
+-- device has each of these entries.
+pub record IsPrinted (start : Network NodeState) (journal : List Entry) (port : ℕ) (was now : Option (List ℕ)) (old new : State) : Type 0 where
+  pub opened : Opened
+  pub reads : verdict old.now.bytes ≡ Ok opened
+  pub number : ℕ
+  pub outputs : List ℕ
+  pub shows : Shows start journal number port (outset_in opened port).confirmed outputs
+  pub count : ℕ
+  pub appended : Appends was now (take count outputs)
+  pub stored : (left : List ℕ) → MayBe new.now left → RecoversTo t414 device_areas start journal number left
 
 -- A crash at any moment of the run leaves what one just before might have left, or what opens to where a prefix of the journal leads,
 -- with all that the device had as it was opened. After a run that was done, the prefix has each entry below the answered number, and
--- the input and what confirms the output are among them.
+-- the input and what confirms the output are among them. However it ended, nothing was printed, or outputs of the port where entries
+-- lead that whatever a crash leaves has.
 pub record Ran (start : Network NodeState) (port : ℕ) (input : List ℕ) (was now : Option (List ℕ)) (result : Result ℕ RunFault) (old new : State) : Type 0 where
   pub journal : List Entry
   pub first : ℕ
   pub leaves : LeavesOnly old new (λ left. MayBe old.now left ⊎ RecoversTo t414 device_areas start journal first left)
   pub stored : IfOk result (λ next. (left : List ℕ) → MayBe new.now left → RecoversTo t414 device_areas start journal next left)
   pub carried : IfOk result (λ next. Carried start journal port input was now next old new)
+  pub printed : (now ≡ was) ⊎ IsPrinted start journal port was now old new

@@ -1,17 +1,18 @@
 //! The output that a run prints and confirms.
 
-ghost use Rattle.std.specs.Prelude.{◌≡◌, ◌<◌, length, IfOk, IfErr, OnOk, OnErr};
+ghost use Rattle.std.specs.Prelude.{◌≡◌, ◌<◌, ◌≤◌, length, IfOk, IfErr, OnOk, OnErr};
 ghost use Rattle.std.specs.Io.KnownBytes.{Appends};
 ghost use Rattle.tp_book.specs.Book.{next_number};
-ghost use Rattle.tp_book.specs.Host.{after_confirm, port_in, shown_from, shown_upto_of};
+ghost use Rattle.tp_book.specs.Host.{after_confirm, port_in, shown_from, shown_of, shown_upto_of};
 ghost use Rattle.tp_shared.specs.Entries.{confirm_entries};
 ghost use Rattle.tp_host.specs.Receipts.{IsFor};
 ghost use Rattle.tp_run.specs.Faults.{IsBegun, IsLate};
-ghost use Rattle.tp_run.specs.Output.{AppendsFront, IsForOutput, Printed};
+ghost use Rattle.tp_run.specs.Output.{AppendsFront, AreOutputs, AreShown, IsForOutput, Printed, PrintedOf, ShowsAll};
 
 use crate::fault::RunFault;
 use crate::outset::Outset;
 use std::io::{ErrorKind, Write};
+use tp_book::Book;
 use tp_host::{ConfirmFault, confirm};
 use tp_shared::{Locked, Naming, Receipt};
 
@@ -72,7 +73,7 @@ pub(crate) fn print_shown<J: Naming, O: Write>(
     ensures printed { Printed (O.contents out.old) (O.contents out.new) (shown_from held.old.book port mark (port_in held.old.book port).out_base) result }
     ensures book { IfOk result (λ receipt. held.new.book ≡ after_confirm held.old.book port (shown_upto_of held.old.book port mark)) }
     ensures number { IfOk result (λ receipt. receipt.number ≡ next_number held.new.book) }
-    ensures receipt { IfOk result (IsForOutput port (port_in held.old.book port).out_base (O.contents out.old) (O.contents out.new)) }
+    ensures receipt { IfOk result (IsForOutput port (port_in held.old.book port).out_base (AreShown held.old.book port mark) (O.contents out.old) (O.contents out.new)) }
     ensures late { IfErr result IsLate }
     ensures begun { IfErr result IsBegun }
     ensures err { OnErr result (held.new ≡ held.old) }
@@ -82,8 +83,22 @@ pub(crate) fn print_shown<J: Naming, O: Write>(
     confirm_shown(held, port, mark)
 }
 
-/// The same, where as many outputs are confirmed in the book as `outset` says. Else none is printed; but while only workers were there
-/// since the device was opened, they are.
+/// Tests that `mark` shows all outputs of a port, and is above all entries of the book.
+fn is_all_shown(book: &Book, port: u8, mark: u64) -> Result<(), RunFault>
+    requires { port < length book.now.state.ports }
+    ensures all { IfOk result (λ done. shown_of book.now port mark ≡ length (port_in book.now port).outputs) }
+    ensures stored { IfOk result (λ done. next_number book.now ≤ mark) }
+    ensures refused { IfErr result (λ fault. fault ≡ RunFault.OutputFailed) }
+{
+    let shown = book.shown_upto(port, mark) - book.out_base(port);
+    if shown == book.outputs(port).len() as u64 && book.next() <= mark {
+        return Ok(());
+    }
+    Err(RunFault::OutputFailed)
+}
+
+/// The same, where as many outputs are confirmed in the book as `outset` says, and `mark` shows all of them and is above all entries.
+/// Else none is printed; but while only workers were there since the device was opened, and a flush came behind them, it is so.
 pub(crate) fn print_from<J: Naming, O: Write>(
     held: &mut Locked<J>,
     outset: Outset,
@@ -91,11 +106,14 @@ pub(crate) fn print_from<J: Naming, O: Write>(
     out: &mut O,
 ) -> Result<Receipt<J>, RunFault>
     requires there { outset.port < length held.old.book.state.ports }
-    ensures receipt { IfOk result (IsForOutput outset.port outset.confirmed (O.contents out.old) (O.contents out.new)) }
+    ensures receipt { IfOk result (IsForOutput outset.port outset.confirmed (AreOutputs held.old.book outset.port) (O.contents out.old) (O.contents out.new)) }
+    ensures all { IfOk result (λ receipt. ShowsAll held.old.book outset.port mark outset.confirmed) }
+    ensures printed { PrintedOf held.old.book outset.port mark outset.confirmed (O.contents out.old) (O.contents out.new) }
     ensures late { IfErr result IsLate }
     ensures begun { IfErr result IsBegun }
     ensures err { OnErr result (held.new ≡ held.old) }
 {
     outset.is_confirmed_in(held.book())?;
+    is_all_shown(held.book(), outset.port, mark)?;
     print_shown(held, outset.port, mark, out)
 }

@@ -9,6 +9,7 @@ ghost use Rattle.tp_run.specs.Faults.{IsBegun, IsLate, IsSilent};
 ghost use Rattle.tp_run.specs.Input.{IsForInput, input_slips};
 ghost use Rattle.tp_run.specs.Output.{IsForOutput};
 ghost use Rattle.tp_run.specs.Ran.{Settled};
+ghost use Rattle.tp_run.specs.Shown.{AreShownIn, MayShow};
 
 use crate::fault::RunFault;
 use crate::flushing::{flush_meanwhile, flush_upto};
@@ -43,21 +44,30 @@ fn offer<J: Naming, R: Wait>(
     offer_at(&mut held, outset, input)
 }
 
-/// Prints and confirms, under the book's lock, what `mark` shows.
-fn print<J: Naming, O: Write, R: Wait>(
+/// Prints and confirms, under the book's lock, what `mark` shows, which the flusher raised. What is printed are outputs of the port where
+/// the flusher's journal leads.
+fn print<J: Naming, D: Disk, O: Write, R: Wait>(
     rt: &R,
     shared: &Shared<J>,
+    flusher: &mut Flusher<J, D>,
     outset: Outset,
     mark: u64,
     out: &mut O,
 ) -> Result<Receipt<J>, RunFault>
-    requires { outset.port < length J.start.ports }
-    ensures receipt { IfOk result (IsForOutput outset.port outset.confirmed (O.contents out.old) (O.contents out.new)) }
+    requires there { outset.port < length J.start.ports }
+    requires mark { mark ≡ flusher.old.world.mark }
+    ensures same { flusher.new ≡ flusher.old }
+    ensures receipt { IfOk result (IsForOutput outset.port outset.confirmed
+        (λ number bytes. D.keeps → Began J.formatted J.before flusher.old.opened → AreShownIn J.formatted flusher.old.world outset.port outset.confirmed number bytes)
+        (O.contents out.old) (O.contents out.new)) }
+    ensures shown { D.keeps → Began J.formatted J.before flusher.old.opened
+        → MayShow J.formatted flusher.old.world.journal flusher.old.world.mark outset.port outset.confirmed (O.contents out.old) (O.contents out.new) }
     ensures late { IfErr result IsLate }
     ensures begun { IfErr result IsBegun }
 {
     let mut held = shared.book().lock(rt);
     held.known();
+    flusher.settle_book(&mut held);
     print_from(&mut held, outset, mark, out)
 }
 
@@ -116,7 +126,8 @@ fn settle<J: Naming, D: Disk, R: Wait>(
 }
 
 /// Flushes, prints what is shown, confirms it, and flushes again. Answers the number that the next entry gets. What is in the receipt
-/// of the input, and in that of the output, is then in the journal.
+/// of the input, and in that of the output, is then in the journal; and what was printed are outputs of the port where it leads,
+/// however it ends.
 fn finish<J: Naming, D: Disk, O: Write, R: Wait>(
     rt: &R,
     alloc: Global,
@@ -131,13 +142,16 @@ fn finish<J: Naming, D: Disk, O: Write, R: Wait>(
     ensures process { IsSameProcess flusher.old flusher.new }
     ensures stored { IfOk result (λ next. next ≤ flusher.new.world.mark) }
     ensures settled { D.keeps → Began J.formatted J.before flusher.old.opened
-        → IfOk result (Settled outset offered.seat (O.contents out.old) (O.contents out.new) flusher.new.world.journal) }
+        → IfOk result (Settled J.formatted outset offered.seat (O.contents out.old) (O.contents out.new) flusher.new.world.journal) }
+    ensures shown { D.keeps → Began J.formatted J.before flusher.old.opened
+        → MayShow J.formatted flusher.new.world.journal flusher.new.world.mark outset.port outset.confirmed (O.contents out.old) (O.contents out.new) }
     ensures silent { IsSilent result → O.contents out.new ≡ O.contents out.old }
     ensures begun { IfErr result IsBegun }
 {
+    flusher.known();
     let number = offered.number();
     let mark = flush_upto(rt, alloc, shared, flusher, number, RunFault::FlushFailed)?;
-    let confirmed = print(rt, shared, outset, mark, out)?;
+    let confirmed = print(rt, shared, flusher, outset, mark, out)?;
     let next = later(number, confirmed.number());
     let _mark = flush_upto(rt, alloc, shared, flusher, next, RunFault::LastFlushFailed)?;
     settle(rt, shared, flusher, offered, confirmed);
@@ -169,7 +183,9 @@ pub(crate) fn serve<
     ensures process { IsSameProcess flusher result.0 }
     ensures stored { IfOk result.1 (λ next. next ≤ result.0.world.mark) }
     ensures settled { D.keeps → Began J.formatted J.before flusher.opened
-        → IfOk result.1 (Settled outset (input_slips outset input.now) (O.contents out.old) (O.contents out.new) result.0.world.journal) }
+        → IfOk result.1 (Settled J.formatted outset (input_slips outset input.now) (O.contents out.old) (O.contents out.new) result.0.world.journal) }
+    ensures shown { D.keeps → Began J.formatted J.before flusher.opened
+        → MayShow J.formatted result.0.world.journal result.0.world.mark outset.port outset.confirmed (O.contents out.old) (O.contents out.new) }
     ensures silent { IsSilent result.1 → O.contents out.new ≡ O.contents out.old }
     ensures begun { IfErr result.1 IsBegun }
 {

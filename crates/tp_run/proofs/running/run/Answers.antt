@@ -14,18 +14,18 @@ run_parts-requires-clause-names g c κs within =
 pub returns-in-Err-clause-ran : goal.returns-in-Err-clause-ran
 returns-in-Err-clause-ran g c k began =
     let out = g.O.Write.contents c.args.out.now in
-    unwritten_ran g.history.formatted c.args.job.port c.args.input.now out out (Opening c.in-Err.unopened) (g.D.Disk.state c.args.disk) (g.D.Disk.state c.open.new.disk) (c.open.ensures.leaves k)
+    unwritten_ran g.history.formatted c.args.job.port c.args.input.now out (Opening c.in-Err.unopened) (g.D.Disk.state c.args.disk) (g.D.Disk.state c.open.new.disk) (c.open.ensures.leaves k)
 
 pub returns-in-Some-clause-ran : goal.returns-in-Some-clause-ran
 returns-in-Some-clause-ran g c k began =
     let out = g.O.Write.contents c.args.out.now in
-    unwritten_ran g.history.formatted c.args.job.port c.args.input.now out out c.in-Some.fault (g.D.Disk.state c.args.disk) (g.D.Disk.state c.open.new.disk) (c.open.ensures.leaves k)
+    unwritten_ran g.history.formatted c.args.job.port c.args.input.now out c.in-Some.fault (g.D.Disk.state c.args.disk) (g.D.Disk.state c.open.new.disk) (c.open.ensures.leaves k)
 
 pub returns-in_default-parts_of-clause-ran : goal.returns-in_default-parts_of-clause-ran
 returns-in_default-parts_of-clause-ran g c k began =
     let out = g.O.Write.contents c.args.out.now in
     subst (λ d. Ran g.history.formatted c.args.job.port c.args.input.now out out (Err Memory) (g.D.Disk.state c.args.disk) (g.D.Disk.state d)) (sym (c.into_disk.ensures ∙ c.store-store.ensures.disk))
-    (unwritten_ran g.history.formatted c.args.job.port c.args.input.now out out Memory (g.D.Disk.state c.args.disk) (g.D.Disk.state c.open.new.disk) (c.open.ensures.leaves k))
+    (unwritten_ran g.history.formatted c.args.job.port c.args.input.now out Memory (g.D.Disk.state c.args.disk) (g.D.Disk.state c.open.new.disk) (c.open.ensures.leaves k))
 
 pub returns-clause-ran : goal.returns-clause-ran
 returns-clause-ran g c k began =

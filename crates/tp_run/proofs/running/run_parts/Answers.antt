@@ -5,7 +5,9 @@ use Rattle.tp_model.specs.Opening.{verdict}
 use Rattle.tp_flush.specs.Known.{Began}
 use Rattle.tp_run.specs.declared.fault.RunFault.TheVariants.{Memory}
 use Rattle.tp_run.specs.Input.{input_slips}
+use Rattle.tp_run.specs.declared.outset.Outset.{Outset}
 use Rattle.tp_run.specs.Ran.{Ran, Settled}
+use Rattle.tp_run.specs.Shown.{MayShow}
 use Rattle.tp_run.proofs.Runs.{served_ran, still_ran}
 use Rattle.tp_run.proofs.running.run_parts.Goals as goal
 
@@ -19,7 +21,7 @@ pub returns-in_default-clause-ran : goal.returns-in_default-clause-ran
 returns-in_default-clause-ran g c k began =
     let out = g.O.Write.contents c.args.out.now in
     subst (λ d. Ran g.J.Naming.formatted c.args.job.port c.args.input.now out out (Err Memory) (g.D.Disk.state c.args.store.disk) (g.D.Disk.state d)) (sym c.into_disk.ensures)
-    (still_ran g.J.Naming.formatted c.args.job.port c.args.input.now out out Memory (g.D.Disk.state c.args.store.disk))
+    (still_ran g.J.Naming.formatted c.args.job.port c.args.input.now out Memory (g.D.Disk.state c.args.store.disk))
 
 pub returns-clause-ran : goal.returns-clause-ran
 returns-clause-ran g c k began =
@@ -34,7 +36,8 @@ returns-clause-ran g c k began =
     let done = c.serve-flusher.result.1 in
     let first : Began start g.J.Naming.before old.opened = subst (Began start g.J.Naming.before) (sym c.over-flusher.ensures.opened) began in
     let reads : verdict old.state.now.bytes ≡ Ok opened = subst (λ (s : State). verdict s.now.bytes ≡ Ok opened) (sym c.over-flusher.ensures.device.0) (c.requires.read k) in
-    let settled = subst (λ u. IfOk done (Settled u (input_slips u input) was now new.world.journal)) c.requires.outset (c.serve-flusher.ensures.settled k first) in
+    let settled = subst (λ u. IfOk done (Settled start u (input_slips u input) was now new.world.journal)) c.requires.outset (c.serve-flusher.ensures.settled k first) in
+    let shown = subst (λ (u : Outset). MayShow start new.world.journal new.world.mark u.port u.confirmed was now) c.requires.outset (c.serve-flusher.ensures.shown k first) in
     let ran : Ran start port input was now done old.state new.state =
-    served_ran c.stored_slips_are_recovered.ensures start opened port input was now old new done reads (c.known.ensures.reached k first) (c.serve-flusher.ensures.walks k first) c.serve-flusher.ensures.stored settled in
+    served_ran c.stored_slips_are_recovered.ensures start opened port input was now old new done reads (c.known.ensures.reached k first) (c.serve-flusher.ensures.walks k first) c.serve-flusher.ensures.stored settled shown in
     subst (λ s. Ran start port input was now done (g.D.Disk.state c.args.store.disk) s) (sym c.into_disk-2.ensures.state) (subst (λ s. Ran start port input was now done s new.state) c.over-flusher.ensures.device.0 ran)

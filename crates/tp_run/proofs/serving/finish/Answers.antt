@@ -1,35 +1,86 @@
-use Rattle.std.proofs.Common.{◌≤◌, sym, subst, ◌∙◌, arith}
+use Rattle.std.proofs.Common.{◌≤◌, inl, refl, sym, ap, subst, ◌∙◌, arith}
 use Rattle.tp_flush.specs.Known.{Began}
 use Rattle.tp_flush.specs.Flushing.{Flushing, Walked}
 use Rattle.tp_flush.proofs.Turns.{walked_then}
 use Rattle.tp_run.specs.Ran.{Settled}
+use Rattle.tp_run.specs.Shown.{MayShow}
+use Rattle.tp_run.proofs.Shown.{may_show_on, shows_on, walked_reached}
 use Rattle.tp_run.proofs.Slips.{both_settled}
 use Rattle.tp_run.proofs.serving.finish.Goals as goal
 
+-- ## Each moment of the device
+
+pub returns-in_err-confirmed-clause-walks : goal.returns-in_err-confirmed-clause-walks
+returns-in_err-confirmed-clause-walks g c k began = subst (λ (f : Flushing). Walked c.args.flusher.now f) (sym c.print.ensures.same) (c.flush_upto.ensures.walks k began)
+
 pub returns-in_err-_mark-clause-walks : goal.returns-in_err-_mark-clause-walks
 returns-in_err-_mark-clause-walks g c k began =
-    walked_then c.args.flusher.now c.flush_upto.new.flusher c.flush_upto-2.new.flusher (c.flush_upto.ensures.walks k began)
-    (c.flush_upto-2.ensures.walks k (subst (Began g.J.Naming.formatted g.J.Naming.before) (sym c.flush_upto.ensures.process.opened) began))
+    let there = subst (Began g.J.Naming.formatted g.J.Naming.before) (sym (ap (λ (f : Flushing). f.opened) c.print.ensures.same ∙ c.flush_upto.ensures.process.opened)) began in
+    let first = subst (λ (f : Flushing). Walked c.args.flusher.now f) (sym c.print.ensures.same) (c.flush_upto.ensures.walks k began) in
+    walked_then c.args.flusher.now c.print.new.flusher c.flush_upto-2.new.flusher first (c.flush_upto-2.ensures.walks k there)
 
 pub returns-clause-walks : goal.returns-clause-walks
 returns-clause-walks g c k began =
+    let there = subst (Began g.J.Naming.formatted g.J.Naming.before) (sym (ap (λ (f : Flushing). f.opened) c.print.ensures.same ∙ c.flush_upto.ensures.process.opened)) began in
+    let first = subst (λ (f : Flushing). Walked c.args.flusher.now f) (sym c.print.ensures.same) (c.flush_upto.ensures.walks k began) in
     subst (λ (f : Flushing). Walked c.args.flusher.now f) (sym c.settle.ensures.same)
-    (walked_then c.args.flusher.now c.flush_upto.new.flusher c.flush_upto-2.new.flusher (c.flush_upto.ensures.walks k began)
-    (c.flush_upto-2.ensures.walks k (subst (Began g.J.Naming.formatted g.J.Naming.before) (sym c.flush_upto.ensures.process.opened) began)))
+    (walked_then c.args.flusher.now c.print.new.flusher c.flush_upto-2.new.flusher first (c.flush_upto-2.ensures.walks k there))
+
+-- ## What is printed
+
+pub returns-in_err-confirmed-clause-shown : goal.returns-in_err-confirmed-clause-shown
+returns-in_err-confirmed-clause-shown g c k began =
+    let there = subst (Began g.J.Naming.formatted g.J.Naming.before) (sym c.flush_upto.ensures.process.opened) began in
+    subst
+    (λ (f : Flushing). MayShow g.J.Naming.formatted f.world.journal f.world.mark c.args.outset.port c.args.outset.confirmed (g.O.Write.contents c.args.out.now) (g.O.Write.contents c.print.new.out))
+    (sym c.print.ensures.same) (c.print.ensures.shown k there)
+
+pub returns-in_err-_mark-clause-shown : goal.returns-in_err-_mark-clause-shown
+returns-in_err-_mark-clause-shown g c k began =
+    let start = g.J.Naming.formatted in
+    let one = c.flush_upto.new.flusher in
+    let there = subst (Began start g.J.Naming.before) (sym c.flush_upto.ensures.process.opened) began in
+    let later = subst (λ (f : Flushing). Began start g.J.Naming.before f.opened) (sym c.print.ensures.same) there in
+    let walked = subst (λ (f : Flushing). Walked f c.flush_upto-2.new.flusher) c.print.ensures.same (c.flush_upto-2.ensures.walks k later) in
+    may_show_on start one c.flush_upto-2.new.flusher (walked_reached start c.args.flusher.now one (c.known.ensures.reached k began) (c.flush_upto.ensures.walks k began)) walked
+    c.args.outset.port c.args.outset.confirmed (g.O.Write.contents c.args.out.now) (g.O.Write.contents c.print.new.out) (c.print.ensures.shown k there)
+
+pub returns-clause-shown : goal.returns-clause-shown
+returns-clause-shown g c k began =
+    let start = g.J.Naming.formatted in
+    let one = c.flush_upto.new.flusher in
+    let there = subst (Began start g.J.Naming.before) (sym c.flush_upto.ensures.process.opened) began in
+    let later = subst (λ (f : Flushing). Began start g.J.Naming.before f.opened) (sym c.print.ensures.same) there in
+    let walked = subst (λ (f : Flushing). Walked f c.flush_upto-2.new.flusher) c.print.ensures.same (c.flush_upto-2.ensures.walks k later) in
+    subst
+    (λ (f : Flushing). MayShow start f.world.journal f.world.mark c.args.outset.port c.args.outset.confirmed (g.O.Write.contents c.args.out.now) (g.O.Write.contents c.print.new.out))
+    (sym c.settle.ensures.same)
+    (may_show_on start one c.flush_upto-2.new.flusher (walked_reached start c.args.flusher.now one (c.known.ensures.reached k began) (c.flush_upto.ensures.walks k began)) walked
+    c.args.outset.port c.args.outset.confirmed (g.O.Write.contents c.args.out.now) (g.O.Write.contents c.print.new.out) (c.print.ensures.shown k there))
+
+-- ## What is settled
 
 pub returns-clause-settled : goal.returns-clause-settled
 returns-clause-settled g c k began =
+    let start = g.J.Naming.formatted in
     let was = g.O.Write.contents c.args.out.now in
     let now = g.O.Write.contents c.print.new.out in
-    let there = c.flush_upto-2.new.flusher in
+    let one = c.flush_upto.new.flusher in
+    let two = c.flush_upto-2.new.flusher in
+    let O = c.in_ok-confirmed.ensures.receipt in
+    let there = subst (Began start g.J.Naming.before) (sym c.flush_upto.ensures.process.opened) began in
+    let later = subst (λ (f : Flushing). Began start g.J.Naming.before f.opened) (sym c.print.ensures.same) there in
+    let walked = subst (λ (f : Flushing). Walked f two) c.print.ensures.same (c.flush_upto-2.ensures.walks k later) in
+    let reached = walked_reached start c.args.flusher.now one (c.known.ensures.reached k began) (c.flush_upto.ensures.walks k began) in
+    let shows = (shows_on start one two reached walked c.args.outset.port c.args.outset.confirmed O.confirmed.first O.printed (O.are k there)).1 in
     let next = c.later-next.result in
-    let one = c.number-number.ensures in
+    let number = c.number-number.ensures in
     let other = c.number.ensures in
     let up = c.later-next.ensures.first in
     let high = c.later-next.ensures.second in
-    let first : c.args.offered.number ≤ next = omega (arith, one, up) in
+    let first : c.args.offered.number ≤ next = omega (arith, number, up) in
     let second : c.in_ok-confirmed.confirmed.number ≤ next = omega (arith, other, high) in
     let S = c.settle.ensures in
-    let stand = S.stand k (subst (Began g.J.Naming.formatted g.J.Naming.before) (sym (c.flush_upto-2.ensures.process.opened ∙ c.flush_upto.ensures.process.opened)) began) in
-    subst (λ (f : Flushing). Settled c.args.outset c.args.offered.seat was now f.world.journal next) (sym S.same)
-    (both_settled c.args.outset was now there.world.journal next c.args.offered c.in_ok-confirmed.confirmed c.in_ok-confirmed.ensures.receipt first second S.below.0 S.below.1 stand.0 stand.1)
+    let stand = S.stand k (subst (Began start g.J.Naming.before) (sym c.flush_upto-2.ensures.process.opened) later) in
+    subst (λ (f : Flushing). Settled start c.args.outset c.args.offered.seat was now f.world.journal next) (sym S.same)
+    (both_settled start c.args.outset _ was now two.world.journal next c.args.offered c.in_ok-confirmed.confirmed O shows first second S.below.0 S.below.1 stand.0 stand.1)

@@ -16,5 +16,8 @@ pub returns-clause-settled : goal.returns-clause-settled
 returns-clause-settled g c k began =
     let was = g.O.Write.contents c.args.out.now in
     let now = g.O.Write.contents c.finish-done.new.out in
-    subst (λ slips. IfOk c.finish-done.result (Settled c.args.outset slips was now c.finish-done.new.flusher.world.journal)) c.in-Ok.ensures.receipt.slips
+    subst (λ slips. IfOk c.finish-done.result (Settled g.J.Naming.formatted c.args.outset slips was now c.finish-done.new.flusher.world.journal)) c.in-Ok.ensures.receipt.slips
     (c.finish-done.ensures.settled k (subst (Began g.J.Naming.formatted g.J.Naming.before) (sym c.work-flusher.ensures.process.opened) began))
+
+pub returns-clause-shown : goal.returns-clause-shown
+returns-clause-shown g c k began = c.finish-done.ensures.shown k (subst (Began g.J.Naming.formatted g.J.Naming.before) (sym c.work-flusher.ensures.process.opened) began)

@@ -2,8 +2,8 @@ use Rattle.tp_flush.proofs.Goings.{goes_then, went_then}
 use Rattle.tp_flush.proofs.flusher.Flusher.copy_node.Goals as goal
 
 pub returns-clause-tried : goal.returns-clause-tried
-returns-clause-tried g c = went_then c.args.self.now c.copy_image.new.self c.put_out.new.self c.in_ok-copy_image.ensures.tried c.put_out.ensures.went
+returns-clause-tried g c = went_then c.args.self.now c.copy_image.new.self c.let_go.new.self c.in_ok-copy_image.ensures.tried c.let_go.ensures.went
 
 pub returns-clause-goes : goal.returns-clause-goes
 returns-clause-goes g c =
-    goes_then g.D.Disk.keeps g.J.Naming.formatted g.J.Naming.before c.args.self.now c.copy_image.new.self c.put_out.new.self c.copy_image.ensures.goes c.put_out.ensures.goes
+    goes_then g.D.Disk.keeps g.J.Naming.formatted g.J.Naming.before c.args.self.now c.copy_image.new.self c.let_go.new.self c.copy_image.ensures.goes c.let_go.ensures.goes

@@ -1,0 +1,42 @@
+-- The book's entries beside the flusher's journal, and where they lead.
+use Rattle.std.proofs.Common.{◌≡◌, ℕ, ◌≤◌, ◌++◌, List, length, take, sym, ap, subst, ◌∙◌, Some}
+use Rattle.tp_model.specs.declared.entry.Entry.{Entry}
+use Rattle.tp_model.specs.NodeState.{NodeState}
+use Rattle.tp_model.specs.Node.{t414, t414_ends}
+use Rattle.tp_model.specs.Network.{Network}
+use Rattle.tp_model.specs.Markers.{plain_network}
+use Rattle.tp_model.specs.Order.{after}
+use Rattle.tp_model.specs.DeviceAreas.{device_areas}
+use Rattle.tp_model.specs.Runs.{World}
+use Rattle.tp_law_machine.proofs.LinkLaws.{has_four_links, never_marks}
+use Rattle.tp_law_device.proofs.Holds.{areas_keep}
+use Rattle.tp_law_runs.proofs.History.{journal_leads}
+use Rattle.tp_law_runs.proofs.Stay.{mark_there}
+use Rattle.tp_book.specs.Book.{world_of}
+use Rattle.tp_shared.specs.declared.told.Told.{Told}
+use Rattle.tp_shared.specs.Seals.{Stage}
+use Rattle.tp_shared.specs.Told.{IsFirst, Since, told_of}
+use Rattle.tp_shared.proofs.Telling.{told_journal}
+use Rattle.tp_flush.specs.Ahead.{IsAhead}
+use Rattle.tp_flush.specs.Known.{Reached}
+use Rattle.tp_flush.proofs.Kept.{reached_then}
+use Rattle.tp_flush.proofs.Looks.{learned, learns}
+use Rattle.tp_flush.proofs.Settling.{length-journal, reached_holds}
+
+-- a book to which acts led since it was told
+pub book_ahead : (start : Network NodeState) (before : World NodeState) (first : ℕ) (stage : Stage) (key : Told) (w : World NodeState) → Reached start w → IsFirst key w
+    → Since key (told_of before first stage) → IsAhead start w stage.book
+book_ahead start before first stage key w R F S =
+    let now = told_of before first stage in
+    let v = learned w now in
+    let there : Reached start v = reached_then start w v R (learns w key now F S) in
+    let J = told_journal before first key stage S in
+    let both : now.journal ≡ w.journal ++ J.0 = J.2 ∙ ap (λ es. es ++ J.0) F.journal in
+    record {
+      more = J.0;
+      leads =
+          subst (λ es. after t414 start es ≡ Some (plain_network (world_of stage.book).live)) both
+          (journal_leads t414 has_four_links never_marks device_areas (areas_keep t414 t414_ends) start there.events there.first v there.formatted there.run);
+      many = ap length (sym both) ∙ length-journal start v there;
+      marked = mark_there t414 has_four_links never_marks device_areas (areas_keep t414 t414_ends) start R.formatted.opened w (reached_holds start w R);
+    }

@@ -1,0 +1,22 @@
+//! What the flusher knows beside the book as it is.
+
+ghost use Rattle.std.specs.Prelude.{◌≡◌};
+ghost use Rattle.tp_flush.specs.Ahead.{IsAhead};
+ghost use Rattle.tp_flush.specs.Known.{Began};
+
+use crate::flusher::Flusher;
+use tp_disk::Disk;
+use tp_shared::{Locked, Naming};
+
+impl<J: Naming, D: Disk> Flusher<J, D> {
+    /// Changes nothing. The book has the flusher's journal and some entries behind it, and all of them lead from the network of the
+    /// images that the device was formatted with to the one that the book has.
+    pub fn settle_book(&mut self, held: &mut Locked<J>)
+        ensures same { (self.new ≡ self.old) × (held.new ≡ held.old) }
+        ensures ahead { D.keeps → Began J.formatted J.before self.old.opened → IsAhead J.formatted self.old.world held.old.book }
+    {
+        self.known();
+        let Flusher { parts, .. } = self;
+        held.compare(&mut parts.key);
+    }
+}

@@ -1,0 +1,38 @@
+-- What was printed, beside the journal: the outputs of a port where entries lead.
+use Rattle.std.specs.Prelude.{◌≡◌, ◌≤◌, ◌⊎◌, ℕ, List, [], get_or, take, Option, Some}
+use Rattle.std.specs.Io.KnownBytes.{Appends}
+use Rattle.tp_model.specs.declared.entry.Entry.{Entry}
+use Rattle.tp_model.specs.NodeState.{NodeState}
+use Rattle.tp_model.specs.Node.{t414}
+use Rattle.tp_model.specs.Network.{Network, Port}
+use Rattle.tp_model.specs.Order.{after}
+use Rattle.tp_model.specs.Runs.{World}
+
+-- a port of a network; where there is none, one at which nothing has happened
+abbrev pub port_of : Network NodeState → ℕ → Port
+port_of s port = get_or s.ports port (record { pending = []; in_base = 0; outputs = []; out_base = 0 })
+
+-- The first entries of a journal, so many, lead to a network in which a port has just these outputs behind those confirmed.
+pub record Shows (start : Network NodeState) (journal : List Entry) (number port confirmed : ℕ) (outputs : List ℕ) : Type 0 where
+  pub state : Network NodeState
+  pub leads : after t414 start (take number journal) ≡ Some state
+  pub base : (port_of state port).out_base ≡ confirmed
+  pub are : (port_of state port).outputs ≡ outputs
+
+-- so do those of a world, all of which are below its mark
+abbrev pub AreShownIn : Network NodeState → World NodeState → ℕ → ℕ → ℕ → List ℕ → Type 0
+AreShownIn start w port confirmed number outputs = (number ≤ w.mark) × Shows start w.journal number port confirmed outputs
+
+-- What was appended to an output is a front of a port's outputs behind those confirmed, where the first entries of the journal lead;
+-- there are at most `least` of these.
+pub record HasShown (start : Network NodeState) (journal : List Entry) (least port confirmed : ℕ) (was now : Option (List ℕ)) : Type 0 where
+  pub number : ℕ
+  pub few : number ≤ least
+  pub outputs : List ℕ
+  pub shows : Shows start journal number port confirmed outputs
+  pub count : ℕ
+  pub appended : Appends was now (take count outputs)
+
+-- or nothing was appended
+abbrev pub MayShow : Network NodeState → List Entry → ℕ → ℕ → ℕ → Option (List ℕ) → Option (List ℕ) → Type 0
+MayShow start journal least port confirmed was now = (now ≡ was) ⊎ HasShown start journal least port confirmed was now
