@@ -15,7 +15,7 @@ use Rattle.tp_model.specs.Runs.{World, is_trim}
 use Rattle.tp_model.specs.Device.{area_start, is_open}
 use Rattle.tp_model.specs.Disk.{Moment, SameOutside}
 use Rattle.tp_model.specs.DiskHistory.{State}
-use Rattle.tp_model.specs.StoreCalls.{Called, clear_calls, group_calls, put_calls}
+use Rattle.tp_model.specs.StoreCalls.{Called, clear_calls, put_calls}
 use Rattle.tp_model.specs.Head.{Head, head_of}
 use Rattle.tp_model.specs.Opening.{Opened, verdict}
 use Rattle.tp_model.specs.Journal.{room}
