@@ -3,7 +3,7 @@
 ghost use Rattle.std.specs.Prelude.{◌≡◌, true, false, Ok, IfOk, OnErr};
 ghost use Rattle.tp_book.specs.Marked.{after_begin, begin_refusal};
 ghost use Rattle.tp_book.specs.Refusals.{IsAnswer};
-ghost use Rattle.tp_run.specs.Every.{every_of, half_of, is_due};
+ghost use Rattle.tp_run.specs.Every.{every_of, half_of, is_due, missing_in};
 
 use std::alloc::Global;
 use tp_book::Refusal;
@@ -29,6 +29,14 @@ pub(crate) fn every_of(asked: Option<u32>, topology: &Topology, area: u64) -> u6
         Some(entries) => entries.into(),
         None => half_of(topology, area).max(1),
     }
+}
+
+/// How many entries since the kept cut are wanting until there are `every` of them.
+pub(crate) fn missing_in<J: Naming>(held: &Locked<J>, every: u64) -> u64
+    ensures { result ≡ missing_in every held.now.book }
+{
+    let made = held.book().next().saturating_sub(held.book().base());
+    every.saturating_sub(made)
 }
 
 /// Begins a snapshot, under the book's lock, where `every` entries have been made since the kept cut. Whether one was begun.

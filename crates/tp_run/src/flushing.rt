@@ -10,10 +10,18 @@ use crate::watch::Watch;
 use std::alloc::Global;
 use std::sync::Wait;
 use tp_disk::Disk;
-use tp_flush::{FlushFault, Flusher};
+use tp_flush::{FlushFault, Flushed, Flusher};
 use tp_shared::{Naming, Shared};
 
-/// Makes the flusher's turns while workers make theirs, each once something may have been journalled, until they have ended. Where a turn
+/// Tells that the entries since the kept cut are others, where a turn of the flusher switched the areas.
+fn tell_of(watch: &Watch, done: &Result<Flushed, FlushFault>) {
+    if let Ok(Flushed { switched: true, .. }) = done {
+        watch.count_anew();
+    }
+}
+
+/// Makes the flusher's turns while workers make theirs, each once something may have been journalled, until they have ended;
+/// it sleeps until it is woken where nothing was. Where a turn
 /// wants memory, the next one does all; once a call of the device has failed, a turn does nothing.
 pub(crate) fn flush_meanwhile<J: Naming, D: Disk, R: Wait>(
     rt: &R,
@@ -33,7 +41,8 @@ pub(crate) fn flush_meanwhile<J: Naming, D: Disk, R: Wait>(
             break;
         };
         seen = news;
-        let _done = flusher.turn(rt, alloc, shared);
+        let done = flusher.turn(rt, alloc, shared);
+        tell_of(watch, &done);
     }
     flusher
 }

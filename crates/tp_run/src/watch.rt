@@ -1,35 +1,50 @@
 //! What workers and the flusher's thread tell each other.
 
-use std::sync::{Condvar, Mutex, Wait};
+ghost use Rattle.std.specs.Prelude.{◌≡◌, ◌<◌, ◌≤◌, ◌+◌, ◌-◌, ◌^◌};
 
-/// How many turns are left, how often a turn may have journalled something, and whether the workers have ended.
-#[derive(Drop)]
-struct Round {
-    left: u32,
-    news: u64,
-    ended: bool,
+use std::sync::Wait;
+use std::sync::atomic::{AtomicBool, AtomicU64, Ordering};
+
+/// Of so many turns that are drawn, the last one wakes the flusher where it sleeps, and has the entries counted anew. No turn makes more
+/// entries.
+pub(crate) const EACH: u64 = 64;
+
+/// How many entries are made when those since the kept cut are counted again, once `made` were made and `missing` were wanting. Where none
+/// is, a snapshot has begun or can't, and they aren't until that may have changed.
+fn due_behind(made: u64, missing: u64) -> u64
+    ensures soon { 0 < missing → result ≤ made + missing }
+    ensures later { 0 < missing → made < 2 ^ 64 - 1 → made < result }
+    ensures none { missing ≡ 0 → result ≡ 2 ^ 64 - 1 }
+{
+    if missing > 0 {
+        made.saturating_add(missing)
+    } else {
+        u64::MAX
+    }
 }
 
-/// The round under a lock that nobody holds for longer than a look, the bell by which the flusher is woken, and how many entries since
-/// the kept cut begin a snapshot.
+/// How many turns there are, and how many were drawn; how many entries they made, or more; whether the workers have ended; and how many
+/// entries since the kept cut begin a snapshot, with the number of entries made at which there may be as many. No lock is taken for it.
 #[derive(Drop)]
 pub(crate) struct Watch {
+    turns: u64,
+    drawn: AtomicU64,
+    made: AtomicU64,
+    ended: AtomicBool,
     every: u64,
-    round: Mutex<Round>,
-    bell: Condvar,
+    due: AtomicU64,
 }
 
 impl Watch {
     /// A watch over a round of `turns` turns, in which `every` entries begin a snapshot.
     pub(crate) fn new(turns: u32, every: u64) -> Watch {
         Watch {
+            turns: turns.into(),
+            drawn: AtomicU64::new(0),
+            made: AtomicU64::new(0),
+            ended: AtomicBool::new(false),
             every,
-            round: Mutex::new(Round {
-                left: turns,
-                news: 0,
-                ended: false,
-            }),
-            bell: Condvar::new(),
+            due: AtomicU64::new(0),
         }
     }
 
@@ -38,35 +53,67 @@ impl Watch {
         self.every
     }
 
-    /// Takes one of the turns that are left; false where none is.
-    pub(crate) fn draw<R: Wait>(&self, rt: &R) -> bool {
-        let mut round = self.round.lock(rt);
-        let is_left = round.left > 0;
-        round.left = round.left.saturating_sub(1);
-        is_left
+    /// Takes one of the turns that are left; false where none is. The last one of [`EACH`] wakes the flusher.
+    pub(crate) fn draw(&self) -> bool {
+        let before = self.drawn.fetch_add(1, Ordering::SeqCst);
+        if before % EACH == EACH - 1 {
+            self.count_anew();
+            self.ring();
+        }
+        before < self.turns
     }
 
-    /// Tells that a turn may have journalled something.
-    pub(crate) fn ring<R: Wait>(&self, rt: &R) {
-        let mut round = self.round.lock(rt);
-        round.news = round.news.wrapping_add(1);
-        drop(round);
-        self.bell.notify_one();
+    /// Wakes the flusher, also where nothing was made: a snapshot may go on by what is no entry.
+    fn ring(&self) {
+        self.made.fetch_add(1, Ordering::SeqCst);
+        self.made.wake_one();
+    }
+
+    /// Tells that a turn made `count` entries, or fewer. The flusher sees it where it is awake.
+    pub(crate) fn tell(&self, count: u64) {
+        if count > 0 {
+            self.made.fetch_add(count, Ordering::SeqCst);
+        }
+    }
+
+    /// How many entries were made, where there may be as many since the kept cut as begin a snapshot.
+    pub(crate) fn made_when_due(&self) -> Option<u64> {
+        let made = self.made.load(Ordering::SeqCst);
+        if made < self.due.load(Ordering::SeqCst) {
+            return None;
+        }
+        Some(made)
+    }
+
+    /// Once `made` entries were made, `missing` were wanting until a snapshot begins.
+    pub(crate) fn set_due(&self, made: u64, missing: u64) {
+        self.due.store(due_behind(made, missing), Ordering::SeqCst);
+    }
+
+    /// The entries since the kept cut are counted before the next turn.
+    pub(crate) fn count_anew(&self) {
+        self.due.store(0, Ordering::SeqCst);
     }
 
     /// Tells that the workers have ended.
-    pub(crate) fn end<R: Wait>(&self, rt: &R) {
-        let mut round = self.round.lock(rt);
-        round.ended = true;
-        drop(round);
-        self.bell.notify_all();
+    pub(crate) fn end(&self) {
+        self.ended.store(true, Ordering::SeqCst);
+        self.ring();
     }
 
-    /// Waits until there are other news than `seen`, and answers their number; `None` once the workers have ended.
+    /// Waits until other numbers of entries were made than `seen`, and answers it; `None` once the workers have ended. Where none were
+    /// made it sleeps, until it is woken.
     pub(crate) fn wait<R: Wait>(&self, rt: &R, seen: u64) -> Option<u64> {
-        let round = self.bell.wait_while(rt, self.round.lock(rt), |round| {
-            round.news == seen && !round.ended
-        });
-        if round.ended { None } else { Some(round.news) }
+        for _ in rt.forever() {
+            if self.ended.load(Ordering::SeqCst) {
+                return None;
+            }
+            let made = self.made.load(Ordering::SeqCst);
+            if made != seen {
+                return Some(made);
+            }
+            self.made.park(rt, (seen & 0xffff_ffff) as u32);
+        }
+        None
     }
 }

@@ -1,9 +1,10 @@
 //! Workers.
 
-ghost use Rattle.std.specs.Prelude.{◌≡◌, All, Some};
+ghost use Rattle.std.specs.Prelude.{◌≡◌, All, Some, IfSome};
+ghost use Rattle.tp_run.specs.Every.{made_by};
 
-use crate::beginning::begin_where_due;
-use crate::watch::Watch;
+use crate::beginning::{begin_where_due, missing_in};
+use crate::watch::{EACH, Watch};
 use std::alloc::Global;
 use std::sync::Wait;
 use std::thread;
@@ -11,25 +12,37 @@ use std::thread::Threads;
 use tp_shared::{Naming, NoGate, Shared};
 use tp_work::{Net, Seat, Turn, TurnFault};
 
-/// Whether a turn may have journalled something. One that was broken off may have taken tokens before.
-fn is_news(done: &Result<Turn, TurnFault>) -> bool {
-    match done {
-        Ok(turn) => turn.takes > 0 || turn.ran.as_ref().is_some_and(|ran| ran.count() > 0),
-        Err(TurnFault::JournalFull | TurnFault::Memory) => true,
-        Err(TurnFault::Empty | TurnFault::StoreBroken) => false,
+/// How many entries a turn made, where that is a number.
+fn entries_of(turn: &Turn) -> Option<u64>
+    ensures { IfSome result (λ count. count ≡ made_by turn.now) }
+{
+    match &turn.ran {
+        Some(ran) if ran.count() > 0 => turn.takes.checked_add(1),
+        _ => Some(turn.takes),
     }
 }
 
-/// Begins a snapshot where it is time. That it is refused is passed over. Whether a snapshot runs then.
-fn begin<J: Naming, R: Wait>(rt: &R, alloc: Global, shared: &Shared<J>, every: u64) -> bool {
-    let mut held = shared.book().lock(rt);
-    held.known();
-    let _begun = begin_where_due(&mut held, alloc, every);
-    held.look().running
+/// The same; or more, where the turn was broken off, since it may have taken tokens before.
+fn made_by(done: &Result<Turn, TurnFault>) -> u64 {
+    match done {
+        Ok(turn) => entries_of(turn).unwrap_or(EACH),
+        Err(TurnFault::JournalFull | TurnFault::Memory) => EACH,
+        Err(TurnFault::Empty | TurnFault::StoreBroken) => 0,
+    }
 }
 
-/// Makes turns until none is left. A refused turn counts. It never waits for the flusher. While a snapshot runs, each turn is news,
-/// since what it records and which lines it closes is no entry.
+/// Begins a snapshot where it is time. That it is refused is passed over. No lock is taken while so many entries can't have been made.
+fn begin<J: Naming, R: Wait>(rt: &R, alloc: Global, shared: &Shared<J>, watch: &Watch) {
+    let Some(made) = watch.made_when_due() else {
+        return;
+    };
+    let mut held = shared.book().lock(rt);
+    held.known();
+    let _begun = begin_where_due(&mut held, alloc, watch.every());
+    watch.set_due(made, missing_in(&held, watch.every()));
+}
+
+/// Makes turns until none is left. A refused turn counts. It never waits for the flusher.
 fn work<J: Naming, R: Wait>(
     rt: &R,
     alloc: Global,
@@ -41,14 +54,12 @@ fn work<J: Naming, R: Wait>(
     ensures { seat.new.hand ≡ Some net.now.queue }
 {
     for _ in 0..u32::MAX {
-        if !watch.draw(rt) {
+        if !watch.draw() {
             return;
         }
-        let runs = begin(rt, alloc, net.shared(), watch.every());
+        begin(rt, alloc, net.shared(), watch);
         let done = net.turn(rt, seat);
-        if runs || is_news(&done) {
-            watch.ring(rt);
-        }
+        watch.tell(made_by(&done));
         if matches!(done, Err(TurnFault::Empty)) {
             thread::yield_now();
         }
@@ -75,5 +86,5 @@ pub(crate) fn work_all<J: Naming + Send + Sync, R: Threads + Wait + Sync>(
             requires { seat.now.hand ≡ Some net.now.queue }
         { work(rt, alloc, net, watch, seat) },
     );
-    watch.end(rt);
+    watch.end();
 }
