@@ -1,4 +1,10 @@
 -- Why a snapshot doesn't begin.
+use Rattle.std.specs.Prelude.{◌≡◌, length, Result, IfOk, OnErr}
+use Rattle.tp_model.specs.NodeState.{NodeState}
+use Rattle.tp_model.specs.Network.{Network}
+use Rattle.tp_book.specs.Book.{BookValue}
+use Rattle.tp_book.specs.Marked.{after_begin, begin_refusal}
+use Rattle.tp_book.specs.Refusals.{IsAnswer}
 use Rattle.tp_book.specs.declared.refusal.Refusal.{Refusal}
 use Rattle.tp_book.specs.declared.refusal.Refusal.TheVariants.{JournalFull, StoreBroken, Memory, NothingToTake, SnapshotRunning, PortFull}
 
@@ -10,3 +16,14 @@ IsBeginRefusal Memory = Unit {0}
 IsBeginRefusal NothingToTake = ⊥
 IsBeginRefusal SnapshotRunning = Unit {0}
 IsBeginRefusal PortFull = ⊥
+
+-- In some book with as many nodes and ports a snapshot was to begin, with this answer: it is refused exactly for the first reason that
+-- holds in that book, before all others that one runs, and the book is then as it was; else it began, or memory was refused.
+pub record BegunIn (start : Network NodeState) (answer : Result Unit Refusal) : Type 0 where
+  pub found : BookValue
+  pub left : BookValue
+  pub nodes : length found.state.start.nodes ≡ length start.nodes
+  pub ports : length found.state.ports ≡ length start.ports
+  pub exact : IsAnswer (begin_refusal found) answer
+  pub ok : IfOk answer (λ done. left ≡ after_begin found)
+  pub err : OnErr answer (left ≡ found)

@@ -101,7 +101,8 @@ fn run_parts<J: Naming + Send + Sync, D: Disk + Send + Drop, O: Write, R: Thread
 ///
 /// Whatever a crash leaves at any moment of the call is what one just before might have left, or opens to where a prefix of the journal
 /// leads, with all that the device had. After a run that was done it has each entry below the number that is answered: among them are
-/// those of the input, behind what the device had, and the one that confirms what was printed.
+/// those of the input, behind what the device had, and the one that confirms what was printed. However the call ends, what it printed
+/// are outputs of the port where entries of that journal lead that whatever a crash leaves from then on has.
 pub fn run<D: Disk + Send + Drop, O: Write, R: Threads + Wait + Sync>(
     rt: &R,
     alloc: Global,

@@ -1,6 +1,6 @@
 //! What a run does with a network in threads, and its flusher.
 
-ghost use Rattle.std.specs.Prelude.{◌≡◌, ◌<◌, ◌≤◌, ◌++◌, All, length, IfErr, IfOk, Some};
+ghost use Rattle.std.specs.Prelude.{◌≡◌, ◌<◌, ◌≤◌, ◌++◌, All, length, IfErr, IfOk, OnErr, Some};
 ghost use Rattle.tp_shared.specs.Receipted.{AreBelow};
 ghost use Rattle.tp_flush.specs.Known.{Began};
 ghost use Rattle.tp_flush.specs.Flushing.{IsSameProcess, Walked};
@@ -25,7 +25,7 @@ use std::sync::Wait;
 use std::thread::{Threads, join};
 use tp_disk::Disk;
 use tp_flush::Flusher;
-use tp_shared::{Naming, NoGate, Receipt, Shared};
+use tp_shared::{Locked, Naming, NoGate, Receipt, Shared};
 use tp_work::{Net, Seat};
 
 /// Hands in the input, under the book's lock.
@@ -46,6 +46,30 @@ fn offer<J: Naming, R: Wait>(
 
 /// Prints and confirms, under the book's lock, what `mark` shows, which the flusher raised. What is printed are outputs of the port where
 /// the flusher's journal leads.
+fn print_settled<J: Naming, D: Disk, O: Write>(
+    held: &mut Locked<J>,
+    flusher: &mut Flusher<J, D>,
+    outset: Outset,
+    mark: u64,
+    out: &mut O,
+) -> Result<Receipt<J>, RunFault>
+    requires there { outset.port < length held.old.book.state.ports }
+    requires mark { mark ≡ flusher.old.world.mark }
+    ensures same { flusher.new ≡ flusher.old }
+    ensures receipt { IfOk result (IsForOutput outset.port outset.confirmed
+        (λ number bytes. D.keeps → Began J.formatted J.before flusher.old.opened → AreShownIn J.formatted flusher.old.world outset.port outset.confirmed number bytes)
+        (O.contents out.old) (O.contents out.new)) }
+    ensures shown { D.keeps → Began J.formatted J.before flusher.old.opened
+        → MayShow J.formatted flusher.old.world.journal flusher.old.world.mark outset.port outset.confirmed (O.contents out.old) (O.contents out.new) }
+    ensures late { IfErr result IsLate }
+    ensures begun { IfErr result IsBegun }
+    ensures err { OnErr result (held.new ≡ held.old) }
+{
+    flusher.settle_book(held);
+    print_from(held, outset, mark, out)
+}
+
+/// The same, once the lock is had.
 fn print<J: Naming, D: Disk, O: Write, R: Wait>(
     rt: &R,
     shared: &Shared<J>,
@@ -67,8 +91,7 @@ fn print<J: Naming, D: Disk, O: Write, R: Wait>(
 {
     let mut held = shared.book().lock(rt);
     held.known();
-    flusher.settle_book(&mut held);
-    print_from(&mut held, outset, mark, out)
+    print_settled(&mut held, flusher, outset, mark, out)
 }
 
 /// Lets workers make turns, and the flusher its own in a thread of its own meanwhile, where one can be made, and else behind them.

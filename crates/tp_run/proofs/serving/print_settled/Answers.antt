@@ -2,7 +2,7 @@ use Rattle.std.proofs.Common.{sym, subst}
 use Rattle.tp_shared.specs.Seals.{Stage}
 use Rattle.tp_flush.specs.Ahead.{IsAhead}
 use Rattle.tp_run.proofs.Shown.{may_show, output_shown}
-use Rattle.tp_run.proofs.serving.print.Goals as goal
+use Rattle.tp_run.proofs.serving.print_settled.Goals as goal
 
 pub returns-clause-shown : goal.returns-clause-shown
 returns-clause-shown g c k began =
