@@ -211,13 +211,14 @@ fn is_switched<J: Naming, R: Wait>(
 ) -> Result<bool, Fail> {
     let mut flusher = flusher;
     if !turn_all(rt, shared) {
-        return Ok(false);
+        return Err(Fail::new("a turn is refused"));
     }
     let mut journal = Vec::new(alloc);
     look_at_book(rt, shared, &mut journal)?;
     match flusher.turn(rt, alloc, shared) {
         Ok(flushed) if flushed.switched => { is_replay(alloc, flusher.into_disk(), &journal) }
-        _ => Ok(false),
+        Ok(_) => Err(Fail::new("the areas aren't switched")),
+        Err(_) => Err(Fail::new("the flusher's turn isn't done")),
     }
 }
 

@@ -261,7 +261,10 @@ fn checkpoints_behind<R: Wait>(
         CHECKPOINT,
     )?;
     for call in from..to {
-        let fault = fault_at(call, (Ending::Within, Torn::Filled(0xA5), Torn::Filled(0xA5)));
+        let fault = fault_at(
+            call,
+            (Ending::Within, Torn::Filled(0xA5), Torn::Filled(0xA5)),
+        );
         let told = known(alloc, &left.told, next)?;
         if ended(rt, alloc, first, bytes, told, CHECKPOINT, fault)?.is_none() {
             return Ok(None);

@@ -85,17 +85,26 @@ pub(crate) type Unkind = Counted<RawUnkind>;
 
 /// Tears a range.
 fn tear_range(bytes: &mut [u8], synced: &[u8], range: (usize, usize), torn: Torn) {
-    let places = bytes.iter_mut().zip(synced).enumerate();
-    for (place, (byte, old)) in places.skip(range.0).take(range.1) {
-        *byte = torn.byte(place, *old, *byte);
+    let start = range.0.min(bytes.len()).min(synced.len());
+    let pairs = bytes[start..].iter_mut().zip(&synced[start..]);
+    for (place, (byte, old)) in pairs.enumerate().take(range.1) {
+        *byte = torn.byte(place.wrapping_add(start), *old, *byte);
     }
 }
 
 /// Puts a piece over bytes.
 fn put(bytes: &mut [u8], at: usize, piece: &[u8]) {
-    for (byte, new) in bytes.iter_mut().skip(at).zip(piece) {
+    let start = at.min(bytes.len());
+    for (byte, new) in bytes[start..].iter_mut().zip(piece) {
         *byte = *new;
     }
+}
+
+/// Puts the bytes of a range over others.
+fn put_range(synced: &mut [u8], bytes: &[u8], range: (usize, usize)) {
+    let start = range.0.min(bytes.len());
+    let rest = &bytes[start..];
+    put(synced, start, &rest[..range.1.min(rest.len())]);
 }
 
 impl RawUnkind {
@@ -186,8 +195,16 @@ impl RawUnkind {
     fn settle(&mut self)
         ensures { self.new.size ≡ self.old.size }
     {
-        put(&mut self.synced, 0, &self.bytes);
-        self.ranges.clear();
+        let RawUnkind {
+            bytes,
+            synced,
+            ranges,
+            ..
+        } = self;
+        for range in ranges.iter() {
+            put_range(synced, bytes, *range);
+        }
+        ranges.clear();
     }
 }
 
@@ -212,9 +229,8 @@ impl RawDisk for RawUnkind {
     {
         match self.begin() {
             Came::Done => {
-                for (slot, byte) in out.iter_mut().zip(self.bytes.iter().skip(at as usize)) {
-                    *slot = *byte;
-                }
+                let start = (at as usize).min(self.bytes.len());
+                put(out, 0, &self.bytes[start..]);
                 Ok(())
             }
             Came::Refused => Err(DeviceFailed),
