@@ -124,7 +124,7 @@ pub fn is_stored_by_the_next_turn<
     (flusher, is_between && gate.was_let_go())
 }
 
-/// Whether the node `number` records, and then makes a run while the flusher is held, at a gate that holds it behind the first page of the
+/// Whether the node `number` makes a run, records, and then makes another while the flusher is held, at a gate that holds it behind the first page of the
 /// node's image; that turn of the flusher is done, and stores only what was journalled before the run.
 pub fn is_run_beside_a_copy<J: Naming + Send + Sync, D: Disk + Drop, R: Threads + Wait + Sync>(
     rt: &R,
@@ -134,7 +134,7 @@ pub fn is_run_beside_a_copy<J: Naming + Send + Sync, D: Disk + Drop, R: Threads 
     number: u8,
     gate: &Hold,
 ) -> (Flusher<J, D>, bool) {
-    let is_begun = flusher.snapshot(rt, alloc, shared).is_ok();
+    let is_begun = is_run(rt, shared, &NoGate, number) && flusher.snapshot(rt, alloc, shared).is_ok();
     let is_recorded = is_run(rt, shared, &NoGate, number);
     let (run, (flusher, mark)) = join(
         rt,
