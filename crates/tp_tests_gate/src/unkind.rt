@@ -26,13 +26,13 @@ impl Torn {
             Torn::New => new,
             Torn::Filled(byte) => byte,
             Torn::Drawn(seed) => {
-                let mixed = (place as u32 ^ seed).wrapping_mul(0x9E37_79B1);
-                match (mixed >> 16) % 5 {
+                let mixed = (place as u64 ^ u64::from(seed)).wrapping_mul(0x9E37_79B9_7F4A_7C15);
+                match (mixed >> 32) % 5 {
                     0 => old,
                     1 => new,
                     2 => 0x00,
                     3 => 0xA5,
-                    _ => (mixed >> 24) as u8,
+                    _ => (mixed >> 56) as u8,
                 }
             }
         }
