@@ -9,8 +9,12 @@ mod books;
 #[cfg(test)]
 mod devices;
 #[cfg(test)]
+mod machines;
+#[cfg(test)]
 mod networks;
 #[cfg(test)]
 mod opened;
 #[cfg(test)]
 mod topologies;
+#[cfg(test)]
+mod trials;

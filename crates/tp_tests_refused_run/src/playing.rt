@@ -1,0 +1,177 @@
+//! Stories are played, on a device of their own each.
+
+ghost use Rattle.tp_shared.specs.Named.{Names};
+ghost use Rattle.tp_tests_refused_run.specs.Spelt.{IsSpelt};
+
+use crate::calls::{begin, confirm, flush, is_whole, offer, shows, turn};
+use crate::desk;
+use crate::desk::Desk;
+use crate::device::formatted;
+use crate::opening::{Opening, opening_of};
+use crate::stories::{FULL, NO_FRAME, NOTHING_WRITTEN, ONE_FRAME, Step, Story, calls};
+use std::alloc::Global;
+use std::marker::Brand;
+use std::process::Abort;
+use std::sync::Wait;
+use std::test::Fail;
+use tp_disk::MemDisk;
+use tp_host::OfferFault;
+use tp_model::Entry;
+use tp_recover::{Opened, open};
+use tp_shared::{Naming, NoGate};
+use tp_work::{Net, TurnFault};
+
+/// Whether a step goes as it should, where `offered` bytes were offered first, and the next entry gets the number `next` then.
+fn goes<J: Naming, R: Wait>(
+    rt: &R,
+    alloc: Global,
+    desk: &mut Desk<J>,
+    step: Step,
+    offered: u64,
+    next: u64,
+) -> bool {
+    match step {
+        Step::Turn(process, takes, steps) => match turn(rt, desk) {
+            Some(Ok(did)) => did.process == process && did.takes == takes && did.steps == steps,
+            _ => false,
+        },
+        Step::Full => matches!(turn(rt, desk), Some(Err(TurnFault::JournalFull))),
+        Step::Refused => {
+            matches!(offer(rt, desk, offered, b"x"), Some(Err(OfferFault::JournalFull)))
+        }
+        Step::Shown(bytes) => {
+            shows(rt, alloc, desk, bytes)
+                && matches!(confirm(rt, desk, bytes.len() as u64), Some(Ok(number)) if number == next)
+        }
+        Step::Begin => begin(rt, alloc, desk),
+        Step::Whole(node, host, token, count) => {
+            let counts = [node, host.wrapping_add(offered)];
+            is_whole(rt, alloc, desk.net().shared(), counts, token, count)
+        }
+        Step::Flush(switched) => match flush(rt, alloc, desk) {
+            Some(Ok((mark, has_switched))) => mark == next && has_switched == switched,
+            _ => false,
+        },
+    }
+}
+
+/// Whether all steps do.
+fn are_gone<J: Naming, R: Wait>(
+    rt: &R,
+    alloc: Global,
+    desk: &mut Desk<J>,
+    story: &Story,
+) -> bool {
+    let offered = story.offered.len() as u64;
+    let accepted = offer(rt, desk, 0, story.offered);
+    if !matches!(accepted, Some(Ok(number)) if number == offered) {
+        return false;
+    }
+    for (step, number) in story.rows {
+        let next = offered.wrapping_add(*number);
+        if !goes(rt, alloc, desk, *step, offered, next) || desk.next(rt) != next {
+            return false;
+        }
+    }
+    true
+}
+
+/// Whether just these entries are kept, with numbers behind `offered`.
+fn are_kept(opened: &Opened, offered: u64, wanted: &[(u64, Entry)]) -> bool {
+    let kept = opened.kept();
+    kept.len() == wanted.len()
+        && kept.iter().zip(wanted).all(|(one, (number, entry))| {
+            one.entry == *entry && one.number == number.wrapping_add(offered)
+        })
+}
+
+/// Whether what opened is what the story leaves.
+fn is_left(opened: &Opened, story: &Story, next: u64) -> bool {
+    let offered = story.offered.len() as u64;
+    opened.next() == next
+        && opened.base() == story.base.wrapping_add(offered)
+        && are_kept(opened, offered, story.kept)
+}
+
+/// The number that the next entry gets.
+fn next_of<J: Naming, R: Wait>(rt: &R, net: &Net<J, NoGate>) -> u64 {
+    net.shared().book().lock(rt).book().next()
+}
+
+/// What is left of a device, where memory is refused once at most.
+fn opened_again(alloc: Global, disk: &mut MemDisk) -> Option<Opened> {
+    match open(alloc, disk) {
+        Ok(opened) => Some(opened),
+        Err(_) => open(alloc, disk).ok(),
+    }
+}
+
+/// Whether a story goes as it should, and a crash leaves what it says; none where memory is refused before the network is there.
+fn play<J: Naming, R: Wait + Abort>(
+    rt: &R,
+    alloc: Global,
+    opening: Opening<MemDisk>,
+    story: &Story,
+) -> Option<bool>
+    requires names { Names J.roll J.first J.start J.node J.mark J.flusher J.room opening.parts }
+    requires spelt { IsSpelt opening.opened.value }
+{
+    let mut desk = desk::begin::<J, R>(rt, alloc, opening).ok()?;
+    if !are_gone(rt, alloc, &mut desk, story) {
+        return Some(false);
+    }
+    let (net, mut disk) = desk.crash();
+    let Some(opened) = opened_again(alloc, &mut disk) else {
+        return Some(false);
+    };
+    Some(is_left(&opened, story, next_of(rt, &net)))
+}
+
+/// The same with new names.
+fn play_in<R: Wait + Abort>(
+    rt: &R,
+    alloc: Global,
+    opening: Opening<MemDisk>,
+    story: &Story,
+) -> Option<bool>
+    requires { IsSpelt opening.opened.value }
+{
+    play::<Brand, R>(rt, alloc, opening, story)
+}
+
+/// The same of a device that is freshly formatted.
+fn play_once<R: Wait + Abort>(rt: &R, alloc: Global, story: &Story) -> Option<bool> {
+    let opening = opening_of(alloc, formatted(alloc)?, story.spare)?;
+    play_in(rt, alloc, opening, story)
+}
+
+/// The same, where memory is refused once at most.
+fn plays<R: Wait + Abort>(rt: &R, alloc: Global, story: &Story) -> bool {
+    let mut done = play_once(rt, alloc, story);
+    if done.is_none() {
+        done = play_once(rt, alloc, story);
+    }
+    done.unwrap_or(false)
+}
+
+const SMALL: &[Story] = &[NOTHING_WRITTEN, NO_FRAME, ONE_FRAME, FULL];
+
+#[test]
+fn small_pools_and_a_full_journal(rt: HostRuntime) -> Result<(), Fail> {
+    for (i, story) in SMALL.iter().enumerate() {
+        assert!(rt; plays(&rt, rt.alloc(), story), "story {i}");
+    }
+    Ok(())
+}
+
+/// With one byte the confirm wants memory for its entry; with two the host's take; with three the run, once the node took; with four
+/// the node's take.
+const OFFERED: &[&[u8]] = &[b"1", b"12", b"123", b"1234"];
+
+#[test]
+fn each_call_is_made_again(rt: HostRuntime) -> Result<(), Fail> {
+    for (i, offered) in OFFERED.iter().enumerate() {
+        assert!(rt; plays(&rt, rt.alloc(), &calls(offered)), "story {i}");
+    }
+    Ok(())
+}

@@ -1,0 +1,169 @@
+//! What is done on the device of one node, step by step, with what has to come of it. Every number was worked out by hand.
+
+use tp_model::{Entry, Token};
+
+/// Something that is done. Each number of an entry is one behind the bytes that the story offers first.
+#[derive(Clone, Copy)]
+pub(crate) enum Step {
+    /// A turn of a process, which takes so many tokens, and runs so many steps where it runs.
+    Turn(u8, u64, Option<u16>),
+    /// A turn that is refused, since the journal is full.
+    Full,
+    /// A byte more is offered, and refused, since the journal is full.
+    Refused,
+    /// The port shows just these bytes, and they are confirmed.
+    Shown(&'static [u8]),
+    /// A snapshot begins.
+    Begin,
+    /// The cut is whole: it has so many entries of the node, and of the host beside those that the story offers first; this token is in
+    /// front of the line to the node; and so many entries stand outside it.
+    Whole(u64, u64, Option<Token>, usize),
+    /// A turn of the flusher, which switches the areas or doesn't. The mark is the next number then.
+    Flush(bool),
+}
+
+/// A step, and the number that the next entry gets then.
+pub(crate) type Row = (Step, u64);
+
+/// How many spare frames the node has, the bytes that are offered first, what is done then, and what a crash leaves at the end: how many
+/// entries are in the open area's cut, and those behind it with their numbers.
+#[derive(Clone, Copy)]
+pub(crate) struct Story {
+    pub(crate) spare: usize,
+    pub(crate) offered: &'static [u8],
+    pub(crate) rows: &'static [Row],
+    pub(crate) base: u64,
+    pub(crate) kept: &'static [(u64, Entry)],
+}
+
+const ACK: Entry = Entry::Take {
+    line: 4,
+    token: Token::Ack,
+};
+
+const LETTER: Entry = Entry::Take {
+    line: 0,
+    token: Token::Data(b'A'),
+};
+
+const RUN_1: Entry = Entry::Run { node: 0, count: 1 };
+
+const RUN_2: Entry = Entry::Run { node: 0, count: 2 };
+
+const RUN_3: Entry = Entry::Run { node: 0, count: 3 };
+
+const RUN_16: Entry = Entry::Run { node: 0, count: 16 };
+
+/// Without a spare frame: the node records, takes the acknowledge, closes its line and runs a whole turn, since nothing is written.
+pub(crate) const NOTHING_WRITTEN: Story = Story {
+    spare: 0,
+    offered: b"",
+    rows: &[
+        (Step::Turn(0, 0, Some(3)), 1),
+        (Step::Turn(1, 1, None), 2),
+        (Step::Begin, 2),
+        (Step::Turn(0, 1, Some(16)), 4),
+        (Step::Turn(1, 0, None), 4),
+        (Step::Whole(1, 1, Some(Token::Ack), 2), 4),
+        (Step::Flush(true), 4),
+    ],
+    base: 2,
+    kept: &[(2, ACK), (3, RUN_16)],
+};
+
+/// Without a spare frame a frozen node ends before the step that writes its workspace, and goes on once its pages are copied.
+pub(crate) const NO_FRAME: Story = Story {
+    spare: 0,
+    offered: b"",
+    rows: &[
+        (Step::Begin, 0),
+        (Step::Turn(0, 0, Some(2)), 1),
+        (Step::Turn(1, 0, None), 1),
+        (Step::Turn(0, 0, Some(0)), 1),
+        (Step::Turn(1, 0, None), 1),
+        (Step::Whole(0, 0, None, 1), 1),
+        (Step::Flush(true), 1),
+        (Step::Turn(0, 0, Some(1)), 2),
+        (Step::Turn(1, 1, None), 3),
+        (Step::Turn(0, 1, Some(16)), 5),
+        (Step::Flush(false), 5),
+    ],
+    base: 0,
+    kept: &[(0, RUN_2), (1, RUN_1), (2, LETTER), (3, ACK), (4, RUN_16)],
+};
+
+/// One spare frame is enough for the page that it writes.
+pub(crate) const ONE_FRAME: Story = Story {
+    spare: 1,
+    offered: b"",
+    rows: &[
+        (Step::Begin, 0),
+        (Step::Turn(0, 0, Some(3)), 1),
+        (Step::Turn(1, 1, None), 2),
+        (Step::Whole(0, 0, None, 2), 2),
+        (Step::Turn(0, 1, Some(16)), 4),
+        (Step::Flush(true), 4),
+    ],
+    base: 0,
+    kept: &[(0, RUN_3), (1, LETTER), (2, ACK), (3, RUN_16)],
+};
+
+/// As many bytes as the journal has room for entries.
+const ALL: &[u8] = &[7; 105];
+
+/// A journal that is full stays so without a snapshot. One that runs takes what it needs from what is kept for it, and its end makes room.
+pub(crate) const FULL: Story = Story {
+    spare: 4,
+    offered: ALL,
+    rows: &[
+        (Step::Refused, 0),
+        (Step::Full, 0),
+        (Step::Turn(1, 0, None), 0),
+        (Step::Flush(false), 0),
+        (Step::Begin, 0),
+        (Step::Full, 1),
+        (Step::Turn(1, 0, None), 1),
+        (Step::Whole(0, 0, Some(Token::Data(7)), 1), 1),
+        (Step::Refused, 1),
+        (Step::Flush(true), 1),
+        (Step::Turn(0, 0, Some(3)), 2),
+        (Step::Flush(false), 2),
+    ],
+    base: 0,
+    kept: &[
+        (
+            0,
+            Entry::Take {
+                line: 4,
+                token: Token::Data(7),
+            },
+        ),
+        (1, RUN_3),
+    ],
+};
+
+/// A byte comes in, the letter goes out and is confirmed, and a snapshot comes to its end.
+const CALLS: &[Row] = &[
+    (Step::Turn(0, 1, Some(3)), 2),
+    (Step::Turn(1, 1, None), 3),
+    (Step::Flush(false), 3),
+    (Step::Shown(b"A"), 4),
+    (Step::Turn(0, 1, Some(16)), 6),
+    (Step::Begin, 6),
+    (Step::Turn(1, 0, None), 6),
+    (Step::Turn(0, 0, Some(16)), 7),
+    (Step::Turn(1, 0, None), 7),
+    (Step::Whole(4, 2, None, 1), 7),
+    (Step::Flush(true), 7),
+];
+
+/// The same calls behind so many bytes, so that each of them wants memory for its entry in one of the stories.
+pub(crate) fn calls(offered: &'static [u8]) -> Story {
+    Story {
+        spare: 4,
+        offered,
+        rows: CALLS,
+        base: 6,
+        kept: &[(6, RUN_16)],
+    }
+}
