@@ -1,24 +1,28 @@
 //! Threads that a gate holds at a point of a turn, beside others that go on.
 #![tactic(auto)]
 
-pub mod beside;
+#[cfg(test)]
+mod beside;
 #[cfg(test)]
 mod checkpoints;
 #[cfg(test)]
 mod device;
-pub mod hold;
+#[cfg(test)]
+mod hold;
 #[cfg(test)]
 mod left;
 #[cfg(test)]
 mod limits;
 #[cfg(test)]
 mod marked;
-pub mod meanwhile;
+#[cfg(test)]
+mod meanwhile;
 #[cfg(test)]
 mod opening;
 #[cfg(test)]
 mod overlap;
-pub mod pace;
+#[cfg(test)]
+mod pace;
 #[cfg(test)]
 mod plain;
 #[cfg(test)]
@@ -27,7 +31,9 @@ mod scenes;
 mod script;
 #[cfg(test)]
 mod stops;
-pub mod team;
-pub mod teams;
+#[cfg(test)]
+mod team;
+#[cfg(test)]
+mod teams;
 #[cfg(test)]
 mod unkind;

@@ -178,19 +178,38 @@ fn run_command<'a>(alloc: Global) -> Result<Command<'a>, AllocError> {
     with_run_options(alloc, command)
 }
 
-/// The commands that open a device and write nothing.
-fn with_views<'a>(alloc: Global, command: Command<'a>) -> Result<Command<'a>, AllocError> {
-    let number = word(alloc, "I", "the node's number, as in tpnet show");
-    let again = word(alloc, "I", "the node's number, as in tpnet show");
+/// A command that opens a device and says something of a node.
+fn node_command<'a>(
+    alloc: Global,
+    name: &'a str,
+    about: &'a str,
+) -> Result<Command<'a>, AllocError> {
+    opening(alloc, name, about)?.arg(word(alloc, "I", "the node's number, as in tpnet show"))
+}
+
+/// The commands that open a device, write nothing, and say what it holds as a whole.
+fn with_wholes<'a>(alloc: Global, command: Command<'a>) -> Result<Command<'a>, AllocError> {
     let recover = "Opens a device, writes nothing, and prints the number of the next entry";
     let show = "Opens a device, writes nothing, and prints what it holds";
+    command
+        .subcommand(opening(alloc, "recover", recover)?)?
+        .subcommand(opening(alloc, "show", show)?)
+}
+
+/// The commands that open a device, write nothing, and say something of a node.
+fn with_nodes<'a>(alloc: Global, command: Command<'a>) -> Result<Command<'a>, AllocError> {
     let node = "Prints a node's registers, queues and link ends, addresses in hexadecimal";
     let image = "Prints a node's image, as bytes";
     command
-        .subcommand(opening(alloc, "recover", recover)?)?
-        .subcommand(opening(alloc, "show", show)?)?
-        .subcommand(opening(alloc, "node", node)?.arg(number)?)?
-        .subcommand(opening(alloc, "image", image)?.arg(again)?)?
+        .subcommand(node_command(alloc, "node", node)?)?
+        .subcommand(node_command(alloc, "image", image)?)
+}
+
+/// The commands that open a device and write nothing.
+fn with_views<'a>(alloc: Global, command: Command<'a>) -> Result<Command<'a>, AllocError> {
+    let command = with_wholes(alloc, command)?;
+    let command = with_nodes(alloc, command)?;
+    command
         .subcommand(journal_command(alloc)?)?
         .subcommand(port_command(alloc)?)
 }
