@@ -1,6 +1,8 @@
 //! Threads that a gate holds at a point of a turn, beside others that go on.
 #![tactic(auto)]
 
+#[cfg(test)]
+mod acts;
 pub mod beside;
 #[cfg(test)]
 mod checkpoints;
@@ -21,5 +23,9 @@ mod overlap;
 pub mod pace;
 #[cfg(test)]
 mod scenes;
+#[cfg(test)]
+mod small;
 pub mod team;
 pub mod teams;
+#[cfg(test)]
+mod worked;
