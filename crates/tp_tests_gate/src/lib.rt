@@ -2,6 +2,8 @@
 #![tactic(auto)]
 
 #[cfg(test)]
+mod acts;
+#[cfg(test)]
 mod beside;
 #[cfg(test)]
 mod checkpoints;
@@ -30,6 +32,8 @@ mod scenes;
 #[cfg(test)]
 mod script;
 #[cfg(test)]
+mod small;
+#[cfg(test)]
 mod stops;
 #[cfg(test)]
 mod team;
@@ -37,3 +41,5 @@ mod team;
 mod teams;
 #[cfg(test)]
 mod unkind;
+#[cfg(test)]
+mod worked;

@@ -5,6 +5,7 @@ ghost use Rattle.tp_area.specs.Places.{place_at};
 ghost use Rattle.tp_model.specs.DiskHistory.{IsSynced};
 ghost use Rattle.tp_model.specs.Journal.{is_roomy, room};
 ghost use Rattle.tp_model.specs.Opening.{verdict};
+ghost use Rattle.tp_model.specs.declared.limits.TheConstants.{MAX_STEPS};
 ghost use Rattle.tp_run.specs.Made.{StandsFor};
 ghost use Rattle.tp_shared.specs.Named.{Names};
 ghost use Rattle.tp_tests_gate.specs.Spelt.{IsSpelt};
@@ -26,6 +27,9 @@ use tp_work::{Net, Seat, nodes_of};
 
 /// How many steps a node's turn has.
 const QUANTUM: u16 = 9;
+
+/// How many spare frames a node has.
+const SPARE: usize = 4;
 
 /// A device that opened: what it held, its topology, the parts of its network, the number of their first entry, the raiser of their mark,
 /// and its store.
@@ -49,7 +53,7 @@ pub(crate) struct Opening<D: Disk> {
 }
 
 /// The book and the nodes of what was opened, and the raiser of their mark.
-fn parts_of(alloc: Global, opened: Opened) -> Result<(Parts, Raiser), AllocError>
+fn parts_of(alloc: Global, opened: Opened, spare: usize) -> Result<(Parts, Raiser), AllocError>
     ensures parts { IfOk result (λ made. StandsFor opened made.0 made.1) }
     ensures bound { IfOk result (λ made. made.0.book.room ≡ Some (room opened.head.topology opened.head.area)) }
 {
@@ -58,7 +62,7 @@ fn parts_of(alloc: Global, opened: Opened) -> Result<(Parts, Raiser), AllocError
     let room = opened.journal_room();
     let state = opened.into_state(alloc)?;
     let book = Book::open(alloc, &state, Some(room))?;
-    let nodes = nodes_of(alloc, &state, 4)?;
+    let nodes = nodes_of(alloc, &state, spare)?;
     let (mark, raiser, _) = Mark::start(alloc, state.next, 0)?;
     let parts = Parts::opened(alloc, &state, book, nodes, mark)?;
     Ok((parts, raiser))
@@ -66,6 +70,17 @@ fn parts_of(alloc: Global, opened: Opened) -> Result<(Parts, Raiser), AllocError
 
 /// Opens a device.
 pub(crate) fn opening_of<D: Disk + Drop>(alloc: Global, disk: D) -> Result<Opening<D>, Fail>
+    ensures { IfOk result (λ opening. IsSpelt opening.opened.value) }
+{
+    opening_with(alloc, disk, SPARE)
+}
+
+/// Opens a device, where each node has so many spare frames.
+pub(crate) fn opening_with<D: Disk + Drop>(
+    alloc: Global,
+    disk: D,
+    spare: usize,
+) -> Result<Opening<D>, Fail>
     ensures { IfOk result (λ opening. IsSpelt opening.opened.value) }
 {
     let mut disk = disk;
@@ -76,7 +91,7 @@ pub(crate) fn opening_of<D: Disk + Drop>(alloc: Global, disk: D) -> Result<Openi
     let _area = opened.head().area();
     let first = opened.next();
     let store = opened.store(disk);
-    let (parts, raiser) = parts_of(alloc, opened)?;
+    let (parts, raiser) = parts_of(alloc, opened, spare)?;
     Ok(Opening {
         opened: known,
         topology,
@@ -101,6 +116,25 @@ pub(crate) fn begin<J: Naming, D: Disk + Drop, G: Gate + Drop, R: Wait>(
     ensures seats { IfOk result (λ begun. All (λ seat. (seat.hand ≡ Some begun.0.queue) × (seat.slips ≡ [])) begun.1.items) }
     ensures pass { IfOk result (λ begun. begun.3.mark ≡ J.mark) }
 {
+    begin_with(rt, alloc, opening, QUANTUM, workers, gate)
+}
+
+/// The same, where a node's turn has so many steps.
+pub(crate) fn begin_with<J: Naming, D: Disk + Drop, G: Gate + Drop, R: Wait>(
+    rt: &R,
+    alloc: Global,
+    opening: Opening<D>,
+    quantum: u16,
+    workers: u8,
+    gate: G,
+) -> Result<(Net<J, G>, Vec<Seat<J>>, Flusher<J, D>, Pass), AllocError>
+    requires names { Names J.roll J.first J.start J.node J.mark J.flusher J.room opening.parts }
+    requires spelt { IsSpelt opening.opened.value }
+    requires quantum { (0 < quantum) × (quantum ≤ MAX_STEPS) }
+    requires workers { (0 < workers) × (workers ≤ MAX_SEATS) }
+    ensures seats { IfOk result (λ begun. All (λ seat. (seat.hand ≡ Some begun.0.queue) × (seat.slips ≡ [])) begun.1.items) }
+    ensures pass { IfOk result (λ begun. begun.3.mark ≡ J.mark) }
+{
     let Opening {
         opened,
         topology,
@@ -109,7 +143,7 @@ pub(crate) fn begin<J: Naming, D: Disk + Drop, G: Gate + Drop, R: Wait>(
         store,
         ..
     } = opening;
-    let (net, seats, key) = Net::<J, G>::start(rt, alloc, parts, QUANTUM, workers, gate)?;
+    let (net, seats, key) = Net::<J, G>::start(rt, alloc, parts, quantum, workers, gate)?;
     let pass = net.shared().mark().pass(&mut raiser);
     let flusher = Flusher::over(opened, topology, store, key, raiser);
     Ok((net, seats, flusher, pass))

@@ -1,5 +1,5 @@
 use Rattle.std.proofs.Common.{sym, ◌∙◌}
-use Rattle.tp_tests_gate.proofs.opening.begin.Goals as goal
+use Rattle.tp_tests_gate.proofs.opening.begin_with.Goals as goal
 
 pub over-flusher-requires-clause-bound : goal.over-flusher-requires-clause-bound
 over-flusher-requires-clause-bound g c = sym c.requires.names.room_is ∙ c.args.opening.bound
