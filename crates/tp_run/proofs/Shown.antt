@@ -1,5 +1,5 @@
 -- What is printed: outputs of a port in a book, and so where the flusher's journal leads.
-use Rattle.std.proofs.Common.{◌≡◌, ℕ, ◌+◌, ◌-◌, ◌≤◌, ◌⊎◌, inl, inr, Bool, true, false, cond, List, [], ◌∷◌, ◌++◌, length, take, drop, Option, Result, Ok, Err, refl, sym, ap, subst, ◌∙◌, arith, append-nil, length-append}
+use Rattle.std.proofs.Common.{◌≡◌, ℕ, ◌+◌, ◌-◌, ◌≤◌, inl, inr, Bool, true, false, cond, List, [], ◌∷◌, ◌++◌, length, take, drop, Option, Result, Ok, Err, refl, sym, ap, subst, ◌∙◌, arith, append-nil, length-append}
 use Rattle.std.specs.Prelude.{nat_le, IfOk}
 use Rattle.std.specs.List.{enumerate_from}
 use Rattle.std.proofs.lemmas.List.{take_all, take-take}
@@ -26,7 +26,7 @@ use Rattle.tp_flush.proofs.Kept.{reached_then}
 use Rattle.tp_flush.proofs.Turns.{walked_stays}
 use Rattle.tp_run.specs.declared.fault.RunFault.{RunFault}
 use Rattle.tp_run.specs.Output.{AppendsFront, AreOutputs, AreShown, IsForOutput, Printed, PrintedOf, ShowsAll, confirms}
-use Rattle.tp_run.specs.Shown.{AreShownIn, HasShown, MayShow, Shows}
+use Rattle.tp_run.specs.Shown.{AreShownIn, MayShow}
 use Rattle.tp_run.proofs.Slips.{confirms_shown}
 
 -- ## In the book
