@@ -44,8 +44,8 @@ pub record Settled (start : Network NodeState) (outset : Outset) (handed : List 
 -- What was handed in and printed by a run that was done is in the journal. The device opened, and its port stood somewhere. Behind
 -- all that the device had there are the entries of the input from what the port had accepted on, as many bytes as it had room for.
 -- Some bytes were printed, and there is the entry that confirms just so many outputs behind those confirmed before: where the entries
--- in front of it lead, these bytes are all the outputs of the port that weren't confirmed. All these entries have numbers below `next`, and whatever a crash leaves of the device opens to where a prefix of the journal leads in which each stands
--- at its number.
+-- in front of it lead, these bytes are all the outputs of the port that weren't confirmed. All these entries have numbers below
+-- `next`, and whatever a crash leaves of the device opens to where a prefix of the journal leads in which each stands at its number.
 pub record Carried (start : Network NodeState) (journal : List Entry) (port : ℕ) (input : List ℕ) (was now : Option (List ℕ)) (next : ℕ) (old new : State) : Type 0 where
   pub opened : Opened
   pub reads : verdict old.now.bytes ≡ Ok opened
