@@ -23,7 +23,7 @@ use Rattle.tp_run.specs.declared.fault.RunFault.{RunFault}
 use Rattle.tp_run.specs.Input.{input_slips}
 use Rattle.tp_run.specs.Outset.{outset_in}
 use Rattle.tp_run.specs.Ran.{Carried, Ran, Settled}
-use Rattle.tp_run.specs.Shown.{MayShow}
+use Rattle.tp_run.specs.Shown.{MayPrint}
 use Rattle.tp_run.proofs.Slips.{if_ok}
 
 if_both : {A E : Type 0} (r : Result A E) (P Q R : A → Type 0) → ((x : A) → P x → Q x → R x) → IfOk r P → IfOk r Q → IfOk r R
@@ -31,7 +31,7 @@ if_both (Ok x) P Q R turn p q = turn x p q
 if_both (Err e) P Q R turn p q = p
 
 -- what recovers to a prefix with all below a mark has all below a lesser number
-recovers_less : (start : Network NodeState) (journal : List Entry) (mark next : ℕ) (left : List ℕ) → next ≤ mark → RecoversTo t414 device_areas start journal mark left
+pub recovers_less : (start : Network NodeState) (journal : List Entry) (mark next : ℕ) (left : List ℕ) → next ≤ mark → RecoversTo t414 device_areas start journal mark left
     → RecoversTo t414 device_areas start journal next left
 recovers_less start journal mark next left low r = record {
   held = r.held;
@@ -53,7 +53,7 @@ SlipsAreRecovered =
 pub served_ran : SlipsAreRecovered → (start : Network NodeState) (opened : Opened) (port : ℕ) (input : List ℕ) (was now : Option (List ℕ)) (old new : Flushing) (result : Result ℕ RunFault)
     → verdict old.state.now.bytes ≡ Ok opened → Reached start old.world → Walked old new → IfOk result (λ next. next ≤ new.world.mark)
     → IfOk result (Settled start (outset_in opened port) (input_slips (outset_in opened port) input) was now new.world.journal)
-    → MayShow start new.world.journal new.world.mark port (outset_in opened port).confirmed was now → Ran start port input was now result old.state new.state
+    → MayPrint start old new port (outset_in opened port).confirmed was now → Ran start port input was now result old.state new.state
 served_ran law start opened port input was now old new result reads R W stored settled shown =
     let there : Reached start new.world = reached_then start old.world new.world R (chain_leads t414 device_areas old.world new.world W.worlds W.chain) in
     let last : LeavesOnly new.state new.state (RecoversTo t414 device_areas start new.world.journal new.world.mark) = walked_recovers start new new there (walked_nowhere new W.now) in
@@ -87,7 +87,9 @@ served_ran law start opened port input was now old new result reads R W stored s
           shows = H.shows;
           count = H.count;
           appended = H.appended;
-          stored = λ left may. less H.number H.few left may;
+          there = H.there;
+          later = H.later;
+          since = H.since;
         })
       ];
     }
@@ -135,7 +137,9 @@ opened_ran start port input was now result old read new L same R = record {
       shows = p.shows;
       count = p.count;
       appended = p.appended;
-      stored = p.stored;
+      there = p.there;
+      later = let first = L.later in let then = p.later in omega (arith, first, then);
+      since = p.since;
     })
   ];
 }

@@ -1,6 +1,6 @@
 -- What is printed: outputs of a port in a book, and so where the flusher's journal leads.
-use Rattle.std.proofs.Common.{◌≡◌, ℕ, ◌+◌, ◌-◌, ◌≤◌, ◌⊎◌, inl, inr, Bool, true, false, cond, List, [], ◌∷◌, ◌++◌, length, take, drop, Option, Result, Ok, Err, refl, sym, ap, subst, ◌∙◌, arith, append-nil, length-append}
-use Rattle.std.specs.Prelude.{nat_le, IfOk}
+use Rattle.std.proofs.Common.{◌≡◌, ℕ, ◌+◌, ◌-◌, ◌≤◌, inl, inr, Bool, true, false, cond, List, [], ◌∷◌, ◌++◌, length, take, drop, Option, Result, Ok, Err, refl, sym, ap, subst, ◌∙◌, arith, append-nil, length-append}
+use Rattle.std.specs.Prelude.{map, nat_le, IfOk}
 use Rattle.std.specs.List.{enumerate_from}
 use Rattle.std.proofs.lemmas.List.{take_all, take-take}
 use Rattle.std.specs.Io.KnownBytes.{Appends}
@@ -10,8 +10,11 @@ use Rattle.tp_model.specs.Node.{t414}
 use Rattle.tp_model.specs.Network.{Network}
 use Rattle.tp_model.specs.Markers.{plain_network}
 use Rattle.tp_model.specs.Order.{after}
+use Rattle.tp_model.specs.DiskHistory.{moment}
 use Rattle.tp_model.specs.DeviceAreas.{device_areas}
 use Rattle.tp_model.specs.Runs.{World}
+use Rattle.tp_model.specs.Walks.{RecoversTo}
+use Rattle.tp_disk.proofs.Calls.{weaker}
 use Rattle.tp_law_runs.proofs.Walks.{chain_leads}
 use Rattle.tp_book.specs.Book.{BookValue, next_number, world_of}
 use Rattle.tp_book.specs.Calls.{marks_of}
@@ -23,10 +26,11 @@ use Rattle.tp_flush.specs.Ahead.{IsAhead}
 use Rattle.tp_flush.specs.Known.{Reached}
 use Rattle.tp_flush.specs.Flushing.{Flushing, Walked}
 use Rattle.tp_flush.proofs.Kept.{reached_then}
-use Rattle.tp_flush.proofs.Turns.{walked_stays}
+use Rattle.tp_flush.proofs.Turns.{walked_nowhere, walked_recovers, walked_stays}
 use Rattle.tp_run.specs.declared.fault.RunFault.{RunFault}
 use Rattle.tp_run.specs.Output.{AppendsFront, AreOutputs, AreShown, IsForOutput, Printed, PrintedOf, ShowsAll, confirms}
-use Rattle.tp_run.specs.Shown.{AreShownIn, HasShown, MayShow, Shows}
+use Rattle.tp_run.specs.Shown.{AreShownIn, MayPrint, MayShow}
+use Rattle.tp_run.proofs.Runs.{recovers_less}
 use Rattle.tp_run.proofs.Slips.{confirms_shown}
 
 -- ## In the book
@@ -152,9 +156,47 @@ shows_on start a b R W port confirmed number outputs (few, S) =
       record { state = S.state; leads = ap (after t414 start) front ∙ S.leads; base = S.base; are = S.are },
     )
 
-pub may_show_on : (start : Network NodeState) (a b : Flushing) → Reached start a.world → Walked a b → (port confirmed : ℕ) (was now : Option (List ℕ))
-    → MayShow start a.world.journal a.world.mark port confirmed was now → MayShow start b.world.journal b.world.mark port confirmed was now
-may_show_on start a b R W port confirmed was now (inl same) = inl same
-may_show_on start a b R W port confirmed was now (inr H) =
-    let there = shows_on start a b R W port confirmed H.number H.outputs (H.few, H.shows) in
-    inr (record { number = H.number; few = there.0; outputs = H.outputs; shows = there.1; count = H.count; appended = H.appended })
+walked_later : (a b : Flushing) → Walked a b → moment a.state ≤ moment b.state
+walked_later a b W = let grew = ap length W.past in let long = length-append a.state.past (map (λ (u : World NodeState). u.disk) W.worlds) in omega (arith, grew, long)
+
+-- what was printed at one moment, as it is known at a later one
+pub may_print : (start : Network NodeState) (old at new : Flushing) → Reached start old.world → Walked old at → Walked at new → (port confirmed : ℕ) (was now : Option (List ℕ))
+    → MayShow start at.world.journal at.world.mark port confirmed was now → MayPrint start old new port confirmed was now
+may_print start old at new R W V port confirmed was now (inl same) = inl same
+may_print start old at new R W V port confirmed was now (inr H) =
+    let reached = walked_reached start old at R W in
+    inr (record {
+      number = H.number;
+      outputs = H.outputs;
+      shows = (shows_on start at new reached V port confirmed H.number H.outputs (H.few, H.shows)).1;
+      count = H.count;
+      appended = H.appended;
+      there = at.state;
+      later = walked_later old at W;
+      since =
+          weaker at.state new.state (RecoversTo t414 device_areas start new.world.journal at.world.mark) _
+          (λ left r. recovers_less start new.world.journal at.world.mark H.number left H.few r) (walked_recovers start at new reached V);
+    })
+
+-- nothing came behind it
+pub may_print_last : (start : Network NodeState) (old at : Flushing) → Reached start old.world → Walked old at → (port confirmed : ℕ) (was now : Option (List ℕ))
+    → MayShow start at.world.journal at.world.mark port confirmed was now → MayPrint start old at port confirmed was now
+may_print_last start old at R W = may_print start old at at R W (walked_nowhere at W.now)
+
+-- and from an earlier one on
+pub may_print_since : (start : Network NodeState) (first old new : Flushing) → Walked first old → (port confirmed : ℕ) (was now : Option (List ℕ))
+    → MayPrint start old new port confirmed was now → MayPrint start first new port confirmed was now
+may_print_since start first old new W port confirmed was now (inl same) = inl same
+may_print_since start first old new W port confirmed was now (inr H) =
+    let up = walked_later first old W in
+    let later = H.later in
+    inr (record {
+      number = H.number;
+      outputs = H.outputs;
+      shows = H.shows;
+      count = H.count;
+      appended = H.appended;
+      there = H.there;
+      later = omega (arith, up, later);
+      since = H.since;
+    })

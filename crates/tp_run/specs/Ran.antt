@@ -1,5 +1,5 @@
 -- What a run leaves, whatever becomes of the device in it.
-use Rattle.std.specs.Prelude.{◌≡◌, ◌⊎◌, ℕ, List, ◌++◌, take, Option, Result, Ok, IfOk}
+use Rattle.std.specs.Prelude.{◌≡◌, ◌≤◌, ◌⊎◌, ℕ, List, ◌++◌, take, Option, Result, Ok, IfOk}
 use Rattle.std.specs.List.{enumerate_from}
 use Rattle.std.specs.Io.KnownBytes.{Appends}
 use Rattle.tp_model.specs.declared.entry.Entry.{Entry}
@@ -7,7 +7,7 @@ use Rattle.tp_model.specs.NodeState.{NodeState}
 use Rattle.tp_model.specs.Node.{t414}
 use Rattle.tp_model.specs.Network.{Network}
 use Rattle.tp_model.specs.Disk.{MayBe}
-use Rattle.tp_model.specs.DiskHistory.{State, LeavesOnly}
+use Rattle.tp_model.specs.DiskHistory.{State, LeavesOnly, moment}
 use Rattle.tp_model.specs.DeviceAreas.{device_areas}
 use Rattle.tp_model.specs.Opening.{Opened, verdict}
 use Rattle.tp_model.specs.Runs.{World}
@@ -44,8 +44,8 @@ pub record Settled (start : Network NodeState) (outset : Outset) (handed : List 
 -- What was handed in and printed by a run that was done is in the journal. The device opened, and its port stood somewhere. Behind
 -- all that the device had there are the entries of the input from what the port had accepted on, as many bytes as it had room for.
 -- Some bytes were printed, and there is the entry that confirms just so many outputs behind those confirmed before: where the entries
--- in front of it lead, these bytes are all the outputs of the port that weren't confirmed. All these entries have numbers below `next`, and whatever a crash leaves of the device opens to where a prefix of the journal leads in which each stands
--- at its number.
+-- in front of it lead, these bytes are all the outputs of the port that weren't confirmed. All these entries have numbers below
+-- `next`, and whatever a crash leaves of the device opens to where a prefix of the journal leads in which each stands at its number.
 pub record Carried (start : Network NodeState) (journal : List Entry) (port : ℕ) (input : List ℕ) (was now : Option (List ℕ)) (next : ℕ) (old new : State) : Type 0 where
   pub opened : Opened
   pub reads : verdict old.now.bytes ≡ Ok opened
@@ -59,8 +59,8 @@ pub record Carried (start : Network NodeState) (journal : List Entry) (port : �
   pub shows : Shows start journal number port (outset_in opened port).confirmed printed
 
 -- What was printed, however the run ended: the device opened; where the first entries of the journal lead, so many, the port has some
--- outputs behind those that were confirmed as it was opened, and a front of them was printed; and whatever a crash leaves of the
--- device has each of these entries.
+-- outputs behind those that were confirmed as it was opened, and a front of them was printed, while the device stood somewhere since;
+-- and whatever a crash leaves at any moment from then on has each of these entries.
 pub record IsPrinted (start : Network NodeState) (journal : List Entry) (port : ℕ) (was now : Option (List ℕ)) (old new : State) : Type 0 where
   pub opened : Opened
   pub reads : verdict old.now.bytes ≡ Ok opened
@@ -69,7 +69,9 @@ pub record IsPrinted (start : Network NodeState) (journal : List Entry) (port : 
   pub shows : Shows start journal number port (outset_in opened port).confirmed outputs
   pub count : ℕ
   pub appended : Appends was now (take count outputs)
-  pub stored : (left : List ℕ) → MayBe new.now left → RecoversTo t414 device_areas start journal number left
+  pub there : State
+  pub later : moment old ≤ moment there
+  pub since : LeavesOnly there new (RecoversTo t414 device_areas start journal number)
 
 -- A crash at any moment of the run leaves what one just before might have left, or what opens to where a prefix of the journal leads,
 -- with all that the device had as it was opened. After a run that was done, the prefix has each entry below the answered number, and

@@ -6,7 +6,11 @@ use Rattle.tp_model.specs.NodeState.{NodeState}
 use Rattle.tp_model.specs.Node.{t414}
 use Rattle.tp_model.specs.Network.{Network, Port}
 use Rattle.tp_model.specs.Order.{after}
+use Rattle.tp_model.specs.DiskHistory.{LeavesOnly, State, moment}
+use Rattle.tp_model.specs.DeviceAreas.{device_areas}
 use Rattle.tp_model.specs.Runs.{World}
+use Rattle.tp_model.specs.Walks.{RecoversTo}
+use Rattle.tp_flush.specs.Flushing.{Flushing}
 
 -- a port of a network; where there is none, one at which nothing has happened
 abbrev pub port_of : Network NodeState → ℕ → Port
@@ -36,3 +40,19 @@ pub record HasShown (start : Network NodeState) (journal : List Entry) (least po
 -- or nothing was appended
 abbrev pub MayShow : Network NodeState → List Entry → ℕ → ℕ → ℕ → Option (List ℕ) → Option (List ℕ) → Type 0
 MayShow start journal least port confirmed was now = (now ≡ was) ⊎ HasShown start journal least port confirmed was now
+
+-- What was appended while the device stood somewhere between two moments: a front of a port's outputs behind those confirmed, where the
+-- first entries of the journal lead; and whatever a crash leaves from then on has each of these entries.
+pub record HasPrinted (start : Network NodeState) (old new : Flushing) (port confirmed : ℕ) (was now : Option (List ℕ)) : Type 0 where
+  pub number : ℕ
+  pub outputs : List ℕ
+  pub shows : Shows start new.world.journal number port confirmed outputs
+  pub count : ℕ
+  pub appended : Appends was now (take count outputs)
+  pub there : State
+  pub later : moment old.state ≤ moment there
+  pub since : LeavesOnly there new.state (RecoversTo t414 device_areas start new.world.journal number)
+
+-- or nothing was appended
+abbrev pub MayPrint : Network NodeState → Flushing → Flushing → ℕ → ℕ → Option (List ℕ) → Option (List ℕ) → Type 0
+MayPrint start old new port confirmed was now = (now ≡ was) ⊎ HasPrinted start old new port confirmed was now

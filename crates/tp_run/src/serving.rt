@@ -9,7 +9,7 @@ ghost use Rattle.tp_run.specs.Faults.{IsBegun, IsLate, IsSilent};
 ghost use Rattle.tp_run.specs.Input.{IsForInput, input_slips};
 ghost use Rattle.tp_run.specs.Output.{IsForOutput};
 ghost use Rattle.tp_run.specs.Ran.{Settled};
-ghost use Rattle.tp_run.specs.Shown.{AreShownIn, MayShow};
+ghost use Rattle.tp_run.specs.Shown.{AreShownIn, MayPrint, MayShow};
 
 use crate::fault::RunFault;
 use crate::flushing::{flush_meanwhile, flush_upto};
@@ -167,7 +167,7 @@ fn finish<J: Naming, D: Disk, O: Write, R: Wait>(
     ensures settled { D.keeps → Began J.formatted J.before flusher.old.opened
         → IfOk result (Settled J.formatted outset offered.seat (O.contents out.old) (O.contents out.new) flusher.new.world.journal) }
     ensures shown { D.keeps → Began J.formatted J.before flusher.old.opened
-        → MayShow J.formatted flusher.new.world.journal flusher.new.world.mark outset.port outset.confirmed (O.contents out.old) (O.contents out.new) }
+        → MayPrint J.formatted flusher.old flusher.new outset.port outset.confirmed (O.contents out.old) (O.contents out.new) }
     ensures silent { IsSilent result → O.contents out.new ≡ O.contents out.old }
     ensures begun { IfErr result IsBegun }
 {
@@ -208,7 +208,7 @@ pub(crate) fn serve<
     ensures settled { D.keeps → Began J.formatted J.before flusher.opened
         → IfOk result.1 (Settled J.formatted outset (input_slips outset input.now) (O.contents out.old) (O.contents out.new) result.0.world.journal) }
     ensures shown { D.keeps → Began J.formatted J.before flusher.opened
-        → MayShow J.formatted result.0.world.journal result.0.world.mark outset.port outset.confirmed (O.contents out.old) (O.contents out.new) }
+        → MayPrint J.formatted flusher result.0 outset.port outset.confirmed (O.contents out.old) (O.contents out.new) }
     ensures silent { IsSilent result.1 → O.contents out.new ≡ O.contents out.old }
     ensures begun { IfErr result.1 IsBegun }
 {

@@ -1,4 +1,4 @@
-use Rattle.std.proofs.Common.{◌≡◌, ◌≤◌, length, sym, ap, subst, ◌∙◌, IfOk, Ok, Err}
+use Rattle.std.proofs.Common.{◌≡◌, ◌≤◌, length, sym, ap, subst, ◌∙◌, IfOk}
 use Rattle.tp_book.specs.Book.{next_number}
 use Rattle.tp_book.specs.Host.{port_in, shown_of}
 use Rattle.tp_run.specs.Output.{AreOutputs, IsForOutput, ShowsAll}

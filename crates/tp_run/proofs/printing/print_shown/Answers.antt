@@ -1,4 +1,4 @@
-use Rattle.std.proofs.Common.{◌≡◌, length, sym, ap, subst, ◌∙◌}
+use Rattle.std.proofs.Common.{◌≡◌, length, ap, subst, ◌∙◌}
 use Rattle.tp_book.specs.Calls.{marks_of}
 use Rattle.tp_book.specs.Host.{port_in, shown_from}
 use Rattle.tp_run.proofs.Shown.{printed_is}

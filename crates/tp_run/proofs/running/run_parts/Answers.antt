@@ -7,7 +7,7 @@ use Rattle.tp_run.specs.declared.fault.RunFault.TheVariants.{Memory}
 use Rattle.tp_run.specs.Input.{input_slips}
 use Rattle.tp_run.specs.declared.outset.Outset.{Outset}
 use Rattle.tp_run.specs.Ran.{Ran, Settled}
-use Rattle.tp_run.specs.Shown.{MayShow}
+use Rattle.tp_run.specs.Shown.{MayPrint}
 use Rattle.tp_run.proofs.Runs.{served_ran, still_ran}
 use Rattle.tp_run.proofs.running.run_parts.Goals as goal
 
@@ -37,7 +37,7 @@ returns-clause-ran g c k began =
     let first : Began start g.J.Naming.before old.opened = subst (Began start g.J.Naming.before) (sym c.over-flusher.ensures.opened) began in
     let reads : verdict old.state.now.bytes ≡ Ok opened = subst (λ (s : State). verdict s.now.bytes ≡ Ok opened) (sym c.over-flusher.ensures.device.0) (c.requires.read k) in
     let settled = subst (λ u. IfOk done (Settled start u (input_slips u input) was now new.world.journal)) c.requires.outset (c.serve-flusher.ensures.settled k first) in
-    let shown = subst (λ (u : Outset). MayShow start new.world.journal new.world.mark u.port u.confirmed was now) c.requires.outset (c.serve-flusher.ensures.shown k first) in
+    let shown = subst (λ (u : Outset). MayPrint start old new u.port u.confirmed was now) c.requires.outset (c.serve-flusher.ensures.shown k first) in
     let ran : Ran start port input was now done old.state new.state =
     served_ran c.stored_slips_are_recovered.ensures start opened port input was now old new done reads (c.known.ensures.reached k first) (c.serve-flusher.ensures.walks k first) c.serve-flusher.ensures.stored settled shown in
     subst (λ s. Ran start port input was now done (g.D.Disk.state c.args.store.disk) s) (sym c.into_disk-2.ensures.state) (subst (λ s. Ran start port input was now done s new.state) c.over-flusher.ensures.device.0 ran)

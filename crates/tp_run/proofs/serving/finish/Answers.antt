@@ -1,10 +1,10 @@
-use Rattle.std.proofs.Common.{◌≤◌, inl, refl, sym, ap, subst, ◌∙◌, arith}
+use Rattle.std.proofs.Common.{◌≤◌, sym, ap, subst, ◌∙◌, arith}
 use Rattle.tp_flush.specs.Known.{Began}
 use Rattle.tp_flush.specs.Flushing.{Flushing, Walked}
 use Rattle.tp_flush.proofs.Turns.{walked_then}
 use Rattle.tp_run.specs.Ran.{Settled}
-use Rattle.tp_run.specs.Shown.{MayShow}
-use Rattle.tp_run.proofs.Shown.{may_show_on, shows_on, walked_reached}
+use Rattle.tp_run.specs.Shown.{MayPrint}
+use Rattle.tp_run.proofs.Shown.{may_print, may_print_last, shows_on, walked_reached}
 use Rattle.tp_run.proofs.Slips.{both_settled}
 use Rattle.tp_run.proofs.serving.finish.Goals as goal
 
@@ -30,33 +30,34 @@ returns-clause-walks g c k began =
 
 pub returns-in_err-confirmed-clause-shown : goal.returns-in_err-confirmed-clause-shown
 returns-in_err-confirmed-clause-shown g c k began =
-    let there = subst (Began g.J.Naming.formatted g.J.Naming.before) (sym c.flush_upto.ensures.process.opened) began in
-    subst
-    (λ (f : Flushing). MayShow g.J.Naming.formatted f.world.journal f.world.mark c.args.outset.port c.args.outset.confirmed (g.O.Write.contents c.args.out.now) (g.O.Write.contents c.print.new.out))
-    (sym c.print.ensures.same) (c.print.ensures.shown k there)
+    let start = g.J.Naming.formatted in
+    let there = subst (Began start g.J.Naming.before) (sym c.flush_upto.ensures.process.opened) began in
+    let was = g.O.Write.contents c.args.out.now in
+    let now = g.O.Write.contents c.print.new.out in
+    subst (λ (f : Flushing). MayPrint start c.args.flusher.now f c.args.outset.port c.args.outset.confirmed was now) (sym c.print.ensures.same)
+    (may_print_last start c.args.flusher.now c.flush_upto.new.flusher (c.known.ensures.reached k began) (c.flush_upto.ensures.walks k began) c.args.outset.port c.args.outset.confirmed was now
+    (c.print.ensures.shown k there))
 
 pub returns-in_err-_mark-clause-shown : goal.returns-in_err-_mark-clause-shown
 returns-in_err-_mark-clause-shown g c k began =
     let start = g.J.Naming.formatted in
-    let one = c.flush_upto.new.flusher in
     let there = subst (Began start g.J.Naming.before) (sym c.flush_upto.ensures.process.opened) began in
     let later = subst (λ (f : Flushing). Began start g.J.Naming.before f.opened) (sym c.print.ensures.same) there in
     let walked = subst (λ (f : Flushing). Walked f c.flush_upto-2.new.flusher) c.print.ensures.same (c.flush_upto-2.ensures.walks k later) in
-    may_show_on start one c.flush_upto-2.new.flusher (walked_reached start c.args.flusher.now one (c.known.ensures.reached k began) (c.flush_upto.ensures.walks k began)) walked
-    c.args.outset.port c.args.outset.confirmed (g.O.Write.contents c.args.out.now) (g.O.Write.contents c.print.new.out) (c.print.ensures.shown k there)
+    may_print start c.args.flusher.now c.flush_upto.new.flusher c.flush_upto-2.new.flusher (c.known.ensures.reached k began) (c.flush_upto.ensures.walks k began) walked c.args.outset.port
+    c.args.outset.confirmed (g.O.Write.contents c.args.out.now) (g.O.Write.contents c.print.new.out) (c.print.ensures.shown k there)
 
 pub returns-clause-shown : goal.returns-clause-shown
 returns-clause-shown g c k began =
     let start = g.J.Naming.formatted in
-    let one = c.flush_upto.new.flusher in
     let there = subst (Began start g.J.Naming.before) (sym c.flush_upto.ensures.process.opened) began in
     let later = subst (λ (f : Flushing). Began start g.J.Naming.before f.opened) (sym c.print.ensures.same) there in
     let walked = subst (λ (f : Flushing). Walked f c.flush_upto-2.new.flusher) c.print.ensures.same (c.flush_upto-2.ensures.walks k later) in
-    subst
-    (λ (f : Flushing). MayShow start f.world.journal f.world.mark c.args.outset.port c.args.outset.confirmed (g.O.Write.contents c.args.out.now) (g.O.Write.contents c.print.new.out))
-    (sym c.settle.ensures.same)
-    (may_show_on start one c.flush_upto-2.new.flusher (walked_reached start c.args.flusher.now one (c.known.ensures.reached k began) (c.flush_upto.ensures.walks k began)) walked
-    c.args.outset.port c.args.outset.confirmed (g.O.Write.contents c.args.out.now) (g.O.Write.contents c.print.new.out) (c.print.ensures.shown k there))
+    let was = g.O.Write.contents c.args.out.now in
+    let now = g.O.Write.contents c.print.new.out in
+    subst (λ (f : Flushing). MayPrint start c.args.flusher.now f c.args.outset.port c.args.outset.confirmed was now) (sym c.settle.ensures.same)
+    (may_print start c.args.flusher.now c.flush_upto.new.flusher c.flush_upto-2.new.flusher (c.known.ensures.reached k began) (c.flush_upto.ensures.walks k began) walked c.args.outset.port
+    c.args.outset.confirmed was now (c.print.ensures.shown k there))
 
 -- ## What is settled
 

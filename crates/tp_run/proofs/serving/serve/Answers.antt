@@ -2,6 +2,7 @@ use Rattle.std.proofs.Common.{sym, subst, IfOk}
 use Rattle.tp_flush.specs.Known.{Began}
 use Rattle.tp_flush.proofs.Turns.{walked_nowhere, walked_then}
 use Rattle.tp_run.specs.Ran.{Settled}
+use Rattle.tp_run.proofs.Shown.{may_print_since}
 use Rattle.tp_run.proofs.serving.serve.Goals as goal
 
 pub returns-in-Err-clause-walks : goal.returns-in-Err-clause-walks
@@ -20,4 +21,7 @@ returns-clause-settled g c k began =
     (c.finish-done.ensures.settled k (subst (Began g.J.Naming.formatted g.J.Naming.before) (sym c.work-flusher.ensures.process.opened) began))
 
 pub returns-clause-shown : goal.returns-clause-shown
-returns-clause-shown g c k began = c.finish-done.ensures.shown k (subst (Began g.J.Naming.formatted g.J.Naming.before) (sym c.work-flusher.ensures.process.opened) began)
+returns-clause-shown g c k began =
+    may_print_since g.J.Naming.formatted c.args.flusher c.work-flusher.result c.finish-done.new.flusher (c.work-flusher.ensures.walks k began) c.args.outset.port c.args.outset.confirmed
+    (g.O.Write.contents c.args.out.now) (g.O.Write.contents c.finish-done.new.out)
+    (c.finish-done.ensures.shown k (subst (Began g.J.Naming.formatted g.J.Naming.before) (sym c.work-flusher.ensures.process.opened) began))
