@@ -216,8 +216,8 @@ const LATE_LEFT: Left = Left {
     words: &[(0, 688, [4, 0, 0, 0]), (1, 1712, [4, 0, 0, 0])],
 };
 
-/// Three checkpoints. Behind the first one the second area gets forty groups more, which the third one, of one entry behind its cut,
-/// leaves standing behind its closed gate.
+/// Three checkpoints. Behind the first one the second area gets forty groups more, the last of them in the turn of the second one. The
+/// third one, with one entry outside its cut, leaves them standing behind the closed gate of its group.
 const THIRD: Story = Story {
     network: Network {
         text: ONE_NODE,
@@ -236,8 +236,8 @@ const THIRD: Story = Story {
         Turn(1, 0, None),
         Book(2, true),
         Flush(true),
-        Groups(40),
-        Book(42, false),
+        Groups(39),
+        Book(41, false),
         Begin,
         Turn(0, 0, Some((4, Why::Full))),
         Turn(1, 0, None),
@@ -245,42 +245,42 @@ const THIRD: Story = Story {
         Begin,
         Turn(0, 0, Some((4, Why::Full))),
         Turn(1, 0, None),
-        Book(44, true),
+        Book(43, true),
         Flush(true),
-        Book(44, false),
+        Book(43, false),
     ],
 };
 
 const THIRD_LEFT: Left = Left {
     second: true,
     generation: 4,
-    base: 43,
-    next: 44,
-    kept: &[(Entry::Run { node: 0, count: 4 }, 43)],
+    base: 42,
+    next: 43,
+    kept: &[(Entry::Run { node: 0, count: 4 }, 42)],
     bytes: &[
         // The second checkpoint, its count, and its one entry behind the cut.
         (
             512,
             &[
-                0xA5, 3, 0, 0, 0, 0, 0, 0, 0, 0xDC, 0x30, 0, 0, 42, 0, 0, 0, 0, 0, 0, 0,
+                0xA5, 3, 0, 0, 0, 0, 0, 0, 0, 0xDC, 0x30, 0, 0, 41, 0, 0, 0, 0, 0, 0, 0,
             ],
         ),
-        (1221, &[42, 0, 0, 0]),
+        (1221, &[41, 0, 0, 0]),
         (
             13_033,
-            &[0xA5, 0, 1, 0, 0, 0, 0, 0, 42, 0, 0, 0, 0, 0, 0, 0],
+            &[0xA5, 0, 1, 0, 0, 0, 0, 0, 41, 0, 0, 0, 0, 0, 0, 0],
         ),
         // The third one.
         (
             16_896,
             &[
-                0xA5, 4, 0, 0, 0, 0, 0, 0, 0, 0xDC, 0x30, 0, 0, 43, 0, 0, 0, 0, 0, 0, 0,
+                0xA5, 4, 0, 0, 0, 0, 0, 0, 0, 0xDC, 0x30, 0, 0, 42, 0, 0, 0, 0, 0, 0, 0,
             ],
         ),
-        (17_605, &[43, 0, 0, 0]),
+        (17_605, &[42, 0, 0, 0]),
         (
             29_417,
-            &[0xA5, 0, 1, 0, 0, 0, 0, 0, 43, 0, 0, 0, 0, 0, 0, 0],
+            &[0xA5, 0, 1, 0, 0, 0, 0, 0, 42, 0, 0, 0, 0, 0, 0, 0],
         ),
         // The gate behind its group; then groups of the first one, the last of which has the number 41.
         (29_449, &[0, 0, 1, 0, 0, 0, 0, 0, 2, 0, 0, 0, 0, 0, 0, 0]),
@@ -291,7 +291,7 @@ const THIRD_LEFT: Left = Left {
         ),
         (30_729, &[0]),
     ],
-    words: &[(0, 688, [44, 0, 0, 0])],
+    words: &[(0, 688, [43, 0, 0, 0])],
 };
 
 /// A letter is sent, taken and acknowledged; then a checkpoint, whose last call that writes the device is that of the gate.
