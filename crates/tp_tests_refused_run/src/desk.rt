@@ -117,8 +117,7 @@ impl<J: Naming> Desk<J> {
         rt: &R,
         alloc: Global,
     ) -> Result<(u64, bool), FlushFault> {
-        let Desk { net, flusher, .. } = self;
-        let flushed = flusher.turn(rt, alloc, net.shared())?;
+        let flushed = self.flusher.turn(rt, alloc, self.net.shared())?;
         Ok((flushed.mark, flushed.switched))
     }
 
@@ -148,9 +147,8 @@ impl<J: Naming> Desk<J> {
         alloc: Global,
         bytes: &[u8],
     ) -> Option<Result<bool, ShownFault>> {
-        let Desk { net, pass, .. } = self;
-        let session = Session::new(net.shared(), 0)?;
-        match session.shown(rt, alloc, 0, pass) {
+        let session = Session::new(self.net.shared(), 0)?;
+        match session.shown(rt, alloc, 0, &mut self.pass) {
             Ok(shown) => Some(Ok(shown.as_slice() == bytes)),
             Err(fault) => Some(Err(fault)),
         }
@@ -162,9 +160,8 @@ impl<J: Naming> Desk<J> {
         rt: &R,
         upto: u64,
     ) -> Option<Result<u64, ConfirmFault>> {
-        let Desk { net, pass, .. } = self;
-        let session = Session::new(net.shared(), 0)?;
-        match session.confirm(rt, upto, pass) {
+        let session = Session::new(self.net.shared(), 0)?;
+        match session.confirm(rt, upto, &mut self.pass) {
             Ok(receipt) => Some(Ok(receipt.number())),
             Err(fault) => Some(Err(fault)),
         }
