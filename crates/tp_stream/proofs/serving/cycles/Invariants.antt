@@ -1,0 +1,12 @@
+use Rattle.std.specs.Prelude.{IfErr}
+use Rattle.tp_flush.specs.Known.{Began}
+use Rattle.tp_flush.specs.Flushing.{IsSameProcess, Walked}
+use Rattle.tp_stream.specs.Streamed.{IsBegun}
+use Rattle.tp_stream.proofs.serving.cycles.Given as goal
+
+abbrev pub invariant-loop : goal.invariant-loop
+invariant-loop g l = record {
+  process : IsSameProcess l.fn.first l.flusher;
+  walks : g.D.Disk.keeps → Began g.J.Naming.formatted g.J.Naming.before l.fn.first.opened → Walked l.fn.first l.flusher;
+  begun : IfErr l.last IsBegun;
+}

@@ -1,0 +1,9 @@
+use Rattle.std.proofs.Common.{sym, subst}
+use Rattle.tp_flush.specs.Known.{Began}
+use Rattle.tp_flush.proofs.Turns.{walked_then}
+use Rattle.tp_stream.proofs.serving.serve.Goals as goal
+
+pub returns-clause-walks : goal.returns-clause-walks
+returns-clause-walks g c k began =
+    walked_then c.args.flusher c.cycles-there.result.0 c.finish-done.new.flusher (c.cycles-there.ensures.walks k began)
+    (c.finish-done.ensures.walks k (subst (Began g.J.Naming.formatted g.J.Naming.before) (sym c.cycles-there.ensures.process.opened) began))

@@ -1,0 +1,37 @@
+use Rattle.std.proofs.Common.{◌≡◌, Err, refl, sym, ap, subst, ◌∙◌}
+use Rattle.tp_model.specs.Disk.{Moment}
+use Rattle.tp_flush.specs.Known.{Began}
+use Rattle.tp_stream.specs.declared.fault.StreamFault.TheVariants.{Opening}
+use Rattle.tp_stream.specs.Streamed.{Streamed}
+use Rattle.tp_stream.proofs.Runs.{begun_written, opened, unwritten}
+use Rattle.tp_stream.proofs.streaming.stream.Goals as goal
+
+pub stream_parts-requires-clause-names : goal.stream_parts-requires-clause-names
+stream_parts-requires-clause-names g c =
+    record { roll_is = refl; first_is = refl; wires_are = refl; count_is = refl; ports_are = refl; nodes_are = λ i. refl; mark_is = refl; flusher_is = refl; room_is = refl }
+
+pub returns-in-Err-clause-streamed : goal.returns-in-Err-clause-streamed
+returns-in-Err-clause-streamed g c k began =
+    unwritten g.history.formatted (Opening c.in-Err.unopened) (g.D.Disk.state c.args.disk) (g.D.Disk.state c.open.new.disk) (c.open.ensures.leaves k)
+
+pub returns-in-Some-clause-streamed : goal.returns-in-Some-clause-streamed
+returns-in-Some-clause-streamed g c k began =
+    unwritten g.history.formatted c.in-Some.fault (g.D.Disk.state c.args.disk) (g.D.Disk.state c.open.new.disk) (c.open.ensures.leaves k)
+
+pub returns-in-Err-parts_of-clause-streamed : goal.returns-in-Err-parts_of-clause-streamed
+returns-in-Err-parts_of-clause-streamed g c k began =
+    subst (λ d. Streamed g.history.formatted (Err c.in-Err-parts_of.fault) (g.D.Disk.state c.args.disk) (g.D.Disk.state d)) (sym (c.into_disk.ensures ∙ c.store-store.ensures.disk))
+    (unwritten g.history.formatted c.in-Err-parts_of.fault (g.D.Disk.state c.args.disk) (g.D.Disk.state c.open.new.disk) (c.open.ensures.leaves k))
+
+pub returns-clause-streamed : goal.returns-clause-streamed
+returns-clause-streamed g c k began =
+    let start = g.history.formatted in
+    let done = c.stream_parts.result.1 in
+    let kept : (g.D.Disk.state c.open.new.disk).now.bytes ≡ (g.D.Disk.state c.args.disk).now.bytes = ap (λ (m : Moment). m.bytes) (c.in-Ok.ensures.kept k) in
+    let same : (g.D.Disk.state c.store-store.result.disk).now.bytes ≡ (g.D.Disk.state c.args.disk).now.bytes = ap (λ d. (g.D.Disk.state d).now.bytes) c.store-store.ensures.disk ∙ kept in
+    opened start done (g.D.Disk.state c.args.disk) (g.D.Disk.state c.open.new.disk) (g.D.Disk.state c.stream_parts.result.0) (c.open.ensures.leaves k)
+    (subst (λ d. Streamed start done (g.D.Disk.state d) (g.D.Disk.state c.stream_parts.result.0)) c.store-store.ensures.disk
+    (c.stream_parts.ensures.streamed k (subst (Began start g.history.before) (sym same) began)))
+
+pub returns-clause-unwritten : goal.returns-clause-unwritten
+returns-clause-unwritten g c k unbegun = absurd (begun_written c.stream_parts.result.1 c.stream_parts.ensures.begun unbegun)

@@ -1,0 +1,5 @@
+pub mod Held
+pub mod Offered
+pub mod Outputs
+pub mod Rooms
+pub mod Streamed

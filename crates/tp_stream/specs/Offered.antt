@@ -1,0 +1,15 @@
+-- A port's input, and what is handed in of it.
+use Rattle.std.specs.Prelude.{◌≡◌, ℕ, List, length, take, drop, Option, Some, None}
+use Rattle.tp_book.specs.Book.{BookValue}
+use Rattle.tp_book.specs.Host.{accepted_of, after_input, port_in}
+
+-- Where the whole input is known, these are its bytes from a position on, as many as there are of them.
+abbrev pub AreFrom : Option (List ℕ) → ℕ → List ℕ → Type 0
+AreFrom None at bytes = Unit {0}
+AreFrom (Some all) at bytes = bytes ≡ take (length bytes) (drop at all)
+
+-- A port was handed the bytes of its input from what it has accepted on.
+pub record Offered (input : Option (List ℕ)) (port : ℕ) (old new : BookValue) : Type 0 where
+  pub bytes : List ℕ
+  pub from : AreFrom input (accepted_of (port_in old port)) bytes
+  pub book : new ≡ after_input old port bytes

@@ -1,0 +1,51 @@
+-- What a stream leaves, whatever becomes of the device in it.
+use Rattle.std.specs.Prelude.{◌≡◌, ◌⊎◌, ℕ, List, Result, Ok, Err, IfOk}
+use Rattle.tp_model.specs.declared.entry.Entry.{Entry}
+use Rattle.tp_model.specs.NodeState.{NodeState}
+use Rattle.tp_model.specs.Node.{t414}
+use Rattle.tp_model.specs.Network.{Network}
+use Rattle.tp_model.specs.Disk.{MayBe}
+use Rattle.tp_model.specs.DiskHistory.{State, LeavesOnly}
+use Rattle.tp_model.specs.DeviceAreas.{device_areas}
+use Rattle.tp_model.specs.Walks.{RecoversTo}
+use Rattle.tp_stream.specs.declared.fault.StreamFault.{StreamFault}
+use Rattle.tp_stream.specs.declared.fault.StreamFault.TheVariants.{Opening, Spare, Port, Unnamed, Short, Gone, NotShown, InputFailed, OutputFailed, FlushFailed, JournalFull, Memory}
+
+-- A crash at any moment of the stream leaves what one just before might have left, or what opens to where a prefix of the journal leads,
+-- with all that the device had as it was opened. After a stream that was done, the prefix has each entry below the answered number.
+pub record Streamed (start : Network NodeState) (result : Result ℕ StreamFault) (old new : State) : Type 0 where
+  pub journal : List Entry
+  pub first : ℕ
+  pub leaves : LeavesOnly old new (λ left. MayBe old.now left ⊎ RecoversTo t414 device_areas start journal first left)
+  pub stored : IfOk result (λ next. (left : List ℕ) → MayBe new.now left → RecoversTo t414 device_areas start journal next left)
+
+-- the device isn't written
+abbrev pub IsUnbegun : {A : Type 0} → Result A StreamFault → Type 0
+IsUnbegun (Ok x) = ⊥
+IsUnbegun (Err (Opening unopened)) = Unit {0}
+IsUnbegun (Err Spare) = Unit {0}
+IsUnbegun (Err (Port port)) = Unit {0}
+IsUnbegun (Err (Unnamed port)) = Unit {0}
+IsUnbegun (Err (Short port has from)) = Unit {0}
+IsUnbegun (Err (Gone port have confirmed)) = Unit {0}
+IsUnbegun (Err (NotShown port have shown)) = Unit {0}
+IsUnbegun (Err (InputFailed port)) = ⊥
+IsUnbegun (Err (OutputFailed port)) = ⊥
+IsUnbegun (Err FlushFailed) = ⊥
+IsUnbegun (Err JournalFull) = ⊥
+IsUnbegun (Err Memory) = ⊥
+
+-- a fault of a stream that was begun
+abbrev pub IsBegun : StreamFault → Type 0
+IsBegun (Opening unopened) = ⊥
+IsBegun Spare = ⊥
+IsBegun (Port port) = ⊥
+IsBegun (Unnamed port) = ⊥
+IsBegun (Short port has from) = ⊥
+IsBegun (Gone port have confirmed) = ⊥
+IsBegun (NotShown port have shown) = ⊥
+IsBegun (InputFailed port) = Unit {0}
+IsBegun (OutputFailed port) = Unit {0}
+IsBegun FlushFailed = Unit {0}
+IsBegun JournalFull = Unit {0}
+IsBegun Memory = Unit {0}

@@ -1,0 +1,99 @@
+//! What is tested before a stream begins.
+
+use crate::fault::StreamFault;
+use crate::listener::Listener;
+use crate::output::Output;
+use crate::sink::Sink;
+use crate::source::Source;
+use crate::streams::Streams;
+use crate::task::Task;
+use tp_book::Book;
+use tp_net::Topology;
+
+/// Whether a port has a wire.
+fn is_wired(topology: &Topology, port: usize) -> bool {
+    let line = (4 * topology.pages().len()).saturating_add(port);
+    topology.wires().get(line).is_some_and(|end| end.is_some())
+}
+
+/// Whether a sink is for a port.
+fn has_sink<S: Sink>(outputs: &[Output<S>], port: u8) -> bool {
+    outputs.iter().any(|output| output.port() == port)
+}
+
+/// A port with a wire for which there is no sink.
+fn unnamed<S: Sink>(topology: &Topology, outputs: &[Output<S>]) -> Option<u8> {
+    for port in 0..topology.port_count() {
+        if is_wired(topology, port) && !has_sink(outputs, port as u8) {
+            return Some(port as u8);
+        }
+    }
+    None
+}
+
+/// A port that isn't there, for which there is a sink or a source.
+fn absent<S: Sink, I: Source>(topology: &Topology, streams: &Streams<S, I>) -> Option<u8> {
+    let ports = topology.port_count();
+    for output in &streams.outputs {
+        if usize::from(output.port()) >= ports {
+            return Some(output.port());
+        }
+    }
+    for input in &streams.inputs {
+        if usize::from(input.port()) >= ports {
+            return Some(input.port());
+        }
+    }
+    None
+}
+
+/// Why a network isn't run as `task` says on these streams, where it isn't.
+pub(crate) fn task_fault<S: Sink, I: Source>(
+    task: Task,
+    topology: &Topology,
+    streams: &Streams<S, I>,
+) -> Option<StreamFault> {
+    if topology.pages().iter().any(|pages| *pages < task.spare) {
+        return Some(StreamFault::Spare);
+    }
+    match (
+        absent(topology, streams),
+        unnamed(topology, &streams.outputs),
+    ) {
+        (Some(port), _) => Some(StreamFault::Port(port)),
+        (None, Some(port)) => Some(StreamFault::Unnamed(port)),
+        (None, None) => None,
+    }
+}
+
+/// Sets out where each sink's port stands in the book of a device that opened, and tells where each stream begins.
+pub(crate) fn begin_all<S: Sink, I: Source, L: Listener>(
+    book: &Book,
+    mark: u64,
+    streams: &mut Streams<S, I>,
+    listener: &mut L,
+) -> Result<(), StreamFault> {
+    for output in streams.outputs.iter_mut() {
+        if usize::from(output.port()) >= book.ports() {
+            return Err(StreamFault::Port(output.port()));
+        }
+        output.begin(book, mark)?;
+        listener.output(output.port(), output.put());
+    }
+    tell_inputs(book, streams, listener)
+}
+
+/// Tells how much of its input each source's port has accepted.
+fn tell_inputs<S: Sink, I: Source, L: Listener>(
+    book: &Book,
+    streams: &Streams<S, I>,
+    listener: &mut L,
+) -> Result<(), StreamFault> {
+    for input in &streams.inputs {
+        if usize::from(input.port()) >= book.ports() {
+            return Err(StreamFault::Port(input.port()));
+        }
+        listener.input(input.port(), book.accepted(input.port()));
+    }
+    Ok(())
+}

@@ -1,0 +1,51 @@
+//! Why a stream ends early.
+
+use thiserror::Error;
+use tp_recover::Unopened;
+
+/// Each of the first seven leaves the device as it is, and nothing was put.
+#[derive(Clone, Copy, Debug, PartialEq, Eq, Error)]
+pub enum StreamFault {
+    /// The device isn't opened.
+    #[error(transparent)]
+    Opening(Unopened),
+    /// A node has fewer pages than the spare frames that were asked for.
+    #[error("Spare")]
+    Spare,
+    /// A sink or a source is for a port that isn't there.
+    #[error("Port {0}")]
+    Port(u8),
+    /// This port has a wire, and no sink is for it.
+    #[error("Unnamed {0}")]
+    Unnamed(u8),
+    /// A sink has fewer bytes than are to stand before the next one.
+    #[error("Short {has} {from}")]
+    Short { port: u8, has: u64, from: u64 },
+    /// A reader has fewer outputs than were confirmed: those between are gone.
+    #[error("Gone {have} {confirmed}")]
+    Gone { port: u8, have: u64, confirmed: u64 },
+    /// A reader says that it has more outputs than are shown.
+    #[error("NotShown {have} {shown}")]
+    NotShown { port: u8, have: u64, shown: u64 },
+    /// The input of a port can't be read.
+    #[error("ReadFailed")]
+    InputFailed(u8),
+    /// The output of a port can't be put, or not be made safe. It isn't confirmed.
+    #[error("DeviceFailed")]
+    OutputFailed(u8),
+    /// The device failed.
+    #[error("DeviceFailed")]
+    FlushFailed,
+    /// There is no room on the device, and no checkpoint frees any.
+    #[error("JournalFull")]
+    JournalFull,
+    /// Memory was refused, at whatever step.
+    #[error("Memory")]
+    Memory,
+}
+
+impl From<Unopened> for StreamFault {
+    fn from(unopened: Unopened) -> StreamFault {
+        StreamFault::Opening(unopened)
+    }
+}

@@ -1,0 +1,28 @@
+//! What is told of a stream as it goes.
+
+use tp_model::limits::MAX_PORTS;
+
+/// How far a stream has come.
+#[derive(Clone, Copy, Debug, PartialEq, Eq)]
+pub struct Progress {
+    /// The number that the next entry gets.
+    pub next: u64,
+    /// The durable mark.
+    pub mark: u64,
+    /// How much of the journal is in use, in percent.
+    pub used: u64,
+    /// Up to where each port's outputs were put; none where no sink is for it.
+    pub put: [Option<u64>; MAX_PORTS],
+}
+
+/// Who is told.
+pub trait Listener {
+    /// The first byte that is put of a port's output has this position.
+    fn output(&mut self, port: u8, position: u64);
+
+    /// A port has accepted so many bytes of its input.
+    fn input(&mut self, port: u8, accepted: u64);
+
+    /// How far it has come.
+    fn progress(&mut self, progress: Progress);
+}

@@ -1,0 +1,66 @@
+//! What is made of a device that opened.
+
+ghost use Rattle.std.specs.Prelude.{◌≡◌, IfOk, Some};
+ghost use Rattle.tp_model.specs.Journal.{room};
+ghost use Rattle.tp_book.specs.Book.{next_number};
+ghost use Rattle.tp_book.specs.Opened.{IsOpened, opened_book};
+ghost use Rattle.tp_run.specs.Made.{StandsFor};
+
+use crate::beginning::begin_all;
+use crate::fault::StreamFault;
+use crate::listener::Listener;
+use crate::sink::Sink;
+use crate::source::Source;
+use crate::streams::Streams;
+use std::alloc::{AllocError, Global};
+use tp_book::{Book, NetState, opened_books_begin};
+use tp_mark::{Mark, Raiser};
+use tp_recover::Opened;
+use tp_shared::Parts;
+use tp_work::nodes_of;
+
+/// The parts of an opened book and its nodes, each with `spare` frames, and the raiser of their mark.
+fn parts_with(
+    alloc: Global,
+    state: &NetState,
+    book: Book,
+    spare: u16,
+) -> Result<(Parts, Raiser), AllocError>
+    requires opened { IsOpened state.now }
+    requires book { book ≡ opened_book state.now book.room }
+    ensures book { IfOk result (λ made. made.0.book ≡ book) }
+    ensures first { IfOk result (λ made. made.0.first ≡ next_number book) }
+    ensures raiser { IfOk result (λ made. made.1 ≡ record { mark = made.0.mark; at = state.now.next }) }
+{
+    let nodes = nodes_of(alloc, state, spare as usize)?;
+    let (mark, raiser, _) = Mark::start(alloc, state.next, 0)?;
+    let parts = Parts::opened(alloc, state, book, nodes, mark)?;
+    Ok((parts, raiser))
+}
+
+/// The book and the nodes of what was opened, and the raiser of their mark. Each stream is set out where its port stands, and told.
+pub(crate) fn parts_of<S: Sink, I: Source, L: Listener>(
+    alloc: Global,
+    opened: Opened,
+    spare: u16,
+    streams: &mut Streams<S, I>,
+    listener: &mut L,
+) -> Result<(Parts, Raiser), StreamFault>
+    ensures parts { IfOk result (λ made. StandsFor opened made.0 made.1) }
+    ensures bound { IfOk result (λ made. made.0.book.room ≡ Some (room opened.head.topology opened.head.area)) }
+{
+    opened_books_begin();
+    opened.known();
+    let room = opened.journal_room();
+    let Ok(state) = opened.into_state(alloc) else {
+        return Err(StreamFault::Memory);
+    };
+    let Ok(book) = Book::open(alloc, &state, Some(room)) else {
+        return Err(StreamFault::Memory);
+    };
+    begin_all(&book, state.next, streams, listener)?;
+    match parts_with(alloc, &state, book, spare) {
+        Ok(made) => Ok(made),
+        Err(_) => Err(StreamFault::Memory),
+    }
+}

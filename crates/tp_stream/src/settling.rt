@@ -1,0 +1,63 @@
+//! Turns that bring a snapshot to its end where the journal has no room for others.
+
+ghost use Rattle.std.specs.Prelude.{IfErr};
+ghost use Rattle.tp_stream.specs.Streamed.{IsBegun};
+
+use crate::fault::StreamFault;
+use crate::turns::{Turns, begin_where_due, make_turn};
+use std::alloc::Global;
+use std::sync::Wait;
+use tp_book::Refusal;
+use tp_shared::{Naming, Seat, Shared};
+
+/// How many times each process settles: nothing runs, so a line has at most one Data and one Ack in front of its Marker.
+const SETTLES: u8 = 4;
+
+/// How often the journal is settled in a row before it counts as full for ever.
+const MOST_SETTLED: u32 = 64;
+
+/// Begins a snapshot where none runs, under the book's lock.
+fn begin_now<J: Naming, R: Wait>(rt: &R, alloc: Global, shared: &Shared<J>) {
+    let mut held = shared.book().lock(rt);
+    held.known();
+    let _begun = begin_where_due(&mut held, alloc, 0);
+}
+
+/// Each process records, takes and closes, and none runs.
+fn settle_once<J: Naming, R: Wait>(
+    rt: &R,
+    shared: &Shared<J>,
+    seat: &mut Seat<J>,
+) -> Result<(), StreamFault>
+    ensures { IfErr result IsBegun }
+{
+    for whose in 0..=shared.nodes() {
+        match make_turn(rt, shared, seat, whose, 0) {
+            Err(Refusal::StoreBroken) => return Err(StreamFault::FlushFailed),
+            Ok(_) | Err(_) => {}
+        }
+    }
+    Ok(())
+}
+
+/// Brings a snapshot to its end without any run. It is refused once that was tried in vain too often.
+pub(crate) fn settle<J: Naming, R: Wait>(
+    rt: &R,
+    alloc: Global,
+    shared: &Shared<J>,
+    seat: &mut Seat<J>,
+    turns: &mut Turns,
+) -> Result<(), StreamFault>
+    ensures { IfErr result IsBegun }
+{
+    if turns.settled >= MOST_SETTLED {
+        return Err(StreamFault::JournalFull);
+    }
+    turns.settled += 1;
+    begin_now(rt, alloc, shared);
+    for _ in 0..SETTLES {
+        settle_once(rt, shared, seat)?;
+    }
+    turns.is_full = false;
+    Ok(())
+}

@@ -1,0 +1,29 @@
+//! What takes a port's output.
+
+ghost use Rattle.std.specs.Prelude.{Option, None, OnOk};
+ghost use Rattle.tp_stream.specs.Held.{Held, HasPut, IsSafe, KeepsBytes, KeepsFront, Reaches};
+
+/// Bytes couldn't be put, or not be made safe.
+#[derive(Clone, Copy, Debug, PartialEq, Eq)]
+pub struct SinkFailed;
+
+/// What takes a port's output: byte number q of the port at position q.
+pub trait Sink {
+    /// What it holds, where that is known.
+    ghost held: { Self → Option Held } = { λ _. None };
+
+    /// Up to which position it can be put at: so many of its bytes are there, and safe.
+    fn reach(&self) -> u64
+        ensures { Reaches result (held self.now) };
+
+    /// Puts bytes at a position, over what stands there. Whatever is answered, those before them are as they were.
+    fn put(&mut self, at: u64, bytes: &[u8]) -> Result<(), SinkFailed>
+        requires { Reaches at (held self.old) }
+        ensures put { OnOk result (HasPut at bytes.now (held self.old) (held self.new)) }
+        ensures front { KeepsFront at (held self.old) (held self.new) };
+
+    /// Makes all that was put safe: a crash leaves it.
+    fn settle(&mut self) -> Result<(), SinkFailed>
+        ensures safe { OnOk result (IsSafe (held self.new)) }
+        ensures bytes { KeepsBytes (held self.old) (held self.new) };
+}

@@ -1,0 +1,144 @@
+//! A stream, from a device to a device.
+
+ghost use Rattle.std.specs.List.{AllByRecursion};
+ghost use Rattle.std.specs.Prelude.{◌≡◌, ◌<◌, ◌≤◌, false, true, Ok, Err, Some, IfErr, IsErr};
+ghost use Rattle.tp_area.specs.Places.{place_at};
+ghost use Rattle.tp_flush.specs.Known.{Began};
+ghost use Rattle.tp_model.specs.DiskHistory.{IsSynced};
+ghost use Rattle.tp_law_machine.specs.NodeOfBytes.{IsNodeOfBytes};
+ghost use Rattle.tp_model.specs.Journal.{is_roomy, room};
+ghost use Rattle.tp_model.specs.Node.{t414_ends};
+ghost use Rattle.tp_model.specs.Opening.{verdict};
+ghost use Rattle.tp_model.specs.Spelling.{IsCut};
+ghost use Rattle.tp_model.specs.declared.limits.TheConstants.{MAX_STEPS};
+ghost use Rattle.tp_recover.specs.Reading.{LeavesNothingNew};
+ghost use Rattle.tp_run.specs.Made.{StandsFor};
+ghost use Rattle.tp_run.specs.Ran.{History};
+ghost use Rattle.tp_shared.specs.Named.{Names};
+ghost use Rattle.tp_stream.specs.Streamed.{IsBegun, IsUnbegun, Streamed};
+ghost use Rattle.tp_recover.specs.declared.unopened.Unopened.{Unopened};
+
+use crate::beginning::task_fault;
+use crate::fault::StreamFault;
+use crate::listener::Listener;
+use crate::opening::parts_of;
+use crate::rooms::Rooms;
+use crate::serving::serve;
+use crate::sink::Sink;
+use crate::source::Source;
+use crate::streams::Streams;
+use crate::task::Task;
+use crate::turns::Pace;
+use std::alloc::Global;
+use std::marker::Brand;
+use std::snapshot::Snapshot;
+use std::sync::Wait;
+use tp_area::Store;
+use tp_disk::Disk;
+use tp_flush::{Flusher, topology_of};
+use tp_mark::Raiser;
+use tp_net::Topology;
+use tp_recover::{Opened, open};
+use tp_shared::{Naming, Parts, Shared};
+
+/// The most entries of a node's turn: twelve tokens taken, and a run.
+const NODE_ENTRIES: u32 = 13;
+
+/// The most entries of the host's turn at a port.
+const PORT_ENTRIES: u32 = 3;
+
+/// How turns are made on a device of this topology.
+fn pace_of(task: Task, topology: &Topology, area: u64) -> Pace
+    requires { task.quantum ≤ MAX_STEPS }
+{
+    let ports = topology.port_count() as u32;
+    let rooms = Rooms::of(topology, area);
+    Pace {
+        quantum: task.quantum,
+        every: rooms.every(task.every),
+        rooms,
+        need: NODE_ENTRIES.max(PORT_ENTRIES * ports) + ports,
+    }
+}
+
+/// A stream over the store of a device that was opened, with the parts that were made of it.
+fn stream_parts<J: Naming, D: Disk + Drop, S: Sink, I: Source, L: Listener, R: Wait>(
+    rt: &R,
+    alloc: Global,
+    task: Task,
+    opened: Snapshot<Opened>,
+    topology: Topology,
+    parts: Parts,
+    raiser: Raiser,
+    store: Store<D>,
+    streams: &mut Streams<S, I>,
+    listener: &mut L,
+) -> (D, Result<u64, StreamFault>)
+    requires quantum { task.quantum ≤ MAX_STEPS }
+    requires names { Names J.roll J.first J.start J.node J.mark J.flusher J.room parts }
+    requires stands { StandsFor opened.value parts raiser }
+    requires bound { parts.book.room ≡ Some (room opened.value.head.topology opened.value.head.area) }
+    requires cut { IsCut t414_ends opened.value.head.topology opened.value.base opened.value.cut }
+    requires bytes { AllByRecursion IsNodeOfBytes opened.value.cut.nodes }
+    requires place { store.place ≡ place_at opened.value }
+    requires topology { topology ≡ opened.value.head.topology }
+    requires roomy { is_roomy opened.value.head.topology opened.value.head.area ≡ true }
+    requires unbroken { store.broken ≡ false }
+    requires read { D.keeps → verdict (D.state store.disk).now.bytes ≡ Ok opened.value }
+    requires synced { D.keeps → IsSynced (D.state store.disk) }
+    ensures size { D.size_of result.0 ≡ D.size_of store.disk }
+    ensures streamed { D.keeps → Began J.formatted J.before (D.state store.disk).now.bytes
+        → Streamed J.formatted result.1 (D.state store.disk) (D.state result.0) }
+    ensures begun { IfErr result.1 IsBegun }
+{
+    let (shared, key) = Shared::<J>::start(parts);
+    let pace = pace_of(task, &topology, store.place.area);
+    let flusher = Flusher::over(opened, topology, store, key, raiser);
+    flusher.known();
+    let (flusher, done) = serve(rt, alloc, &shared, task, pace, flusher, streams, listener);
+    (flusher.into_disk(), done)
+}
+
+/// Opens a device, and lets its network run, in this one thread: turns of all processes in order, flushes, and steps of each stream.
+/// Answers the device, and the number that the next entry gets.
+///
+/// Whatever a crash leaves at any moment of the call is what one just before might have left, or opens to where a prefix of the journal
+/// leads, with all that the device had. After a stream that was done it has each entry below the number that is answered. What a sink
+/// holds and what is confirmed is said by `Output`, of each moment.
+pub fn stream<D: Disk + Drop, S: Sink, I: Source, L: Listener, R: Wait>(
+    rt: &R,
+    alloc: Global,
+    task: Task,
+    disk: D,
+    streams: &mut Streams<S, I>,
+    listener: &mut L,
+) -> (D, Result<u64, StreamFault>)
+    ghost history: { History }
+    requires { task.quantum ≤ MAX_STEPS }
+    ensures size { D.size_of result.0 ≡ D.size_of disk }
+    ensures streamed { D.keeps → Began history.formatted history.before (D.state disk).now.bytes
+        → Streamed history.formatted result.1 (D.state disk) (D.state result.0) }
+    ensures unwritten { D.keeps → IsUnbegun result.1 → LeavesNothingNew (D.state disk) (D.state result.0) }
+    ensures unopened { D.keeps → IsErr (verdict (D.state disk).now.bytes) → (unopened : Unopened) × (result.1 ≡ Err (StreamFault.Opening unopened)) }
+{
+    let mut disk = disk;
+    let opened = match open(alloc, &mut disk) {
+        Ok(opened) => opened,
+        Err(unopened) => return (disk, Err(StreamFault::Opening(unopened))),
+    };
+    if let Some(fault) = task_fault(task, opened.head().topology(), streams) {
+        return (disk, Err(fault));
+    }
+    opened.known();
+    let known = Snapshot::of(&opened);
+    let topology = topology_of(&opened);
+    let _area = opened.head().area();
+    let store = opened.store(disk);
+    let (parts, raiser) = match parts_of(alloc, opened, task.spare, streams, listener) {
+        Ok(made) => made,
+        Err(fault) => return (store.into_disk(), Err(fault)),
+    };
+    stream_parts::<Brand, D, S, I, L, R>(
+        rt, alloc, task, known, topology, parts, raiser, store, streams, listener,
+    )
+}
