@@ -20,6 +20,14 @@ mod opening;
 mod overlap;
 pub mod pace;
 #[cfg(test)]
+mod plain;
+#[cfg(test)]
 mod scenes;
+#[cfg(test)]
+mod script;
+#[cfg(test)]
+mod stops;
 pub mod team;
 pub mod teams;
+#[cfg(test)]
+mod unkind;
