@@ -5,8 +5,7 @@ use std::alloc::Global;
 use std::sync::Wait;
 use std::thread::{Threads, join};
 use tp_disk::Disk;
-use tp_flush::{FLUSHER, Flusher};
-use tp_shared::gate::{BACKLOG_COPIED, PAGE_COPIED, RUN_DONE};
+use tp_flush::Flusher;
 use tp_shared::{Gate, Naming, NoGate, Seat, Shared};
 
 /// How many steps a turn has.
@@ -29,22 +28,21 @@ fn next_of<J: Naming, R: Wait>(rt: &R, shared: &Shared<J>) -> u64 {
     shared.book().lock(rt).book().next()
 }
 
-/// Whether the flusher's turn is done while the node `number` is held behind its run.
+/// Whether the flusher's turn is done while the node `number` is held, at a gate that holds it behind its run.
 pub fn is_flushed_beside_a_run<J: Naming + Send + Sync, D: Disk + Drop, R: Threads + Wait + Sync>(
     rt: &R,
     alloc: Global,
     shared: &Shared<J>,
     flusher: Flusher<J, D>,
     number: u8,
+    gate: &Hold,
 ) -> (Flusher<J, D>, bool) {
-    let hold = Hold::new(number, RUN_DONE);
-    let gate = &hold;
     let (is_made, (flusher, is_flushed)) = join(
         rt,
         move || is_run(rt, shared, gate, number),
         move || flush_beside(rt, alloc, shared, flusher, gate),
     );
-    (flusher, is_made && is_flushed && hold.was_let_go())
+    (flusher, is_made && is_flushed && gate.was_let_go())
 }
 
 // A turn of the flusher once a node is held, which is let go then. Answers whether it was there, and the turn was done.
@@ -96,8 +94,8 @@ fn run_beside<J: Naming, R: Wait>(
     }
 }
 
-/// Whether a run of the node `number`, which is journalled while the flusher is held behind its copy, isn't stored by that turn, but
-/// by the next one: the mark is then at most the run's number, and above it.
+/// Whether a run of the node `number`, which is journalled while the flusher is held, at a gate that holds it behind its copy, isn't stored
+/// by that turn, but by the next one: the mark is then at most the run's number, and above it.
 pub fn is_stored_by_the_next_turn<
     J: Naming + Send + Sync,
     D: Disk + Drop,
@@ -108,9 +106,8 @@ pub fn is_stored_by_the_next_turn<
     shared: &Shared<J>,
     flusher: Flusher<J, D>,
     number: u8,
+    gate: &Hold,
 ) -> (Flusher<J, D>, bool) {
-    let hold = Hold::new(FLUSHER, BACKLOG_COPIED);
-    let gate = &hold;
     let (run, (mut flusher, first)) = join(
         rt,
         move || run_beside(rt, shared, gate, number),
@@ -124,22 +121,22 @@ pub fn is_stored_by_the_next_turn<
         (Some(first), Some(run), Some(second)) => first <= run && run < second,
         _ => false,
     };
-    (flusher, is_between && hold.was_let_go())
+    (flusher, is_between && gate.was_let_go())
 }
 
-/// Whether the node `number` records, and then makes a run while the flusher is held behind a page of its image; that turn of the flusher
-/// is done, and stores only what was journalled before the run.
+/// Whether the node `number` makes a run, records, and then makes another while the flusher is held, at a gate that holds it behind the first page of the
+/// node's image; that turn of the flusher is done, and stores only what was journalled before the run.
 pub fn is_run_beside_a_copy<J: Naming + Send + Sync, D: Disk + Drop, R: Threads + Wait + Sync>(
     rt: &R,
     alloc: Global,
     shared: &Shared<J>,
     flusher: Flusher<J, D>,
     number: u8,
+    gate: &Hold,
 ) -> (Flusher<J, D>, bool) {
-    let is_begun = flusher.snapshot(rt, alloc, shared).is_ok();
+    let is_begun = is_run(rt, shared, &NoGate, number)
+        && flusher.snapshot(rt, alloc, shared).is_ok();
     let is_recorded = is_run(rt, shared, &NoGate, number);
-    let hold = Hold::new(FLUSHER, PAGE_COPIED);
-    let gate = &hold;
     let (run, (flusher, mark)) = join(
         rt,
         move || run_beside(rt, shared, gate, number),
@@ -151,6 +148,6 @@ pub fn is_run_beside_a_copy<J: Naming + Send + Sync, D: Disk + Drop, R: Threads 
     };
     (
         flusher,
-        is_begun && is_recorded && is_below && hold.was_let_go(),
+        is_begun && is_recorded && is_below && gate.was_let_go(),
     )
 }

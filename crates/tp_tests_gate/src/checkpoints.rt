@@ -28,7 +28,7 @@ const ROUNDS: u8 = 4;
 const PARTS: u8 = 4;
 
 /// A turn of each node, and one of the host. Answers whether all were made.
-fn turn_all<J: Naming, R: Wait>(rt: &R, shared: &Shared<J>) -> bool {
+pub(crate) fn turn_all<J: Naming, R: Wait>(rt: &R, shared: &Shared<J>) -> bool {
     let mut are_made = true;
     for number in 0..shared.nodes() {
         let mut seat = Seat::new();

@@ -19,11 +19,11 @@ const TEXT: &[u8] =
     b"node a 4\nnode b 4\nnode c 4\nnode d 4\nnode e 4\nnode f 4\nnode g 4\nnode i 4\nnode j 4\nnode k 4\nnode l 4\nnode m 4\nnode n 4\nnode o 4\nnode p 4\nnode q 4\nport h\nwire a.0 h\n";
 
 /// Bytes of a node's image: where they are, and which. Its process sends the letter A on link 0, waits for the acknowledge, and
-/// then goes round.
+/// then goes round, where it counts in the first word of its workspace. That is in the second page.
 pub(crate) const BYTES: &[(usize, &[u8])] = &[
     (0, &[1, 0, 4, 0]),
     (4, &[0x00, 0x01, 0x00, 0x80]),
-    (8, &[0x00, 0x02, 0x00, 0x80]),
+    (8, &[0x00, 0x06, 0x00, 0x80]),
     (24, &[0, 0, 0, 0x80, 0, 0, 0, 0x80]),
     (32, &[0, 0, 0, 0x80, 0, 0, 0, 0x80]),
     (41, &[2]),
@@ -32,7 +32,10 @@ pub(crate) const BYTES: &[(usize, &[u8])] = &[
         172 + 0x100,
         &[0x27, 0x2F, 0x2F, 0x2F, 0x2F, 0x2F, 0x6F, 0x40],
     ),
-    (172 + 0x108, &[0x24, 0x41, 0xFE, 0x60, 0x0E]),
+    (
+        172 + 0x108,
+        &[0x24, 0x41, 0xFE, 0x70, 0x81, 0xD0, 0x60, 0x0B],
+    ),
 ];
 
 /// The process begins where it goes round, and so makes as many steps as a turn has.

@@ -6,39 +6,160 @@ ghost use Rattle.tp_tests_gate.specs.Spelt.{IsSpelt};
 ghost use Rattle.tp_work.specs.declared.start.TheConstants.{MAX_SEATS};
 
 use crate::beside::{is_flushed_beside_a_run, is_run_beside_a_copy, is_stored_by_the_next_turn};
+use crate::checkpoints::turn_all;
 use crate::device::formatted;
+use crate::hold::Hold;
 use crate::left::is_left;
 use crate::meanwhile::stays_stored;
 use crate::opening::{Opening, begin, opening_of};
 use crate::pace::{EVERY, Pace, Paced};
-use crate::teams::are_all_beside;
+use crate::plain::{is_network, replayed};
+use crate::script::look_at_book;
+use crate::team::work_as_team;
+use crate::teams::{are_all_beside, parted};
 use std::alloc::Global;
 use std::marker::Brand;
 use std::sync::Wait;
 use std::test::Fail;
-use std::thread::Threads;
+use std::thread::{Threads, join};
 use tp_disk::{Disk, MemDisk};
-use tp_flush::Flusher;
+use tp_flush::{FLUSHER, Flusher};
 use tp_mark::Pass;
-use tp_shared::Naming;
+use tp_model::Entry;
+use tp_recover::open;
+use tp_shared::gate::{BACKLOG_COPIED, PAGE_COPIED, RUN_DONE};
+use tp_shared::{Naming, Shared};
 use tp_work::{Net, Seat};
 
 /// The node that is held, or that runs while the flusher is held.
 const NODE: u8 = 1;
 
+/// How many turns a team makes beside those: fewer than end at the gate that keeps pace.
+const TURNS: u32 = EVERY - 1;
+
+/// Who is held, until others went on.
+#[derive(Clone, Copy)]
+enum Held {
+    /// A node behind its run, beside a turn of the flusher.
+    Node,
+    /// The flusher behind its copy, beside a run.
+    Copy,
+    /// The flusher behind the first page of a node that has recorded, beside a run of that node, which writes its second page.
+    Page,
+}
+
+impl Held {
+    /// The gate that holds it.
+    fn gate(self) -> Hold {
+        match self {
+            Held::Node => Hold::new(NODE, RUN_DONE),
+            Held::Copy => Hold::new(FLUSHER, BACKLOG_COPIED),
+            Held::Page => Hold::new(FLUSHER, PAGE_COPIED),
+        }
+    }
+}
+
 /// What goes on.
 #[derive(Clone, Copy)]
 enum Scene {
-    /// A node is held behind its run, beside a turn of the flusher.
-    NodeHeld,
-    /// The flusher is held behind its copy, beside a run.
-    FlusherHeld,
-    /// The flusher is held behind a page of a node that has recorded, beside a run of that node.
-    PageHeld,
+    /// Someone is held, beside a team.
+    Held(Held),
     /// A host asks a pass, beside the flusher, whether so many pairs of bytes are stored.
     Stored(u64),
     /// A team makes so many turns, beside a host and the flusher.
     Team(u32),
+}
+
+/// Whether it goes on as it should beside the one that is held.
+fn go_on<J: Naming + Send + Sync, D: Disk + Drop, R: Threads + Wait + Sync>(
+    rt: &R,
+    alloc: Global,
+    held: Held,
+    shared: &Shared<J>,
+    flusher: Flusher<J, D>,
+    gate: &Hold,
+) -> (Flusher<J, D>, bool) {
+    match held {
+        Held::Node => is_flushed_beside_a_run(rt, alloc, shared, flusher, NODE, gate),
+        Held::Copy => is_stored_by_the_next_turn(rt, alloc, shared, flusher, NODE, gate),
+        Held::Page => is_run_beside_a_copy(rt, alloc, shared, flusher, NODE, gate),
+    }
+}
+
+/// A team makes its turns. Answers whether none was refused.
+fn work_all<J: Naming + Send + Sync, R: Threads + Wait + Sync>(
+    rt: &R,
+    net: &Net<J, Paced<'_>>,
+    seats: Vec<Seat<J>>,
+) -> bool
+    requires { All (λ seat. (seat.hand ≡ Some net.now.queue) × (seat.slips ≡ [])) seats.items }
+{
+    let Some((one, others)) = parted(net, seats) else {
+        return false;
+    };
+    let worked = work_as_team(rt, net, TURNS, one, others);
+    worked.is_ok_and(|work| work.is_counted())
+}
+
+/// The same, once someone is held.
+fn work_once_held<J: Naming + Send + Sync, R: Threads + Wait + Sync>(
+    rt: &R,
+    net: &Net<J, Paced<'_>>,
+    seats: Vec<Seat<J>>,
+    gate: &Hold,
+) -> bool
+    requires { All (λ seat. (seat.hand ≡ Some net.now.queue) × (seat.slips ≡ [])) seats.items }
+{
+    let came = gate.wait();
+    work_all(rt, net, seats) && came
+}
+
+/// The same, while a team makes turns too.
+fn go_on_beside<J: Naming + Send + Sync, D: Disk + Drop, R: Threads + Wait + Sync>(
+    rt: &R,
+    alloc: Global,
+    held: Held,
+    net: &Net<J, Paced<'_>>,
+    seats: Vec<Seat<J>>,
+    flusher: Flusher<J, D>,
+) -> (Flusher<J, D>, bool)
+    requires { All (λ seat. (seat.hand ≡ Some net.now.queue) × (seat.slips ≡ [])) seats.items }
+{
+    let hold = held.gate();
+    let gate = &hold;
+    let (worked, (flusher, is_so)) = join(
+        rt,
+        move || -> bool
+            requires { All (λ seat. (seat.hand ≡ Some net.now.queue) × (seat.slips ≡ [])) seats.items }
+        { work_once_held(rt, net, seats, gate) },
+        move || go_on(rt, alloc, held, net.shared(), flusher, gate),
+    );
+    (flusher, worked && is_so)
+}
+
+/// Whether a pass says of pairs of bytes what it should, while a team makes turns too.
+fn are_stored_beside<J: Naming + Send + Sync, D: Disk + Drop, R: Threads + Wait + Sync>(
+    rt: &R,
+    alloc: Global,
+    net: &Net<J, Paced<'_>>,
+    seats: Vec<Seat<J>>,
+    flusher: Flusher<J, D>,
+    count: u64,
+    pass: Pass,
+) -> (Flusher<J, D>, bool)
+    requires seats { All (λ seat. (seat.hand ≡ Some net.now.queue) × (seat.slips ≡ [])) seats.items }
+    requires pass { pass.mark ≡ J.mark }
+{
+    let (worked, (flusher, is_so)) = join(
+        rt,
+        move || -> bool
+            requires { All (λ seat. (seat.hand ≡ Some net.now.queue) × (seat.slips ≡ [])) seats.items }
+        { work_all(rt, net, seats) },
+        move || -> (Flusher<J, D>, bool)
+            requires { pass.mark ≡ J.mark }
+        { stays_stored(rt, alloc, net.shared(), flusher, count, pass) },
+    );
+    (flusher, worked && is_so)
 }
 
 /// Whether it goes as it should. The first entry has the number `first`.
@@ -57,12 +178,9 @@ fn act<J: Naming + Send + Sync, D: Disk + Drop, R: Threads + Wait + Sync>(
     requires first { first ≡ J.first }
     requires pass { pass.mark ≡ J.mark }
 {
-    let shared = net.shared();
     match scene {
-        Scene::NodeHeld => is_flushed_beside_a_run(rt, alloc, shared, flusher, NODE),
-        Scene::FlusherHeld => is_stored_by_the_next_turn(rt, alloc, shared, flusher, NODE),
-        Scene::PageHeld => is_run_beside_a_copy(rt, alloc, shared, flusher, NODE),
-        Scene::Stored(count) => stays_stored(rt, alloc, shared, flusher, count, pass),
+        Scene::Held(held) => go_on_beside(rt, alloc, held, net, seats, flusher),
+        Scene::Stored(count) => are_stored_beside(rt, alloc, net, seats, flusher, count, pass),
         Scene::Team(turns) => {
             let gate = Paced { pace };
             let (flusher, are_all) = are_all_beside(
@@ -73,7 +191,39 @@ fn act<J: Naming + Send + Sync, D: Disk + Drop, R: Threads + Wait + Sync>(
     }
 }
 
-/// Whether it goes as it should, and what the flusher leaves then is the book's journal.
+/// Whether a device holds the areas of one switch, and what a plain replay of a journal gives.
+fn is_replay(alloc: Global, disk: MemDisk, journal: &[Entry]) -> Result<bool, Fail> {
+    let mut disk = MemDisk::of_bytes(disk.crash());
+    let opened = open(alloc, &mut disk)?;
+    let is_second = opened.second() && opened.generation() == 2 && opened.base() > 0;
+    let is_all = opened.next() == journal.len() as u64;
+    let (_, mut network, _) = opened.into_parts();
+    let wanted = replayed(alloc, formatted(alloc)?.bytes(), journal)?;
+    Ok(is_second && is_all && is_network(&network.parts(alloc)?, &wanted))
+}
+
+/// Whether a snapshot that runs ends once all made a turn, and the device then holds a plain replay of the journal.
+fn is_switched<J: Naming, R: Wait>(
+    rt: &R,
+    alloc: Global,
+    shared: &Shared<J>,
+    flusher: Flusher<J, MemDisk>,
+) -> Result<bool, Fail> {
+    let mut flusher = flusher;
+    if !turn_all(rt, shared) {
+        return Err(Fail::new("a turn is refused"));
+    }
+    let mut journal = Vec::new(alloc);
+    look_at_book(rt, shared, &mut journal)?;
+    match flusher.turn(rt, alloc, shared) {
+        Ok(flushed) if flushed.switched => { is_replay(alloc, flusher.into_disk(), &journal) }
+        Ok(_) => Err(Fail::new("the areas aren't switched")),
+        Err(_) => Err(Fail::new("the flusher's turn isn't done")),
+    }
+}
+
+/// Whether it goes as it should, and what the flusher leaves then is the book's journal. Where an image was copied meanwhile, the area with
+/// it is gone over to.
 fn play<J: Naming + Send + Sync, R: Threads + Wait + Sync>(
     rt: &R,
     alloc: Global,
@@ -92,7 +242,11 @@ fn play<J: Naming + Send + Sync, R: Threads + Wait + Sync>(
         rt, alloc, opening, workers, gate,
     )?;
     let (flusher, is_so) = act(rt, alloc, scene, &net, seats, first, flusher, pass, &pace);
-    Ok(is_so && is_left(rt, alloc, net.shared(), flusher)?)
+    let is_left = match scene {
+        Scene::Held(Held::Page) => is_switched(rt, alloc, net.shared(), flusher)?,
+        _ => is_left(rt, alloc, net.shared(), flusher)?,
+    };
+    Ok(is_so && is_left)
 }
 
 /// The same with new names.
@@ -122,27 +276,40 @@ fn plays<R: Threads + Wait + Sync>(
     play_in(rt, alloc, opening, workers, scene)
 }
 
+/// How many workers there are beside the one that is held.
+const WORKERS: &[u8] = &[1, 2, 16];
+
+/// Plays it with each number of workers.
+fn are_played<R: Threads + Wait + Sync>(rt: &R, alloc: Global, scene: Scene) -> Result<bool, Fail> {
+    for workers in WORKERS {
+        if !plays(rt, alloc, *workers, scene)? {
+            return Ok(false);
+        }
+    }
+    Ok(true)
+}
+
 #[test]
 fn the_flusher_makes_a_turn_beside_a_run(rt: HostRuntime) -> Result<(), Fail> {
-    assert!(rt; plays(&rt, rt.alloc(), 1, Scene::NodeHeld)?);
+    assert!(rt; are_played(&rt, rt.alloc(), Scene::Held(Held::Node))?);
     Ok(())
 }
 
 #[test]
 fn a_run_beside_the_flusher_is_stored_by_its_next_turn(rt: HostRuntime) -> Result<(), Fail> {
-    assert!(rt; plays(&rt, rt.alloc(), 1, Scene::FlusherHeld)?);
+    assert!(rt; are_played(&rt, rt.alloc(), Scene::Held(Held::Copy))?);
     Ok(())
 }
 
 #[test]
 fn a_node_runs_while_its_image_is_copied(rt: HostRuntime) -> Result<(), Fail> {
-    assert!(rt; plays(&rt, rt.alloc(), 1, Scene::PageHeld)?);
+    assert!(rt; are_played(&rt, rt.alloc(), Scene::Held(Held::Page))?);
     Ok(())
 }
 
 #[test]
 fn what_is_stored_stays_stored_for_a_pass(rt: HostRuntime) -> Result<(), Fail> {
-    assert!(rt; plays(&rt, rt.alloc(), 1, Scene::Stored(40))?);
+    assert!(rt; are_played(&rt, rt.alloc(), Scene::Stored(40))?);
     Ok(())
 }
 

@@ -73,6 +73,11 @@ impl<J: Naming> Work<J> {
         }
     }
 
+    /// Whether no turn was refused, and so what they made is counted.
+    pub fn is_counted(&self) -> bool {
+        self.entries.is_some()
+    }
+
     /// Whether these are as many as all entries since the opening, whose first has the number `first`. Then of each number there is
     /// the slip of the journal's entry, once.
     pub fn are_all(self, held: &mut Locked<J>, first: u64) -> bool

@@ -18,7 +18,7 @@ use tp_work::{Net, Seat};
 const PAIRS: u64 = 40;
 
 /// The first seat, and the others.
-fn parted<J: Naming, G: Gate>(
+pub(crate) fn parted<J: Naming, G: Gate>(
     net: &Net<J, G>,
     seats: Vec<Seat<J>>,
 ) -> Option<(Seat<J>, Vec<Seat<J>>)>
