@@ -1,8 +1,11 @@
 #!/bin/bash
 # The speed of `tpnet run`, as ratios of programs that run in turns on one machine, outside the gate:
 #   workers   four busy nodes, 4,096 steps a turn: four workers beside one
-#   steps     one busy node, 4,096 steps a turn: steps a second beside the interpreter alone (bench/steps.rattle)
-#   entries   one busy node, one step a turn: durable entries a second beside the same groups written and synced alone
+#   steps     one busy node, 4,096 steps a turn: steps a second beside the interpreter alone (bench/steps.rattle), over memory that copies
+#             before it writes, as a node's does, and over flat memory
+#   turns     four busy nodes, one step a turn, one worker: nanoseconds of a turn, in memory alone
+#   entries   one busy node, one step a turn: durable entries a second beside the same groups written and synced alone. Where a sync costs
+#             next to nothing, as in memory, this compares turns with writes: two turns make an entry, that of the node and that of the host
 # usage: bench/run.sh TPNET [ROUNDS [FOLDER ..]]      5 rounds in /dev/shm (in memory, so only our own cost shows) by default.
 #                                                     The time of a run is that of a run without turns less
 set -e
@@ -15,12 +18,15 @@ work=$(mktemp -d /tmp/bench-run-XXXX)
 trap 'rm -rf "$work"' EXIT
 
 cp -r "$top/crates" "$top/crates.txt" "$top/HANDLES" "$work"
-mkdir -p "$work/crates/bench_steps/src" "$work/steps"
-cp "$top/bench/steps.rattle" "$work/crates/bench_steps/src/main.rt"
-echo "bench_steps: tp_cpu tp_mem tp_model" >> "$work/crates.txt"
-(cd "$work/crates/bench_steps" && rt run > "$work/build.log" 2>&1) || true
-steps=$work/crates/bench_steps/out/bench_steps
-[ -x "$steps" ] || { tail -20 "$work/build.log"; exit 1; }
+cow='s/FlatMemory::new(rt.alloc(), 4, /CowMemory::new(rt.alloc(), 4, 4, /; s/FlatMemory/CowMemory/g'
+mkdir -p "$work/crates/bench_flat/src" "$work/crates/bench_cow/src" "$work/steps"
+cp "$top/bench/steps.rattle" "$work/crates/bench_flat/src/main.rt"
+sed "$cow" "$top/bench/steps.rattle" > "$work/crates/bench_cow/src/main.rt"
+for kind in flat cow; do
+    echo "bench_$kind: tp_cpu tp_mem tp_model" >> "$work/crates.txt"
+    (cd "$work/crates/bench_$kind" && rt run > "$work/build.log" 2>&1) || true
+    [ -x "$work/crates/bench_$kind/out/bench_$kind" ] || { tail -20 "$work/build.log"; exit 1; }
+done
 
 # writes the groups whose numbers of entries stand on standard input, as the store does: the bytes behind the gate, a sync, the gate, a sync
 cat > "$work/raw.c" <<'C'
@@ -61,11 +67,11 @@ printf 'node a 4\nport h\n' > "$work/one.net"
 printf 'node a 4\nnode b 4\nnode c 4\nnode d 4\nport h\n' > "$work/four.net"
 "$tpnet" format "$work/one" "$work/one.net" "$work" $((1 << 23)) > "$work/said"
 "$tpnet" format "$work/four" "$work/four.net" "$work" $((1 << 23)) > "$work/said"
-python3 - "$tpnet" "$steps" "$work" "$rounds" "${folders[@]}" <<'PY'
+python3 - "$tpnet" "$work" "$rounds" "${folders[@]}" <<'PY'
 import os, shutil, statistics, struct, subprocess, sys, tempfile, time
-tpnet, steps, work, rounds = sys.argv[1:5]
+tpnet, work, rounds = sys.argv[1:4]
 rounds = range(int(rounds))
-TURNS = 20000
+TURNS, SHORT_TURNS, NEVER = 20000, 200000, (1 << 32) - 1
 
 def timed(command, cwd=None, given=None):
     begun = time.monotonic()
@@ -79,7 +85,7 @@ def fresh(which, file):
 def run(which, file, turns, workers, quantum):
     """The seconds of a run on a new copy of the formatted device."""
     fresh(which, file)
-    return timed([tpnet, "run", file, "--turns", str(turns), "--workers", str(workers), "--quantum", str(quantum)])
+    return timed([tpnet, "run", file, "--turns", str(turns), "--workers", str(workers), "--quantum", str(quantum), "--every", str(NEVER)])
 
 def groups(file):
     """Where the first group begins, and how many entries each has."""
@@ -95,33 +101,44 @@ def said(name, mine, other, what):
     print("    %-8s %s; ratio %.2f best, %.2f median" % (
         name, what, min(other) / min(mine), statistics.median(other) / statistics.median(mine)), flush=True)
 
-for folder in sys.argv[5:]:
+for folder in sys.argv[4:]:
     kind = subprocess.run(["stat", "-f", "-c", "%T", folder], capture_output=True, text=True, check=True).stdout.strip()
     print("%s (%s), best and median of %d:" % (folder, kind, len(rounds)))
     with tempfile.TemporaryDirectory(prefix="bench-run-", dir=folder) as place:
         file = os.path.join(place, "device")
-        one, four, alone, base = [], [], [], []
+        one, four = [], []
         for _ in rounds:
             idle = run("four", file, 0, 1, 4096)
             one.append(run("four", file, TURNS, 1, 4096) - idle)
             four.append(run("four", file, TURNS, 4, 4096) - idle)
         made = TURNS * 4 // 5 * 4096
         said("workers", four, one, "1 worker %.1f, 4 workers %.1f million steps a second" % (made / min(one) / 1e6, made / min(four) / 1e6))
-        ours = []
+        ours, alone = [], {"cow": [], "flat": []}
         for _ in rounds:
             idle = run("one", file, 0, 1, 4096)
             ours.append((run("one", file, TURNS, 1, 4096) - idle) / (TURNS // 2 * 4096))
-            alone.append(timed([steps], cwd=os.path.join(work, "steps")) / 1e8)
-        said("steps", ours, alone, "run %.1f, interpreter alone %.1f million a second" % (1e-6 / min(ours), 1e-6 / min(alone)))
+            for kind, times in alone.items():
+                program = os.path.join(work, "crates", "bench_" + kind, "out", "bench_" + kind)
+                times.append(timed([program], cwd=os.path.join(work, "steps")) / 1e8)
+        for kind, times in alone.items():
+            said("steps", ours, times, "run %.1f, interpreter alone %.1f million a second (%s memory)" % (1e-6 / min(ours), 1e-6 / min(times), kind))
+        if kind == "tmpfs":
+            turns = []
+            for _ in rounds:
+                idle = run("four", file, 0, 1, 1)
+                turns.append((run("four", file, SHORT_TURNS, 1, 1) - idle) / SHORT_TURNS)
+            print("    turns    one step: %.0f ns best, %.0f median" % (1e9 * min(turns), 1e9 * statistics.median(turns)), flush=True)
         ours, plain, sizes = [], [], []
         for _ in rounds:
             idle = run("one", file, 0, 2, 1)
-            took = run("one", file, TURNS, 2, 1) - idle
+            took = run("one", file, SHORT_TURNS, 2, 1) - idle
             first, counts = groups(file)
             fresh("one", file)
             given = " ".join(map(str, counts)).encode()
             ours.append(took / sum(counts))
-            plain.append(timed([os.path.join(work, "raw"), file, str(first)], given=given) / sum(counts))
+            raw = [os.path.join(work, "raw"), file, str(first)]
+            idle = timed(raw, given=b"")
+            plain.append((timed(raw, given=given) - idle) / sum(counts))
             sizes.append(sum(counts) / len(counts))
         said("entries", ours, plain, "run %.0f, raw %.0f a second, groups of %.1f" % (1 / min(ours), 1 / min(plain), statistics.median(sizes)))
 PY
