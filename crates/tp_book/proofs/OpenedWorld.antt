@@ -19,7 +19,7 @@ use Rattle.tp_book.specs.Opened.{cut_of, now_of, kept_of, IsOpened, opened_book}
 use Rattle.tp_book.proofs.Opened.{markers-plain}
 use Rattle.tp_book.proofs.Stood.{no_back}
 
--- a book that begins with these entries behind a cut
+-- a book that begins with entries behind a cut
 abbrev begun : Network NodeState → List Entry → Network NodeState → MarkedNetwork NodeState
 begun cut entries now = record { start = cut; entries = entries; live = now; snapshot = None; frozen = [] }
 

@@ -39,7 +39,7 @@ takeable_of (Data b ∷ rest) = Some (Data b)
 takeable_of (Ack ∷ rest) = Some Ack
 takeable_of (Marker ∷ rest) = None
 
--- for an entry of which there may be one more
+-- for one more entry of a kind
 abbrev pub entry_refusal : BookValue → ℕ → Option Refusal → Option Refusal
 entry_refusal b more earlier = else_if earlier (is_journal_full b more) JournalFull
 

@@ -38,7 +38,7 @@ pub looked_walks : (a b : Flushing) → a.world.disk ≡ a.state.now → Looked 
 looked_walks a b was L =
     subst (λ (s : State). Walks t414 device_areas a.world b.world a.state s) (sym L.state) (still_walks t414 device_areas a.world b.world a.state L.led (L.disk ∙ was))
 
--- a look at the book, of which the flusher then knows more
+-- a look at the book; the flusher then knows more of it
 pub learned_looked : (w : World NodeState) (old now : Told) (first : IsFirst old w) (since : Since old now) (s : State) (size failures : ℕ) (opened : List ℕ) (place : Place) (t : Topology) (progress : Progress)
     → Looked (record { world = w; state = s; size = size; failures = failures; opened = opened; place = place; topology = t; progress = progress })
     (record { world = learned w now; state = s; size = size; failures = failures; opened = opened; place = place; topology = t; progress = progress })

@@ -82,7 +82,7 @@ Tried (Err StoreBroken) old new = ⊥
 Tried (Err Memory) old new = ⊥
 Tried (Err AreaFull) old new = ⊥
 
--- So many entries of the backlog were appended, or a call of the device failed, or the area was full.
+-- `count` entries of the backlog were appended, or a call of the device failed, or the area was full.
 abbrev pub Stored : Result Unit FlushFault → ℕ → Flushing → Flushing → Type 0
 Stored (Ok given) count old new =
     Waits old new × (new.world.stored ≡ old.world.stored + count) × (new.world.backlog ≡ drop count old.world.backlog)

@@ -91,7 +91,7 @@ pub record IsSameProcess (old new : Flushing) : Type 0 where
   pub size : new.size ≡ old.size
   pub topology : new.topology ≡ old.topology
 
--- The backlog was copied: these entries, whose bytes and numbers are in their ranges, and which end below this number.
+-- The backlog was copied: `entries`, whose bytes and numbers are in their ranges, and which end below `upto`.
 pub record IsBacklog (w : World NodeState) (entries : List Entry) (upto : ℕ) : Type 0 where
   pub same : entries ≡ w.backlog
   pub each : AllByRecursion (λ e. is_in_range e ≡ true) entries

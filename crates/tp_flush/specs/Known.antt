@@ -19,7 +19,7 @@ pub record Reached (start : Network NodeState) (w : World NodeState) : Type 0 wh
   pub formatted : IsFormatted t414 device_areas start first
   pub run : Run t414 device_areas first events w
 
--- What this process opened: the world before it was reached, and its end, or a crash of it, may leave these bytes.
+-- What this process opened: the world before it was reached, and its end, or a crash of it, may leave `bytes`.
 pub record Began (start : Network NodeState) (before : World NodeState) (bytes : List ℕ) : Type 0 where
   pub reached : Reached start before
   pub may : MayBe before.disk bytes

@@ -29,7 +29,7 @@ use Rattle.tp_law_device.proofs.CutsAreSound.{cut_nodes, cut_wires, cut_lines, c
 use Rattle.tp_law_tail.proofs.Nodes.{nodes_next}
 use Rattle.tp_law_tail.proofs.Ports.{PortsFit, port_fits, ports_next}
 
--- A network of this topology after so many entries: sound, with no Marker, as many nodes and lines as it had, nodes of bytes
+-- A network of this topology after `base` entries: sound, with no Marker, as many nodes and lines as it had, nodes of bytes
 -- with their pages, and ports that fit.
 pub record CutKeeps (t : Topology) (base : ℕ) (s : Network NodeState) : Type 0 where
   pub wires : s.wires ≡ t.wires

@@ -14,7 +14,7 @@ use Rattle.tp_model.specs.CutImage.{is_port_of}
 use Rattle.tp_law_network.proofs.Partial.{cond_some}
 use Rattle.tp_law_network.proofs.PortsKeep.{ports_keep}
 
--- A port has counted no more than so many entries, and holds no more than it has room for.
+-- A port has counted no more than `base` entries, and holds no more than it has room for.
 pub record PortFits (base : ℕ) (port : Port) : Type 0 where
   pub inputs : port.in_base ≤ base
   pub confirmed_low : port.out_base + length port.outputs ≤ base

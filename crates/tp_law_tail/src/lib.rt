@@ -138,7 +138,7 @@ pub fn cuts_can_be_switched_to()
         → Switches w o cut nodes (o.generation + 1) }
 {}
 
-/// A run that does a checkpoint, computed from a formatted device on. A node sends a byte and the host takes it; these two entries are
+/// A run that does a checkpoint, computed from a formatted device on. A node sends a byte and the host takes it; both entries are
 /// appended as a group, the mark is raised, and read. A snapshot begins, the node records, and then takes the Ack and goes on,
 /// which are two entries outside the cut; in the cut the Ack is on its line. Both Markers are taken, so the cut is whole. Then
 /// it is copied with its tail, written into the other area and synced, the gate is opened and synced, and the book is trimmed:

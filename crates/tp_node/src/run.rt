@@ -87,7 +87,7 @@ fn why_none(halt: Option<Fault>) -> Why
     }
 }
 
-/// Makes at most `max` steps. `advance` makes those that need no look at queues, links and the halt code.
+/// Makes at most `max` steps. `advance` makes all that lead on; a step that doesn't is left to `step`.
 pub(crate) fn run<M: Mem>(
     head: &mut Head,
     mem: &mut M,

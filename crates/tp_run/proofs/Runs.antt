@@ -94,7 +94,7 @@ served_ran law start opened port input was now old new result reads R W stored s
       ];
     }
 
--- a device of which no call was made
+-- a device that no call was made of
 pub still_ran : (start : Network NodeState) (port : ℕ) (input : List ℕ) (was : Option (List ℕ)) (fault : RunFault) (s : State) → Ran start port input was was (Err fault) s s
 still_ran start port input was fault s = record { journal = []; first = 0; leaves = started s _ (λ left may. inl may); stored = tt; carried = tt; printed = inl refl }
 

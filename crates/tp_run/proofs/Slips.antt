@@ -90,7 +90,7 @@ offered_at b new outset input (Err e) S after number F = tt
 
 -- ## What is settled
 
--- two receipts, of which one is for what was printed
+-- two receipts, and one is for what was printed
 pub both_settled : (start : Network NodeState) (outset : Outset) (Are : ℕ → List ℕ → Type 0) (was now : Option (List ℕ)) (journal : List Entry) (next : ℕ) (offered confirmed : Receipted)
     → (O : IsForOutput outset.port outset.confirmed Are was now confirmed) → Shows start journal O.confirmed.first outset.port outset.confirmed O.printed → offered.number ≤ next → confirmed.number ≤ next → AreBelow offered.number offered.seat
     → AreBelow confirmed.number confirmed.seat → Stand journal offered.seat → Stand journal confirmed.seat → Settled start outset offered.seat was now journal next

@@ -20,7 +20,7 @@ rest_at outset input = take outset.room (drop outset.accepted input)
 abbrev pub input_slips : Outset → List ℕ → List (ℕ × Entry)
 input_slips outset input = enumerate_from outset.next (map (HostIn outset.port) (rest_at outset input))
 
--- The receipt is for just these, and its number is the next one behind them.
+-- The receipt is for just the input's slips, and its number is the next one behind them.
 pub record IsForInput (outset : Outset) (input : List ℕ) (receipt : Receipted) : Type 0 where
   pub slips : receipt.seat ≡ input_slips outset input
   pub number : receipt.number ≡ outset.next + length (rest_at outset input)

@@ -19,12 +19,12 @@ abbrev pub Printed : {A : Type 0} → Option (List ℕ) → Option (List ℕ) �
 Printed was now bytes (Ok x) = Appends was now bytes
 Printed was now bytes (Err fault) = Appends was now bytes ⊎ ((fault ≡ OutputFailed) × AppendsFront was now bytes)
 
--- the entry that confirms a port's outputs, the first of which has this position; none where there is no output
+-- the entry that confirms a port's outputs, whose first has the position `from`; none where there is no output
 abbrev pub confirms : ℕ → ℕ → List ℕ → List Entry
 confirms port from [] = []
 confirms port from (x ∷ xs) = Confirm port (from + length (x ∷ xs)) ∷ []
 
--- Bytes were appended, and the receipt is for the entry that confirms just these as a port's outputs from a position on. `Are` holds of
+-- Bytes were appended, and the receipt is for the entry that confirms just the appended ones as a port's outputs from `from` on. `Are` holds of
 -- the number of that entry, which is the next one where there is none, and of the bytes.
 pub record IsForOutput (port from : ℕ) (Are : ℕ → List ℕ → Type 0) (was now : Option (List ℕ)) (receipt : Receipted) : Type 0 where
   pub printed : List ℕ

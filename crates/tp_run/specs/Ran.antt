@@ -43,8 +43,8 @@ pub record Settled (start : Network NodeState) (outset : Outset) (handed : List 
 
 -- What was handed in and printed by a run that was done is in the journal. The device opened, and its port stood somewhere. Behind
 -- all that the device had there are the entries of the input from what the port had accepted on, as many bytes as it had room for.
--- Some bytes were printed, and there is the entry that confirms just so many outputs behind those confirmed before: where the entries
--- in front of it lead, these bytes are all the outputs of the port that weren't confirmed. All these entries have numbers below
+-- Some bytes were printed, and there is the entry that confirms as many outputs behind those confirmed before: where the entries
+-- in front of it lead, the bytes are all the outputs of the port that weren't confirmed. All of the entries have numbers below
 -- `next`, and whatever a crash leaves of the device opens to where a prefix of the journal leads in which each stands at its number.
 pub record Carried (start : Network NodeState) (journal : List Entry) (port : ℕ) (input : List ℕ) (was now : Option (List ℕ)) (next : ℕ) (old new : State) : Type 0 where
   pub opened : Opened
@@ -58,9 +58,9 @@ pub record Carried (start : Network NodeState) (journal : List Entry) (port : �
       → RecoversWith start journal next (input_slips (outset_in opened port) input ++ output_slips (outset_in opened port) number printed) left
   pub shows : Shows start journal number port (outset_in opened port).confirmed printed
 
--- What was printed, however the run ended: the device opened; where the first entries of the journal lead, so many, the port has some
+-- What was printed, however the run ended: the device opened; where the first `number` entries of the journal lead, the port has some
 -- outputs behind those that were confirmed as it was opened, and a front of them was printed, while the device stood somewhere since;
--- and whatever a crash leaves at any moment from then on has each of these entries.
+-- and whatever a crash leaves at any moment from then on has each of those entries.
 pub record IsPrinted (start : Network NodeState) (journal : List Entry) (port : ℕ) (was now : Option (List ℕ)) (old new : State) : Type 0 where
   pub opened : Opened
   pub reads : verdict old.now.bytes ≡ Ok opened

@@ -16,19 +16,19 @@ use Rattle.tp_flush.specs.Flushing.{Flushing}
 abbrev pub port_of : Network NodeState → ℕ → Port
 port_of s port = get_or s.ports port (record { pending = []; in_base = 0; outputs = []; out_base = 0 })
 
--- The first entries of a journal, so many, lead to a network in which a port has just these outputs behind those confirmed.
+-- The first `number` entries of a journal lead to a network in which a port has just `outputs` behind those confirmed.
 pub record Shows (start : Network NodeState) (journal : List Entry) (number port confirmed : ℕ) (outputs : List ℕ) : Type 0 where
   pub state : Network NodeState
   pub leads : after t414 start (take number journal) ≡ Some state
   pub base : (port_of state port).out_base ≡ confirmed
   pub are : (port_of state port).outputs ≡ outputs
 
--- so do those of a world, all of which are below its mark
+-- so do those of a world, all of them below its mark
 abbrev pub AreShownIn : Network NodeState → World NodeState → ℕ → ℕ → ℕ → List ℕ → Type 0
 AreShownIn start w port confirmed number outputs = (number ≤ w.mark) × Shows start w.journal number port confirmed outputs
 
 -- What was appended to an output is a front of a port's outputs behind those confirmed, where the first entries of the journal lead;
--- there are at most `least` of these.
+-- there are at most `least` of those entries.
 pub record HasShown (start : Network NodeState) (journal : List Entry) (least port confirmed : ℕ) (was now : Option (List ℕ)) : Type 0 where
   pub number : ℕ
   pub few : number ≤ least
@@ -42,7 +42,7 @@ abbrev pub MayShow : Network NodeState → List Entry → ℕ → ℕ → ℕ �
 MayShow start journal least port confirmed was now = (now ≡ was) ⊎ HasShown start journal least port confirmed was now
 
 -- What was appended while the device stood somewhere between two moments: a front of a port's outputs behind those confirmed, where the
--- first entries of the journal lead; and whatever a crash leaves from then on has each of these entries.
+-- first entries of the journal lead; and whatever a crash leaves from then on has each of those entries.
 pub record HasPrinted (start : Network NodeState) (old new : Flushing) (port confirmed : ℕ) (was now : Option (List ℕ)) : Type 0 where
   pub number : ℕ
   pub outputs : List ℕ

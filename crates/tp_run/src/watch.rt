@@ -5,8 +5,7 @@ ghost use Rattle.std.specs.Prelude.{◌≡◌, ◌<◌, ◌≤◌, ◌+◌, ◌-
 use std::sync::Wait;
 use std::sync::atomic::{AtomicBool, AtomicU64, Ordering};
 
-/// Of so many turns that are drawn, the last one wakes the flusher where it sleeps, and has the entries counted anew. No turn makes more
-/// entries.
+/// How many turns are drawn until one wakes the flusher where it sleeps, and has the entries counted anew. No turn makes more entries.
 pub(crate) const EACH: u64 = 64;
 
 /// How many entries are made when those since the kept cut are counted again, once `made` were made and `missing` were wanting. Where none

@@ -31,7 +31,7 @@ fn made_by(done: &Result<Turn, TurnFault>) -> u64 {
     }
 }
 
-/// Begins a snapshot where it is time. That it is refused is passed over. No lock is taken while so many entries can't have been made.
+/// Begins a snapshot where it is time. That it is refused is passed over. No lock is taken before enough entries may have been made.
 fn begin<J: Naming, R: Wait>(rt: &R, alloc: Global, shared: &Shared<J>, watch: &Watch) {
     let Some(made) = watch.made_when_due() else {
         return;

@@ -9,7 +9,7 @@ pub record IsIn (name i count : ℕ) (p : Place) : Type 0 where
   pub named : p.key.name ≡ name
   pub shows : Shows p false
 
--- each fourth node from one on, of so many
+-- each fourth node from `first` on, among `count`
 pub record Celled (first : ℕ) (names : ℕ → ℕ) (count : ℕ) (places : List Place) : Type 0 where
   pub each : (k : ℕ) (p : Place) → slice_get places k ≡ Some p → IsIn (names (4 * k + first)) (4 * k + first) count p
   pub all : (k : ℕ) → 4 * k + first < count → k < length places

@@ -22,7 +22,7 @@ IsTakeBy start number (Confirm p upto) = ⊥
 abbrev pub Takes : Network NodeState → ℕ → List Entry → Type 0
 Takes start number = AllByRecursion (IsTakeBy start number)
 
--- they are so many
+-- `count` entries, each a take of process `number`
 abbrev pub CountedTakes : Network NodeState → ℕ → ℕ → List Entry → Type 0
 CountedTakes start number count entries = (length entries ≡ count) × Takes start number entries
 

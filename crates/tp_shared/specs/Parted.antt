@@ -14,7 +14,7 @@ name_of [] i = 0
 name_of (s ∷ ss) zero = s.seal.name
 name_of (s ∷ ss) (suc i) = name_of ss i
 
--- Seals and places of so many nodes of a book: each seal and the key beside its node show what the book agrees on.
+-- Seals and places of `count` nodes of a book: each seal and the key beside its node show what the book agrees on.
 pub record IsDealt (b : BookValue) (seals : List NodeSeal) (dealt : Dealt) (count : ℕ) : Type 0 where
   pub many : length seals ≡ count
   pub sealed : Sealed (name_of seals) seals b

@@ -6,7 +6,7 @@ use Rattle.tp_model.specs.Image.{image_head}
 use Rattle.tp_model.specs.Snapshot.{MarkedNetwork}
 use Rattle.tp_model.specs.FrozenAs.{IsFrozenAs}
 
--- The image of the node, as it recorded in the snapshot that runs, begins with these bytes.
+-- The image of the node, as it recorded in the snapshot that runs, begins with `bytes`.
 pub record IsFrozenHead (net : MarkedNetwork NodeState) (i : ℕ) (bytes : List ℕ) : Type 0 where
   pub node : NodeState
   pub frozen : IsFrozenAs net i node

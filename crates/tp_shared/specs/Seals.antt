@@ -28,7 +28,7 @@ pub record IsSealOf (name : ℕ) (agreement : Agreement) (is_frozen : Bool) (sea
 abbrev pub Sealed : (ℕ → ℕ) → List NodeSeal → BookValue → Type 0
 Sealed names seals b = (i : ℕ) (s : NodeSeal) → slice_get seals i ≡ Some s → IsSealOf (names i) s.seal.value.state s.frozen s.seal.name b i
 
--- All are the entries since the book was opened, of which the first has this number, and the next one will have the book's.
+-- All are the entries since the book was opened; the number of the first is `first`, and the next one will have the book's.
 pub record IsTied (first : ℕ) (all : List Entry) (b : BookValue) : Type 0 where
   pub are : all ≡ b.history
   pub next : first + length all ≡ next_number b

@@ -31,7 +31,7 @@ use tp_token::{Roll, Seal, agree, turn};
 use tp_turn::Stretch;
 
 /// The book, the seal of each node, the roll of all entries since the opening, and the seal of what the flusher was told. Contracts
-/// see the book, and these entries.
+/// see the book, and the roll.
 #[derive(Drop)]
 pub struct Locked<J: Naming> {
     pub(crate) book: Book,

@@ -15,7 +15,7 @@ not_full most kept entries runs base more lines room bound beside rests low few 
     (or_from _ _ (le-ltb most (entry_room * (entries + runs + more) + reserve lines) (omega (arith, beside, rests, low)))
     (le-ltb (NUMBER_LIMIT - 1) (base + entries + runs + more) (omega (arith, rests, few))))
 
--- Where a book lies in such a journal, and there is room for so many entries, it isn't full for them.
+-- Where a book lies in such a journal, and there is room for `more` entries, it isn't full for them.
 pub room_kept : (most kept : ℕ) (b : BookValue) (more : ℕ) → Lies most kept b → has_room most kept b more ≡ true → is_journal_full b more ≡ false
 room_kept most kept b more L there =
     let parts = and_parts _ _ there in

@@ -6,7 +6,7 @@ pub record Held : Type 0 where
   pub bytes : List ℕ
   pub safe : ℕ
 
--- At least so many are there, and safe.
+-- At least `n` bytes are there, and safe.
 abbrev pub Reaches : ℕ → Option Held → Type 0
 Reaches n None = Unit {0}
 Reaches n (Some h) = (n ≤ h.safe) × (n ≤ length h.bytes)

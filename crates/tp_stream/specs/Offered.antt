@@ -3,7 +3,7 @@ use Rattle.std.specs.Prelude.{◌≡◌, ℕ, List, length, take, drop, Option, 
 use Rattle.tp_book.specs.Book.{BookValue}
 use Rattle.tp_book.specs.Host.{accepted_of, after_input, port_in}
 
--- Where the whole input is known, these are its bytes from a position on, as many as there are of them.
+-- Where the whole input is known, `bytes` are those from position `at` on, as many as there are.
 abbrev pub AreFrom : Option (List ℕ) → ℕ → List ℕ → Type 0
 AreFrom None at bytes = Unit {0}
 AreFrom (Some all) at bytes = bytes ≡ take (length bytes) (drop at all)

@@ -4,7 +4,7 @@ use Rattle.tp_model.specs.declared.limits.TheConstants.{MAX_HELD, NUMBER_LIMIT}
 use Rattle.tp_model.specs.Journal.{entry_room, reserve}
 use Rattle.tp_book.specs.Book.{BookValue, next_number, outputs_of, reserved}
 
--- A journal of `most` bytes, `kept` of which are for a running snapshot, has room for `more` entries.
+-- A journal of `most` bytes, `kept` of them for a running snapshot, has room for `more` entries.
 abbrev pub has_room : ℕ → ℕ → BookValue → ℕ → Bool
 has_room most kept b more =
     nat_le (entry_room * (next_number b - b.base + more) + kept) most && nat_lt (next_number b + more) NUMBER_LIMIT

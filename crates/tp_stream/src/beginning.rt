@@ -47,7 +47,7 @@ fn absent<S: Sink, I: Source>(topology: &Topology, streams: &Streams<S, I>) -> O
     None
 }
 
-/// Why a network isn't run as `task` says on these streams, where it isn't.
+/// Why a network isn't run as `task` says on `streams`, where it isn't.
 pub(crate) fn task_fault<S: Sink, I: Source>(
     task: Task,
     topology: &Topology,

@@ -20,7 +20,7 @@ pub trait Listener {
     /// The first byte that is put of a port's output has this position.
     fn output(&mut self, port: u8, position: u64);
 
-    /// A port has accepted so many bytes of its input.
+    /// A port has accepted the bytes of its input up to `accepted`.
     fn input(&mut self, port: u8, accepted: u64);
 
     /// How far it has come.

@@ -16,7 +16,7 @@ pub struct MemSink {
 }
 
 impl MemSink {
-    /// A sink that has these bytes, all of them safe.
+    /// A sink that has `bytes`, all of them safe.
     pub fn new(bytes: Vec<u8>) -> MemSink {
         let safe = bytes.len() as u64;
         MemSink {
@@ -31,7 +31,7 @@ impl MemSink {
         MemSink::new(Vec::new(alloc))
     }
 
-    /// The same, of which one call fails once `calls` were made.
+    /// The same, where one call fails once `calls` were made.
     pub fn failing(self, calls: u32) -> MemSink {
         MemSink {
             calls: Some(calls),

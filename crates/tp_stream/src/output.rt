@@ -119,7 +119,7 @@ impl<S: Sink> Output<S> {
         sink
     }
 
-    /// Sets out where a port stands that has so many outputs confirmed, and so many shown.
+    /// Sets out where a port stands that has `confirmed` outputs confirmed, and `shown` of them shown.
     fn set_out(&mut self, confirmed: u64, shown: u64) -> Result<(), StreamFault>
         ensures next { OnOk result (self.new.next ≡ unwrap_or self.old.have confirmed) }
         ensures confirmed { OnOk result (self.new.confirmed ≡ confirmed) }

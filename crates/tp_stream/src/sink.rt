@@ -12,7 +12,7 @@ pub trait Sink {
     /// What it holds, where that is known.
     ghost held: { Self → Option Held } = { λ _. None };
 
-    /// Up to which position it can be put at: so many of its bytes are there, and safe.
+    /// Up to which position it can be put at: its bytes up to there are there, and safe.
     fn reach(&self) -> u64
         ensures { Reaches result (held self.now) };
 

@@ -40,7 +40,7 @@ pub(crate) struct Turns {
 }
 
 impl Turns {
-    /// So many turns are left, and none was made.
+    /// `left` turns are left, and none was made.
     pub(crate) fn new(left: u32) -> Turns {
         Turns {
             left,
@@ -51,7 +51,7 @@ impl Turns {
         }
     }
 
-    /// A turn of `whose` was made, in a network of so many nodes. It did something, or nothing.
+    /// A turn of `whose` was made, in a network of `nodes` nodes. `is_busy` says whether it did something.
     fn count(&mut self, is_busy: bool, nodes: u8) {
         self.left = self.left.saturating_sub(1);
         self.whose = if self.whose >= nodes {
@@ -67,7 +67,7 @@ impl Turns {
         self.settled = 0;
     }
 
-    /// Whether each process, of so many nodes and the host, did nothing in its last turn.
+    /// Whether each process, of `nodes` nodes and the host, did nothing in its last turn.
     pub(crate) fn is_quiet(&self, nodes: u8) -> bool {
         self.idle > u32::from(nodes)
     }

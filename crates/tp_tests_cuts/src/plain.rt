@@ -125,7 +125,7 @@ impl Plain {
         self.made.iter().filter(|made| made.inside).count() as u64
     }
 
-    /// Whether these are the entries outside the cut, each with its place among all as its number.
+    /// Whether `entries` are those outside the cut, each with its place among all as its number.
     fn are_outside(&self, entries: &[(Entry, u64)]) -> bool {
         let mut at = 0usize;
         for (number, made) in self.made.iter().enumerate() {
@@ -139,7 +139,7 @@ impl Plain {
         entries.len() == at
     }
 
-    /// Whether a cut counts the entries of each process up to its recording, and has the tokens of these lines.
+    /// Whether a cut counts the entries of each process up to its recording, and has the tokens of the lines here.
     fn is_cut(&self, cut: &Cut) -> bool {
         for line in 0..LINES as u16 {
             if !self.is_line(cut, line) {

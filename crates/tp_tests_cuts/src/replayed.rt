@@ -37,7 +37,7 @@ fn replay(plain: &Plain, wanted: &[bool], flat: &mut FlatNetwork) -> bool {
     true
 }
 
-/// Whether these tokens stand on a line.
+/// Whether just `tokens` stand on `line`.
 fn is_line(lines: &Lines, line: usize, tokens: &[Token]) -> bool {
     if line >= lines.count() || lines.len(line) != tokens.len() {
         return false;
@@ -58,7 +58,7 @@ fn is_port(one: &PortParts, other: &PortParts) -> bool {
         && one.out_base == other.out_base
 }
 
-/// Whether these ports are the others.
+/// Whether `ports` are as `others`.
 fn are_ports(ports: &[PortParts], others: &[PortParts]) -> bool {
     ports.len() == others.len()
         && ports
@@ -67,7 +67,7 @@ fn are_ports(ports: &[PortParts], others: &[PortParts]) -> bool {
             .all(|(one, other)| is_port(one, other))
 }
 
-/// Whether these images are the others.
+/// Whether `images` are the bytes of `others`.
 fn are_images(images: &[Vec<u8>], others: &[Vec<u8>]) -> bool {
     images.len() == others.len() && images.iter().zip(others).all(|(one, other)| one == other)
 }

@@ -115,7 +115,7 @@ const LATE: Story = Story {
     outputs: b"X",
 };
 
-/// Whether just these tokens stand on the lines of a cut, at most one on each.
+/// Whether just the tokens of `lines` stand on the lines of a cut, at most one on each.
 fn are_lines(cut: &Cut, lines: &[(usize, Token)]) -> bool {
     if cut.lines().count() != LINES {
         return false;
@@ -130,7 +130,7 @@ fn are_lines(cut: &Cut, lines: &[(usize, Token)]) -> bool {
     true
 }
 
-/// Whether a port has these bytes pending, and nothing else came to it.
+/// Whether a port has the bytes `pending`, and nothing else came to it.
 fn is_port(port: &PortParts, pending: &[u8]) -> bool {
     port.pending.as_slice() == pending
         && port.outputs.is_empty()
@@ -153,7 +153,7 @@ fn is_cut(alloc: Global, book: &Book, story: &Story) -> Result<bool, AllocError>
     Ok(outside && counts && ports && are_lines(cut, story.lines))
 }
 
-/// Whether these are the book's entries, with these numbers.
+/// Whether `entries` are those of `wanted`, each with its number there.
 fn are_entries(entries: &[Numbered], wanted: &[(Entry, u64)]) -> bool {
     let same = |(one, other): (&Numbered, &(Entry, u64))| one.entry == other.0
         && one.number == other.1;

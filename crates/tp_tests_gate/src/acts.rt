@@ -20,8 +20,8 @@ use tp_work::{Net, Seat, Turn};
 /// What is done, and what comes of it.
 #[derive(Clone, Copy)]
 pub(crate) enum Act {
-    /// The process of that number, which waits longest, makes a turn: it takes so many tokens, and a node makes so many steps, and no more
-    /// for that reason.
+    /// The process of that number, which waits longest, makes a turn: it takes that many tokens, and a node makes that many steps, and no
+    /// more for that reason.
     Turn(u8, u64, Option<(u16, Why)>),
     /// Bytes are handed to the port at a position.
     Offer(u64, &'static [u8]),
@@ -31,7 +31,7 @@ pub(crate) enum Act {
     Book(u64, bool),
     /// A turn of the flusher brings all to the device, and switches its areas or doesn't.
     Flush(bool),
-    /// So many times a node and the host make a turn, and then the flusher one, which doesn't switch.
+    /// That many times a node and the host make a turn, and then the flusher one, which doesn't switch.
     Groups(u8),
     /// A turn of the flusher in which the device fails.
     Fails,
@@ -98,7 +98,7 @@ fn is_flushed<J: Naming, R: Wait>(
     }
 }
 
-/// Whether so many times a node and the host make a turn, and then the flusher one.
+/// Whether a node and the host make a turn, and then the flusher one, as many times as is told.
 fn are_groups<J: Naming, R: Wait>(
     rt: &R,
     alloc: Global,

@@ -24,7 +24,7 @@ const QUANTUM: u16 = 9;
 /// In how many rounds a snapshot has to end.
 const ROUNDS: u8 = 4;
 
-/// How often there are so many rounds.
+/// How often there are `ROUNDS` rounds.
 const PARTS: u8 = 4;
 
 /// A turn of each node, and one of the host. Answers whether all were made.
@@ -111,7 +111,7 @@ fn goes_over<J: Naming, R: Wait>(
     true
 }
 
-/// Whether the area of a device that opened is that of so many switches, and holds the book's journal: what stands in its cut, and each
+/// Whether the area of a device that opened is that of as many `switches`, and holds the book's journal: what stands in its cut, and each
 /// entry behind it.
 fn is_behind(book: &Book, opened: &Opened, switches: u8) -> bool {
     let base = opened.base();
@@ -157,7 +157,7 @@ fn left<J: Naming, R: Wait>(
     Ok(Some(images_of(alloc, opened)?))
 }
 
-/// The image of each node after all rounds, with so many snapshots, and a crash. None where something didn't go as it should.
+/// The image of each node after all rounds, with `snapshots` begun, and a crash. None where something didn't go as it should.
 fn play<J: Naming, R: Wait>(
     rt: &R,
     alloc: Global,
@@ -186,13 +186,13 @@ fn play_in<R: Wait>(
     play::<Brand, R>(rt, alloc, opening, snapshots)
 }
 
-/// Whether it goes as it should with so many snapshots.
+/// Whether it goes as it should with `snapshots` begun.
 fn goes<R: Wait>(rt: &R, alloc: Global, disk: MemDisk, snapshots: u8) -> Result<bool, Fail> {
     let opening = opening_of(alloc, disk)?;
     Ok(play_in(rt, alloc, opening, snapshots)?.is_some())
 }
 
-/// Whether the nodes have the same after so many snapshots as after none.
+/// Whether the nodes have the same after `snapshots` as after none.
 fn is_same<R: Wait>(rt: &R, alloc: Global, snapshots: u8) -> Result<bool, Fail> {
     let without = play_in(rt, alloc, opening_of(alloc, marked(alloc)?)?, 0)?;
     let with = play_in(rt, alloc, opening_of(alloc, marked(alloc)?)?, snapshots)?;

@@ -59,7 +59,7 @@ fn next_seat<J: Naming>(net: &Net<J, NoGate>, seats: &mut Vec<Seat<J>>) -> Optio
     seats.pop()
 }
 
-/// Whether there are so many seats, and two processes make whole turns at each, all of them in their order.
+/// Whether there are `count` seats, and two processes make whole turns at each, all of them in their order.
 fn are_made<J: Naming, R: Wait>(
     rt: &R,
     net: &Net<J, NoGate>,
@@ -85,7 +85,7 @@ fn are_made<J: Naming, R: Wait>(
     seats.is_empty()
 }
 
-/// Whether a network begins with so many steps a turn and so many seats.
+/// Whether a network begins with `quantum` steps a turn and `seats` seats.
 fn starts<J: Naming, R: Wait>(rt: &R, alloc: Global, parts: Parts, quantum: u16, seats: u8) -> bool
     requires names { Names J.roll J.first J.start J.node J.mark J.flusher J.room parts }
     requires quantum { (0 < quantum) × (quantum ≤ MAX_STEPS) }

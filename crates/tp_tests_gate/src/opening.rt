@@ -75,7 +75,7 @@ pub(crate) fn opening_of<D: Disk + Drop>(alloc: Global, disk: D) -> Result<Openi
     opening_with(alloc, disk, SPARE)
 }
 
-/// Opens a device, where each node has so many spare frames.
+/// Opens a device, where each node has `spare` spare frames.
 pub(crate) fn opening_with<D: Disk + Drop>(
     alloc: Global,
     disk: D,
@@ -119,7 +119,7 @@ pub(crate) fn begin<J: Naming, D: Disk + Drop, G: Gate + Drop, R: Wait>(
     begin_with(rt, alloc, opening, QUANTUM, workers, gate)
 }
 
-/// The same, where a node's turn has so many steps.
+/// The same, where a node's turn has `quantum` steps.
 pub(crate) fn begin_with<J: Naming, D: Disk + Drop, G: Gate + Drop, R: Wait>(
     rt: &R,
     alloc: Global,

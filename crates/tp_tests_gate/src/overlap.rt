@@ -15,7 +15,7 @@ use tp_model::Entry;
 use tp_shared::gate::RUN_DONE;
 use tp_shared::{Naming, NoGate, Parts, Seat, Shared};
 
-/// The node that is held. No other of these is under its lock.
+/// The node that is held. None of `OTHERS` is under its lock.
 const HELD: u8 = 1;
 
 const OTHERS: [u8; 11] = [2, 3, 4, 6, 7, 8, 10, 11, 12, 14, 15];
@@ -58,7 +58,7 @@ fn turn_others<J: Naming + Send + Sync, R: Threads + Wait + Sync>(
     came && made.is_ok_and(|all| all.iter().all(|one| *one))
 }
 
-/// The nodes whose turns so many threads make.
+/// The nodes whose turns `count` threads make.
 fn numbers_of(alloc: Global, count: usize) -> Result<Vec<u8>, AllocError> {
     let mut numbers = Vec::new(alloc);
     for place in 0..count {
@@ -67,7 +67,7 @@ fn numbers_of(alloc: Global, count: usize) -> Result<Vec<u8>, AllocError> {
     Ok(numbers)
 }
 
-/// Whether the journal has so many runs, and that of the node which was held is the last one.
+/// Whether the journal has `count` runs, and that of the node which was held is the last one.
 fn is_last<J: Naming, R: Wait>(rt: &R, shared: &Shared<J>, count: usize) -> bool {
     let held = shared.book().lock(rt);
     let entries = held.book().entries();

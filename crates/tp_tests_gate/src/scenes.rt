@@ -64,9 +64,9 @@ impl Held {
 enum Scene {
     /// Someone is held, beside a team.
     Held(Held),
-    /// A host asks a pass, beside the flusher, whether so many pairs of bytes are stored.
+    /// A host asks a pass, beside the flusher, whether that many pairs of bytes are stored.
     Stored(u64),
-    /// A team makes so many turns, beside a host and the flusher.
+    /// A team makes that many turns, beside a host and the flusher.
     Team(u32),
 }
 

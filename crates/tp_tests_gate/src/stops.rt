@@ -126,7 +126,7 @@ struct Left {
     told: Told,
 }
 
-/// Steps over a device, of which a call may end badly.
+/// Steps over a device, where a call may end badly.
 fn run<R: Wait>(
     rt: &R,
     alloc: Global,
@@ -154,7 +154,7 @@ fn untold(alloc: Global) -> Told {
     }
 }
 
-/// What whoever opens the device knows: the journal's beginning, all of which is stored.
+/// What whoever opens the device knows: the journal's beginning, all of it stored.
 fn known(alloc: Global, told: &Told, next: u64) -> Result<Told, AllocError> {
     let kept = told.journal.get(..next as usize).unwrap_or(&[]);
     Ok(Told {
@@ -209,7 +209,7 @@ fn goes_on<R: Wait>(
     )
 }
 
-/// What steps leave of which a call ends badly, where the device then was called no more, and opens as it ought to: with its next number.
+/// What steps leave where a call ends badly, if the device then was called no more, and opens as it ought to: with its next number.
 fn ended<R: Wait>(
     rt: &R,
     alloc: Global,
@@ -243,7 +243,7 @@ fn calls_of<R: Wait>(
 }
 
 /// Opens what a run left, and begins a checkpoint that stops within each of its calls, where all that isn't synced is then A5. Answers how
-/// many these are, where each time the device opens as it ought to.
+/// many calls there are, where each time the device opens as it ought to.
 fn checkpoints_behind<R: Wait>(
     rt: &R,
     alloc: Global,
@@ -307,7 +307,7 @@ impl Script {
     }
 
     /// Ends the script by a fault, goes on with what it leaves, and where it ended in a checkpoint begins another, which stops at each of
-    /// its calls. Answers how many these were; `None` where something wasn't as it ought to be.
+    /// its calls. Answers how many calls it had; `None` where something wasn't as it ought to be.
     fn end<R: Wait>(&self, rt: &R, alloc: Global, fault: Fault) -> Result<Option<u64>, Fail> {
         let first = self.first.as_slice();
         let found = ended(rt, alloc, first, first, untold(alloc), SCRIPT, fault)?;

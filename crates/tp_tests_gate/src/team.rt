@@ -49,7 +49,7 @@ impl<J: Naming> Work<J> {
         }
     }
 
-    /// That of a receipt of so many entries.
+    /// That of a receipt of `count` entries.
     pub fn of_receipt(receipt: Receipt<J>, count: u64) -> Work<J>
         requires { count ≡ length receipt.seat }
     {
@@ -78,8 +78,8 @@ impl<J: Naming> Work<J> {
         self.entries.is_some()
     }
 
-    /// Whether these are as many as all entries since the opening, whose first has the number `first`. Then of each number there is
-    /// the slip of the journal's entry, once.
+    /// Whether there are as many slips as entries since the opening, the first with the number `first`. Then each number has the slip
+    /// of the journal's entry, once.
     pub fn are_all(self, held: &mut Locked<J>, first: u64) -> bool
         requires { first ≡ J.first }
         ensures same { held.new ≡ held.old }
@@ -121,7 +121,7 @@ pub fn make_turns<J: Naming, G: Gate, R: Wait>(
     }
 }
 
-/// What all of these did.
+/// What all of `works` did.
 fn together<J: Naming>(works: Vec<Work<J>>) -> Work<J> {
     let mut all = Work::new();
     for work in works {

@@ -9,7 +9,7 @@ use std::alloc::{AllocError, Global};
 use tp_disk::{Counted, DeviceFailed, RawDisk};
 
 /// What then stands in a range that isn't synced: what stood there at the last sync that was done, what was written last, one byte
-/// everywhere, or for each byte one of these, drawn.
+/// everywhere, or for each byte one of them, drawn.
 #[derive(Clone, Copy)]
 pub(crate) enum Torn {
     Old,
@@ -67,7 +67,7 @@ enum Came {
 /// it too, and no sync makes it good.
 #[derive(Drop)]
 pub(crate) struct RawUnkind {
-    /// How many bytes it has, and these as a read gives them.
+    /// How many bytes it has, and the bytes as a read gives them.
     size: u64,
     bytes: Vec<u8>,
     /// What stood at the last sync that was done.
@@ -108,7 +108,7 @@ fn put_range(synced: &mut [u8], bytes: &[u8], range: (usize, usize)) {
 }
 
 impl RawUnkind {
-    /// A device with `bytes`, of which a call may end badly.
+    /// A device with `bytes`, where a call may end badly.
     pub(crate) fn new(
         alloc: Global,
         bytes: &[u8],

@@ -15,7 +15,7 @@ use tp_port::PortParts;
 use tp_recover::{Opened, open};
 use tp_tests_fixtures::{ONE_NODE, SECOND, SENDS_A};
 
-/// What is done on a network, whose nodes have so many spare frames and make so many steps a turn.
+/// What is done on a network, whose nodes have `spare` spare frames and make `quantum` steps a turn.
 #[derive(Clone, Copy)]
 struct Story {
     network: Network,
@@ -282,7 +282,7 @@ const THIRD_LEFT: Left = Left {
             29_417,
             &[0xA5, 0, 1, 0, 0, 0, 0, 0, 42, 0, 0, 0, 0, 0, 0, 0],
         ),
-        // The gate behind its group; then groups of the first one, the last of which has the number 41.
+        // The gate behind its group; then groups of the first one; the last has the number 41.
         (29_449, &[0, 0, 1, 0, 0, 0, 0, 0, 2, 0, 0, 0, 0, 0, 0, 0]),
         (29_481, &[0xA5, 0, 1, 0, 0, 0, 0, 0, 3, 0, 0, 0, 0, 0, 0, 0]),
         (
@@ -449,7 +449,7 @@ fn stands(bytes: &[u8], at: usize, piece: &[u8]) -> bool {
         .is_some_and(|there| there.starts_with(piece))
 }
 
-/// Whether just these entries are kept, under these numbers.
+/// Whether just the entries of `wanted` are kept, under their numbers there.
 fn are_kept(kept: &[Numbered], wanted: &[(Entry, u64)]) -> bool {
     let same = |(one, other): (&Numbered, &(Entry, u64))| one.entry == other.0
         && one.number == other.1;

@@ -76,7 +76,7 @@ pub(crate) fn offer<J: Naming, R: Wait>(
     first
 }
 
-/// Whether the port shows just these bytes.
+/// Whether the port shows just the bytes wanted.
 pub(crate) fn shows<J: Naming, R: Wait>(
     rt: &R,
     alloc: Global,
@@ -118,7 +118,7 @@ fn outside(alloc: Global, book: &Book) -> Option<usize> {
     }
 }
 
-/// Whether the cut is whole, with so many entries of the node and of the host, and this token in front of the line to the node.
+/// Whether the cut is whole, with `counts` entries of the node and of the host, and `token` in front of the line to the node.
 fn is_cut(book: &Book, counts: [u64; 2], token: Option<Token>) -> bool {
     let Some(cut) = book.whole() else {
         return false;
@@ -129,7 +129,7 @@ fn is_cut(book: &Book, counts: [u64; 2], token: Option<Token>) -> bool {
         && cut.lines().get(4, 1).is_none()
 }
 
-/// Whether it is, and so many entries stand outside it.
+/// Whether it is, and as many entries as wanted stand outside it.
 pub(crate) fn is_whole<J: Naming, R: Wait>(
     rt: &R,
     alloc: Global,

@@ -140,7 +140,7 @@ impl<J: Naming> Desk<J> {
         }
     }
 
-    /// Whether the port shows just these bytes from its first one on.
+    /// Whether the port shows just the bytes wanted from its first one on.
     pub(crate) fn shows<R: Wait>(
         &mut self,
         rt: &R,

@@ -76,7 +76,7 @@ fn are_gone<J: Naming, R: Wait>(
     true
 }
 
-/// Whether just these entries are kept, with numbers behind `offered`.
+/// Whether just the entries of `wanted` are kept, with numbers behind `offered`.
 fn are_kept(opened: &Opened, offered: u64, wanted: &[(u64, Entry)]) -> bool {
     let kept = opened.kept();
     kept.len() == wanted.len()

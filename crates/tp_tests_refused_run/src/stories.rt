@@ -5,18 +5,18 @@ use tp_model::{Entry, Token};
 /// Something that is done. Each number of an entry is one behind the bytes that the story offers first.
 #[derive(Clone, Copy)]
 pub(crate) enum Step {
-    /// A turn of a process, which takes so many tokens, and runs so many steps where it runs.
+    /// A turn of a process, which takes that many tokens, and runs that many steps where it runs.
     Turn(u8, u64, Option<u16>),
     /// A turn that is refused, since the journal is full.
     Full,
     /// A byte more is offered, and refused, since the journal is full.
     Refused,
-    /// The port shows just these bytes, and they are confirmed.
+    /// The port shows just the bytes, and they are confirmed.
     Shown(&'static [u8]),
     /// A snapshot begins.
     Begin,
-    /// The cut is whole: it has so many entries of the node, and of the host beside those that the story offers first; this token is in
-    /// front of the line to the node; and so many entries stand outside it.
+    /// The cut is whole: it has that many entries of the node, and of the host beside those that the story offers first; the token is in
+    /// front of the line to the node; and the last number is that of the entries outside it.
     Whole(u64, u64, Option<Token>, usize),
     /// A turn of the flusher, which switches the areas or doesn't. The mark is the next number then.
     Flush(bool),
@@ -157,7 +157,7 @@ const CALLS: &[Row] = &[
     (Step::Flush(true), 7),
 ];
 
-/// The same calls behind so many bytes, so that each of them wants memory for its entry in one of the stories.
+/// The same calls behind a number of bytes, so that each of them wants memory for its entry in one of the stories.
 pub(crate) fn calls(offered: &'static [u8]) -> Story {
     Story {
         spare: 4,

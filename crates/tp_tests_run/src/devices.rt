@@ -40,7 +40,7 @@ fn place(image: &mut [u8], at: usize, bytes: &[u8]) {
     }
 }
 
-/// An image with this code, whose process begins so many bytes behind its first.
+/// An image with `code`, whose process begins `begin` bytes behind its first.
 fn image(alloc: Global, code: &[u8], begin: u8) -> Result<Vec<u8>, AllocError> {
     let mut image = Vec::from_elem(alloc, 0u8, 172 + 4096)?;
     for (at, bytes) in BYTES {

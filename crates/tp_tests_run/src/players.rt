@@ -63,7 +63,7 @@ pub(crate) fn left(alloc: Global, disk: MemDisk) -> Result<(MemDisk, Opened), Fa
     Ok((disk, opened))
 }
 
-/// Whether just these entries are kept behind the cut.
+/// Whether just `entries` are kept behind the cut.
 pub(crate) fn is_kept(opened: &Opened, entries: &[Entry]) -> bool {
     opened.kept().len() == entries.len()
         && opened

@@ -131,7 +131,7 @@ took_back_few (Some line) s t es D = omega (arith, D.few, took_length line D.cou
 pub took_in_few : (out : ℕ) (s t : Network NodeState) (es : List Entry) → TookIn out s es t → length es ≤ TAKES
 took_in_few out s t es D = took_back_few (back s out) s t es D
 
--- takes on so many wires in order, and one more that was broken off
+-- takes on `n` wires in order, and one more that was broken off
 pub order_stopped : (first n most : ℕ) (a b c : BookValue) (e : Refusal) → Did (InOrder (λ k. TookIn (first + k)) n) a b → Stopped TAKES b c e → TAKES * (n + 1) ≤ most → Stopped most a c e
 order_stopped first n most a b c e D S enough =
     then_stopped (InOrder (λ k. TookIn (first + k)) n) (TAKES * n) TAKES most a b c e D

@@ -1,4 +1,4 @@
--- Turns: how many entries they make, and that these are possible.
+-- Turns: how many entries they make, and that each is possible.
 use Rattle.std.proofs.Common.{◌≡◌, ℕ, zero, suc, ◌+◌, ◌*◌, ◌<◌, ◌≤◌, Bool, true, false, inl, inr, List, length, sym, ap, ◌∙◌, arith, Option, Some, None, length-append, eq-eqb, ne_eqb}
 use Rattle.std.specs.Prelude.{◌==◌, ◌%◌, ◌-◌, nat_lt, Result, Ok, Err}
 use Rattle.std.proofs.lemmas.Bool.{cases_eq, le-ltb}

@@ -79,7 +79,7 @@ FrontAnswers number line (Err e) s t = (t ≡ s) × IsStop line e s.book
 
 -- ## A line in a turn
 
--- why so many acts were done at the front of a line, and no more
+-- why `count` acts were done at the front of a line, and no more
 abbrev pub LineEnds : ℕ → ℕ → ℕ → Result Left Refusal → Moment → Type 0
 LineEnds number line count (Ok left.Enough) m = count ≡ TAKES
 LineEnds number line count (Ok left.NoWire) m = ⊥

@@ -20,7 +20,7 @@ use Rattle.tp_turn.specs.Turns.{Then, InOrder}
 use Rattle.tp_turn.specs.Moments.{entries_in}
 use Rattle.tp_turn.specs.Fronts.{front_act}
 
--- These acts of the host were done, and nothing else: the entries among them are the host's. The agreed nodes and the
+-- `acts` of the host were done, and nothing else: the entries among them are the host's. The agreed nodes and the
 -- frozen ones stay, and who has recorded.
 pub record HostAdded (acts : List Act) (old new : BookValue) : Type 0 where
   pub did : acted t414 (world_of old) acts ≡ Some (world_of new)
@@ -69,7 +69,7 @@ PortAnswers line (Ok None) s t = HostDone (PortAtFront line) s t
 PortAnswers line (Ok (Some why)) s t = (t ≡ s) × PortIsLeft line why s
 PortAnswers line (Err e) s t = (t ≡ s) × PortIsStop line e s
 
--- why so many acts were done at the front of a line, and no more
+-- why `count` acts were done at the front of a line, and no more
 abbrev pub PortLineEnds : ℕ → ℕ → Result Left Refusal → BookValue → Type 0
 PortLineEnds line count (Ok left.Enough) b = count ≡ TAKES
 PortLineEnds line count (Ok left.NoWire) b = ⊥
@@ -105,14 +105,14 @@ is_for_room left.NoFrame = false
 is_for_room left.PortFull = false
 is_for_room left.JournalFull = true
 
--- One port more was left. The journal was full for one of all these ports, or for none.
+-- One port more was left. The journal was full for one of the ports up to it, or for none.
 pub record LeavesPort (before : Bool → BookValue → List Act → BookValue → Type 0) (port : ℕ) (full : Bool) (s : BookValue) (acts : List Act) (t : BookValue) : Type 0 where
   pub earlier : Bool
   pub why : Left
   pub is : full ≡ (earlier || is_for_room why)
   pub did : Then (before earlier) (OnPort port (Ok why)) s acts t
 
--- The host does what it may at so many ports in order, and leaves each for a reason.
+-- The host does what it may at a number of ports in order, and leaves each for a reason.
 unfoldable pub LeavesPorts : ℕ → Bool → BookValue → List Act → BookValue → Type 0
 LeavesPorts zero full s acts t = (full ≡ false) × (acts ≡ []) × (t ≡ s)
 LeavesPorts (suc count) full s acts t = LeavesPort (LeavesPorts count) count full s acts t
@@ -124,7 +124,7 @@ pub record StopsAtPort (e : Refusal) (s : BookValue) (acts : List Act) (t : Book
   pub full : Bool
   pub did : Then (LeavesPorts port full) (OnPort port (Err e)) s acts t
 
--- all ports were left, with so many takes
+-- all ports were left, with `takes` takes
 pub record TakesAtPorts (takes : ℕ) (s : BookValue) (acts : List Act) (t : BookValue) : Type 0 where
   pub many : takes ≡ length (entries_in acts)
   pub did : LeavesPorts (length s.state.ports) false s acts t

@@ -37,7 +37,7 @@ entries_in (Journal entry ∷ acts) = entry ∷ entries_in acts
 entries_in (Close line ∷ acts) = entries_in acts
 entries_in (Trim ∷ acts) = entries_in acts
 
--- These acts of a node were done, and nothing else: the entries among them are the node's, and what is agreed on is
+-- `acts` of a node were done, and nothing else: the entries among them are the node's, and what is agreed on is
 -- then this node, and the others as before. Whether others have recorded stays, as do their frozen images, and what each
 -- mark shows.
 pub record Added (number : ℕ) (node : NodeState) (acts : List Act) (old new : BookValue) : Type 0 where

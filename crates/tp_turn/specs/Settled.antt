@@ -44,12 +44,12 @@ pub record StopsAt (number : ℕ) (e : Refusal) (s : Moment) (acts : List Act) (
   pub there : link < 4
   pub did : Then (Records number) (Then (InOrder (λ link. LeavesLink number link) link) (OnLink number link (Err e))) s acts t
 
--- so many of these acts are takes
+-- `takes` of the acts are takes
 pub record SettlesWith (number takes : ℕ) (s : Moment) (acts : List Act) (t : Moment) : Type 0 where
   pub many : takes ≡ length (entries_in acts)
   pub did : Settles number s acts t
 
--- the open part is done, with so many takes; or the turn ends within it
+-- the open part is done, with `takes` takes; or the turn ends within it
 abbrev pub SettledAs : ℕ → Result ℕ Refusal → Moment → List Act → Moment → Type 0
 SettledAs number (Ok takes) = SettlesWith number takes
 SettledAs number (Err e) = StopsAt number e

@@ -21,7 +21,7 @@ use Rattle.tp_turn.specs.Settled.{Settles, SettlesWith, StopsAt}
 
 -- ## A turn is opened
 
--- the open part is done with so many takes, and a run of the node is reserved
+-- the open part is done with `takes` takes, and a run of the node is reserved
 pub record IsOpen (number takes : ℕ) (s t : Moment) : Type 0 where
   pub between : Moment
   pub settled : Done number (SettlesWith number takes) s between
@@ -43,7 +43,7 @@ Opens number (Err e) s t = Done number (Breaks number e) s t
 
 -- ## A node runs
 
--- Since the book agreed on the node, it has made so many steps and sent these tokens.
+-- Since the book agreed on the node, it has made `count` steps and sent `tokens`.
 pub record HasRunOn (b : BookValue) (number count : ℕ) (tokens : List (ℕ × Token)) (node : NodeContents) : Type 0 where
   pub before : NodeContents
   pub is : IsNodeOf b number before

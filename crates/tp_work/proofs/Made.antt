@@ -43,7 +43,7 @@ pub made_all : {X : Type 0} (spare : ℕ) (f : X → NodeState) (xs all : List X
     → AllZip (IsMade spare) (map f all) nodes
 made_all spare f xs all i nodes past is made = subst (λ ys. AllZip (IsMade spare) (map f ys) nodes) (take_all i xs past ∙ is) made
 
--- they are in these states
+-- they are in the given states
 pub made_live : (spare : ℕ) (states : List NodeState) (nodes : List NodeContents) → AllZip (IsMade spare) states nodes → map (λ (node : NodeContents). node.live) nodes ≡ states
 made_live spare [] [] made = refl
 made_live spare [] (node ∷ nodes) made = absurd made

@@ -15,7 +15,7 @@ use Rattle.tpnet.specs.declared.view.View.TheVariants.{Node, Image, Journal, Pen
 use Rattle.tpnet.specs.Given.{given, IsGivenOr}
 use Rattle.tpnet.specs.Typed.{has_word, was_typed}
 
--- a snapshot begins after so many entries
+-- a snapshot begins after a number of entries, where one is given
 abbrev pub IsEvery : Option ℕ → Type 0
 IsEvery None = Unit {0}
 IsEvery (Some every) = (0 < every) × (every < 2 ^ 32)

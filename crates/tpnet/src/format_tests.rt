@@ -169,5 +169,5 @@ fn each_call_of_the_device_may_fail(rt: HostRuntime) -> Result<(), Fail> {
         assert!(rt; made.out.is_empty());
         assert_eq!(rt; made.err.as_slice(), b"tpnet: DeviceFailed\n".as_slice());
     }
-    Err(Fail::new("a format makes so many calls"))
+    Err(Fail::new("a format makes more calls than were tried"))
 }

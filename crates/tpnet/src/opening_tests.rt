@@ -185,5 +185,5 @@ fn each_call_of_the_device_may_fail(rt: HostRuntime) -> Result<(), Fail> {
         assert!(rt; out.is_empty());
         assert_eq!(rt; err.as_slice(), b"tpnet: ReadFailed\n".as_slice());
     }
-    Err(Fail::new("opening makes so many calls"))
+    Err(Fail::new("opening makes more calls than were tried"))
 }

@@ -377,7 +377,7 @@ impl InMemory {
     }
 }
 
-/// What a run by one worker is asked, for so many turns of 16 steps.
+/// What a run by one worker is asked, for `turns` turns of 16 steps.
 #[tactic(auto, unfolding(crate::specs::Args::IsRun))]
 fn asked_of(alloc: Global, turns: u32) -> Run
     ensures { IsRun result }
@@ -394,7 +394,7 @@ fn asked_of(alloc: Global, turns: u32) -> Run
     }
 }
 
-/// Runs a device by one worker, with room for so many bytes of output. Answers the device, the status, and both outputs.
+/// Runs a device by one worker, with room for `room` bytes of output. Answers the device, the status, and both outputs.
 fn run_by_one<D: Disk + Drop + Send, R: AllocGlobal + Threads + Wait + Sync>(
     rt: &R,
     disk: D,
