@@ -1,0 +1,5 @@
+use Rattle.tp_tests_stream.specs.Histories.{untold}
+use Rattle.tp_tests_stream.proofs.players.play_within.Given as goal
+
+abbrev pub ghost-stream : goal.ghost-stream
+ghost-stream g a = untold

@@ -1,0 +1,150 @@
+//! Streams on a device in memory, and what is on the device then.
+
+ghost use Rattle.std.specs.Prelude.{◌≤◌, None, length};
+ghost use Rattle.tp_model.specs.declared.limits.TheConstants.{MAX_STEPS};
+
+use std::alloc::{AllocError, Global};
+use std::process::Abort;
+use std::sync::Wait;
+use std::test::Fail;
+use tp_disk::{Disk, MemDisk};
+use tp_recover::{Opened, open};
+use tp_stream::{
+    Input, Listener, MemSink, Output, Progress, Source, SourceFailed, StreamFault, Streams, Task,
+    stream,
+};
+
+/// A task that ends once nothing is left to do.
+pub(crate) const QUIET: Task = Task {
+    turns: 1_000_000,
+    until_quiet: true,
+    quantum: 64,
+    spare: 4,
+    every: None,
+    tells: 0,
+};
+
+/// A source whose bytes come a few at a time.
+#[derive(Drop)]
+pub(crate) struct Pieces {
+    pub(crate) bytes: Vec<u8>,
+    pub(crate) most: usize,
+}
+
+/// What stands from a position on.
+fn rest_from(bytes: &[u8], at: u64) -> &[u8] {
+    if at < bytes.len() as u64 {
+        &bytes[at as usize..]
+    } else {
+        &bytes[bytes.len()..]
+    }
+}
+
+impl Source for Pieces {
+    ghost input = { λ _. None };
+
+    fn read(&mut self, at: u64, out: &mut [u8]) -> Result<usize, SourceFailed> {
+        let rest = rest_from(&self.bytes, at);
+        let count = rest.len().min(out.len()).min(self.most);
+        out[..count].copy_from_slice(&rest[..count]);
+        Ok(count)
+    }
+}
+
+/// Who is told: it counts.
+#[derive(Drop)]
+pub(crate) struct Told {
+    pub(crate) output: Option<u64>,
+    pub(crate) input: Option<u64>,
+    pub(crate) progress: u32,
+}
+
+impl Listener for Told {
+    fn output(&mut self, _port: u8, position: u64) {
+        self.output = Some(position);
+    }
+
+    fn input(&mut self, _port: u8, accepted: u64) {
+        self.input = Some(accepted);
+    }
+
+    fn progress(&mut self, _progress: Progress) {
+        self.progress = self.progress.saturating_add(1);
+    }
+}
+
+pub(crate) fn nobody() -> Told {
+    Told {
+        output: None,
+        input: None,
+        progress: 0,
+    }
+}
+
+/// Bytes that differ from their neighbours.
+pub(crate) fn numbered(alloc: Global, count: usize) -> Result<Vec<u8>, AllocError> {
+    let mut bytes = Vec::new(alloc);
+    for number in 0..count {
+        bytes.push((number % 251) as u8)?;
+    }
+    Ok(bytes)
+}
+
+/// The streams of a port: a sink, and as input these bytes, as many at a time as `most` says.
+pub(crate) fn streams(
+    alloc: Global,
+    have: Option<u64>,
+    sink: MemSink,
+    bytes: Vec<u8>,
+    most: usize,
+) -> Result<Streams<MemSink, Pieces>, AllocError> {
+    let mut outputs = Vec::new(alloc);
+    let mut inputs = Vec::new(alloc);
+    outputs.push(Output::new(0, have, sink))?;
+    inputs.push(Input::new(0, Pieces { bytes, most }))?;
+    Ok(Streams { outputs, inputs })
+}
+
+// A stream, where as many steps are asked for as may be.
+fn play_within<D: Disk + Drop, R: Wait>(
+    rt: &R,
+    alloc: Global,
+    task: Task,
+    disk: D,
+    streams: &mut Streams<MemSink, Pieces>,
+    told: &mut Told,
+) -> (D, Result<u64, StreamFault>)
+    requires { task.quantum ≤ MAX_STEPS }
+{
+    stream(rt, alloc, task, disk, streams, told)
+}
+
+/// A stream.
+pub(crate) fn play<R: Wait + Abort>(
+    rt: &R,
+    alloc: Global,
+    task: Task,
+    disk: MemDisk,
+    streams: &mut Streams<MemSink, Pieces>,
+    told: &mut Told,
+) -> (MemDisk, Result<u64, StreamFault>) {
+    assert!(rt; task.quantum <= 4096);
+    play_within(rt, alloc, task, disk, streams, told)
+}
+
+/// What a crash leaves of a device, opened.
+pub(crate) fn left(alloc: Global, disk: MemDisk) -> Result<(MemDisk, Opened), Fail> {
+    let mut disk = MemDisk::of_bytes(disk.crash());
+    let opened = open(alloc, &mut disk)?;
+    Ok((disk, opened))
+}
+
+/// The sink of the only output.
+pub(crate) fn sink_of(streams: Streams<MemSink, Pieces>) -> Result<MemSink, Fail> {
+    let Streams { outputs, .. } = streams;
+    let mut outputs = outputs;
+    match outputs.pop() {
+        Some(output) => Ok(output.into_sink()),
+        None => Err(Fail::new("no output")),
+    }
+}
