@@ -4,7 +4,7 @@ use std::alloc::{AllocError, Global};
 use std::test::Fail;
 use tp_model::{Entry, Token};
 use tp_tests_fixtures::letter;
-use tp_turn::{TryFault, Tried, try_turns};
+use tp_turn::{Tried, TryFault, try_turns};
 
 /// What four turns make of the node that sends a letter.
 const ENTRIES: [Entry; 4] = [

@@ -55,11 +55,7 @@ fn parts_of(alloc: Global, opened: Opened, spare: usize) -> Result<(Parts, Raise
 }
 
 /// Opens a device. Each node has `spare` spare frames. None where memory is refused.
-pub(crate) fn opening_of<D: Disk + Drop>(
-    alloc: Global,
-    disk: D,
-    spare: usize,
-) -> Option<Opening<D>>
+pub(crate) fn opening_of<D: Disk + Drop>(alloc: Global, disk: D, spare: usize) -> Option<Opening<D>>
     ensures { IfSome result (λ opening. IsSpelt opening.opened.value) }
 {
     let mut disk = disk;

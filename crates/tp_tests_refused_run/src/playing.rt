@@ -37,7 +37,10 @@ fn goes<J: Naming, R: Wait>(
         },
         Step::Full => matches!(turn(rt, desk), Some(Err(TurnFault::JournalFull))),
         Step::Refused => {
-            matches!(offer(rt, desk, offered, b"x"), Some(Err(OfferFault::JournalFull)))
+            matches!(
+                offer(rt, desk, offered, b"x"),
+                Some(Err(OfferFault::JournalFull))
+            )
         }
         Step::Shown(bytes) => {
             shows(rt, alloc, desk, bytes)
@@ -56,12 +59,7 @@ fn goes<J: Naming, R: Wait>(
 }
 
 /// Whether all steps do.
-fn are_gone<J: Naming, R: Wait>(
-    rt: &R,
-    alloc: Global,
-    desk: &mut Desk<J>,
-    story: &Story,
-) -> bool {
+fn are_gone<J: Naming, R: Wait>(rt: &R, alloc: Global, desk: &mut Desk<J>, story: &Story) -> bool {
     let offered = story.offered.len() as u64;
     let accepted = offer(rt, desk, 0, story.offered);
     if !matches!(accepted, Some(Ok(number)) if number == offered) {
