@@ -43,6 +43,36 @@ fn a_short_journal_never_stays_full(rt: HostRuntime) -> Result<(), Fail> {
     Ok(())
 }
 
+/// As many bytes of input as the journal has room for entries.
+const ALL: &[u8] = &[7; 105];
+
+/// A run of 105 bytes of input leaves a full journal, which stays full as long as no snapshot begins. One that begins then takes what it
+/// needs from what is kept for it, so that it ends, at the latest with the run's last flush; and the network goes on.
+#[test]
+fn a_full_journal_is_ended_by_a_snapshot(rt: HostRuntime) -> Result<(), Fail> {
+    let alloc = rt.alloc();
+    let mut out = Vec::new(alloc);
+    let never = Job {
+        every: Some(1000),
+        ..FOUR
+    };
+    let soon = Job {
+        turns: 40,
+        every: Some(20),
+        ..FOUR
+    };
+    let (disk, done) = play(&rt, alloc, letter(alloc)?, never, ALL, &mut out);
+    let (disk, full) = left(alloc, disk)?;
+    assert!(rt; done == Ok(105) && full.next() == 105 && full.base() == 0);
+    assert!(rt; out.is_empty());
+    let (disk, done) = play(&rt, alloc, disk, soon, ALL, &mut out);
+    let (disk, freed) = left(alloc, disk)?;
+    assert!(rt; done == Ok(freed.next()) && freed.base() >= 105 && is_switched(&freed, 1));
+    let (_, done) = play(&rt, alloc, disk, soon, ALL, &mut out);
+    assert!(rt; done.is_ok() && out.as_slice() == b"A".as_slice());
+    Ok(())
+}
+
 /// Half of the journal begins a snapshot where nothing else is asked for.
 #[test]
 fn half_of_the_journal_begins_a_snapshot(rt: HostRuntime) -> Result<(), Fail> {
