@@ -10,7 +10,8 @@ pub enum FlushFault {
     /// The device failed in an earlier turn, and must be opened again. Nothing is done.
     #[error("StoreBroken")]
     StoreBroken,
-    /// Memory was refused. No call of the device was made, nothing is lost, and the next turn does all of it.
+    /// Memory was refused: before the first call of the device, or behind all that was appended, as the tail of a checkpoint was copied.
+    /// Nothing is lost, and the next turn goes on.
     #[error("Memory")]
     Memory,
     /// The open area has no room for a group, which a device that does what devices do never answers: all entries of the book find
