@@ -9,6 +9,7 @@ ghost use Rattle.tp_recover.specs.Parts.{network_in};
 
 use tp_model::limits::{LINE_BYTES, MAX_NODES, MAX_PORTS};
 use tp_model::{OpenFault, Token, WireEnd};
+use tp_net::port_line;
 use tp_node::Node;
 use tp_port::PortParts;
 
@@ -53,7 +54,7 @@ fn end_waits(parts: CutParts<'_>, line: usize) -> bool
     requires there { line < 4 * length parts.nodes.now + length parts.ports.now }
     ensures { result ≡ end_waits t414_ends (network_in parts.entry) line }
 {
-    let links = 4 * parts.nodes.len();
+    let links = port_line(parts.nodes.len(), 0);
     if line < links {
         parts.nodes[line / 4].waits((line % 4) as u8)
     } else {
@@ -66,7 +67,8 @@ fn end_holds(parts: CutParts<'_>, line: usize) -> bool
     requires few { length parts.nodes.now ≤ MAX_NODES }
     ensures { result ≡ end_holds t414_ends (network_in parts.entry) line }
 {
-    if line < 4 * parts.nodes.len() {
+    let links = port_line(parts.nodes.len(), 0);
+    if line < links {
         parts.nodes[line / 4].holds((line % 4) as u8)
     } else {
         false
