@@ -20,7 +20,7 @@ use std::sync::Wait;
 use std::thread::Threads;
 use std::{fs, io};
 use tp_disk::{Counted, NewDisk, NotedFile, RawFile};
-use tp_model::limits::HEAD_BYTES;
+use tp_layout::area_start;
 use tp_net::{Named, Topology};
 
 /// Why a file wasn't read.
@@ -85,7 +85,7 @@ fn new_disk<R: Files<File = F>, F: FileExt + OpenFile + Drop>(
 ) -> io::Result<NewDisk<F>>
     requires { new.now.area ≤ MAX_AREA }
 {
-    let (path, size) = (new.device.as_str(), HEAD_BYTES as u64 + 2 * new.area);
+    let (path, size) = (new.device.as_str(), area_start(new.area, true) + new.area);
     if new.only_new {
         NewDisk::create_new(rt, path, size)
     } else {
