@@ -58,7 +58,7 @@ fn push_node<D: Disk>(
 
 /// Says what is wrong with the head of a device of `size` bytes whose areas have `area` bytes each by its head.
 fn push_head(text: &mut String, size: u64, area: u64) -> Result<(), AllocError> {
-    let needed = area.saturating_mul(2).saturating_add(HEAD_BYTES as u64);
+    let needed = area.saturating_mul(2).saturating_add(area_start(0, false));
     if size < needed {
         return write!(
             text,
