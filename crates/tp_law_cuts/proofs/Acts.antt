@@ -2,10 +2,10 @@
 use Rattle.std.proofs.Common.{◌≡◌, ℕ, ◌<◌, true, false, not, List, length, refl, Option, Some, None}
 use Rattle.std.specs.Prelude.{nat_lt, ◌&&◌}
 use Rattle.std.proofs.lemmas.Bool.{and_parts, not-true, ltb-true}
-use Rattle.tp_model.specs.declared.link.Token.TheVariants.{Marker}
 use Rattle.tp_model.specs.declared.entry.Entry.{Entry}
-use Rattle.tp_model.specs.Network.{◌>>=◌, Machine, Network, on_line, is_first}
+use Rattle.tp_model.specs.Network.{◌>>=◌, Machine, Network, on_line}
 use Rattle.tp_model.specs.Entries.{next}
+use Rattle.tp_model.specs.Markers.{has_marker}
 use Rattle.tp_model.specs.Snapshot.{Snapshot, MarkedNetwork, has_recorded, taker, begun, recorded, journalled, line_closed}
 use Rattle.tp_model.specs.WholeCut.{WholeCut, trimmed}
 use Rattle.tp_model.specs.Acts.{begin, record_node, close_line, trim}
@@ -26,11 +26,11 @@ module _ {Node : Type 0} (w v : MarkedNetwork Node) where
       (snap, refl, ltb-true i (length w.live.nodes) A.0, not-true (has_recorded snap i) A.1, is)
 
   pub close_parts : (given : Option Snapshot) (line : ℕ) → close_line w given line ≡ Some v
-      → (snap : Snapshot) × (given ≡ Some snap) × (is_first (on_line w.live.lines line) Marker ≡ true) × (has_recorded snap (taker w.live line) ≡ true) × (line_closed w snap line ≡ v)
+      → (snap : Snapshot) × (given ≡ Some snap) × (has_marker (on_line w.live.lines line) ≡ true) × (has_recorded snap (taker w.live line) ≡ true) × (line_closed w snap line ≡ v)
   close_parts None line e = cc
   close_parts (Some snap) line e =
-      let C = cond_some (is_first (on_line w.live.lines line) Marker && has_recorded snap (taker w.live line)) (Some (line_closed w snap line)) v e in
-      let A = and_parts (is_first (on_line w.live.lines line) Marker) (has_recorded snap (taker w.live line)) C.0 in
+      let C = cond_some (has_marker (on_line w.live.lines line) && has_recorded snap (taker w.live line)) (Some (line_closed w snap line)) v e in
+      let A = and_parts (has_marker (on_line w.live.lines line)) (has_recorded snap (taker w.live line)) C.0 in
       let is : line_closed w snap line ≡ v = let leads = C.1 in cc in
       (snap, refl, A.0, A.1, is)
 

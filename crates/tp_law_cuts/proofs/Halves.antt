@@ -1,8 +1,9 @@
 -- The node's half and the book's half of an act are the act.
-use Rattle.std.proofs.Common.{◌≡◌, ℕ, ◌<◌, true, false, cond, not, List, [], ◌∷◌, ◌++◌, length, set, replicate, refl, sym, ap, ◌∙◌, arith, Option, Some, None, slice_get}
+use Rattle.std.proofs.Common.{◌≡◌, ℕ, ◌<◌, true, false, cond, not, List, [], ◌∷◌, ◌++◌, length, set, drop, replicate, refl, sym, ap, ◌∙◌, arith, append-nil, Option, Some, None, slice_get}
 use Rattle.std.specs.Prelude.{◌&&◌}
 use Rattle.std.specs.Option.{option_map}
 use Rattle.std.proofs.lemmas.Bool.{lt-ltb}
+use Rattle.std.proofs.lemmas.List.{set-get_or}
 use Rattle.std.proofs.lemmas.Option.{slice_get_within}
 use Rattle.tp_model.specs.declared.link.Token.{Token}
 use Rattle.tp_model.specs.declared.link.Token.TheVariants.{Marker}
@@ -10,11 +11,12 @@ use Rattle.tp_model.specs.declared.entry.Entry.{Entry}
 use Rattle.tp_model.specs.Network.{◌>>=◌, Machine, Network, Port, OfNode, OfHost, own, put, receiver, has_wire, process_at, on_line, is_first, taken, sent}
 use Rattle.tp_model.specs.Entries.{process, takes, does, next}
 use Rattle.tp_model.specs.Order.{made}
-use Rattle.tp_model.specs.Snapshot.{Snapshot, has_recorded, taker, collected, journalled, first_snapshot, host_markers}
+use Rattle.tp_model.specs.Markers.{before, has_marker, unmarked}
+use Rattle.tp_model.specs.Snapshot.{Snapshot, has_recorded, taker, closed_over, collected, journalled, first_snapshot, host_markers}
 use Rattle.tp_model.specs.WholeCut.{WholeCut, all_some, whole}
 use Rattle.tp_model.specs.Acts.{Begin, Record, Journal, Close, Trim, begin, record_node, close_line, trim, happens}
-use Rattle.tp_model.specs.Halves.{BookState, live, marked, whole_in, without, with_entry, with_begin, with_record, with_close, with_trim}
-use Rattle.tp_law_network.proofs.Lines.{without_taken}
+use Rattle.tp_model.specs.Halves.{BookState, live, marked, whole_in, without, with_entry, with_begin, with_record, with_close, with_close_over, with_trim}
+use Rattle.tp_law_network.proofs.Lines.{first_is, without_taken}
 use Rattle.tp_law_network.proofs.Local.{Step, next_from, own-node, own-host, process_same, takes_same}
 
 module _ {Node : Type 0} (M : Machine Node) (b : BookState Node) (nodes : List Node) (frozen : List (Option Node)) (as_many : length nodes ≡ length b.start.nodes) where
@@ -98,13 +100,29 @@ module _ {Node : Type 0} (M : Machine Node) (b : BookState Node) (nodes : List N
       ∙ ap (λ c. cond (not c) (Some (marked (with_record b snap i) nodes (set frozen i (slice_get nodes i)))) None) new
 
   -- A line's Marker is taken.
+  pub close_over_joins : (snap : Snapshot) (line : ℕ) → b.snapshot ≡ Some snap → has_marker (on_line b.lines line) ≡ true → has_recorded snap (taker b.start line) ≡ true
+      → happens M (marked b nodes frozen) (Close line) ≡ Some (marked (with_close_over b snap line) nodes frozen)
+  unfolding happens
+  close_over_joins snap line runs marker has =
+      ap (λ given. close_line (marked b nodes frozen) given line) runs
+      ∙ ap (λ c. cond (c && has_recorded snap (taker (live b nodes) line)) (Some (marked (with_close_over b snap line) nodes frozen)) None) marker
+      ∙ ap (λ c. cond c (Some (marked (with_close_over b snap line) nodes frozen)) None) (ap (λ N. has_recorded snap (process_at N (receiver b.start.wires line))) as_many ∙ has)
+
+  -- nothing stands in front of a Marker that is in front
+  over_front : (snap : Snapshot) (line : ℕ) → is_first (on_line b.lines line) Marker ≡ true → with_close_over b snap line ≡ with_close b snap line
+  over_front snap line front =
+      let first = first_is (on_line b.lines line) Marker front in
+      ap (λ ts. record b { lines = set b.lines line ts; snapshot = Some (closed_over snap line (before (on_line b.lines line))) }) (ap unmarked first)
+      ∙ ap (λ ts. record b { lines = set b.lines line (drop 1 (on_line b.lines line)); snapshot = Some (closed_over snap line ts) }) (ap before first)
+      ∙ ap (λ ls. record b { lines = set b.lines line (drop 1 (on_line b.lines line)); snapshot = Some (record snap { lines = ls; closed = set snap.closed line true }) })
+      (ap (λ ts. set snap.lines line ts) (append-nil (on_line snap.lines line)) ∙ set-get_or snap.lines line [])
+
+  -- The Marker in front of a line is taken.
   pub close_joins : (snap : Snapshot) (line : ℕ) → b.snapshot ≡ Some snap → is_first (on_line b.lines line) Marker ≡ true → has_recorded snap (taker b.start line) ≡ true
       → happens M (marked b nodes frozen) (Close line) ≡ Some (marked (with_close b snap line) nodes frozen)
-  unfolding happens
   close_joins snap line runs front has =
-      ap (λ given. close_line (marked b nodes frozen) given line) runs
-      ∙ ap (λ c. cond (c && has_recorded snap (taker (live b nodes) line)) (Some (marked (with_close b snap line) nodes frozen)) None) front
-      ∙ ap (λ c. cond c (Some (marked (with_close b snap line) nodes frozen)) None) (ap (λ N. has_recorded snap (process_at N (receiver b.start.wires line))) as_many ∙ has)
+      close_over_joins snap line runs (ap has_marker (first_is (on_line b.lines line) Marker front)) has
+      ∙ ap (λ c. Some (marked c nodes frozen)) (over_front snap line front)
 
   -- The book is trimmed to its whole cut with the frozen nodes.
   pub trim_joins : (cut : WholeCut) (images : List Node) → whole_in b ≡ Some cut → all_some frozen ≡ Some images

@@ -1,12 +1,11 @@
 -- Each act keeps what holds, and so a whole cut is always what it should be.
 use Rattle.std.proofs.Common.{◌≡◌, ℕ, ◌<◌, true, false, List, [], ◌∷◌, ◌++◌, length, sym, subst, ◌∙◌, Option, Some, None}
 use Rattle.std.specs.Option.{option_map}
-use Rattle.tp_model.specs.declared.link.Token.TheVariants.{Marker}
 use Rattle.tp_model.specs.declared.entry.Entry.{Entry}
-use Rattle.tp_model.specs.Network.{Machine, Network, on_line, is_first}
+use Rattle.tp_model.specs.Network.{Machine, Network, on_line}
 use Rattle.tp_model.specs.Entries.{process, takes, HasFourLinks}
 use Rattle.tp_model.specs.Order.{after, pre, post}
-use Rattle.tp_model.specs.Markers.{NeverMarks, plain_network}
+use Rattle.tp_model.specs.Markers.{NeverMarks, has_marker, plain_network}
 use Rattle.tp_model.specs.Snapshot.{Snapshot, MarkedNetwork, has_recorded, taker, collected, begun, recorded, journalled, line_closed, host_markers, node_markers}
 use Rattle.tp_model.specs.WholeCut.{WholeCut, count_in, all_some, whole, IsWhole}
 use Rattle.tp_model.specs.Acts.{Act, Begin, Record, Journal, Close, Trim, happens, acted, IsOpened, CutHolds}
@@ -36,7 +35,7 @@ module _ {Node : Type 0} (M : Machine Node) (four : HasFourLinks M) (never : Nev
     inside = node_recorded M w H.base snap (running M w H snap runs) i below new;
   }
 
-  close_holds : (snap : Snapshot) (line : ℕ) → w.snapshot ≡ Some snap → is_first (on_line w.live.lines line) Marker ≡ true → has_recorded snap (taker w.live line) ≡ true
+  close_holds : (snap : Snapshot) (line : ℕ) → w.snapshot ≡ Some snap → has_marker (on_line w.live.lines line) ≡ true → has_recorded snap (taker w.live line) ≡ true
       → Holds M (line_closed w snap line)
   close_holds snap line runs front has = record {
     base = base_closed M w H.base line front (line_closed w snap line).snapshot w.frozen;

@@ -1,13 +1,13 @@
 -- Lines with Markers: what stands before the first one, how many there are, and the line without them.
-use Rattle.std.proofs.Common.{◌≡◌, ℕ, ◌+◌, ◌<◌, Bool, true, false, cond, inl, inr, List, [], ◌∷◌, ◌++◌, map, set, drop, refl, sym, ap, ◌∙◌, arith, append-nil}
+use Rattle.std.proofs.Common.{◌≡◌, ℕ, ◌+◌, ◌<◌, ◌≤◌, Bool, true, false, cond, inl, inr, List, [], ◌∷◌, ◌++◌, map, length, set, drop, refl, sym, ap, ◌∙◌, arith, append-nil}
 use Rattle.std.specs.Prelude.{◌==◌}
 use Rattle.std.specs.List.{AllByRecursion}
-use Rattle.std.proofs.lemmas.Bool.{cases_Bool}
-use Rattle.std.proofs.lemmas.List.{map-set, set-get_or}
+use Rattle.std.proofs.lemmas.Bool.{cases_lt, cases_Bool, false≢true}
+use Rattle.std.proofs.lemmas.List.{get_or_past, map-set, set-get_or}
 use Rattle.tp_model.specs.declared.link.Token.{Token}
 use Rattle.tp_model.specs.declared.link.Token.TheVariants.{Marker}
 use Rattle.tp_model.specs.Network.{on_line, is_first, pushed, sent, for_line}
-use Rattle.tp_model.specs.Markers.{is_marker, plain, before, markers}
+use Rattle.tp_model.specs.Markers.{is_marker, plain, before, markers, has_marker, unmarked}
 use Rattle.tp_law_network.proofs.Lines.{first_is}
 use Rattle.tp_law_network.proofs.Marks.{plain-append}
 use Rattle.tp_law_network.proofs.Room.{on_line-plain}
@@ -57,6 +57,42 @@ before-append_markers (u ∷ us) vs h = go (is_marker u) (before-append_markers 
     go true f = refl
     go false f = ap (λ ts. u ∷ ts) f
 
+-- ## A Marker that is taken out
+
+-- it is one less,
+pub unmarked_markers : (us : List Token) → has_marker us ≡ true → markers us ≡ markers (unmarked us) + 1
+unmarked_markers [] h = absurd (false≢true h)
+unmarked_markers (u ∷ us) h = elim (cases_Bool (is_marker u)) [
+  | inl y ↦ ap (λ b. cond b (markers us + 1) (markers us)) y ∙ ap (λ ts. markers ts + 1) (sym (ap (λ b. cond b us (u ∷ unmarked us)) y))
+  | inr n ↦ ap (λ b. cond b (markers us + 1) (markers us)) n
+      ∙ unmarked_markers us (sym (ap (λ b. cond b true (has_marker us)) n) ∙ h)
+      ∙ ap (λ m. m + 1) (sym (ap (λ b. cond b (markers (unmarked us) + 1) (markers (unmarked us))) n))
+      ∙ ap (λ ts. markers ts + 1) (sym (ap (λ b. cond b us (u ∷ unmarked us)) n))
+]
+
+-- and the line without Markers is the same
+unmarked_plain : (us : List Token) → plain (unmarked us) ≡ plain us
+unmarked_plain [] = refl
+unmarked_plain (u ∷ us) = elim (cases_Bool (is_marker u)) [
+  | inl y ↦ ap (λ b. plain (cond b us (u ∷ unmarked us))) y ∙ sym (ap (λ b. cond b (plain us) (u ∷ plain us)) y)
+  | inr n ↦ ap (λ b. plain (cond b us (u ∷ unmarked us))) n
+      ∙ ap (λ b. cond b (plain (unmarked us)) (u ∷ plain (unmarked us))) n
+      ∙ ap (λ ts. u ∷ ts) (unmarked_plain us)
+      ∙ sym (ap (λ b. cond b (plain us) (u ∷ plain us)) n)
+]
+
+-- where there is no second one, it is the line without Markers
+pub unmarked_all : (us : List Token) → markers us ≤ 1 → plain us ≡ unmarked us
+unmarked_all [] few = refl
+unmarked_all (u ∷ us) few = elim (cases_Bool (is_marker u)) [
+  | inl y ↦
+      let one = ap (λ b. cond b (markers us + 1) (markers us)) y in
+      ap (λ b. cond b (plain us) (u ∷ plain us)) y ∙ plain_unmarked us (omega (arith, few, one)) ∙ sym (ap (λ b. cond b us (u ∷ unmarked us)) y)
+  | inr n ↦
+      let same = ap (λ b. cond b (markers us + 1) (markers us)) n in
+      ap (λ b. cond b (plain us) (u ∷ plain us)) n ∙ ap (λ ts. u ∷ ts) (unmarked_all us (omega (arith, few, same))) ∙ sym (ap (λ b. cond b us (u ∷ unmarked us)) n)
+]
+
 -- ## Tokens on their lines
 
 -- all are Markers
@@ -90,9 +126,20 @@ unfolding sent
 sent_markers on lines [] all = refl
 sent_markers on lines (m ∷ ms) all = sent_markers on (pushed on lines m.0 m.1) ms all.1 ∙ pushed_marker on lines m.0 m.1 all.0
 
--- nor can a Marker that is taken
-pub taken_marker : (lines : List (List Token)) (l : ℕ) → is_first (on_line lines l) Marker ≡ true → map plain (set lines l (drop 1 (on_line lines l))) ≡ map plain lines
-taken_marker lines l e =
-    map-set plain lines l (drop 1 (on_line lines l))
-    ∙ ap (λ ts. set (map plain lines) l ts) (sym (ap plain (first_is (on_line lines l) Marker e)) ∙ sym (on_line-plain lines l))
+-- nor can a Marker that is taken out,
+pub marker_gone : (lines : List (List Token)) (l : ℕ) → map plain (set lines l (unmarked (on_line lines l))) ≡ map plain lines
+marker_gone lines l =
+    map-set plain lines l (unmarked (on_line lines l))
+    ∙ ap (λ ts. set (map plain lines) l ts) (unmarked_plain (on_line lines l) ∙ sym (on_line-plain lines l))
     ∙ set-get_or (map plain lines) l []
+
+-- or that is taken from in front
+pub taken_marker : (lines : List (List Token)) (l : ℕ) → is_first (on_line lines l) Marker ≡ true → map plain (set lines l (drop 1 (on_line lines l))) ≡ map plain lines
+taken_marker lines l e = ap (λ ts. map plain (set lines l ts)) (sym (ap unmarked (first_is (on_line lines l) Marker e))) ∙ marker_gone lines l
+
+-- a line with a Marker is one of the lines
+pub marker_there : (lines : List (List Token)) (l : ℕ) → has_marker (on_line lines l) ≡ true → l < length lines
+marker_there lines l e = elim (cases_lt l (length lines)) [
+  | inl h ↦ h
+  | inr h ↦ absurd (false≢true (sym (ap has_marker (get_or_past lines l [] h)) ∙ e))
+]

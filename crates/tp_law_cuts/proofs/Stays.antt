@@ -5,9 +5,10 @@ use Rattle.std.specs.Option.{option_map}
 use Rattle.std.proofs.lemmas.Bool.{cases_Bool, true≢false, cond_both}
 use Rattle.tp_model.specs.declared.link.Token.{Token}
 use Rattle.tp_model.specs.declared.entry.Entry.{Entry}
-use Rattle.tp_model.specs.Network.{Machine, Network, has_wire, sent}
+use Rattle.tp_model.specs.Network.{Machine, Network, has_wire, on_line, sent}
 use Rattle.tp_model.specs.Entries.{process, takes, HasFourLinks}
-use Rattle.tp_model.specs.Snapshot.{Snapshot, MarkedNetwork, has_recorded, is_closed, collected, journalled, with_closed}
+use Rattle.tp_model.specs.Markers.{before}
+use Rattle.tp_model.specs.Snapshot.{Snapshot, MarkedNetwork, has_recorded, is_closed, collected, journalled, closed_over}
 use Rattle.tp_model.specs.WholeCut.{WholeCut, all_some, all_closed, whole}
 use Rattle.tp_model.specs.Acts.{Act, Begin, Record, Journal, Close, Trim, happens}
 use Rattle.tp_model.specs.Runs.{grown, is_trim, HasCut}
@@ -80,7 +81,7 @@ counts_stay M w v (Close line) t e counts C =
     let P = close_parts w v w.snapshot line e in
     let alike : Some C.snap ≡ Some P.0 = sym C.runs ∙ P.1 in
     let is : C.snap ≡ P.0 = cc in
-    subst (λ u. HasCounts u.snapshot counts) P.4 (record { snap = with_closed P.0 line; runs = refl; recorded = ap (λ s. all_some s.counts) (sym is) ∙ C.recorded })
+    subst (λ u. HasCounts u.snapshot counts) P.4 (record { snap = closed_over P.0 line (before (on_line w.live.lines line)); runs = refl; recorded = ap (λ s. all_some s.counts) (sym is) ∙ C.recorded })
 counts_stay M w v Trim t e counts C = absurd (true≢false t)
 
 -- and so do the images

@@ -12,11 +12,11 @@ ghost use Rattle.tp_model.specs.Node.{t414};
 ghost use Rattle.tp_model.specs.Network.{Network, Port, OfHost, OfNode, is_first, on_line, taken};
 ghost use Rattle.tp_model.specs.Entries.{does, next, process, takes};
 ghost use Rattle.tp_model.specs.Order.{after, AreIndependent, Reorder, post, pre};
-ghost use Rattle.tp_model.specs.Markers.{plain_network};
+ghost use Rattle.tp_model.specs.Markers.{has_marker, plain_network};
 ghost use Rattle.tp_model.specs.Snapshot.{MarkedNetwork, Snapshot, has_recorded, taker};
 ghost use Rattle.tp_model.specs.WholeCut.{WholeCut, all_some, count_in, whole, IsWhole};
 ghost use Rattle.tp_model.specs.Acts.{Act, Begin, Close, Journal, Record, Trim, acted, happens, IsOpened, CutHolds};
-ghost use Rattle.tp_model.specs.Halves.{BookState, marked, whole_in, with_begin, with_close, with_entry, with_record, with_trim};
+ghost use Rattle.tp_model.specs.Halves.{BookState, marked, whole_in, with_begin, with_close, with_close_over, with_entry, with_record, with_trim};
 ghost use Rattle.tp_model.specs.Runs.{HasCut, is_trim};
 
 /// Two neighbours that are independent may be swapped, and lead to the same network. So do all orders that come from
@@ -51,7 +51,8 @@ pub fn whole_cuts_stay()
 {}
 
 /// What is done of an act under a node's lock and what is done under the book's lock are together the act: an entry of a node,
-/// an entry of the host, a beginning, a recording, a Marker taken, a trim. The book alone finds the whole cut.
+/// an entry of the host, a beginning, a recording, a Marker taken from in front or from behind other tokens, a trim. The book
+/// alone finds the whole cut.
 pub fn halves_join()
     ensures node { (b : BookState NodeState) (nodes : List NodeState) (frozen : List (Option NodeState)) → length nodes ≡ length b.start.nodes
         → (e : Entry) (n changed : NodeState) (sends : List (ℕ × Token)) (out : List (List Token))
@@ -71,6 +72,9 @@ pub fn halves_join()
     ensures closes { (b : BookState NodeState) (nodes : List NodeState) (frozen : List (Option NodeState)) → length nodes ≡ length b.start.nodes
         → (snap : Snapshot) (line : ℕ) → b.snapshot ≡ Some snap → is_first (on_line b.lines line) Marker ≡ true → has_recorded snap (taker b.start line) ≡ true
         → happens t414 (marked b nodes frozen) (Close line) ≡ Some (marked (with_close b snap line) nodes frozen) }
+    ensures closes_over { (b : BookState NodeState) (nodes : List NodeState) (frozen : List (Option NodeState)) → length nodes ≡ length b.start.nodes
+        → (snap : Snapshot) (line : ℕ) → b.snapshot ≡ Some snap → has_marker (on_line b.lines line) ≡ true → has_recorded snap (taker b.start line) ≡ true
+        → happens t414 (marked b nodes frozen) (Close line) ≡ Some (marked (with_close_over b snap line) nodes frozen) }
     ensures trims { (b : BookState NodeState) (nodes : List NodeState) (frozen : List (Option NodeState)) → length nodes ≡ length b.start.nodes
         → (cut : WholeCut) (images : List NodeState) → whole_in b ≡ Some cut → all_some frozen ≡ Some images
         → happens t414 (marked b nodes frozen) Trim ≡ Some (marked (with_trim b cut images) nodes []) }

@@ -4,9 +4,10 @@ use Rattle.std.specs.Prelude.{nat_le, ◌==◌, ◌&&◌, is_some}
 use Rattle.std.specs.Option.{option_map}
 use Rattle.std.proofs.lemmas.Bool.{and_parts, eqb-true, true≢false}
 use Rattle.std.proofs.lemmas.List.{get_or-take, get_or-drop}
-use Rattle.tp_model.specs.Network.{Machine}
+use Rattle.tp_model.specs.Network.{Machine, on_line}
 use Rattle.tp_model.specs.Entries.{process, takes}
-use Rattle.tp_model.specs.Snapshot.{MarkedNetwork, has_recorded, collected, with_count, with_closed}
+use Rattle.tp_model.specs.Markers.{before}
+use Rattle.tp_model.specs.Snapshot.{MarkedNetwork, has_recorded, collected, with_count, closed_over}
 use Rattle.tp_model.specs.WholeCut.{WholeCut, all_some}
 use Rattle.tp_model.specs.Acts.{Act, Begin, Record, Journal, Close, Trim, happens}
 use Rattle.tp_model.specs.NodeState.{NodeState}
@@ -49,7 +50,7 @@ frozen_as_stays M w v (Close line) i node t e F =
     let P = close_parts w v w.snapshot line e in
     let alike : Some F.snap ≡ Some P.0 = sym F.runs ∙ P.1 in
     let is : F.snap ≡ P.0 = cc in
-    subst (λ u. IsFrozenAs u i node) P.4 (record { snap = with_closed P.0 line; runs = refl; recorded = ap (λ s. has_recorded s i) (sym is) ∙ F.recorded; is = F.is })
+    subst (λ u. IsFrozenAs u i node) P.4 (record { snap = closed_over P.0 line (before (on_line w.live.lines line)); runs = refl; recorded = ap (λ s. has_recorded s i) (sym is) ∙ F.recorded; is = F.is })
 frozen_as_stays M w v Trim i node t e F = absurd (true≢false t)
 
 all_some_at : {A : Type 0} (given : List (Option A)) (items : List A) (i : ℕ) (x : A) → all_some given ≡ Some items → slice_get given i ≡ Some (Some x) → slice_get items i ≡ Some x

@@ -4,11 +4,11 @@ use Rattle.std.specs.Prelude.{is_some}
 use Rattle.std.proofs.lemmas.Bool.{true≢false, cond_both, cases_lt, cases_eq}
 use Rattle.std.proofs.lemmas.List.{get_or_append_left, get_or_at, get_or_past, length-replicate}
 use Rattle.tp_model.specs.declared.link.Token.{Token}
-use Rattle.tp_model.specs.Network.{Machine, Port, sent}
+use Rattle.tp_model.specs.Network.{Machine, Port, on_line, sent}
 use Rattle.tp_model.specs.Entries.{process, HasFourLinks}
 use Rattle.tp_model.specs.Order.{made, post}
-use Rattle.tp_model.specs.Markers.{plain_network}
-use Rattle.tp_model.specs.Snapshot.{Snapshot, MarkedNetwork, count_of, has_recorded, is_closed, collected, with_count, first_snapshot}
+use Rattle.tp_model.specs.Markers.{before, plain_network}
+use Rattle.tp_model.specs.Snapshot.{Snapshot, MarkedNetwork, count_of, has_recorded, is_closed, collected, with_count, closed_over, first_snapshot}
 use Rattle.tp_model.specs.WholeCut.{WholeCut, count_in, whole, trimmed}
 use Rattle.tp_model.specs.Acts.{Act, Begin, Record, Journal, Close, Trim, happens}
 use Rattle.tp_model.specs.Runs.{is_trim}
@@ -93,7 +93,7 @@ module _ {Node : Type 0} (M : Machine Node) (four : HasFourLinks M) (most : ℕ)
       let P = close_parts w v w.snapshot line e in
       subst (HasTailRoom most) P.4 (inr (record {
         early = λ snap is p count counted.
-            let same : record P.0 { closed = set P.0.closed line true } ≡ snap = cc in
+            let same : closed_over P.0 line (before (on_line w.live.lines line)) ≡ snap = cc in
             all.early P.0 P.1 p count (ap (λ s. count_of s p) same ∙ counted);
       }))
   tail_room_stays w v Trim t H e found fits = absurd (true≢false t)

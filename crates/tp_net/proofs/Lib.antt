@@ -7,3 +7,4 @@ pub mod Wired
 pub mod Shapes
 pub mod Topologies
 pub mod Wires
+pub mod Marked

@@ -9,5 +9,5 @@ mod topology;
 mod words;
 
 pub use ends::{MAX_LINES, back, end_of, line_of, link_line, port_line, receiver};
-pub use line::{LINE_TOKENS, Lines};
+pub use line::{LINE_TOKENS, Lines, is_marker};
 pub use topology::{Named, Topology};

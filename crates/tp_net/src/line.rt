@@ -1,6 +1,7 @@
 //! The lines of a network, with what is under way on them.
 
 ghost use Rattle.std.specs.Prelude.{◌≡◌, ◌≤◌, ◌<◌, [], ◌∷◌, ◌++◌, IfOk, length, drop, set, replicate, slice_get, ℕ};
+ghost use Rattle.tp_model.specs.Markers.{has_marker, is_marker, plain};
 ghost use Rattle.tp_model.specs.Network.{on_line};
 
 use circular_buffer::HeapCircularBuffer;
@@ -10,6 +11,16 @@ use tp_model::Token;
 
 /// Tokens that a line has room for: a byte, an acknowledge and a marker are all that is ever under way on one.
 pub const LINE_TOKENS: usize = 3;
+
+/// Whether a token is a Marker.
+pub fn is_marker(token: Token) -> bool
+    ensures { result ≡ is_marker token }
+{
+    match token {
+        Token::Marker => true,
+        Token::Data(_) | Token::Ack => false,
+    }
+}
 
 /// A line: its tokens, first the one that comes next.
 #[derive(Drop)]
@@ -48,6 +59,36 @@ impl Line {
         ensures after { self.new ≡ drop 1 self.old }
     {
         self.ring.pop_front()
+    }
+
+    /// Takes all Markers out, and leaves the other tokens in their order.
+    fn unmark(&mut self)
+        ensures { self.new ≡ plain self.old }
+    {
+        for at in 0..self.len() {
+            let _at = at;
+            let Some(token) = self.pop() else {
+                unreachable!()
+            };
+            if !is_marker(token) {
+                self.push(token);
+            }
+        }
+    }
+
+    /// Whether a Marker is among its tokens.
+    fn has_marker(&self) -> bool
+        ensures { result ≡ has_marker self.now }
+    {
+        for at in 0..self.len() {
+            let Some(token) = self.get(at) else {
+                unreachable!()
+            };
+            if is_marker(token) {
+                return true;
+            }
+        }
+        false
     }
 
     fn get(&self, at: usize) -> Option<Token>
@@ -114,6 +155,22 @@ impl Lines {
         ensures after { self.new ≡ set self.old line (drop 1 (on_line self.old line)) }
     {
         self.lines[line].pop()
+    }
+
+    /// Takes all Markers off a line, also from behind other tokens, which stay in their order.
+    pub fn unmark(&mut self, line: usize)
+        requires { line < length self.old }
+        ensures { self.new ≡ set self.old line (plain (on_line self.old line)) }
+    {
+        self.lines[line].unmark();
+    }
+
+    /// Whether a Marker is on a line.
+    pub fn has_marker(&self, line: usize) -> bool
+        requires { line < length self.now }
+        ensures { result ≡ has_marker (on_line self.now line) }
+    {
+        self.lines[line].has_marker()
     }
 
     /// The token that comes next on a line.

@@ -1,3 +1,4 @@
 pub mod Counts
 pub mod Collected
 pub mod Sent
+pub mod Before

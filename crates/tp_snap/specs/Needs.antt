@@ -1,6 +1,10 @@
 -- What a book asks of the snapshot that may run.
-use Rattle.std.specs.Prelude.{◌≡◌, ◌<◌, ℕ, Bool, false, not, ◌&&◌, length, Option, Some, None}
+use Rattle.std.specs.Prelude.{◌≡◌, ◌<◌, ◌≤◌, ◌++◌, ℕ, Bool, false, not, ◌&&◌, List, length, Option, Some, None}
+use Rattle.tp_model.specs.declared.link.Token.{Token}
+use Rattle.tp_model.specs.Markers.{before}
+use Rattle.tp_model.specs.Network.{on_line}
 use Rattle.tp_model.specs.Snapshot.{Snapshot, has_recorded, is_closed}
+use Rattle.tp_net.specs.declared.line.TheConstants.{LINE_TOKENS}
 
 -- a snapshot runs in which the process has recorded
 abbrev pub has_recorded_in : Option Snapshot → ℕ → Bool
@@ -26,3 +30,8 @@ KnowsLine given line = (snap : Snapshot) → given ≡ Some snap → line < leng
 
 abbrev pub HasLines : Option Snapshot → ℕ → Type 0
 HasLines given lines = (snap : Snapshot) → given ≡ Some snap → lines ≡ length snap.closed
+
+-- what stands on a line before its Marker finds room behind what the cut has of that line
+abbrev pub HasRoomBefore : Option Snapshot → List (List Token) → ℕ → Type 0
+HasRoomBefore given lines line = (snap : Snapshot) → given ≡ Some snap
+    → (line < length snap.lines) × (length (on_line snap.lines line ++ before (on_line lines line)) ≤ LINE_TOKENS)

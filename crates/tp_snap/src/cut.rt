@@ -1,6 +1,7 @@
 //! Cuts.
 
-ghost use Rattle.std.specs.Prelude.{◌≡◌, ◌+◌, ◌<◌, ◌^◌, ◌++◌, ◌∷◌, [], IfOk, length, map, set, replicate};
+ghost use Rattle.std.specs.Prelude.{◌≡◌, ◌+◌, ◌<◌, ◌≤◌, ◌^◌, ◌++◌, ◌∷◌, [], IfOk, length, map, set, replicate};
+ghost use Rattle.tp_model.specs.Markers.{before};
 ghost use Rattle.tp_model.specs.Network.{on_line};
 ghost use Rattle.tp_net.specs.declared.line.TheConstants.{LINE_TOKENS};
 ghost use Rattle.tp_port.specs.Parts.{port_of};
@@ -8,7 +9,7 @@ ghost use Rattle.tp_port.specs.Parts.{port_of};
 use std::alloc::{AllocError, Global};
 use std::marker::Model;
 use tp_model::Token;
-use tp_net::Lines;
+use tp_net::{Lines, is_marker};
 use tp_port::{HostPort, PortParts, all_parts};
 
 /// A cut: how many entries of each process it holds, the ports and lines in it, and how many entries since the kept cut
@@ -108,5 +109,21 @@ impl Cut {
         ensures { self.new ≡ record self.old { lines = set self.old.lines line (on_line self.old.lines line ++ token ∷ []) } }
     {
         self.lines.push(line, token);
+    }
+    /// What stands on a line of the network before its Marker stands on that line of it, behind what it has there.
+    pub(crate) fn collect_before(&mut self, line: usize, lines: &Lines)
+        requires there { (line < length self.old.lines) × (line < length lines.now) }
+        requires room { length (on_line self.old.lines line ++ before (on_line lines.now line)) ≤ LINE_TOKENS }
+        ensures { self.new ≡ record self.old { lines = set self.old.lines line (on_line self.old.lines line ++ before (on_line lines.now line)) } }
+    {
+        for at in 0..lines.len(line) {
+            let Some(token) = lines.get(line, at) else {
+                unreachable!()
+            };
+            if is_marker(token) {
+                return;
+            }
+            self.collect(line, token);
+        }
     }
 }

@@ -1,10 +1,12 @@
 //! A snapshot that runs.
 
-ghost use Rattle.std.specs.Prelude.{◌≡◌, ◌+◌, ◌<◌, ◌^◌, ℕ, IfOk, Option, Some, List, length, map, get_or, true, not, ◌||◌, ◌∷◌, []};
+ghost use Rattle.std.specs.Prelude.{◌≡◌, ◌+◌, ◌<◌, ◌≤◌, ◌^◌, ◌++◌, ℕ, IfOk, Option, Some, List, length, map, get_or, true, not, ◌||◌, ◌∷◌, []};
 ghost use Rattle.std.specs.List.{list_all};
 ghost use Rattle.std.specs.Option.{option_copied};
-ghost use Rattle.tp_model.specs.Network.{has_wire, is_wired, pushed};
-ghost use Rattle.tp_model.specs.Snapshot.{first_snapshot, with_count, with_closed, collected, has_recorded, is_closed};
+ghost use Rattle.tp_model.specs.Markers.{before};
+ghost use Rattle.tp_model.specs.Network.{has_wire, is_wired, on_line, pushed};
+ghost use Rattle.tp_net.specs.declared.line.TheConstants.{LINE_TOKENS};
+ghost use Rattle.tp_model.specs.Snapshot.{first_snapshot, with_count, with_closed, closed_over, collected, has_recorded, is_closed};
 ghost use Rattle.tp_model.specs.WholeCut.{WholeCut, all_closed, whole_of};
 ghost use Rattle.tp_model.specs.declared.wire.WireEnd.{WireEnd};
 ghost use Rattle.tp_port.specs.Room.{HasRoom};
@@ -14,6 +16,7 @@ use crate::cut::Cut;
 use std::alloc::{AllocError, Global};
 use std::marker::Model;
 use tp_model::{Entry, Token, WireEnd};
+use tp_net::Lines;
 use tp_port::HostPort;
 
 /// A snapshot that runs: the cut that it gathers, which processes have recorded, and which lines are closed.
@@ -121,6 +124,17 @@ impl Running {
         requires { line < length self.old.closed }
         ensures { self.new ≡ with_closed self.old line }
     {
+        self.closed[line] = true;
+    }
+
+    /// A line's Marker is taken off `lines` from behind what stands in front of it, which belongs to the line in the cut.
+    pub(crate) fn close_over(&mut self, line: usize, lines: &Lines)
+        requires closed { line < length self.old.closed }
+        requires there { (line < length self.old.lines) × (line < length lines.now) }
+        requires room { length (on_line self.old.lines line ++ before (on_line lines.now line)) ≤ LINE_TOKENS }
+        ensures { self.new ≡ closed_over self.old line (before (on_line lines.now line)) }
+    {
+        self.cut.collect_before(line, lines);
         self.closed[line] = true;
     }
 

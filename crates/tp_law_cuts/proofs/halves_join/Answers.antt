@@ -17,6 +17,9 @@ returns-clause-records c = Halves.record_joins t414
 pub returns-clause-closes : goal.returns-clause-closes
 returns-clause-closes c = Halves.close_joins t414
 
+pub returns-clause-closes_over : goal.returns-clause-closes_over
+returns-clause-closes_over c = Halves.close_over_joins t414
+
 pub returns-clause-trims : goal.returns-clause-trims
 returns-clause-trims c = Halves.trim_joins t414
 
