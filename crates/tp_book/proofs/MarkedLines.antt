@@ -4,9 +4,9 @@ use Rattle.std.proofs.lemmas.List.{length-map}
 use Rattle.tp_model.specs.declared.link.Token.{Token}
 use Rattle.tp_model.specs.declared.link.Token.TheVariants.{Marker}
 use Rattle.tp_model.specs.Network.{has_wire, is_first, on_line, sent}
-use Rattle.tp_model.specs.Markers.{markers, plain}
+use Rattle.tp_model.specs.Markers.{markers, plain, unmarked}
 use Rattle.tp_law_network.proofs.Lines.{length_sent}
-use Rattle.tp_law_cuts.proofs.Marks.{AreMarkers, sent_markers, taken_marker}
+use Rattle.tp_law_cuts.proofs.Marks.{AreMarkers, sent_markers, taken_marker, marker_gone, unmarked_all}
 use Rattle.tp_port.specs.Room.{HasRoom}
 use Rattle.tp_port.proofs.Sending.{room_before}
 use Rattle.tp_book.specs.declared.journal.Journal.TheInside.{Inside}
@@ -43,6 +43,14 @@ module _ (b : Inside) (B : IsJournal b) where
         let on = is ∙ ap (λ wires. sent (has_wire wires) b.lines ms) B.wires in
         subst (λ given. IsJournal (record b { lines = given })) (sym on)
         (other_lines (sent (has_wire b.start.network.wires) b.lines ms) same few (length_sent (has_wire b.start.network.wires) b.lines ms))
+
+  pub unmarked_fields : (line : ℕ) → ((l : ℕ) → markers (on_line (set b.lines line (unmarked (on_line b.lines line))) l) ≤ 1)
+      → IsJournal (record b { lines = set b.lines line (unmarked (on_line b.lines line)) })
+  unmarked_fields line few = other_lines _ (marker_gone b.lines line) few (length-set b.lines line (unmarked (on_line b.lines line)))
+
+  -- without a second Marker, what is taken out is all Markers
+  pub unmarked_lines : (line : ℕ) → set b.lines line (plain (on_line b.lines line)) ≡ set b.lines line (unmarked (on_line b.lines line))
+  unmarked_lines line = ap (set b.lines line) (unmarked_all (on_line b.lines line) (B.keeps.marked line))
 
   pub taken_fields : (line : ℕ) → is_first (on_line b.lines line) Marker ≡ true → ((l : ℕ) → markers (on_line (set b.lines line (drop 1 (on_line b.lines line))) l) ≤ 1)
       → IsJournal (record b { lines = set b.lines line (drop 1 (on_line b.lines line)) })

@@ -10,28 +10,32 @@ use Rattle.tp_model.specs.Network.{has_wire, on_line, is_first, sent}
 use Rattle.tp_model.specs.Entries.{process}
 use Rattle.tp_model.specs.Order.{made}
 use Rattle.tp_model.specs.Sound.{Sound}
-use Rattle.tp_model.specs.Markers.{markers, plain}
-use Rattle.tp_model.specs.Snapshot.{Snapshot, has_recorded, first_snapshot, with_count, with_closed, host_markers, node_markers}
-use Rattle.tp_model.specs.Halves.{BookState, live, marked, with_begin, with_record, with_close}
+use Rattle.tp_model.specs.Markers.{before, has_marker, markers, plain, unmarked}
+use Rattle.tp_model.specs.Snapshot.{Snapshot, has_recorded, first_snapshot, with_count, with_closed, closed_over, host_markers, node_markers}
+use Rattle.tp_model.specs.Halves.{BookState, live, marked, with_begin, with_record, with_close, with_close_over}
 use Rattle.tp_model.specs.Acts.{Begin, Record, Close, happens}
 use Rattle.tp_law_machine.proofs.LinkLaws.{has_four_links, never_marks}
+use Rattle.tp_law_network.proofs.Lines.{on_set_same}
+use Rattle.tp_law_cuts.proofs.Marks.{marker_there}
+use Rattle.tp_law_cuts.proofs.Whole.{running}
+use Rattle.tp_net.specs.declared.line.TheConstants.{LINE_TOKENS}
 use Rattle.tp_law_cuts.proofs.Invariant.{Holds}
 use Rattle.tp_law_cuts.proofs.Room.{few_markers}
 use Rattle.tp_law_cuts.proofs.Happens.{happens_holds}
-use Rattle.tp_law_cuts.proofs.Halves.{begin_joins, record_joins, close_joins}
+use Rattle.tp_law_cuts.proofs.Halves.{begin_joins, record_joins, close_joins, close_over_joins}
 use Rattle.tp_snap.specs.Counted.{SnapshotsValue}
-use Rattle.tp_snap.specs.Needs.{has_recorded_in, is_asked}
+use Rattle.tp_snap.specs.Needs.{has_recorded_in, is_asked, KnowsLine, HasRoomBefore}
 use Rattle.tp_book.specs.Book.{BookValue, agreed, world_of}
 use Rattle.tp_book.specs.Kept.{Keeps, IsShaped}
 use Rattle.tp_book.specs.Joined.{joined, HasFloor, HostRecorded, Stands}
 use Rattle.std.proofs.Common.{inl, inr, get_or-set_same, get_or-set_other}
-use Rattle.std.proofs.lemmas.Bool.{cases_eq, cases_lt}
+use Rattle.std.proofs.lemmas.Bool.{and_parts, cases_eq, cases_lt}
 use Rattle.std.proofs.lemmas.List.{get_or_past}
-use Rattle.tp_book.specs.Marked.{with_lines, after_begin, after_record, after_close, taker_of}
+use Rattle.tp_book.specs.Marked.{with_lines, after_begin, after_record, after_close, after_close_over, is_closable, taker_of}
 use Rattle.tp_book.proofs.Commit.{length-agreed}
 use Rattle.tp_model.specs.declared.limits.TheConstants.{NUMBER_LIMIT}
 use Rattle.tp_book.proofs.Told.{ages_kept, floor_kept}
-use Rattle.tp_book.proofs.Entered.{keeps_joined}
+use Rattle.tp_book.proofs.Entered.{keeps_joined, cut_small}
 
 -- Other lines with the same tokens, Markers left out, and with no two Markers on one.
 pub remarked : (b : BookState NodeState) → Keeps b → (lines : List (List Token)) → map plain lines ≡ map plain b.lines → ((line : ℕ) → markers (on_line lines line) ≤ 1) → Keeps (record b { lines = lines })
@@ -97,6 +101,40 @@ module _ (j : BookValue) (s : SnapshotsValue) (g : ℕ) (B : Stands j s g) (K : 
     pub close_few : (l : ℕ) → markers (on_line (set j.state.lines line (drop 1 (on_line j.state.lines line))) l) ≤ 1
     close_few = few_markers t414 (world_of (after_close (joined j s g) line)) close_holds
 
+  module _ (line : ℕ) (snap : Snapshot) (runs : s.snapshot ≡ Some snap) (marker : has_marker (on_line j.state.lines line) ≡ true)
+      (has : has_recorded snap (taker_of (joined j s g) line) ≡ true) where
+    abbrev passed : List Token
+    passed = before (on_line j.state.lines line)
+
+    over_is : after_close_over (joined j s g) line ≡ record (joined j s g) { state = with_close_over st snap line }
+    over_is = ap (λ given. record (after_close_over (joined j s g) line) { state = record (after_close_over (joined j s g) line).state { snapshot = option_map (λ x. closed_over x line passed) given } }) runs
+
+    pub over_act : happens t414 (world_of (joined j s g)) (Close line) ≡ Some (world_of (after_close_over (joined j s g) line))
+    unfolding agreed
+    over_act = close_over_joins t414 st (agreed st) s.frozen as_many snap line runs marker has ∙ ap (λ (b : BookValue). Some (world_of b)) (sym over_is)
+
+    pub over_holds : Holds t414 (world_of (after_close_over (joined j s g) line))
+    over_holds = happens_holds t414 has_four_links never_marks (world_of (joined j s g)) (world_of (after_close_over (joined j s g) line)) (Close line) B.holds over_act
+
+    pub over_few : (l : ℕ) → markers (on_line (set j.state.lines line (unmarked (on_line j.state.lines line))) l) ≤ 1
+    over_few = few_markers t414 (world_of (after_close_over (joined j s g) line)) over_holds
+
+    over_there : line < length snap.lines
+    over_there = let R = running t414 (world_of (joined j s g)) B.holds snap runs in omega (arith, marker_there j.state.lines line marker, R.cut_lines)
+
+    over_small : length (on_line snap.lines line ++ passed) ≤ LINE_TOKENS
+    over_small =
+        let few = cut_small (world_of (after_close_over (joined j s g) line)) over_holds B.origin (closed_over snap line passed) (ap (option_map (λ x. closed_over x line passed)) runs) line in
+        omega (arith, few, ap length (on_set_same snap.lines line (on_line snap.lines line ++ passed) over_there))
+
+    pub over_room : HasRoomBefore s.snapshot j.state.lines line
+    over_room other is = let alike : Some snap ≡ Some other = sym runs ∙ is in let same : snap ≡ other = cc in subst (λ x. (line < length x.lines) × (length (on_line x.lines line ++ passed) ≤ LINE_TOKENS)) same (over_there, over_small)
+
+    pub over_known : KnowsLine s.snapshot line
+    over_known other is =
+        let R = running t414 (world_of (joined j s g)) B.holds other is in
+        omega (arith, marker_there j.state.lines line marker, R.cut_closed)
+
 -- ## The snapshot that runs
 
 pub none_of : (given : Option Snapshot) → is_some given ≡ false → given ≡ None
@@ -106,6 +144,10 @@ none_of (Some snap) e = cc
 pub running_in : (given : Option Snapshot) (p : ℕ) → has_recorded_in given p ≡ true → (snap : Snapshot) × (given ≡ Some snap) × (has_recorded snap p ≡ true)
 running_in None p e = cc
 running_in (Some snap) p e = (snap, refl, e)
+
+-- a line that can be closed
+pub closable_in : (b : BookValue) (line : ℕ) → is_closable b line ≡ true → (has_marker (on_line b.state.lines line) ≡ true) × (has_recorded_in b.state.snapshot (taker_of b line) ≡ true)
+closable_in b line e = and_parts (has_marker (on_line b.state.lines line)) (has_recorded_in b.state.snapshot (taker_of b line)) e
 
 pub asked_in : (given : Option Snapshot) (p : ℕ) → is_asked given p ≡ true → (snap : Snapshot) × (given ≡ Some snap) × (has_recorded snap p ≡ false)
 asked_in None p e = cc
@@ -119,6 +161,10 @@ asked_in (Some snap) p e = (snap, refl, not_true (has_recorded snap p) e)
 closed_host : (given : Option Snapshot) (line host : ℕ) → HostRecorded given host → HostRecorded (option_map (λ x. with_closed x line) given) host
 closed_host None line host H snap e = cc
 closed_host (Some old) line host H snap e = let is : with_closed old line ≡ snap = cc in ap (λ x. has_recorded x host) (sym is) ∙ H old refl
+
+passed_host : (given : Option Snapshot) (line host : ℕ) (tokens : List Token) → HostRecorded given host → HostRecorded (option_map (λ x. closed_over x line tokens) given) host
+passed_host None line host tokens H snap e = cc
+passed_host (Some old) line host tokens H snap e = let is : closed_over old line tokens ≡ snap = cc in ap (λ x. has_recorded x host) (sym is) ∙ H old refl
 
 counted_host : (given : Option Snapshot) (node count host : ℕ) → HostRecorded given host → HostRecorded (option_map (λ x. with_count x node count) given) host
 counted_host None node count host H snap e = cc
@@ -146,6 +192,20 @@ module _ (j : BookValue) (s : SnapshotsValue) (g : ℕ) (B : Stands j s g) (K : 
     fits = B.fits;
     ages = ages_kept (λ x. with_closed x line) s.snapshot g B.ages;
     low = floor_kept (λ x. with_closed x line) s.snapshot s.floor (length j.state.entries) (length j.state.entries) (omega arith) (λ x. omega arith) B.low;
+    as_many = B.as_many;
+    told = B.told;
+  }
+
+  pub passed_stands : (line : ℕ) (snap : Snapshot) → s.snapshot ≡ Some snap → has_marker (on_line j.state.lines line) ≡ true → has_recorded snap (taker_of (joined j s g) line) ≡ true
+      → Stands (with_lines j (set j.state.lines line (unmarked (on_line j.state.lines line)))) (record s { snapshot = option_map (λ x. closed_over x line (before (on_line j.state.lines line))) s.snapshot }) g
+  passed_stands line snap runs marker has = record {
+    holds = over_holds j s g B K line snap runs marker has;
+    origin = B.origin;
+    counted = B.counted;
+    host = passed_host s.snapshot line (length j.state.start.nodes) (before (on_line j.state.lines line)) B.host;
+    fits = B.fits;
+    ages = ages_kept (λ x. closed_over x line (before (on_line j.state.lines line))) s.snapshot g B.ages;
+    low = floor_kept (λ x. closed_over x line (before (on_line j.state.lines line))) s.snapshot s.floor (length j.state.entries) (length j.state.entries) (omega arith) (λ x. omega arith) B.low;
     as_many = B.as_many;
     told = B.told;
   }

@@ -1,12 +1,14 @@
 -- What the acts of a snapshot do to a book.
-use Rattle.std.specs.Prelude.{ℕ, List, length, set, drop, replicate, Option, Some, None, is_some, slice_get}
+use Rattle.std.specs.Prelude.{ℕ, Bool, ◌&&◌, List, length, set, drop, replicate, Option, Some, None, is_some, slice_get}
 use Rattle.std.specs.Option.{option_map}
 use Rattle.tp_model.specs.declared.link.Token.{Token}
 use Rattle.tp_model.specs.Network.{has_wire, process_at, receiver, on_line, sent}
 use Rattle.tp_model.specs.Entries.{process}
 use Rattle.tp_model.specs.Order.{made}
-use Rattle.tp_model.specs.Snapshot.{first_snapshot, with_count, with_closed, host_markers, node_markers}
+use Rattle.tp_model.specs.Markers.{before, has_marker, unmarked}
+use Rattle.tp_model.specs.Snapshot.{first_snapshot, with_count, with_closed, closed_over, host_markers, node_markers}
 use Rattle.tp_model.specs.Journal.{is_full_for_snapshot}
+use Rattle.tp_snap.specs.Needs.{has_recorded_in}
 use Rattle.tp_book.specs.declared.refusal.Refusal.{Refusal}
 use Rattle.tp_book.specs.declared.refusal.Refusal.TheVariants.{JournalFull, StoreBroken, SnapshotRunning}
 use Rattle.tp_book.specs.Book.{BookValue, agreed}
@@ -36,7 +38,7 @@ after_record b node = record b {
   frozen = set b.frozen node (slice_get (agreed b.state) node);
 }
 
--- the book after the Marker of a line was taken
+-- the book after the Marker in front of a line was taken
 abbrev pub after_close : BookValue → ℕ → BookValue
 after_close b line = record b {
   state = record b.state {
@@ -45,9 +47,22 @@ after_close b line = record b {
   };
 }
 
+-- the book after the Marker of a line was taken, also from behind other tokens
+abbrev pub after_close_over : BookValue → ℕ → BookValue
+after_close_over b line = record b {
+  state = record b.state {
+    lines = set b.state.lines line (unmarked (on_line b.state.lines line));
+    snapshot = option_map (λ snap. closed_over snap line (before (on_line b.state.lines line))) b.state.snapshot;
+  };
+}
+
 -- the process that receives a line
 abbrev pub taker_of : BookValue → ℕ → ℕ
 taker_of b line = process_at (length b.state.start.nodes) (receiver b.state.start.wires line)
+
+-- a Marker is on the line, and its receiver has recorded
+abbrev pub is_closable : BookValue → ℕ → Bool
+is_closable b line = has_marker (on_line b.state.lines line) && has_recorded_in b.state.snapshot (taker_of b line)
 
 -- why no snapshot can begin
 abbrev pub begin_refusal : BookValue → Option Refusal

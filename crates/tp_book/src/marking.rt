@@ -1,10 +1,12 @@
 //! Markers on a journal's lines.
 
 ghost use Rattle.std.specs.Prelude.{◌≡◌, ◌≤◌, ◌<◌, ℕ, IfOk, OnErr, Some, None, true, drop, get_or, length, replicate, set, slice_get};
-ghost use Rattle.tp_model.specs.Markers.{markers};
+ghost use Rattle.tp_model.specs.Markers.{before, has_marker, markers, unmarked};
 ghost use Rattle.tp_model.specs.Network.{has_wire, is_first, on_line, sent};
-ghost use Rattle.tp_model.specs.Snapshot.{first_snapshot, host_markers, node_markers};
+ghost use Rattle.tp_model.specs.Snapshot.{closed_over, first_snapshot, host_markers, node_markers};
 ghost use Rattle.tp_model.specs.declared.link.Token.TheVariants.{Marker};
+ghost use Rattle.std.specs.Option.{option_map};
+ghost use Rattle.tp_snap.specs.Needs.{KnowsLine, HasRoomBefore};
 ghost use Rattle.tp_book.specs.Book.{agreed, node_count};
 ghost use Rattle.tp_book.specs.Marked.{with_lines};
 
@@ -84,6 +86,33 @@ impl Journal {
         ensures { self.new ≡ with_lines self.old (sent (has_wire self.old.state.start.wires) self.old.state.lines (node_markers node)) }
     {
         mark_node(&self.wires, &mut self.lines, node);
+    }
+
+    /// Whether a Marker is on a line.
+    pub(crate) fn has_marker(&self, line: u16) -> bool
+        requires { line < length self.now.state.lines }
+        ensures { result ≡ has_marker (on_line self.now.state.lines line) }
+    {
+        self.lines.has_marker(line as usize)
+    }
+
+    /// What stands on a line before its Marker belongs to that line in the cut, which is closed.
+    pub(crate) fn close_over_in(&self, snapshots: &mut Snapshots, line: u16)
+        requires known { KnowsLine snapshots.old.snapshot line }
+        requires there { line < length self.now.state.lines }
+        requires room { HasRoomBefore snapshots.old.snapshot self.now.state.lines line }
+        ensures { snapshots.new ≡ record snapshots.old { snapshot = option_map (λ snap. closed_over snap line (before (on_line self.now.state.lines line))) snapshots.old.snapshot } }
+    {
+        snapshots.close_over(line as usize, &self.lines);
+    }
+
+    /// The Marker of a line is taken off, also from behind other tokens.
+    pub(crate) fn unmark(&mut self, line: u16)
+        requires there { line < length self.old.state.lines }
+        requires few { (l : ℕ) → markers (on_line (set self.old.state.lines line (unmarked (on_line self.old.state.lines line))) l) ≤ 1 }
+        ensures { self.new ≡ with_lines self.old (set self.old.state.lines line (unmarked (on_line self.old.state.lines line))) }
+    {
+        self.lines.unmark(line as usize);
     }
 
     /// The Marker in front of a line is taken off.

@@ -12,7 +12,7 @@ ghost use Rattle.tp_model.specs.WholeCut.{WholeCut, IsWhole, whole};
 ghost use Rattle.tp_model.specs.declared.link.Token.TheVariants.{Marker};
 ghost use Rattle.tp_snap.specs.Needs.{has_recorded_in, is_asked};
 ghost use Rattle.tp_book.specs.Book.{node_count, world_of};
-ghost use Rattle.tp_book.specs.Marked.{after_begin, after_record, after_close, taker_of, begin_refusal};
+ghost use Rattle.tp_book.specs.Marked.{after_begin, after_record, after_close, after_close_over, is_closable, taker_of, begin_refusal};
 ghost use Rattle.tp_book.specs.Refusals.{IsAnswer};
 
 use crate::book::Book;
@@ -87,7 +87,7 @@ impl Book {
         self.journal.front(line) == Some(Token::Marker)
     }
 
-    /// Takes the Marker off a line whose receiver has recorded. It makes no entry, and takes no memory.
+    /// Takes the Marker in front of a line off, whose receiver has recorded. It makes no entry, and takes no memory.
     pub fn close_line(&mut self, line: u16)
         requires there { line < length self.old.state.lines }
         requires ready { is_first (on_line self.old.state.lines line) Marker ≡ true }
@@ -98,6 +98,28 @@ impl Book {
         self.journal.known();
         self.snapshots.close(line as usize);
         self.journal.drop_marker(line);
+    }
+
+    /// Whether a Marker is on a line whose receiver has recorded.
+    pub fn is_closable(&self, line: u16) -> bool
+        requires { line < length self.now.state.lines }
+        ensures { result ≡ is_closable self.now line }
+    {
+        self.journal.known();
+        self.journal.has_marker(line) && self.snapshots.has_recorded(self.journal.taker(line))
+    }
+
+    /// Takes the Marker off a line whose receiver has recorded, also from behind other tokens. They were sent before it, so they belong
+    /// to the line in the cut; they stay on the line, and are taken later. It makes no entry, and takes no memory.
+    pub fn close_over(&mut self, line: u16)
+        requires there { line < length self.old.state.lines }
+        requires ready { is_closable self.old line ≡ true }
+        ensures book { self.new ≡ after_close_over self.old line }
+        ensures act { happens t414 (world_of self.old) (Close line) ≡ Some (world_of self.new) }
+    {
+        self.journal.known();
+        self.journal.close_over_in(&mut self.snapshots, line);
+        self.journal.unmark(line);
     }
 
     /// The cut, where a snapshot runs, all have recorded and each wired line's Marker was taken. It holds then: it is the
