@@ -13,3 +13,4 @@ pub mod Hosting
 pub mod Lining
 pub mod Staging
 pub mod Formatted
+pub mod Closing

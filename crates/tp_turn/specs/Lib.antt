@@ -7,3 +7,4 @@ pub mod Settled
 pub mod Stages
 pub mod Hosted
 pub mod Tried
+pub mod Over

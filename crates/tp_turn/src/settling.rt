@@ -8,8 +8,9 @@ use crate::front::act_on_link;
 use tp_book::{Book, Refusal};
 use tp_node::Node;
 
-/// A node records where it is asked to: it is frozen, and a Marker goes onto each of its wired lines.
-fn record_asked(book: &mut Book, node: &mut Node, number: u8)
+/// A node records where it is asked to: it is frozen, and a Marker goes onto each of its wired lines. It takes nothing, and nothing
+/// runs.
+pub fn record_asked(book: &mut Book, node: &mut Node, number: u8)
     requires is { IsNodeOf book.old number node.old }
     ensures done { Done number (Records number) (moment book.old node.old) (moment book.new node.new) }
     ensures is { IsNodeOf book.new number node.new }
