@@ -107,7 +107,7 @@ hosted_confirm b new port upto is same act = go (nat_le upto (port_in b port).ou
 
 -- ## Turns
 
-hosted_by : (Are : List Entry → Type 0) (acts : List Act) (b new : BookValue) → HostAdded acts b new → AllByRecursion (λ act. is_trim act ≡ false) acts → Are (entries_in acts) → Hosted Are b new
+pub hosted_by : (Are : List Entry → Type 0) (acts : List Act) (b new : BookValue) → HostAdded acts b new → AllByRecursion (λ act. is_trim act ≡ false) acts → Are (entries_in acts) → Hosted Are b new
 hosted_by Are acts b new A none are = record {
   grown = record {
     acts = acts;

@@ -14,3 +14,4 @@ pub mod Staying
 pub mod Resealing
 pub mod Copying
 pub mod Trims
+pub mod Closing

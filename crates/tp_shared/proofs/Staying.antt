@@ -36,7 +36,7 @@ unasked : (given : Option Snapshot) (p : ℕ) → has_recorded_in given p ≡ tr
 unasked None p e = cc
 unasked (Some snap) p e = ap not e
 
-records_stay : (number : ℕ) (s t : Moment) (acts : List Act) → Records number s acts t → has_recorded_in s.book.state.snapshot number ≡ true → t.node.frozen ≡ s.node.frozen
+pub records_stay : (number : ℕ) (s t : Moment) (acts : List Act) → Records number s acts t → has_recorded_in s.book.state.snapshot number ≡ true → t.node.frozen ≡ s.node.frozen
 records_stay number s t acts R recorded =
     ap (λ n. n.frozen) R.node ∙ ap (λ (asked : Bool). (cond asked (frozen_now s.node) s.node).frozen) (unasked s.book.state.snapshot number recorded)
 

@@ -119,6 +119,18 @@ fn turn_of<J: Naming, G: Gate, R: Wait>(
     Ok(NodeTurn { taken, ran })
 }
 
+// A node whose lock is held records where it is asked to.
+fn record_of<J: Naming, R: Wait>(rt: &R, book: &Mutex<Locked<J>>, place: &mut Place, number: u8)
+    requires there { number < length J.start.nodes }
+    requires named { place.old.key.name ≡ J.node number }
+    requires shows { Shows place.old false }
+    ensures named { place.new.key.name ≡ place.old.key.name }
+    ensures shows { Shows place.new false }
+{
+    let mut held = book.lock(rt);
+    held.record(place, number);
+}
+
 impl<const I: usize, J: Naming> Cell<I, J> {
     pub(crate) fn new(places: Vec<Place>) -> Cell<I, J>
         requires { Celled I J.node (length J.start.nodes) places.items }
@@ -149,5 +161,14 @@ impl<const I: usize, J: Naming> Cell<I, J> {
         let Cell { places, .. } = self;
         let place = &mut places[number as usize / 4];
         turn_of(rt, gate, book, place, seat, number, quantum)
+    }
+    /// The node `number`, which is one of the cell's, records where it is asked to.
+    pub(crate) fn record<R: Wait>(&mut self, rt: &R, book: &Mutex<Locked<J>>, number: u8)
+        requires there { number < length J.start.nodes }
+        requires here { number % 4 ≡ I }
+    {
+        let Cell { places, .. } = self;
+        let place = &mut places[number as usize / 4];
+        record_of(rt, book, place, number);
     }
 }

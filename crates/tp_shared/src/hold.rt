@@ -1,17 +1,18 @@
 //! What is done for a node while the book's lock is held.
 
-ghost use Rattle.std.specs.Prelude.{◌≡◌, Some, None, true, false, slice_get, is_ok, IfErr};
+ghost use Rattle.std.specs.Prelude.{◌≡◌, [], Some, None, true, false, slice_get, is_ok, IfErr};
 ghost use Rattle.tp_snap.specs.Needs.{has_recorded_in};
 ghost use Rattle.tp_shared.specs.Acts.{Acted};
 ghost use Rattle.tp_shared.specs.Entries.{IsTurnRefusal, TakesOf, run_entries};
 ghost use Rattle.tp_book.specs.Acts.{run_acts};
 ghost use Rattle.tp_book.specs.Calls.{without_run};
-ghost use Rattle.tp_turn.specs.Moments.{Added, IsNodeOf, moment};
+ghost use Rattle.tp_turn.specs.Moments.{Added, Done, IsNodeOf, moment};
+ghost use Rattle.tp_turn.specs.Settled.{Records};
 ghost use Rattle.tp_turn.specs.Stages.{HasRunOn, Opens};
 
 use tp_book::{Book, Refusal};
 use tp_node::{Node, Ran};
-use tp_turn::{Stretch, commit_turn, open_turn};
+use tp_turn::{Stretch, commit_turn, open_turn, record_asked};
 
 /// A node records where it is asked to, takes and closes what came in, and a run of it is reserved. Answers how many tokens it
 /// took.
@@ -26,6 +27,18 @@ pub(crate) fn begin(book: &mut Book, node: &mut Node, number: u8) -> Result<u64,
     ensures refused { IfErr result IsTurnRefusal }
 {
     open_turn(book, node, number)
+}
+
+/// A node records where it is asked to. It takes nothing, and nothing runs.
+pub(crate) fn record(book: &mut Book, node: &mut Node, number: u8)
+    requires free { slice_get book.old.runs number ≡ Some false }
+    requires is { IsNodeOf book.old number node.old }
+    ensures acted { Acted (λ entries. entries ≡ []) number (record { node = node.new.live; frozen = node.new.frozen; reserved = false }) book.old book.new }
+    ensures did { Done number (Records number) (moment book.old node.old) (moment book.new node.new) }
+    ensures is { IsNodeOf book.new number node.new }
+    ensures stays { has_recorded_in book.old.state.snapshot number ≡ true → node.new.frozen ≡ node.old.frozen }
+{
+    record_asked(book, node, number);
 }
 
 /// What a node ran since a run of it was reserved is journalled.

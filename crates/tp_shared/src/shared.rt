@@ -152,6 +152,18 @@ impl<J: Naming> Shared<J> {
         }
     }
 
+    /// The node `number` records where a snapshot asks it to. It takes nothing, and nothing runs.
+    pub fn record<R: Wait>(&self, rt: &R, number: u8)
+        requires { number < length J.start.nodes }
+    {
+        match number % 4 {
+            0 => self.c0.lock(rt).record(rt, &self.book, number),
+            1 => self.c1.lock(rt).record(rt, &self.book, number),
+            2 => self.c2.lock(rt).record(rt, &self.book, number),
+            _ => self.c3.lock(rt).record(rt, &self.book, number),
+        }
+    }
+
     /// The host's turn: each of its ports in order takes at most three tokens of the line that comes to it, a Marker among them.
     /// `seat` gets the slips of the entries, also where the turn broke off. Answers how many tokens were taken; a Marker isn't
     /// counted.

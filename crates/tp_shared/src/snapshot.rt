@@ -1,4 +1,4 @@
-//! What else is done while the book's lock is held: a snapshot begins, and the store breaks.
+//! What else is done while the book's lock is held: a snapshot begins, lines are closed, and the store breaks.
 
 ghost use Rattle.std.specs.Prelude.{◌≡◌, Some, true, IfOk, OnErr};
 ghost use Rattle.tp_model.specs.Acts.{Begin, happens};
@@ -6,11 +6,14 @@ ghost use Rattle.tp_model.specs.Node.{t414};
 ghost use Rattle.tp_book.specs.Book.{world_of};
 ghost use Rattle.tp_book.specs.Marked.{after_begin, begin_refusal};
 ghost use Rattle.tp_book.specs.Refusals.{IsAnswer};
+ghost use Rattle.tp_turn.specs.Hosted.{HostDone};
+ghost use Rattle.tp_turn.specs.Over.{ClosesAll};
 
 use crate::locked::Locked;
 use crate::naming::Naming;
 use std::alloc::Global;
 use tp_book::Refusal;
+use tp_turn::close_all;
 
 impl<J: Naming> Locked<J> {
     /// Begins a snapshot: the host records its ports, and a Marker goes onto each of their wired lines. Each node is then asked
@@ -23,6 +26,15 @@ impl<J: Naming> Locked<J> {
     {
         self.book.begin(alloc)?;
         Ok(())
+    }
+
+    /// Takes each Marker off its line, also from behind other tokens, where its receiver has recorded. So a snapshot in which all have
+    /// recorded has a whole cut, whatever stands on the lines.
+    pub fn close_all(&mut self)
+        ensures done { HostDone ClosesAll self.old.book self.new.book }
+        ensures all { self.new.all ≡ self.old.all }
+    {
+        close_all(&mut self.book);
     }
 
     /// Nothing is journalled from now on.

@@ -1,0 +1,51 @@
+-- Lines that are closed from behind other tokens, under the book's lock.
+use Rattle.std.proofs.Common.{◌≡◌, ℕ, ◌+◌, Bool, true, false, cond, zero, suc, List, [], ◌∷◌, ◌++◌, length, refl, sym, ap, subst, ◌∙◌, Some, slice_get}
+use Rattle.std.specs.List.{AllByRecursion}
+use Rattle.tp_model.specs.declared.entry.Entry.{Entry}
+use Rattle.tp_model.specs.Acts.{Act, Close, Record}
+use Rattle.tp_model.specs.Runs.{is_trim}
+use Rattle.tp_law_machine.proofs.Partial.{all_append}
+use Rattle.tp_book.specs.Book.{BookValue}
+use Rattle.tp_book.specs.Marked.{is_closable}
+use Rattle.tp_turn.specs.Turns.{InOrder}
+use Rattle.tp_turn.specs.Moments.{Done, Moment, entries_in}
+use Rattle.tp_turn.specs.Hosted.{HostDone}
+use Rattle.tp_turn.specs.Over.{ClosesOver, ClosesAll}
+use Rattle.tp_turn.proofs.Adding.{entries_more}
+use Rattle.tp_turn.specs.Settled.{Records}
+use Rattle.tp_snap.specs.Needs.{is_asked}
+use Rattle.tp_shared.specs.Acts.{Acted, Hosted}
+use Rattle.tp_shared.proofs.Holding.{acted_free}
+use Rattle.tp_shared.proofs.Hosting.{hosted_by}
+use Rattle.tp_shared.proofs.Untrimmed.{AreTurnActs}
+
+-- none of them is a trim, and none makes an entry
+closes_one : (line : ℕ) (b : Bool) (acts : List Act) → acts ≡ cond b (Close line ∷ []) [] → AllByRecursion (λ act. is_trim act ≡ false) acts × (entries_in acts ≡ [])
+closes_one line true acts e = subst (λ given. AllByRecursion (λ act. is_trim act ≡ false) given × (entries_in given ≡ [])) (sym e) ((refl, tt), refl)
+closes_one line false acts e = subst (λ given. AllByRecursion (λ act. is_trim act ≡ false) given × (entries_in given ≡ [])) (sym e) (tt, refl)
+
+closes_quiet : (count : ℕ) (s : BookValue) (acts : List Act) (t : BookValue) → InOrder ClosesOver count s acts t → AllByRecursion (λ act. is_trim act ≡ false) acts × (entries_in acts ≡ [])
+unfolding InOrder
+closes_quiet zero s acts t D = subst (λ given. AllByRecursion (λ act. is_trim act ≡ false) given × (entries_in given ≡ [])) (sym D.0) (tt, refl)
+closes_quiet (suc count) s acts t D =
+    let one = closes_quiet count s D.first D.between D.one_did in
+    let other = closes_one count (is_closable D.between count) D.second D.other_did.are in
+    subst (λ given. AllByRecursion (λ act. is_trim act ≡ false) given × (entries_in given ≡ [])) (sym D.are)
+    (all_append (λ act. is_trim act ≡ false) D.first D.second one.0 other.0, entries_more D.first D.second ∙ ap (λ es. es ++ entries_in D.second) one.1 ∙ other.1)
+
+pub hosted_closes : (b new : BookValue) → HostDone ClosesAll b new → Hosted (λ entries. entries ≡ []) b new
+hosted_closes b new D =
+    let quiet = closes_quiet (length b.state.lines) b D.acts new D.did in
+    hosted_by (λ (entries : List Entry). entries ≡ []) D.acts b new D.added quiet.0 quiet.1
+
+-- ## A node records
+
+records_quiet : (number : ℕ) (asked : Bool) (acts : List Act) → acts ≡ cond asked (Record number ∷ []) [] → AreTurnActs acts × (entries_in acts ≡ [])
+records_quiet number true acts e = subst (λ given. AreTurnActs given × (entries_in given ≡ [])) (sym e) ((tt, tt), refl)
+records_quiet number false acts e = subst (λ given. AreTurnActs given × (entries_in given ≡ [])) (sym e) (tt, refl)
+
+pub acted_records : (number : ℕ) (s t : Moment) → slice_get s.book.runs number ≡ Some false → Done number (Records number) s t
+    → Acted (λ entries. entries ≡ []) number (record { node = t.node.live; frozen = t.node.frozen; reserved = false }) s.book t.book
+acted_records number s t free D =
+    let quiet = records_quiet number (is_asked s.book.state.snapshot number) D.acts D.did.are in
+    acted_free (λ (entries : List Entry). entries ≡ []) number D.acts s.book t.book t.node D.added quiet.0 quiet.1 free
