@@ -9,6 +9,7 @@ mod dropping;
 mod fault;
 mod flushed;
 mod flusher;
+mod generation;
 mod images;
 mod laws;
 mod pieces;
