@@ -4,3 +4,4 @@ pub mod Made
 pub mod Runs
 mod Shown
 pub mod Slips
+pub mod Compacts

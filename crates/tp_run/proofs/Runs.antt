@@ -26,7 +26,7 @@ use Rattle.tp_run.specs.Ran.{Carried, Ran, Settled}
 use Rattle.tp_run.specs.Shown.{MayPrint}
 use Rattle.tp_run.proofs.Slips.{if_ok}
 
-if_both : {A E : Type 0} (r : Result A E) (P Q R : A → Type 0) → ((x : A) → P x → Q x → R x) → IfOk r P → IfOk r Q → IfOk r R
+pub if_both : {A E : Type 0} (r : Result A E) (P Q R : A → Type 0) → ((x : A) → P x → Q x → R x) → IfOk r P → IfOk r Q → IfOk r R
 if_both (Ok x) P Q R turn p q = turn x p q
 if_both (Err e) P Q R turn p q = p
 

@@ -1,3 +1,4 @@
+pub mod Compacted
 pub mod Every
 pub mod Faults
 pub mod Input

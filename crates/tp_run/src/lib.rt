@@ -2,6 +2,7 @@
 #![tactic(auto)]
 
 mod beginning;
+mod compacting;
 mod fault;
 mod flushing;
 mod job;
@@ -14,6 +15,7 @@ mod serving;
 mod watch;
 mod working;
 
+pub use compacting::{CompactFault, Compaction, compact};
 pub use fault::RunFault;
 pub use job::{Job, MAX_WORKERS};
 pub use running::run;

@@ -1,0 +1,58 @@
+use Rattle.std.proofs.Common.{◌≡◌, ◌<◌, ◌≤◌, ◌+◌, ℕ, arith, refl, sym, ap, subst, ◌∙◌}
+use Rattle.tp_model.specs.Disk.{Moment}
+use Rattle.tp_model.specs.Topology.{Topology}
+use Rattle.tp_flush.specs.Known.{Began}
+use Rattle.tp_run.specs.declared.compacting.CompactFault.TheVariants.{Opening, Memory}
+use Rattle.tp_run.specs.Compacted.{Compacted}
+use Rattle.std.specs.Prelude.{Err}
+use Rattle.tp_area.specs.declared.place.Place.{Place}
+use Rattle.tp_run.specs.Compacted.{entries_of}
+use Rattle.tp_net.proofs.Topologies.{has_shape}
+use Rattle.tp_run.proofs.Runs.{if_both}
+use Rattle.tp_run.proofs.Compacts.{begun_compacted, opened_compacted, unwritten_compacted}
+use Rattle.tp_run.proofs.compacting.compact.Goals as goal
+
+pub compact_parts-requires-clause-names : goal.compact_parts-requires-clause-names
+compact_parts-requires-clause-names g c =
+    record { roll_is = refl; first_is = refl; wires_are = refl; count_is = refl; ports_are = refl; nodes_are = λ i. refl; mark_is = refl; flusher_is = refl; room_is = refl }
+
+pub parts_of-requires : goal.parts_of-requires
+parts_of-requires g c =
+    let shape = has_shape c.in-Ok.opened.head.topology c.known.ensures.topology in
+    omega (arith, shape.some_ports)
+
+pub returns-in-Err-clause-kept : goal.returns-in-Err-clause-kept
+returns-in-Err-clause-kept g c k began =
+    unwritten_compacted g.history.formatted (Opening c.in-Err.unopened) (g.D.Disk.state c.args.disk) (g.D.Disk.state c.open.new.disk) (c.open.ensures.leaves k)
+
+pub returns-in_default-clause-kept : goal.returns-in_default-clause-kept
+returns-in_default-clause-kept g c k began =
+    subst (λ d. Compacted g.history.formatted (Err Memory) (g.D.Disk.state c.args.disk) (g.D.Disk.state d)) (sym (c.into_disk.ensures ∙ c.store-store.ensures.disk))
+    (unwritten_compacted g.history.formatted Memory (g.D.Disk.state c.args.disk) (g.D.Disk.state c.open.new.disk) (c.open.ensures.leaves k))
+
+pub returns-clause-kept : goal.returns-clause-kept
+returns-clause-kept g c k began =
+    let start = g.history.formatted in
+    let done = c.compact_parts.result.1 in
+    let kept : (g.D.Disk.state c.open.new.disk).now.bytes ≡ (g.D.Disk.state c.args.disk).now.bytes = ap (λ (m : Moment). m.bytes) (c.in-Ok.ensures.kept k) in
+    let same : (g.D.Disk.state c.store-store.result.disk).now.bytes ≡ (g.D.Disk.state c.args.disk).now.bytes = ap (λ d. (g.D.Disk.state d).now.bytes) c.store-store.ensures.disk ∙ kept in
+    opened_compacted start done (g.D.Disk.state c.args.disk) (g.D.Disk.state c.open.new.disk) (g.D.Disk.state c.compact_parts.result.0) (c.open.ensures.leaves k)
+    (subst (λ d. Compacted start done (g.D.Disk.state d) (g.D.Disk.state c.compact_parts.result.0)) c.store-store.ensures.disk
+    (c.compact_parts.ensures.kept k (subst (Began start g.history.before) (sym same) began)))
+
+pub returns-clause-grown : goal.returns-clause-grown
+returns-clause-grown g c k =
+    let opened = c.in-Ok.opened in
+    let topology = c.topology_of-topology.result in
+    let area = ap (λ (p : Place). p.area) c.store-store.ensures.place in
+    if_both c.compact_parts.result.1 (λ done. done.generation ≡ c.store-store.result.place.generation + 1) (λ done. done.room ≤ entries_of topology c.store-store.result.place.area) _
+    (λ done grown room. record {
+      opened = opened;
+      is = c.in-Ok.ensures.is k;
+      generation = grown ∙ ap (λ (p : Place). p.generation + 1) c.store-store.ensures.place;
+      room = subst (λ (t : Topology). done.room ≤ entries_of t opened.head.area) c.topology_of-topology.ensures (subst (λ (bytes : ℕ). done.room ≤ entries_of topology bytes) area room);
+    })
+    c.compact_parts.ensures.switched c.compact_parts.ensures.room
+
+pub returns-clause-unwritten : goal.returns-clause-unwritten
+returns-clause-unwritten g c k unbegun = absurd (begun_compacted c.compact_parts.result.1 c.compact_parts.ensures.begun unbegun)

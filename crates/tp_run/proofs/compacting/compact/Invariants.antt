@@ -1,0 +1,16 @@
+use Rattle.std.proofs.Common.{[]}
+use Rattle.tp_shared.specs.Parted.{name_of}
+use Rattle.tp_run.proofs.compacting.compact.Given as goal
+
+abbrev pub ghosts-compact_parts : goal.ghosts-compact_parts
+ghosts-compact_parts g a = record {
+  roll = a.parts.roll;
+  first = a.parts.first;
+  start = record { wires = a.parts.book.state.start.wires; nodes = a.parts.book.state.start.nodes; ports = a.parts.book.state.ports; lines = [] };
+  node = name_of a.parts.seals;
+  mark = a.parts.mark;
+  flusher = a.parts.flusher;
+  room = a.parts.book.room;
+  formatted = g.history.formatted;
+  before = g.history.before;
+}

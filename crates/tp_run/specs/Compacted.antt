@@ -1,0 +1,53 @@
+-- What is left of a device that was compacted, whatever becomes of it meanwhile.
+use Rattle.std.specs.Prelude.{◌≡◌, ◌≤◌, ◌⊎◌, ℕ, ◌+◌, ◌-◌, ◌/◌, List, Result, Ok, Err, IfOk}
+use Rattle.tp_model.specs.declared.entry.Entry.{Entry}
+use Rattle.tp_model.specs.declared.opening.OpenFault.{OpenFault}
+use Rattle.tp_model.specs.NodeState.{NodeState}
+use Rattle.tp_model.specs.Node.{t414}
+use Rattle.tp_model.specs.Network.{Network}
+use Rattle.tp_model.specs.Topology.{Topology, line_count}
+use Rattle.tp_model.specs.Journal.{entry_room, reserve, room}
+use Rattle.tp_model.specs.Opening.{Opened}
+use Rattle.tp_model.specs.Disk.{MayBe}
+use Rattle.tp_model.specs.DiskHistory.{State, LeavesOnly}
+use Rattle.tp_model.specs.DeviceAreas.{device_areas}
+use Rattle.tp_model.specs.Walks.{RecoversTo}
+use Rattle.tp_run.specs.declared.compacting.Compaction.{Compaction}
+use Rattle.tp_run.specs.declared.compacting.CompactFault.{CompactFault}
+use Rattle.tp_run.specs.declared.compacting.CompactFault.TheVariants.{Opening, NoGeneration, DeviceFailed, NotWhole, Memory}
+
+-- how many entries of their own groups a journal takes behind a cut, beside the reserve
+abbrev pub entries_of : Topology → ℕ → ℕ
+entries_of t area = (room t area - reserve (line_count t)) / entry_room
+
+-- the device isn't written
+abbrev pub IsUnbegun : {A : Type 0} → Result A CompactFault → Type 0
+IsUnbegun (Ok x) = ⊥
+IsUnbegun (Err (Opening unopened)) = Unit {0}
+IsUnbegun (Err NoGeneration) = ⊥
+IsUnbegun (Err DeviceFailed) = ⊥
+IsUnbegun (Err NotWhole) = ⊥
+IsUnbegun (Err Memory) = ⊥
+
+-- a fault that comes once the device was opened
+abbrev pub IsBegun : CompactFault → Type 0
+IsBegun (Opening unopened) = ⊥
+IsBegun NoGeneration = Unit {0}
+IsBegun DeviceFailed = Unit {0}
+IsBegun NotWhole = Unit {0}
+IsBegun Memory = Unit {0}
+
+-- The device opened, its generation is one more, and its journal takes no more entries than fit into its areas.
+pub record Grown (verdict : Result Opened OpenFault) (done : Compaction) : Type 0 where
+  pub opened : Opened
+  pub is : verdict ≡ Ok opened
+  pub generation : done.generation ≡ opened.generation + 1
+  pub room : done.room ≤ entries_of opened.head.topology opened.head.area
+
+-- A crash at any moment leaves what one just before might have left, or what opens to where a prefix of the journal leads. Once it
+-- was done, the prefix has each entry below the answered number.
+pub record Compacted (start : Network NodeState) (result : Result Compaction CompactFault) (old new : State) : Type 0 where
+  pub journal : List Entry
+  pub first : ℕ
+  pub leaves : LeavesOnly old new (λ left. MayBe old.now left ⊎ RecoversTo t414 device_areas start journal first left)
+  pub stored : IfOk result (λ done. (left : List ℕ) → MayBe new.now left → RecoversTo t414 device_areas start journal done.next left)

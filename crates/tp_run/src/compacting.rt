@@ -1,0 +1,237 @@
+//! A device is compacted: its network, as it is, becomes the cut, and its journal is empty.
+
+ghost use Rattle.std.specs.List.{AllByRecursion};
+ghost use Rattle.std.specs.Prelude.{◌≡◌, ◌≤◌, ◌+◌, true, false, Ok, Err, Some, IfErr, IfOk, IfSome, IsErr};
+ghost use Rattle.tp_area.specs.Places.{place_at};
+ghost use Rattle.tp_flush.specs.Flushing.{IsSameProcess, Walked};
+ghost use Rattle.tp_flush.specs.Known.{Began};
+ghost use Rattle.tp_law_machine.specs.NodeOfBytes.{IsNodeOfBytes};
+ghost use Rattle.tp_model.specs.DiskHistory.{IsSynced};
+ghost use Rattle.tp_model.specs.Journal.{is_roomy, room};
+ghost use Rattle.tp_model.specs.Node.{t414_ends};
+ghost use Rattle.tp_model.specs.Opening.{verdict};
+ghost use Rattle.tp_model.specs.Spelling.{IsCut};
+ghost use Rattle.tp_recover.specs.Reading.{LeavesNothingNew};
+ghost use Rattle.tp_recover.specs.declared.unopened.Unopened.{Unopened};
+ghost use Rattle.tp_run.specs.Compacted.{Compacted, Grown, IsBegun, IsUnbegun, entries_of};
+ghost use Rattle.tp_run.specs.Made.{StandsFor};
+ghost use Rattle.tp_run.specs.Ran.{History};
+ghost use Rattle.tp_shared.specs.Named.{Names};
+
+use crate::opening::parts_of;
+use std::alloc::Global;
+use std::marker::Brand;
+use std::snapshot::Snapshot;
+use std::sync::Wait;
+use thiserror::Error;
+use tp_area::Store;
+use tp_book::Refusal;
+use tp_disk::Disk;
+use tp_entry::ENTRY_ROOM;
+use tp_flush::{FlushFault, Flusher, topology_of};
+use tp_layout::journal_room;
+use tp_mark::Raiser;
+use tp_model::limits::RESERVED;
+use tp_net::Topology;
+use tp_recover::{Opened, Unopened, open};
+use tp_shared::{Naming, Parts, Shared};
+
+/// What is so of a device that was compacted: the number that its next entry gets, the generation of its cut, and how many entries
+/// its journal takes before it is full.
+#[derive(Clone, Copy)]
+pub struct Compaction {
+    pub next: u64,
+    pub generation: u64,
+    pub room: u64,
+}
+
+/// Why a device isn't compacted.
+#[derive(Clone, Copy, Debug, PartialEq, Eq, Error)]
+pub enum CompactFault {
+    /// The device isn't opened.
+    #[error(transparent)]
+    Opening(Unopened),
+    /// No generation is left for another cut.
+    #[error("JournalFull")]
+    NoGeneration,
+    /// The device failed.
+    #[error("DeviceFailed")]
+    DeviceFailed,
+    /// The cut didn't become whole. It does, as nothing runs; that is tested, and not proved.
+    #[error("NotWhole")]
+    NotWhole,
+    /// Memory was refused, at whatever step.
+    #[error("Memory")]
+    Memory,
+}
+
+/// How many entries a journal takes behind a cut, beside what is kept for a running snapshot.
+fn entries_of(topology: &Topology, area: u64) -> u64
+    ensures { result ≡ entries_of topology.now area }
+{
+    let reserve = (RESERVED * ENTRY_ROOM) as u64 * topology.line_count() as u64;
+    journal_room(topology, area).saturating_sub(reserve) / ENTRY_ROOM as u64
+}
+
+/// How many of `entries` have not been made since the kept cut.
+fn left_of<J: Naming, R: Wait>(rt: &R, shared: &Shared<J>, entries: u64) -> u64
+    ensures { result ≤ entries }
+{
+    let held = shared.book().lock(rt);
+    let made = held.book().next().saturating_sub(held.book().base());
+    entries.saturating_sub(made)
+}
+
+/// The fault of a snapshot that doesn't begin; none where one runs.
+fn fault_of(refusal: Refusal) -> Option<CompactFault>
+    ensures { IfSome result IsBegun }
+{
+    match refusal {
+        Refusal::SnapshotRunning => None,
+        Refusal::Memory => Some(CompactFault::Memory),
+        Refusal::JournalFull => Some(CompactFault::NoGeneration),
+        Refusal::StoreBroken | Refusal::NothingToTake | Refusal::PortFull => {
+            Some(CompactFault::DeviceFailed)
+        }
+    }
+}
+
+/// Begins a snapshot.
+fn begin<J: Naming, D: Disk, R: Wait>(
+    rt: &R,
+    alloc: Global,
+    shared: &Shared<J>,
+    flusher: &Flusher<J, D>,
+) -> Option<CompactFault>
+    ensures { IfSome result IsBegun }
+{
+    match flusher.snapshot(rt, alloc, shared) {
+        Ok(()) => None,
+        Err(refusal) => fault_of(refusal),
+    }
+}
+
+/// Each node records, and each Marker is taken off its line. Nothing is taken, and nothing runs.
+fn record_all<J: Naming, R: Wait>(rt: &R, shared: &Shared<J>) {
+    for node in 0..shared.nodes() {
+        shared.record(rt, node);
+    }
+    let mut held = shared.book().lock(rt);
+    held.close_all();
+}
+
+/// The fault of a flusher's turn.
+fn fault_in(fault: FlushFault) -> CompactFault
+    ensures { IsBegun result }
+{
+    match fault {
+        FlushFault::Memory => CompactFault::Memory,
+        FlushFault::DeviceFailed | FlushFault::StoreBroken | FlushFault::AreaFull => {
+            CompactFault::DeviceFailed
+        }
+    }
+}
+
+/// Makes all of the network one cut, and switches the areas to it. `entries` is how many its journal takes.
+fn switch_all<J: Naming, D: Disk, R: Wait>(
+    rt: &R,
+    alloc: Global,
+    shared: &Shared<J>,
+    flusher: &mut Flusher<J, D>,
+    entries: u64,
+) -> Result<Compaction, CompactFault>
+    ensures walks { D.keeps → Began J.formatted J.before flusher.old.opened → Walked flusher.old flusher.new }
+    ensures process { IsSameProcess flusher.old flusher.new }
+    ensures stored { IfOk result (λ done. done.next ≤ flusher.new.world.mark) }
+    ensures switched { IfOk result (λ done. done.generation ≡ flusher.old.place.generation + 1) }
+    ensures room { IfOk result (λ done. done.room ≤ entries) }
+    ensures begun { IfErr result IsBegun }
+{
+    flusher.known();
+    if let Some(fault) = begin(rt, alloc, shared, flusher) {
+        return Err(fault);
+    }
+    record_all(rt, shared);
+    let flushed = match flusher.turn(rt, alloc, shared) {
+        Ok(flushed) => flushed,
+        Err(fault) => return Err(fault_in(fault)),
+    };
+    if !flushed.switched {
+        return Err(CompactFault::NotWhole);
+    }
+    Ok(Compaction {
+        next: flushed.mark,
+        generation: flusher.generation(),
+        room: left_of(rt, shared, entries),
+    })
+}
+
+/// The same over the store of a device that was opened, with the parts that were made of it.
+fn compact_parts<J: Naming, D: Disk, R: Wait>(
+    rt: &R,
+    alloc: Global,
+    opened: Snapshot<Opened>,
+    topology: Topology,
+    parts: Parts,
+    raiser: Raiser,
+    store: Store<D>,
+) -> (D, Result<Compaction, CompactFault>)
+    requires names { Names J.roll J.first J.start J.node J.mark J.flusher J.room parts }
+    requires stands { StandsFor opened.value parts raiser }
+    requires bound { parts.book.room ≡ Some (room opened.value.head.topology opened.value.head.area) }
+    requires cut { IsCut t414_ends opened.value.head.topology opened.value.base opened.value.cut }
+    requires bytes { AllByRecursion IsNodeOfBytes opened.value.cut.nodes }
+    requires place { store.place ≡ place_at opened.value }
+    requires topology { topology ≡ opened.value.head.topology }
+    requires roomy { is_roomy opened.value.head.topology opened.value.head.area ≡ true }
+    requires unbroken { store.broken ≡ false }
+    requires read { D.keeps → verdict (D.state store.disk).now.bytes ≡ Ok opened.value }
+    requires synced { D.keeps → IsSynced (D.state store.disk) }
+    ensures size { D.size_of result.0 ≡ D.size_of store.disk }
+    ensures kept { D.keeps → Began J.formatted J.before (D.state store.disk).now.bytes → Compacted J.formatted result.1 (D.state store.disk) (D.state result.0) }
+    ensures switched { IfOk result.1 (λ done. done.generation ≡ store.place.generation + 1) }
+    ensures room { IfOk result.1 (λ done. done.room ≤ entries_of topology store.place.area) }
+    ensures begun { IfErr result.1 IsBegun }
+{
+    let (shared, key) = Shared::<J>::start(parts);
+    let entries = entries_of(&topology, store.place.area);
+    let mut flusher = Flusher::over(opened, topology, store, key, raiser);
+    flusher.known();
+    let done = switch_all(rt, alloc, &shared, &mut flusher, entries);
+    (flusher.into_disk(), done)
+}
+
+/// Opens a device, makes its network as it is the cut of the other area, and switches to that. Nothing runs, nothing is taken, and all
+/// output stays. So its journal is empty, also where it was full. Answers the device, and what is so of it then.
+///
+/// Whatever a crash leaves at any moment of the call is what one just before might have left, or opens to where a prefix of the journal
+/// leads, with all that the device had: the store's contract says so (`Flusher::turn`, `Store::open_other`), which writes into the area that
+/// isn't open alone until its cut is whole and synced. After a call that was done, the prefix has each entry below the number that is
+/// answered, and the generation is one more than before.
+pub fn compact<D: Disk, R: Wait>(
+    rt: &R,
+    alloc: Global,
+    disk: D,
+) -> (D, Result<Compaction, CompactFault>)
+    ghost history: { History }
+    ensures size { D.size_of result.0 ≡ D.size_of disk }
+    ensures kept { D.keeps → Began history.formatted history.before (D.state disk).now.bytes → Compacted history.formatted result.1 (D.state disk) (D.state result.0) }
+    ensures grown { D.keeps → IfOk result.1 (Grown (verdict (D.state disk).now.bytes)) }
+    ensures unwritten { D.keeps → IsUnbegun result.1 → LeavesNothingNew (D.state disk) (D.state result.0) }
+    ensures unopened { D.keeps → IsErr (verdict (D.state disk).now.bytes) → (unopened : Unopened) × (result.1 ≡ Err (CompactFault.Opening unopened)) }
+{
+    let mut disk = disk;
+    let opened = match open(alloc, &mut disk) {
+        Ok(opened) => opened,
+        Err(unopened) => return (disk, Err(CompactFault::Opening(unopened))),
+    };
+    opened.known();
+    let known = Snapshot::of(&opened);
+    let topology = topology_of(&opened);
+    let _area = opened.head().area();
+    let store = opened.store(disk);
+    let Ok((parts, raiser, _)) = parts_of(alloc, opened, 0, 0) else {
+        return (store.into_disk(), Err(CompactFault::Memory));
+    };
+    compact_parts::<Brand, D, R>(rt, alloc, known, topology, parts, raiser, store)
+}
