@@ -1,6 +1,8 @@
+pub mod Accounting
 pub mod Faults
 pub mod Fronts
 pub mod Made
 pub mod Runs
 mod Shown
 pub mod Slips
+pub mod Worked

@@ -1,3 +1,4 @@
+pub mod Accounted
 pub mod Every
 pub mod Faults
 pub mod Input
@@ -6,3 +7,4 @@ pub mod Outset
 pub mod Output
 pub mod Ran
 pub mod Shown
+pub mod Worked
