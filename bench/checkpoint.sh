@@ -2,6 +2,8 @@
 # What checkpoints cost a run, as ratios of programs that run in turns on one machine, outside the gate:
 #   entries   16 busy nodes of 256 pages, one step a turn: durable entries a second with checkpoints as they come beside none
 #   copy      the seconds of a checkpoint of these nodes beside a raw copy of as many bytes with the same syncs
+#   turns     one worker, 1,024 steps a turn, and the flusher: the slowest turn of a hundred (the 99th percentile) while a snapshot of these
+#             nodes runs beside the median turn without one (bench/turns.rattle)
 # usage: bench/checkpoint.sh TPNET [ROUNDS [FOLDER ..]]      5 rounds in /dev/shm (in memory, so only our own cost shows) by default
 set -e
 top=$(cd "$(dirname "$0")/.." && pwd)
@@ -47,6 +49,22 @@ int main(int count, char **words) {
 }
 C
 cc -O2 -o "$work/raw" "$work/raw.c"
+
+cp -r "$top/crates" "$top/crates.txt" "$top/HANDLES" "$work"
+turns=$work/crates/bench_turns
+mkdir -p "$turns/src" "$turns/specs" "$turns/proofs/time_in"
+gate=$top/crates/tp_tests_gate
+cp "$top/bench/turns.rattle" "$turns/src/main.rt"
+cp "$gate/src/opening.rt" "$turns/src/"
+cp "$gate/specs/Spelt.antt" "$turns/specs/"
+echo 'pub mod Spelt' > "$turns/specs/Lib.antt"
+cp -r "$gate/proofs/opening" "$turns/proofs/"
+cp "$gate/proofs/scenes/play_in/"*.antt "$turns/proofs/time_in/"
+sed -i 's/^const QUANTUM: u16 = .*/const QUANTUM: u16 = 1024;/; s/std::test::Fail/crate::Fault/; s/, Fail>/, Fault>/' "$turns/src/opening.rt"
+find "$turns" -type f | xargs sed -i 's/tp_tests_gate/bench_turns/g; s/proofs\.scenes\.play_in/proofs.time_in/g; s/-play\b/-time_all/g; s/play-requires/time_all-requires/g'
+sed -n 's/^tp_tests_gate:/bench_turns:/p' "$top/crates.txt" >> "$work/crates.txt"
+(cd "$turns" && rt run > "$work/build.log" 2>&1) || true
+[ -x "$turns/out/bench_turns" ] || { tail -20 "$work/build.log"; exit 1; }
 
 sed 's/^pages .*/pages 256/' "$top/examples/compute.txt" > "$work/node.txt"
 : > "$work/net"
@@ -104,4 +122,15 @@ for folder in sys.argv[4:]:
             ours.append(took - plain)
             raw.append(timed([os.path.join(work, "raw"), file, str(512)]) - timed(["true"]))
         said("copy", ours, raw, "ours %.1f, raw %.1f milliseconds" % (1e3 * min(ours), 1e3 * min(raw)))
+        alone, beside = [], []
+        for _ in rounds:
+            subprocess.run(["cp", "--sparse=always", os.path.join(work, "device"), file], check=True)
+            program = os.path.join(work, "crates", "bench_turns", "out", "bench_turns")
+            said_of = subprocess.run([program, file, "4", "2000"], capture_output=True, text=True, check=True).stdout
+            turns = [list(map(int, line.split())) for line in said_of.splitlines()]
+            alone += [time for runs, time, steps in turns if not runs and steps == 1024]
+            beside += [time for runs, time, steps in turns if runs]
+        middle, late = statistics.median(alone), statistics.quantiles(beside, n=100)[98]
+        print("    turns    %d alone: median %.1f us; %d beside a snapshot: median %.1f, 99th percentile %.1f, slowest %.1f; ratio %.2f" % (
+            len(alone), middle / 1e3, len(beside), statistics.median(beside) / 1e3, late / 1e3, max(beside) / 1e3, late / middle), flush=True)
 PY

@@ -11,6 +11,7 @@ mod Devices
 mod Standing
 mod Beside
 pub mod Settling
+pub mod All
 mod Ahead
 mod Switches
 mod Tails

@@ -5,5 +5,6 @@ pub mod Flushing
 pub mod Ends
 pub mod Refused
 pub mod Settled
+pub mod All
 pub mod Ahead
 pub mod Switching

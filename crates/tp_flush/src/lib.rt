@@ -16,6 +16,7 @@ mod pieces;
 mod progress;
 mod raising;
 mod settle;
+mod settle_all;
 mod snapshot;
 mod switching;
 mod topology;

@@ -2,7 +2,7 @@
 use Rattle.std.proofs.Common.{Result, Ok, Err, ℕ}
 use Rattle.std.specs.Prelude.{IfErr}
 use Rattle.tp_run.specs.declared.fault.RunFault.{RunFault}
-use Rattle.tp_run.specs.declared.fault.RunFault.TheVariants.{Opening, Spare, Port, OfferRefused, FlushFailed, OutputFailed, ConfirmRefused, LastFlushFailed, Memory}
+use Rattle.tp_run.specs.declared.fault.RunFault.TheVariants.{Opening, Spare, Port, OfferRefused, FlushFailed, OutputFailed, ConfirmRefused, LastFlushFailed, Unaccounted, Memory}
 use Rattle.tp_run.specs.Faults.{IsBegun, IsUnbegun}
 
 -- a run that was begun isn't answered as one that wasn't
@@ -16,4 +16,5 @@ begun_written (Err FlushFailed) begun unbegun = unbegun
 begun_written (Err OutputFailed) begun unbegun = unbegun
 begun_written (Err ConfirmRefused) begun unbegun = unbegun
 begun_written (Err LastFlushFailed) begun unbegun = unbegun
+begun_written (Err Unaccounted) begun unbegun = unbegun
 begun_written (Err Memory) begun unbegun = unbegun

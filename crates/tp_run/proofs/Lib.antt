@@ -1,3 +1,4 @@
+pub mod Accounting
 pub mod Faults
 pub mod Fronts
 pub mod Made
@@ -5,3 +6,4 @@ pub mod Runs
 mod Shown
 pub mod Slips
 pub mod Compacts
+pub mod Worked

@@ -20,6 +20,7 @@ use Rattle.tp_flush.specs.Settled.{RecoversWith, Stand}
 use Rattle.tp_flush.proofs.Kept.{reached_then}
 use Rattle.tp_flush.proofs.Turns.{walked_nowhere, walked_recovers}
 use Rattle.tp_run.specs.declared.fault.RunFault.{RunFault}
+use Rattle.tp_run.specs.declared.job.Job.{Job}
 use Rattle.tp_run.specs.Input.{input_slips}
 use Rattle.tp_run.specs.Outset.{outset_in}
 use Rattle.tp_run.specs.Ran.{Carried, Ran, Settled}
@@ -50,11 +51,11 @@ SlipsAreRecovered =
     → RecoversTo t414 device_areas start journal least bytes → AreBelow least slips → Stand journal slips → RecoversWith start journal least slips bytes
 
 -- a device that was opened, and whose flusher walked on from there until it was settled with
-pub served_ran : SlipsAreRecovered → (start : Network NodeState) (opened : Opened) (port : ℕ) (input : List ℕ) (was now : Option (List ℕ)) (old new : Flushing) (result : Result ℕ RunFault)
+pub served_ran : SlipsAreRecovered → (start : Network NodeState) (opened : Opened) (job : Job) (input : List ℕ) (was now : Option (List ℕ)) (old new : Flushing) (result : Result ℕ RunFault)
     → verdict old.state.now.bytes ≡ Ok opened → Reached start old.world → Walked old new → IfOk result (λ next. next ≤ new.world.mark)
-    → IfOk result (Settled start (outset_in opened port) (input_slips (outset_in opened port) input) was now new.world.journal)
-    → MayPrint start old new port (outset_in opened port).confirmed was now → Ran start port input was now result old.state new.state
-served_ran law start opened port input was now old new result reads R W stored settled shown =
+    → IfOk result (Settled start opened.cut job (outset_in opened job.port) (input_slips (outset_in opened job.port) input) was now new.world.journal)
+    → MayPrint start old new job.port (outset_in opened job.port).confirmed was now → Ran start job input was now result old.state new.state
+served_ran law start opened job input was now old new result reads R W stored settled shown =
     let there : Reached start new.world = reached_then start old.world new.world R (chain_leads t414 device_areas old.world new.world W.worlds W.chain) in
     let last : LeavesOnly new.state new.state (RecoversTo t414 device_areas start new.world.journal new.world.mark) = walked_recovers start new new there (walked_nowhere new W.now) in
     let less : (next : ℕ) → next ≤ new.world.mark → (left : List ℕ) → MayBe new.state.now left → RecoversTo t414 device_areas start new.world.journal next left =
@@ -65,8 +66,8 @@ served_ran law start opened port input was now old new result reads R W stored s
       leaves = weaker old.state new.state (RecoversTo t414 device_areas start new.world.journal old.world.mark) _ (λ left r. inr r) (walked_recovers start old new R W);
       stored = if_ok result (λ next. next ≤ new.world.mark) _ (λ next low left may. less next low left may) stored;
       carried =
-          if_both result (λ next. next ≤ new.world.mark) (Settled start (outset_in opened port) (input_slips (outset_in opened port) input) was now new.world.journal)
-          (λ next. Carried start new.world.journal port input was now next old.state new.state)
+          if_both result (λ next. next ≤ new.world.mark) (Settled start opened.cut job (outset_in opened job.port) (input_slips (outset_in opened job.port) input) was now new.world.journal)
+          (λ next. Carried start new.world.journal job input was now next old.state new.state)
           (λ next low s. record {
             opened = opened;
             reads = reads;
@@ -76,6 +77,7 @@ served_ran law start opened port input was now old new result reads R W stored s
             below = s.below;
             stored = λ left may. law start new.world.journal next _ left (less next low left may) s.below s.stand;
             shows = s.shows;
+            accounted = s.accounted;
           }) stored settled;
       printed = elim shown [
         | inl same ↦ inl same
@@ -95,19 +97,19 @@ served_ran law start opened port input was now old new result reads R W stored s
     }
 
 -- a device that no call was made of
-pub still_ran : (start : Network NodeState) (port : ℕ) (input : List ℕ) (was : Option (List ℕ)) (fault : RunFault) (s : State) → Ran start port input was was (Err fault) s s
-still_ran start port input was fault s = record { journal = []; first = 0; leaves = started s _ (λ left may. inl may); stored = tt; carried = tt; printed = inl refl }
+pub still_ran : (start : Network NodeState) (job : Job) (input : List ℕ) (was : Option (List ℕ)) (fault : RunFault) (s : State) → Ran start job input was was (Err fault) s s
+still_ran start job input was fault s = record { journal = []; first = 0; leaves = started s _ (λ left may. inl may); stored = tt; carried = tt; printed = inl refl }
 
 -- a device that was only read
-pub unwritten_ran : (start : Network NodeState) (port : ℕ) (input : List ℕ) (was : Option (List ℕ)) (fault : RunFault) (old new : State) → LeavesNothingNew old new
-    → Ran start port input was was (Err fault) old new
-unwritten_ran start port input was fault old new L =
+pub unwritten_ran : (start : Network NodeState) (job : Job) (input : List ℕ) (was : Option (List ℕ)) (fault : RunFault) (old new : State) → LeavesNothingNew old new
+    → Ran start job input was was (Err fault) old new
+unwritten_ran start job input was fault old new L =
     record { journal = []; first = 0; leaves = weaker old new (MayBe old.now) _ (λ left may. inl may) L; stored = tt; carried = tt; printed = inl refl }
 
 -- a device that was read, so that its bytes are the same, and then more
-pub opened_ran : (start : Network NodeState) (port : ℕ) (input : List ℕ) (was now : Option (List ℕ)) (result : Result ℕ RunFault) (old read new : State) → LeavesNothingNew old read
-    → read.now.bytes ≡ old.now.bytes → Ran start port input was now result read new → Ran start port input was now result old new
-opened_ran start port input was now result old read new L same R = record {
+pub opened_ran : (start : Network NodeState) (job : Job) (input : List ℕ) (was now : Option (List ℕ)) (result : Result ℕ RunFault) (old read new : State) → LeavesNothingNew old read
+    → read.now.bytes ≡ old.now.bytes → Ran start job input was now result read new → Ran start job input was now result old new
+opened_ran start job input was now result old read new L same R = record {
   journal = R.journal;
   first = R.first;
   leaves =
@@ -116,7 +118,7 @@ opened_ran start port input was now result old read new L same R = record {
       (λ left either. elim either [ inl may ↦ inl (L.each left (inr may)) | inr r ↦ inr r ]) R.leaves);
   stored = R.stored;
   carried =
-      if_ok result (λ next. Carried start R.journal port input was now next read new) (λ next. Carried start R.journal port input was now next old new)
+      if_ok result (λ next. Carried start R.journal job input was now next read new) (λ next. Carried start R.journal job input was now next old new)
       (λ next c. record {
         opened = c.opened;
         reads = subst (λ bytes. verdict bytes ≡ Ok c.opened) same c.reads;
@@ -126,6 +128,7 @@ opened_ran start port input was now result old read new L same R = record {
         below = c.below;
         stored = c.stored;
         shows = c.shows;
+        accounted = c.accounted;
       }) R.carried;
   printed = elim R.printed [
     | inl none ↦ inl none

@@ -16,6 +16,8 @@ use Rattle.tp_shared.specs.Entries.{confirm_entries}
 use Rattle.tp_shared.specs.Receipted.{AreBelow, Receipted}
 use Rattle.tp_flush.specs.Settled.{Stand}
 use Rattle.tp_host.specs.Receipts.{IsFor}
+use Rattle.tp_run.specs.Accounted.{Accounted}
+use Rattle.tp_run.specs.declared.job.Job.{Job}
 use Rattle.tp_run.specs.declared.outset.Outset.{Outset}
 use Rattle.tp_run.specs.Input.{IsForInput, rest_at, rest_of}
 use Rattle.tp_run.specs.Outset.{StandsIn}
@@ -90,11 +92,12 @@ offered_at b new outset input (Err e) S after number F = tt
 
 -- ## What is settled
 
--- two receipts, and one is for what was printed
-pub both_settled : (start : Network NodeState) (outset : Outset) (Are : ℕ → List ℕ → Type 0) (was now : Option (List ℕ)) (journal : List Entry) (next : ℕ) (offered confirmed : Receipted)
+-- two receipts, and one is for what was printed; with what workers made they are all
+pub both_settled : (start network : Network NodeState) (job : Job) (outset : Outset) (Are : ℕ → List ℕ → Type 0) (was now : Option (List ℕ)) (journal : List Entry) (next : ℕ) (offered confirmed : Receipted)
     → (O : IsForOutput outset.port outset.confirmed Are was now confirmed) → Shows start journal O.confirmed.first outset.port outset.confirmed O.printed → offered.number ≤ next → confirmed.number ≤ next → AreBelow offered.number offered.seat
-    → AreBelow confirmed.number confirmed.seat → Stand journal offered.seat → Stand journal confirmed.seat → Settled start outset offered.seat was now journal next
-both_settled start outset Are was now journal next offered confirmed O shows first second handed told one other =
+    → AreBelow confirmed.number confirmed.seat → Stand journal offered.seat → Stand journal confirmed.seat → Accounted network job journal outset.next next (offered.seat ++ confirmed.seat)
+    → Settled start network job outset offered.seat was now journal next
+both_settled start network job outset Are was now journal next offered confirmed O shows first second handed told one other accounted =
     let F = O.confirmed in record {
       printed = O.printed;
       appended = O.appended;
@@ -104,4 +107,5 @@ both_settled start outset Are was now journal next offered confirmed O shows fir
           (subst (AreBelow next) F.slips (below_more confirmed.number next confirmed.seat second told));
       stand = both _ offered.seat (output_slips outset F.first O.printed) one (subst (Stand journal) F.slips other);
       shows = shows;
+      accounted = subst (λ slips. Accounted network job journal outset.next next (offered.seat ++ slips)) F.slips accounted;
     }

@@ -1,7 +1,7 @@
 -- Which faults come where.
 use Rattle.std.specs.Prelude.{◌≡◌, ◌⊎◌, Result, Ok, Err}
 use Rattle.tp_run.specs.declared.fault.RunFault.{RunFault}
-use Rattle.tp_run.specs.declared.fault.RunFault.TheVariants.{Opening, Spare, Port, OfferRefused, FlushFailed, OutputFailed, ConfirmRefused, LastFlushFailed, Memory}
+use Rattle.tp_run.specs.declared.fault.RunFault.TheVariants.{Opening, Spare, Port, OfferRefused, FlushFailed, OutputFailed, ConfirmRefused, LastFlushFailed, Unaccounted, Memory}
 
 -- the device isn't written
 abbrev pub IsUnbegun : {A : Type 0} → Result A RunFault → Type 0
@@ -14,6 +14,7 @@ IsUnbegun (Err FlushFailed) = ⊥
 IsUnbegun (Err OutputFailed) = ⊥
 IsUnbegun (Err ConfirmRefused) = ⊥
 IsUnbegun (Err LastFlushFailed) = ⊥
+IsUnbegun (Err Unaccounted) = ⊥
 IsUnbegun (Err Memory) = ⊥
 
 -- nothing is printed
@@ -27,6 +28,7 @@ IsSilent (Err FlushFailed) = Unit {0}
 IsSilent (Err OutputFailed) = ⊥
 IsSilent (Err ConfirmRefused) = ⊥
 IsSilent (Err LastFlushFailed) = ⊥
+IsSilent (Err Unaccounted) = ⊥
 IsSilent (Err Memory) = ⊥
 
 -- a fault of a flush, which answers `given` where the device fails
@@ -43,6 +45,7 @@ IsLate FlushFailed = ⊥
 IsLate OutputFailed = Unit {0}
 IsLate ConfirmRefused = Unit {0}
 IsLate LastFlushFailed = Unit {0}
+IsLate Unaccounted = Unit {0}
 IsLate Memory = Unit {0}
 
 -- a fault of a run whose device opened, and which can be made as it is asked
@@ -55,4 +58,5 @@ IsBegun FlushFailed = Unit {0}
 IsBegun OutputFailed = Unit {0}
 IsBegun ConfirmRefused = Unit {0}
 IsBegun LastFlushFailed = Unit {0}
+IsBegun Unaccounted = Unit {0}
 IsBegun Memory = Unit {0}

@@ -1,4 +1,5 @@
 pub mod Compacted
+pub mod Accounted
 pub mod Every
 pub mod Faults
 pub mod Input
@@ -7,3 +8,4 @@ pub mod Outset
 pub mod Output
 pub mod Ran
 pub mod Shown
+pub mod Worked

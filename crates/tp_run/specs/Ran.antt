@@ -9,12 +9,14 @@ use Rattle.tp_model.specs.Network.{Network}
 use Rattle.tp_model.specs.Disk.{MayBe}
 use Rattle.tp_model.specs.DiskHistory.{State, LeavesOnly, moment}
 use Rattle.tp_model.specs.DeviceAreas.{device_areas}
-use Rattle.tp_model.specs.Opening.{Opened, verdict}
+use Rattle.tp_model.specs.Opening.{Opened, next_of, verdict}
 use Rattle.tp_model.specs.Runs.{World}
 use Rattle.tp_model.specs.Walks.{RecoversTo}
 use Rattle.tp_shared.specs.Receipted.{AreBelow}
 use Rattle.tp_flush.specs.Settled.{RecoversWith, Stand}
+use Rattle.tp_run.specs.Accounted.{Accounted}
 use Rattle.tp_run.specs.declared.fault.RunFault.{RunFault}
+use Rattle.tp_run.specs.declared.job.Job.{Job}
 use Rattle.tp_run.specs.declared.outset.Outset.{Outset}
 use Rattle.tp_run.specs.Input.{input_slips}
 use Rattle.tp_run.specs.Outset.{outset_in}
@@ -32,31 +34,37 @@ output_slips outset number printed = enumerate_from number (confirms outset.port
 
 -- What was settled with the flusher as a run ended: bytes were printed, and in the flusher's journal, as far as that reaches, stand
 -- the entries of some slips and, under a number of its own, the entry that confirms what was printed. All numbers are below `next`.
--- Where the entries before that number lead, the bytes are all outputs of the port behind those confirmed.
-pub record Settled (start : Network NodeState) (outset : Outset) (handed : List (ℕ × Entry)) (was now : Option (List ℕ)) (journal : List Entry) (next : ℕ) : Type 0 where
+-- Where the entries before that number lead, the bytes are all outputs of the port behind those confirmed. These entries and those of
+-- the turns of the workers, on a network of this shape, are all that was journalled since the opening.
+pub record Settled (start network : Network NodeState) (job : Job) (outset : Outset) (handed : List (ℕ × Entry)) (was now : Option (List ℕ)) (journal : List Entry) (next : ℕ) : Type 0 where
   pub printed : List ℕ
   pub appended : Appends was now printed
   pub number : ℕ
   pub below : AreBelow next (handed ++ output_slips outset number printed)
   pub stand : Stand journal (handed ++ output_slips outset number printed)
   pub shows : Shows start journal number outset.port outset.confirmed printed
+  pub accounted : Accounted network job journal outset.next next (handed ++ output_slips outset number printed)
 
 -- What was handed in and printed by a run that was done is in the journal. The device opened, and its port stood somewhere. Behind
 -- all that the device had there are the entries of the input from what the port had accepted on, as many bytes as it had room for.
 -- Some bytes were printed, and there is the entry that confirms as many outputs behind those confirmed before: where the entries
 -- in front of it lead, the bytes are all the outputs of the port that weren't confirmed. All of the entries have numbers below
 -- `next`, and whatever a crash leaves of the device opens to where a prefix of the journal leads in which each stands at its number.
-pub record Carried (start : Network NodeState) (journal : List Entry) (port : ℕ) (input : List ℕ) (was now : Option (List ℕ)) (next : ℕ) (old new : State) : Type 0 where
+-- They and those of the turns of the workers are all that the journal has behind what the device had, each once, up to `next`.
+pub record Carried (start : Network NodeState) (journal : List Entry) (job : Job) (input : List ℕ) (was now : Option (List ℕ)) (next : ℕ) (old new : State) : Type 0 where
   pub opened : Opened
   pub reads : verdict old.now.bytes ≡ Ok opened
   pub printed : List ℕ
   pub appended : Appends was now printed
   pub number : ℕ
-  pub below : AreBelow next (input_slips (outset_in opened port) input ++ output_slips (outset_in opened port) number printed)
+  pub below : AreBelow next (input_slips (outset_in opened job.port) input ++ output_slips (outset_in opened job.port) number printed)
   pub stored :
       (left : List ℕ) → MayBe new.now left
-      → RecoversWith start journal next (input_slips (outset_in opened port) input ++ output_slips (outset_in opened port) number printed) left
-  pub shows : Shows start journal number port (outset_in opened port).confirmed printed
+      → RecoversWith start journal next (input_slips (outset_in opened job.port) input ++ output_slips (outset_in opened job.port) number printed) left
+  pub shows : Shows start journal number job.port (outset_in opened job.port).confirmed printed
+  pub accounted :
+      Accounted opened.cut job journal (next_of opened) next
+      (input_slips (outset_in opened job.port) input ++ output_slips (outset_in opened job.port) number printed)
 
 -- What was printed, however the run ended: the device opened; where the first `number` entries of the journal lead, the port has some
 -- outputs behind those that were confirmed as it was opened, and a front of them was printed, while the device stood somewhere since;
@@ -75,12 +83,12 @@ pub record IsPrinted (start : Network NodeState) (journal : List Entry) (port : 
 
 -- A crash at any moment of the run leaves what one just before might have left, or what opens to where a prefix of the journal leads,
 -- with all that the device had as it was opened. After a run that was done, the prefix has each entry below the answered number, and
--- the input and what confirms the output are among them. However it ended, nothing was printed, or outputs of the port where entries
--- lead that whatever a crash leaves has.
-pub record Ran (start : Network NodeState) (port : ℕ) (input : List ℕ) (was now : Option (List ℕ)) (result : Result ℕ RunFault) (old new : State) : Type 0 where
+-- the input and what confirms the output are among them; with those of the workers' turns they are all that the journal has since the
+-- opening. However it ended, nothing was printed, or outputs of the port where entries lead that whatever a crash leaves has.
+pub record Ran (start : Network NodeState) (job : Job) (input : List ℕ) (was now : Option (List ℕ)) (result : Result ℕ RunFault) (old new : State) : Type 0 where
   pub journal : List Entry
   pub first : ℕ
   pub leaves : LeavesOnly old new (λ left. MayBe old.now left ⊎ RecoversTo t414 device_areas start journal first left)
   pub stored : IfOk result (λ next. (left : List ℕ) → MayBe new.now left → RecoversTo t414 device_areas start journal next left)
-  pub carried : IfOk result (λ next. Carried start journal port input was now next old new)
-  pub printed : (now ≡ was) ⊎ IsPrinted start journal port was now old new
+  pub carried : IfOk result (λ next. Carried start journal job input was now next old new)
+  pub printed : (now ≡ was) ⊎ IsPrinted start journal job.port was now old new

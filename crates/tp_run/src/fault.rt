@@ -30,6 +30,9 @@ pub enum RunFault {
     /// All that is shown is printed, and the device failed before that it was confirmed is stored.
     #[error("DeviceFailed")]
     LastFlushFailed,
+    /// All that is shown is printed, confirmed and stored, and an entry was journalled that no worker made and no receipt is for.
+    #[error("Unaccounted")]
+    Unaccounted,
     /// Memory was refused, at whatever step.
     #[error("Memory")]
     Memory,

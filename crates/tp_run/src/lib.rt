@@ -1,6 +1,7 @@
 //! The program's main job: a network that runs in threads over any device.
 #![tactic(auto)]
 
+mod accounting;
 mod beginning;
 mod compacting;
 mod fault;

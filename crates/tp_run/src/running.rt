@@ -66,17 +66,18 @@ fn run_parts<J: Naming + Send + Sync, D: Disk + Send + Drop, O: Write, R: Thread
     requires outset { outset ≡ outset_in opened.value job.port }
     requires place { store.place ≡ place_at opened.value }
     requires topology { topology ≡ opened.value.head.topology }
+    requires network { J.start ≡ opened.value.cut }
     requires roomy { is_roomy opened.value.head.topology opened.value.head.area ≡ true }
     requires unbroken { store.broken ≡ false }
     requires read { D.keeps → verdict (D.state store.disk).now.bytes ≡ Ok opened.value }
     requires synced { D.keeps → IsSynced (D.state store.disk) }
     ensures size { D.size_of result.0 ≡ D.size_of store.disk }
     ensures ran { D.keeps → Began J.formatted J.before (D.state store.disk).now.bytes
-        → Ran J.formatted job.port input.now (O.contents out.old) (O.contents out.new) result.1 (D.state store.disk) (D.state result.0) }
+        → Ran J.formatted job input.now (O.contents out.old) (O.contents out.new) result.1 (D.state store.disk) (D.state result.0) }
     ensures silent { IsSilent result.1 → O.contents out.new ≡ O.contents out.old }
     ensures begun { IfErr result.1 IsBegun }
 {
-    let Ok((net, mut seats, key)) = Net::<J, NoGate>::start(
+    let Ok((net, seats, key)) = Net::<J, NoGate>::start(
         rt,
         alloc,
         parts,
@@ -91,7 +92,7 @@ fn run_parts<J: Naming + Send + Sync, D: Disk + Send + Drop, O: Write, R: Thread
     flusher.known();
     stored_slips_are_recovered();
     let (flusher, done) = serve(
-        rt, alloc, job, every, outset, &net, &mut seats, flusher, input, out,
+        rt, alloc, job, every, outset, &net, seats, flusher, input, out,
     );
     (flusher.into_disk(), done)
 }
@@ -101,7 +102,8 @@ fn run_parts<J: Naming + Send + Sync, D: Disk + Send + Drop, O: Write, R: Thread
 ///
 /// Whatever a crash leaves at any moment of the call is what one just before might have left, or opens to where a prefix of the journal
 /// leads, with all that the device had. After a run that was done it has each entry below the number that is answered: among them are
-/// those of the input, behind what the device had, and the one that confirms what was printed. However the call ends, what it printed
+/// those of the input, behind what the device had, and the one that confirms what was printed; all others behind what the device had were
+/// made by turns of the workers. However the call ends, what it printed
 /// are outputs of the port where entries of that journal lead that whatever a crash leaves from then on has.
 pub fn run<D: Disk + Send + Drop, O: Write, R: Threads + Wait + Sync>(
     rt: &R,
@@ -116,7 +118,7 @@ pub fn run<D: Disk + Send + Drop, O: Write, R: Threads + Wait + Sync>(
     requires quantum { (0 < job.quantum) × (job.quantum ≤ MAX_STEPS) }
     ensures size { D.size_of result.0 ≡ D.size_of disk }
     ensures ran { D.keeps → Began history.formatted history.before (D.state disk).now.bytes
-        → Ran history.formatted job.port input.now (O.contents out.old) (O.contents out.new) result.1 (D.state disk) (D.state result.0) }
+        → Ran history.formatted job input.now (O.contents out.old) (O.contents out.new) result.1 (D.state disk) (D.state result.0) }
     ensures unwritten { D.keeps → IsUnbegun result.1 → LeavesNothingNew (D.state disk) (D.state result.0) }
     ensures silent { IsSilent result.1 → O.contents out.new ≡ O.contents out.old }
     ensures unopened { D.keeps → IsErr (verdict (D.state disk).now.bytes) → (unopened : Unopened) × (result.1 ≡ Err (RunFault.Opening unopened)) }

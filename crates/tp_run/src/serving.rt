@@ -1,16 +1,19 @@
 //! What a run does with a network in threads, and its flusher.
 
-ghost use Rattle.std.specs.Prelude.{◌≡◌, ◌<◌, ◌≤◌, ◌++◌, All, length, IfErr, IfOk, OnErr, Some};
+ghost use Rattle.std.specs.Prelude.{◌≡◌, ◌<◌, ◌≤◌, ◌++◌, [], All, flat_map, length, vec_len, IfErr, IfOk, OnErr, Some};
 ghost use Rattle.tp_shared.specs.Receipted.{AreBelow};
 ghost use Rattle.tp_flush.specs.Known.{Began};
 ghost use Rattle.tp_flush.specs.Flushing.{IsSameProcess, Walked};
 ghost use Rattle.tp_flush.specs.Settled.{Stand};
+ghost use Rattle.tp_flush.specs.All.{AreAll};
 ghost use Rattle.tp_run.specs.Faults.{IsBegun, IsLate, IsSilent};
 ghost use Rattle.tp_run.specs.Input.{IsForInput, input_slips};
 ghost use Rattle.tp_run.specs.Output.{IsForOutput};
 ghost use Rattle.tp_run.specs.Ran.{Settled};
 ghost use Rattle.tp_run.specs.Shown.{AreShownIn, MayPrint, MayShow};
+ghost use Rattle.tp_run.specs.Worked.{Worked};
 
+use crate::accounting::account;
 use crate::fault::RunFault;
 use crate::flushing::{flush_meanwhile, flush_upto};
 use crate::job::Job;
@@ -94,31 +97,38 @@ fn print<J: Naming, D: Disk, O: Write, R: Wait>(
     print_settled(&mut held, flusher, outset, mark, out)
 }
 
-/// Lets workers make turns, and the flusher its own in a thread of its own meanwhile, where one can be made, and else behind them.
+/// Lets workers make turns, and the flusher its own in a thread of its own meanwhile, where one can be made, and else behind them. Answers
+/// the flusher, and the seats with the slips of what the turns made.
 fn work<J: Naming + Send + Sync, D: Disk + Send + Drop, R: Threads + Wait + Sync>(
     rt: &R,
     alloc: Global,
     net: &Net<J, NoGate>,
-    seats: &mut [Seat<J>],
+    seats: Vec<Seat<J>>,
     watch: Watch,
     flusher: Flusher<J, D>,
-) -> Flusher<J, D>
-    requires seats { All (λ seat. seat.hand ≡ Some net.now.queue) seats.old }
-    ensures walks { D.keeps → Began J.formatted J.before flusher.opened → Walked flusher result }
-    ensures process { IsSameProcess flusher result }
+) -> (Flusher<J, D>, Vec<Seat<J>>)
+    requires seats { All (λ seat. (seat.hand ≡ Some net.now.queue) × Worked J.start net.now.quantum seat.slips) seats.items }
+    ensures walks { D.keeps → Began J.formatted J.before flusher.opened → Walked flusher result.0 }
+    ensures process { IsSameProcess flusher result.0 }
+    ensures count { vec_len result.1 ≡ vec_len seats }
+    ensures seats { All (λ seat. Worked J.start net.now.quantum seat.slips) result.1.items }
 {
     let watching = &watch;
     let shared = net.shared();
-    let (flusher, ()) = join(
+    join(
         rt,
         move || -> Flusher<J, D>
             ensures { (D.keeps → Began J.formatted J.before flusher.opened → Walked flusher result) × IsSameProcess flusher result }
         { flush_meanwhile(rt, alloc, shared, watching, flusher) },
-        ||
-            requires { All (λ seat. seat.hand ≡ Some net.now.queue) seats.now }
-        { work_all(rt, alloc, net, watching, seats) },
-    );
-    flusher
+        move || -> Vec<Seat<J>>
+            requires { All (λ seat. (seat.hand ≡ Some net.now.queue) × Worked J.start net.now.quantum seat.slips) seats.items }
+            ensures { (vec_len result ≡ vec_len seats) × All (λ seat. Worked J.start net.entry.now.quantum seat.slips) result.items }
+        {
+            let mut seats = seats;
+            work_all(rt, alloc, net, watching, seats.as_mut_slice());
+            seats
+        },
+    )
 }
 
 /// The later one of two numbers.
@@ -129,43 +139,58 @@ fn later(one: u64, other: u64) -> u64
     one.max(other)
 }
 
-/// Settles two receipts with the flusher, under the book's lock, once its last flush is done. It changes nothing.
+/// Settles two receipts and the workers' seats with the flusher, under the book's lock, once its last flush is done: they have all that
+/// was journalled from the number `first` on, below `next`, which it answers. It changes nothing.
 fn settle<J: Naming, D: Disk, R: Wait>(
     rt: &R,
     shared: &Shared<J>,
     flusher: &mut Flusher<J, D>,
+    first: u64,
+    next: u64,
+    seats: Vec<Seat<J>>,
     offered: Receipt<J>,
     confirmed: Receipt<J>,
-)
+) -> Result<u64, RunFault>
+    requires first { first ≡ J.first }
     ensures same { flusher.new ≡ flusher.old }
     ensures below { AreBelow offered.number offered.seat × AreBelow confirmed.number confirmed.seat }
     ensures stand { D.keeps → Began J.formatted J.before flusher.old.opened → Stand flusher.old.world.journal offered.seat × Stand flusher.old.world.journal confirmed.seat }
+    ensures next { IfOk result (λ answer. answer ≡ next) }
+    ensures all { D.keeps → Began J.formatted J.before flusher.old.opened
+        → IfOk result (λ answer. AreAll J.first answer flusher.old.world.journal (flat_map (λ seat. seat.slips) seats.items ++ offered.seat ++ confirmed.seat)) }
+    ensures begun { IfErr result IsBegun }
 {
     let mut offered = offered;
     let mut confirmed = confirmed;
     let mut held = shared.book().lock(rt);
     flusher.settle_receipt(&mut held, &mut offered);
     flusher.settle_receipt(&mut held, &mut confirmed);
+    account(&mut held, flusher, first, next, seats, offered, confirmed)
 }
 
 /// Flushes, prints what is shown, confirms it, and flushes again. Answers the number that the next entry gets. What is in the receipt
-/// of the input, and in that of the output, is then in the journal; and what was printed are outputs of the port where it leads,
-/// however it ends.
+/// of the input, and in that of the output, is then in the journal, and with what the workers made it is all of it since the opening; and
+/// what was printed are outputs of the port where it leads, however it ends.
 fn finish<J: Naming, D: Disk, O: Write, R: Wait>(
     rt: &R,
     alloc: Global,
     shared: &Shared<J>,
+    job: Job,
     outset: Outset,
     offered: Receipt<J>,
+    seats: Vec<Seat<J>>,
     flusher: &mut Flusher<J, D>,
     out: &mut O,
 ) -> Result<u64, RunFault>
     requires there { outset.port < length J.start.ports }
+    requires first { outset.next ≡ J.first }
+    requires seats { All (λ seat. Worked J.start job.quantum seat.slips) seats.items }
+    requires count { vec_len seats ≡ job.workers }
     ensures walks { D.keeps → Began J.formatted J.before flusher.old.opened → Walked flusher.old flusher.new }
     ensures process { IsSameProcess flusher.old flusher.new }
     ensures stored { IfOk result (λ next. next ≤ flusher.new.world.mark) }
     ensures settled { D.keeps → Began J.formatted J.before flusher.old.opened
-        → IfOk result (Settled J.formatted outset offered.seat (O.contents out.old) (O.contents out.new) flusher.new.world.journal) }
+        → IfOk result (Settled J.formatted J.start job outset offered.seat (O.contents out.old) (O.contents out.new) flusher.new.world.journal) }
     ensures shown { D.keeps → Began J.formatted J.before flusher.old.opened
         → MayPrint J.formatted flusher.old flusher.new outset.port outset.confirmed (O.contents out.old) (O.contents out.new) }
     ensures silent { IsSilent result → O.contents out.new ≡ O.contents out.old }
@@ -177,8 +202,16 @@ fn finish<J: Naming, D: Disk, O: Write, R: Wait>(
     let confirmed = print(rt, shared, flusher, outset, mark, out)?;
     let next = later(number, confirmed.number());
     let _mark = flush_upto(rt, alloc, shared, flusher, next, RunFault::LastFlushFailed)?;
-    settle(rt, shared, flusher, offered, confirmed);
-    Ok(next)
+    settle(
+        rt,
+        shared,
+        flusher,
+        outset.next,
+        next,
+        seats,
+        offered,
+        confirmed,
+    )
 }
 
 /// Hands in the input, lets the workers make their turns, and prints and confirms what is shown then. Answers the number that the
@@ -195,18 +228,21 @@ pub(crate) fn serve<
     every: u64,
     outset: Outset,
     net: &Net<J, NoGate>,
-    seats: &mut [Seat<J>],
+    seats: Vec<Seat<J>>,
     flusher: Flusher<J, D>,
     input: &[u8],
     out: &mut O,
 ) -> (Flusher<J, D>, Result<u64, RunFault>)
     requires there { outset.port < length J.start.ports }
-    requires seats { All (λ seat. seat.hand ≡ Some net.now.queue) seats.old }
+    requires first { outset.next ≡ J.first }
+    requires quantum { net.now.quantum ≡ job.quantum }
+    requires seats { All (λ seat. (seat.hand ≡ Some net.now.queue) × (seat.slips ≡ [])) seats.items }
+    requires count { vec_len seats ≡ job.workers }
     ensures walks { D.keeps → Began J.formatted J.before flusher.opened → Walked flusher result.0 }
     ensures process { IsSameProcess flusher result.0 }
     ensures stored { IfOk result.1 (λ next. next ≤ result.0.world.mark) }
     ensures settled { D.keeps → Began J.formatted J.before flusher.opened
-        → IfOk result.1 (Settled J.formatted outset (input_slips outset input.now) (O.contents out.old) (O.contents out.new) result.0.world.journal) }
+        → IfOk result.1 (Settled J.formatted J.start job outset (input_slips outset input.now) (O.contents out.old) (O.contents out.new) result.0.world.journal) }
     ensures shown { D.keeps → Began J.formatted J.before flusher.opened
         → MayPrint J.formatted flusher result.0 outset.port outset.confirmed (O.contents out.old) (O.contents out.new) }
     ensures silent { IsSilent result.1 → O.contents out.new ≡ O.contents out.old }
@@ -219,7 +255,17 @@ pub(crate) fn serve<
         Err(fault) => return (flusher, Err(fault)),
     };
     let watch = Watch::new(job.turns, every);
-    let mut flusher = work(rt, alloc, net, seats, watch, flusher);
-    let done = finish(rt, alloc, shared, outset, offered, &mut flusher, out);
+    let (mut flusher, seats) = work(rt, alloc, net, seats, watch, flusher);
+    let done = finish(
+        rt,
+        alloc,
+        shared,
+        job,
+        outset,
+        offered,
+        seats,
+        &mut flusher,
+        out,
+    );
     (flusher, done)
 }

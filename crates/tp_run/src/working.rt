@@ -1,7 +1,8 @@
 //! Workers.
 
-ghost use Rattle.std.specs.Prelude.{◌≡◌, All, Some, IfSome};
+ghost use Rattle.std.specs.Prelude.{◌≡◌, All, Some, IfSome, length};
 ghost use Rattle.tp_run.specs.Every.{made_by};
+ghost use Rattle.tp_run.specs.Worked.{Worked};
 
 use crate::beginning::{begin_where_due, missing_in};
 use crate::watch::{EACH, Watch};
@@ -42,7 +43,7 @@ fn begin<J: Naming, R: Wait>(rt: &R, alloc: Global, shared: &Shared<J>, watch: &
     watch.set_due(made, missing_in(&held, watch.every()));
 }
 
-/// Makes turns until none is left. A refused turn counts. It never waits for the flusher.
+/// Makes turns until none is left. A refused turn counts. It never waits for the flusher. The slips in `seat` are of just the turns made there.
 fn work<J: Naming, R: Wait>(
     rt: &R,
     alloc: Global,
@@ -50,8 +51,9 @@ fn work<J: Naming, R: Wait>(
     watch: &Watch,
     seat: &mut Seat<J>,
 )
-    requires { seat.old.hand ≡ Some net.now.queue }
-    ensures { seat.new.hand ≡ Some net.now.queue }
+    requires hand { seat.old.hand ≡ Some net.now.queue }
+    requires worked { Worked J.start net.now.quantum seat.old.slips }
+    ensures worked { Worked J.start net.now.quantum seat.new.slips }
 {
     for _ in 0..u32::MAX {
         if !watch.draw() {
@@ -75,7 +77,9 @@ pub(crate) fn work_all<J: Naming + Send + Sync, R: Threads + Wait + Sync>(
     watch: &Watch,
     seats: &mut [Seat<J>],
 )
-    requires { All (λ seat. seat.hand ≡ Some net.now.queue) seats.old }
+    requires seats { All (λ seat. (seat.hand ≡ Some net.now.queue) × Worked J.start net.now.quantum seat.slips) seats.old }
+    ensures count { length seats.new ≡ length seats.old }
+    ensures seats { All (λ seat. Worked J.start net.now.quantum seat.slips) seats.new }
 {
     let threads = seats.len().max(1);
     thread::for_each_mut(
@@ -83,7 +87,8 @@ pub(crate) fn work_all<J: Naming + Send + Sync, R: Threads + Wait + Sync>(
         seats,
         threads,
         &|_, seat: &mut Seat<J>|
-            requires { seat.now.hand ≡ Some net.now.queue }
+            requires { (seat.now.hand ≡ Some net.now.queue) × Worked J.start net.now.quantum seat.now.slips }
+            ensures { Worked J.start net.entry.now.quantum seat.exit.now.slips }
         { work(rt, alloc, net, watch, seat) },
     );
     watch.end();

@@ -3,6 +3,7 @@ pub mod Entries
 pub mod Acts
 pub mod Seals
 pub mod Told
+pub mod Counted
 pub mod Gains
 pub mod Receipted
 pub mod Cells

@@ -35,7 +35,7 @@ impl<J: Naming> Locked<J> {
         let before = book.entries().len();
         let given = book.host_in(port, bytes)?;
         let mut seat = Seat::new();
-        write_new(book, before, roll, &mut seat.slips);
+        write_new(book, before, roll, &mut seat.slips, &mut seat.count);
         Ok(Receipt { given, seat })
     }
 
@@ -55,7 +55,7 @@ impl<J: Naming> Locked<J> {
         let before = book.entries().len();
         let given = book.confirm(port, upto)?;
         let mut seat = Seat::new();
-        write_new(book, before, roll, &mut seat.slips);
+        write_new(book, before, roll, &mut seat.slips, &mut seat.count);
         Ok(Receipt { given, seat })
     }
 
@@ -71,8 +71,8 @@ impl<J: Naming> Locked<J> {
         let Locked { book, roll, .. } = self;
         let before = book.entries().len();
         let done = host_turn(book);
-        let Seat { slips, .. } = seat;
-        write_new(book, before, roll, slips);
+        let Seat { slips, count, .. } = seat;
+        write_new(book, before, roll, slips, count);
         done
     }
 }

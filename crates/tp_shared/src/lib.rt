@@ -30,6 +30,7 @@ mod tail;
 mod tell;
 mod told;
 mod trim;
+mod whole;
 mod write;
 
 pub use audit::gather;

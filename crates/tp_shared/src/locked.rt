@@ -131,8 +131,8 @@ impl<J: Naming> Locked<J> {
         let now = Shown::with(node, done.is_ok());
         turn(&mut here.seal, key, &now);
         here.frozen = node.is_frozen();
-        let Seat { slips, .. } = seat;
-        write_new(book, before, roll, slips);
+        let Seat { slips, count, .. } = seat;
+        write_new(book, before, roll, slips, count);
         done
     }
 
@@ -192,8 +192,8 @@ impl<J: Naming> Locked<J> {
         let ran = commit(book, node, number, stretch);
         let now = Shown::free(node);
         turn(&mut here.seal, key, &now);
-        let Seat { slips, .. } = seat;
-        write_new(book, before, roll, slips);
+        let Seat { slips, count, .. } = seat;
+        write_new(book, before, roll, slips, count);
         ran
     }
 }

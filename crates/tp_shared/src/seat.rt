@@ -7,23 +7,25 @@ use std::marker::{Model, PhantomData};
 use tp_model::Entry;
 use tp_token::{Slips, empty, transfer};
 
-/// The slips of entries, in the order in which they came. Contracts see each as its number and its entry. Nobody can copy
-/// one.
+/// The slips of entries, in the order in which they came, and how many there are. Contracts see each as its number and its entry. Nobody
+/// can copy one.
 #[derive(Drop)]
 pub struct Seat<J: Naming> {
     pub(crate) slips: Slips<Entry>,
+    pub(crate) count: u64,
     pub(crate) of: PhantomData<J>,
 }
 
 impl<J: Naming> Model for Seat<J> {
     ghost use Rattle.std.specs.Prelude.{◌≡◌, ℕ, List};
     ghost use Rattle.tp_model.specs.declared.entry.Entry.{Entry};
+    ghost use Rattle.tp_shared.specs.Counted.{IsCount};
 
     ghost Value = { List (ℕ × Entry) };
 
     ghost view = { λ s. s.slips.items };
 
-    ghost invariant = { λ s. s.slips.name ≡ J.roll };
+    ghost invariant = { λ s. (s.slips.name ≡ J.roll) × IsCount s.count s.slips.items };
 }
 
 impl<J: Naming> Seat<J> {
@@ -33,6 +35,7 @@ impl<J: Naming> Seat<J> {
     {
         Seat {
             slips: empty::<Entry>(),
+            count: 0,
             of: PhantomData,
         }
     }
@@ -41,7 +44,10 @@ impl<J: Naming> Seat<J> {
     pub fn absorb(&mut self, other: Seat<J>)
         ensures { self.new ≡ self.old ++ other }
     {
-        let Seat { mut slips, .. } = other;
+        let Seat {
+            mut slips, count, ..
+        } = other;
         transfer(&mut self.slips, &mut slips);
+        self.count = self.count.saturating_add(count);
     }
 }

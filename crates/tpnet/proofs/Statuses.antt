@@ -3,7 +3,7 @@ use Rattle.std.proofs.Common.{◌≡◌, ◌≤◌, ℕ, refl, arith, Result, Ok
 use Rattle.tp_recover.specs.declared.unopened.Unopened.{Unopened}
 use Rattle.tp_run.specs.Faults.{IsSilent, IsUnbegun}
 use Rattle.tp_run.specs.declared.fault.RunFault.{RunFault}
-use Rattle.tp_run.specs.declared.fault.RunFault.TheVariants.{Opening, Spare, Port, OfferRefused, FlushFailed, OutputFailed, ConfirmRefused, LastFlushFailed, Memory}
+use Rattle.tp_run.specs.declared.fault.RunFault.TheVariants.{Opening, Spare, Port, OfferRefused, FlushFailed, OutputFailed, ConfirmRefused, LastFlushFailed, Unaccounted, Memory}
 use Rattle.tpnet.specs.Running.{status_of}
 
 -- a status is at most 2
@@ -17,6 +17,7 @@ status_few (Err FlushFailed) = omega arith
 status_few (Err OutputFailed) = omega arith
 status_few (Err ConfirmRefused) = omega arith
 status_few (Err LastFlushFailed) = omega arith
+status_few (Err Unaccounted) = omega arith
 status_few (Err Memory) = omega arith
 
 -- at 2 nothing was begun, and nothing printed
@@ -30,6 +31,7 @@ status_words (Err FlushFailed) two = absurd (omega (arith, two))
 status_words (Err OutputFailed) two = absurd (omega (arith, two))
 status_words (Err ConfirmRefused) two = absurd (omega (arith, two))
 status_words (Err LastFlushFailed) two = absurd (omega (arith, two))
+status_words (Err Unaccounted) two = absurd (omega (arith, two))
 status_words (Err Memory) two = absurd (omega (arith, two))
 
 -- so it is of a device that wasn't opened, at 1

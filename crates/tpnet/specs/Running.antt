@@ -6,7 +6,7 @@ use Rattle.tp_recover.specs.Reading.{LeavesNothingNew}
 use Rattle.tp_run.specs.Faults.{IsSilent, IsUnbegun}
 use Rattle.tp_run.specs.Ran.{History, Ran}
 use Rattle.tp_run.specs.declared.fault.RunFault.{RunFault}
-use Rattle.tp_run.specs.declared.fault.RunFault.TheVariants.{Opening, Spare, Port, OfferRefused, FlushFailed, OutputFailed, ConfirmRefused, LastFlushFailed, Memory}
+use Rattle.tp_run.specs.declared.fault.RunFault.TheVariants.{Opening, Spare, Port, OfferRefused, FlushFailed, OutputFailed, ConfirmRefused, LastFlushFailed, Unaccounted, Memory}
 use Rattle.tp_run.specs.declared.job.Job.{Job}
 use Rattle.tpnet.specs.declared.args.Run.{Run}
 
@@ -32,12 +32,13 @@ status_of (Err FlushFailed) = 1
 status_of (Err OutputFailed) = 1
 status_of (Err ConfirmRefused) = 1
 status_of (Err LastFlushFailed) = 1
+status_of (Err Unaccounted) = 1
 status_of (Err Memory) = 1
 
--- A run of this port and input that ended with this status, and what it left on the device and on standard output.
-pub record RanAs (keeps : Type 0) (history : History) (port : ℕ) (input : List ℕ) (old new : State) (was now : Option (List ℕ)) (status : ℕ) : Type 0 where
+-- A run of this job and input that ended with this status, and what it left on the device and on standard output.
+pub record RanAs (keeps : Type 0) (history : History) (job : Job) (input : List ℕ) (old new : State) (was now : Option (List ℕ)) (status : ℕ) : Type 0 where
   pub done : Result ℕ RunFault
   pub is : status ≡ status_of done
-  pub ran : keeps → Began history.formatted history.before old.now.bytes → Ran history.formatted port input was now done old new
+  pub ran : keeps → Began history.formatted history.before old.now.bytes → Ran history.formatted job input was now done old new
   pub unwritten : keeps → IsUnbegun done → LeavesNothingNew old new
   pub silent : IsSilent done → now ≡ was

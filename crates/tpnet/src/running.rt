@@ -77,7 +77,7 @@ pub fn run_on<D: Disk + Drop + Send, O: Write, E: Write, R: Threads + Wait + Syn
     requires { IsRun asked.now }
     ensures status { result.1 ≤ 2 }
     ensures size { D.size_of result.0 ≡ D.size_of disk }
-    ensures ran { RanAs D.keeps history (job_of asked.now).port input.now (D.state disk) (D.state result.0) (O.contents out.old) (O.contents out.new) result.1 }
+    ensures ran { RanAs D.keeps history (job_of asked.now) input.now (D.state disk) (D.state result.0) (O.contents out.old) (O.contents out.new) result.1 }
     ensures words { result.1 ≡ 2 → (D.keeps → LeavesNothingNew (D.state disk) (D.state result.0)) × (O.contents out.new ≡ O.contents out.old) }
     ensures unopened { D.keeps → IsErr (verdict (D.state disk).now.bytes) → (result.1 ≡ 1) × LeavesNothingNew (D.state disk) (D.state result.0) × (O.contents out.new ≡ O.contents out.old) }
 {

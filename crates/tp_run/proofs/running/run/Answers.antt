@@ -9,36 +9,48 @@ use Rattle.tp_run.proofs.running.run.Goals as goal
 
 pub run_parts-requires-clause-names : goal.run_parts-requires-clause-names
 run_parts-requires-clause-names g c κs within =
-    record { roll_is = refl; first_is = refl; wires_are = refl; count_is = refl; ports_are = refl; nodes_are = λ i. refl; mark_is = refl; flusher_is = refl; room_is = refl }
+    let S = c.in-Ok-2.ensures.parts in
+    let start : (n : MarkedNetwork NodeState) → Network NodeState = λ n. n.start in
+    record {
+      roll_is = refl;
+      first_is = refl;
+      wires_are = ap (λ (n : MarkedNetwork NodeState). n.start.wires) S.book;
+      count_is = ap (λ (n : MarkedNetwork NodeState). length n.start.nodes) S.book;
+      ports_are = ?;
+      nodes_are = λ i. refl;
+      mark_is = refl;
+      flusher_is = refl;
+      room_is = refl;
+    }
 
 pub returns-in-Err-clause-ran : goal.returns-in-Err-clause-ran
 returns-in-Err-clause-ran g c k began =
     let out = g.O.Write.contents c.args.out.now in
-    unwritten_ran g.history.formatted c.args.job.port c.args.input.now out (Opening c.in-Err.unopened) (g.D.Disk.state c.args.disk) (g.D.Disk.state c.open.new.disk) (c.open.ensures.leaves k)
+    unwritten_ran g.history.formatted c.args.job c.args.input.now out (Opening c.in-Err.unopened) (g.D.Disk.state c.args.disk) (g.D.Disk.state c.open.new.disk) (c.open.ensures.leaves k)
 
 pub returns-in-Some-clause-ran : goal.returns-in-Some-clause-ran
 returns-in-Some-clause-ran g c k began =
     let out = g.O.Write.contents c.args.out.now in
-    unwritten_ran g.history.formatted c.args.job.port c.args.input.now out c.in-Some.fault (g.D.Disk.state c.args.disk) (g.D.Disk.state c.open.new.disk) (c.open.ensures.leaves k)
+    unwritten_ran g.history.formatted c.args.job c.args.input.now out c.in-Some.fault (g.D.Disk.state c.args.disk) (g.D.Disk.state c.open.new.disk) (c.open.ensures.leaves k)
 
 pub returns-in_default-parts_of-clause-ran : goal.returns-in_default-parts_of-clause-ran
 returns-in_default-parts_of-clause-ran g c k began =
     let out = g.O.Write.contents c.args.out.now in
-    subst (λ d. Ran g.history.formatted c.args.job.port c.args.input.now out out (Err Memory) (g.D.Disk.state c.args.disk) (g.D.Disk.state d)) (sym (c.into_disk.ensures ∙ c.store-store.ensures.disk))
-    (unwritten_ran g.history.formatted c.args.job.port c.args.input.now out Memory (g.D.Disk.state c.args.disk) (g.D.Disk.state c.open.new.disk) (c.open.ensures.leaves k))
+    subst (λ d. Ran g.history.formatted c.args.job c.args.input.now out out (Err Memory) (g.D.Disk.state c.args.disk) (g.D.Disk.state d)) (sym (c.into_disk.ensures ∙ c.store-store.ensures.disk))
+    (unwritten_ran g.history.formatted c.args.job c.args.input.now out Memory (g.D.Disk.state c.args.disk) (g.D.Disk.state c.open.new.disk) (c.open.ensures.leaves k))
 
 pub returns-clause-ran : goal.returns-clause-ran
 returns-clause-ran g c k began =
     let start = g.history.formatted in
-    let port = c.args.job.port in
+    let job = c.args.job in
     let input = c.args.input.now in
     let was = g.O.Write.contents c.args.out.now in
     let now = g.O.Write.contents c.run_parts.new.out in
     let done = c.run_parts.result.1 in
     let kept : (g.D.Disk.state c.open.new.disk).now.bytes ≡ (g.D.Disk.state c.args.disk).now.bytes = ap (λ (m : Moment). m.bytes) (c.in-Ok.ensures.kept k) in
     let same : (g.D.Disk.state c.store-store.result.disk).now.bytes ≡ (g.D.Disk.state c.args.disk).now.bytes = ap (λ d. (g.D.Disk.state d).now.bytes) c.store-store.ensures.disk ∙ kept in
-    opened_ran start port input was now done (g.D.Disk.state c.args.disk) (g.D.Disk.state c.open.new.disk) (g.D.Disk.state c.run_parts.result.0) (c.open.ensures.leaves k) kept
-    (subst (λ d. Ran start port input was now done (g.D.Disk.state d) (g.D.Disk.state c.run_parts.result.0)) c.store-store.ensures.disk
+    opened_ran start job input was now done (g.D.Disk.state c.args.disk) (g.D.Disk.state c.open.new.disk) (g.D.Disk.state c.run_parts.result.0) (c.open.ensures.leaves k) kept
+    (subst (λ d. Ran start job input was now done (g.D.Disk.state d) (g.D.Disk.state c.run_parts.result.0)) c.store-store.ensures.disk
     (c.run_parts.ensures.ran k (subst (Began start g.history.before) (sym same) began)))
 
 pub returns-clause-unwritten : goal.returns-clause-unwritten

@@ -1,4 +1,3 @@
-use Rattle.std.proofs.Common.{[]}
 use Rattle.tp_shared.specs.Parted.{name_of}
 use Rattle.tp_run.proofs.running.run.Given as goal
 
@@ -6,7 +5,7 @@ abbrev pub ghosts-run_parts : goal.ghosts-run_parts
 ghosts-run_parts g a = record {
   roll = a.parts.roll;
   first = a.parts.first;
-  start = record { wires = a.parts.book.state.start.wires; nodes = a.parts.book.state.start.nodes; ports = a.parts.book.state.ports; lines = [] };
+  start = a.opened.value.cut;
   node = name_of a.parts.seals;
   mark = a.parts.mark;
   flusher = a.parts.flusher;

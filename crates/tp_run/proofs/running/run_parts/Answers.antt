@@ -20,13 +20,13 @@ over-flusher-requires-clause-first g c = sym c.requires.names.first_is ∙ c.req
 pub returns-in_default-clause-ran : goal.returns-in_default-clause-ran
 returns-in_default-clause-ran g c k began =
     let out = g.O.Write.contents c.args.out.now in
-    subst (λ d. Ran g.J.Naming.formatted c.args.job.port c.args.input.now out out (Err Memory) (g.D.Disk.state c.args.store.disk) (g.D.Disk.state d)) (sym c.into_disk.ensures)
-    (still_ran g.J.Naming.formatted c.args.job.port c.args.input.now out Memory (g.D.Disk.state c.args.store.disk))
+    subst (λ d. Ran g.J.Naming.formatted c.args.job c.args.input.now out out (Err Memory) (g.D.Disk.state c.args.store.disk) (g.D.Disk.state d)) (sym c.into_disk.ensures)
+    (still_ran g.J.Naming.formatted c.args.job c.args.input.now out Memory (g.D.Disk.state c.args.store.disk))
 
 pub returns-clause-ran : goal.returns-clause-ran
 returns-clause-ran g c k began =
     let start = g.J.Naming.formatted in
-    let port = c.args.job.port in
+    let job = c.args.job in
     let input = c.args.input.now in
     let was = g.O.Write.contents c.args.out.now in
     let now = g.O.Write.contents c.serve-flusher.new.out in
@@ -36,8 +36,10 @@ returns-clause-ran g c k began =
     let done = c.serve-flusher.result.1 in
     let first : Began start g.J.Naming.before old.opened = subst (Began start g.J.Naming.before) (sym c.over-flusher.ensures.opened) began in
     let reads : verdict old.state.now.bytes ≡ Ok opened = subst (λ (s : State). verdict s.now.bytes ≡ Ok opened) (sym c.over-flusher.ensures.device.0) (c.requires.read k) in
-    let settled = subst (λ u. IfOk done (Settled start u (input_slips u input) was now new.world.journal)) c.requires.outset (c.serve-flusher.ensures.settled k first) in
+    let settled =
+    subst (λ (s : Network NodeState). IfOk done (Settled start s job (outset_in opened job.port) (input_slips (outset_in opened job.port) input) was now new.world.journal)) c.requires.network
+    (subst (λ u. IfOk done (Settled start g.J.Naming.start job u (input_slips u input) was now new.world.journal)) c.requires.outset (c.serve-flusher.ensures.settled k first)) in
     let shown = subst (λ (u : Outset). MayPrint start old new u.port u.confirmed was now) c.requires.outset (c.serve-flusher.ensures.shown k first) in
-    let ran : Ran start port input was now done old.state new.state =
-    served_ran c.stored_slips_are_recovered.ensures start opened port input was now old new done reads (c.known.ensures.reached k first) (c.serve-flusher.ensures.walks k first) c.serve-flusher.ensures.stored settled shown in
-    subst (λ s. Ran start port input was now done (g.D.Disk.state c.args.store.disk) s) (sym c.into_disk-2.ensures.state) (subst (λ s. Ran start port input was now done s new.state) c.over-flusher.ensures.device.0 ran)
+    let ran : Ran start job input was now done old.state new.state =
+    served_ran c.stored_slips_are_recovered.ensures start opened job input was now old new done reads (c.known.ensures.reached k first) (c.serve-flusher.ensures.walks k first) c.serve-flusher.ensures.stored settled shown in
+    subst (λ s. Ran start job input was now done (g.D.Disk.state c.args.store.disk) s) (sym c.into_disk-2.ensures.state) (subst (λ s. Ran start job input was now done s new.state) c.over-flusher.ensures.device.0 ran)

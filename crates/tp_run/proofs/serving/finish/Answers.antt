@@ -82,6 +82,10 @@ returns-clause-settled g c k began =
     let first : c.args.offered.number ≤ next = omega (arith, number, up) in
     let second : c.in_ok-confirmed.confirmed.number ≤ next = omega (arith, other, high) in
     let S = c.settle.ensures in
-    let stand = S.stand k (subst (Began start g.J.Naming.before) (sym c.flush_upto-2.ensures.process.opened) later) in
-    subst (λ (f : Flushing). Settled start c.args.outset c.args.offered.seat was now f.world.journal next) (sym S.same)
-    (both_settled start c.args.outset _ was now two.world.journal next c.args.offered c.in_ok-confirmed.confirmed O shows first second S.below.0 S.below.1 stand.0 stand.1)
+    let last = subst (Began start g.J.Naming.before) (sym c.flush_upto-2.ensures.process.opened) later in
+    let stand = S.stand k last in
+    subst (λ (f : Flushing). IfOk c.settle.result (Settled start g.J.Naming.start c.args.job c.args.outset c.args.offered.seat was now f.world.journal)) (sym S.same)
+    (all_settled c.settle.result next _ _ S.next (S.all k last)
+    (λ all. both_settled start g.J.Naming.start c.args.job c.args.outset _ was now two.world.journal next c.args.offered c.in_ok-confirmed.confirmed O shows first second S.below.0 S.below.1 stand.0 stand.1
+    (accounted_for g.J.Naming.start c.args.job two.world.journal c.args.outset.next next (λ (seat : Seat g.J.row). seat.slips) c.args.seats.items c.args.offered.seat c.in_ok-confirmed.confirmed.seat
+    c.requires.count c.requires.seats (subst (λ n. AreAll n next two.world.journal _) (sym c.requires.first) all))))

@@ -13,7 +13,7 @@ returns-clause-ran g c = record {
   is = c.report.ensures;
   ran =
       λ keeps began. subst
-      (λ (j : Job). Ran g.history.formatted j.port c.args.input.now (g.O.Write.contents c.args.out.now) (g.O.Write.contents c.run-disk.new.out) c.run-disk.result.1 (g.D.Disk.state c.args.disk) (g.D.Disk.state c.run-disk.result.0))
+      (λ (j : Job). Ran g.history.formatted j c.args.input.now (g.O.Write.contents c.args.out.now) (g.O.Write.contents c.run-disk.new.out) c.run-disk.result.1 (g.D.Disk.state c.args.disk) (g.D.Disk.state c.run-disk.result.0))
       c.job_of-job.ensures.value (c.run-disk.ensures.ran keeps began);
   unwritten = c.run-disk.ensures.unwritten;
   silent = c.run-disk.ensures.silent;

@@ -1,0 +1,51 @@
+-- All slips since the opening beside the flusher's journal.
+use Rattle.std.proofs.Common.{◌≡◌, ℕ, ◌+◌, ◌≤◌, List, [], ◌∷◌, ◌++◌, length, take, drop, refl, sym, ap, subst, ◌∙◌, arith, length-append, append-nil}
+use Rattle.std.proofs.Math.Seq.{drop-append_seam}
+use Rattle.tp_model.specs.declared.entry.Entry.{Entry}
+use Rattle.tp_model.specs.NodeState.{NodeState}
+use Rattle.tp_model.specs.Network.{Network}
+use Rattle.tp_model.specs.Snapshot.{MarkedNetwork}
+use Rattle.tp_model.specs.Runs.{World}
+use Rattle.tp_token.specs.Sound.{item_of, shown}
+use Rattle.tp_book.specs.Book.{next_number}
+use Rattle.tp_shared.specs.declared.told.Told.{Told}
+use Rattle.tp_shared.specs.Seals.{Stage, IsTied}
+use Rattle.tp_shared.specs.Told.{IsFirst, Since, told_of}
+use Rattle.tp_shared.proofs.Telling.{told_journal}
+use Rattle.tp_flush.specs.All.{AreAll}
+use Rattle.tp_flush.specs.Known.{Reached}
+use Rattle.tp_flush.proofs.Ahead.{book_ahead}
+use Rattle.tp_flush.proofs.Settling.{length-journal}
+
+none_more : {X : Type 0} (front more : List X) → length (front ++ more) ≤ length front → front ++ more ≡ front
+none_more front [] h = append-nil front
+none_more front (x ∷ more) h = absurd (let l = length-append front (x ∷ more) in omega (arith, h, l))
+
+-- the entries since the opening are those of the journal from the first on, where all of them are below the mark
+pub slips_are_all : (start : Network NodeState) (before : World NodeState) (first : ℕ) (stage : Stage) (key : Told) (w : World NodeState) (slips : List (ℕ × Entry)) → Reached start w → IsFirst key w
+    → Since key (told_of before first stage) → IsTied first stage.all stage.book → next_number stage.book ≤ w.mark → ((n : ℕ) → shown n slips ≡ item_of first stage.all n)
+    → AreAll first (next_number stage.book) w.journal slips
+slips_are_all start before first stage key w slips R F S T stored each =
+    let front = take first before.journal in
+    let J = told_journal before first key stage S in
+    let A = book_ahead start before first stage key w R F S in
+    let both : front ++ stage.all ≡ w.journal ++ J.0 = J.2 ∙ ap (λ es. es ++ J.0) F.journal in
+    let long = length-journal start w R in
+    let lengths = ap length both in
+    let left = length-append front stage.all in
+    let right = length-append w.journal J.0 in
+    let entries = ap length J.1 in
+    let kept = length-append key.net.entries J.0 in
+    let net = ap (λ (n : MarkedNetwork NodeState). length n.entries) F.net in
+    let next = T.next in
+    let base = S.base in
+    let begun = F.base in
+    let marked = A.marked in
+    let many : length front ≡ first = omega (arith, lengths, left, right, entries, kept, net, next, base, begun, long) in
+    let few : length (w.journal ++ J.0) ≤ length w.journal = omega (arith, lengths, left, many, next, stored, marked) in
+    let none : w.journal ++ J.0 ≡ w.journal = none_more w.journal J.0 few in
+    let is : w.journal ≡ front ++ stage.all = sym none ∙ sym both in
+    record {
+      count = ap length is ∙ left ∙ ap (λ n. n + length stage.all) many ∙ next;
+      each = λ n. each n ∙ ap (λ es. item_of first es n) (sym (drop-append_seam front stage.all) ∙ ap (λ m. drop m (front ++ stage.all)) many ∙ ap (drop first) (sym is));
+    }

@@ -1,0 +1,40 @@
+-- What workers and receipts have, together.
+use Rattle.std.proofs.Common.{◌≡◌, ℕ, List, [], ◌∷◌, ◌++◌, map, length, refl, sym, ap, subst, ◌∙◌, arith, zero, suc, ◌<◌, Result, Ok, Err}
+use Rattle.std.specs.Prelude.{All, flat_map, IfOk}
+use Rattle.std.specs.List.{AllByRecursion}
+use Rattle.std.proofs.lemmas.List.{length-map}
+use Rattle.tp_model.specs.declared.entry.Entry.{Entry}
+use Rattle.tp_model.specs.NodeState.{NodeState}
+use Rattle.tp_model.specs.Network.{Network}
+use Rattle.tp_flush.specs.All.{AreAll}
+use Rattle.tp_run.specs.declared.job.Job.{Job}
+use Rattle.tp_run.specs.Accounted.{Accounted}
+use Rattle.tp_run.specs.Worked.{Worked, idle}
+
+-- ## Lists of slips
+
+gathered : {S X : Type 0} (slips : S → List X) (seats : List S) → flat_map (λ (xs : List X). xs) (map slips seats) ≡ flat_map slips seats
+gathered slips [] = refl
+gathered slips (seat ∷ seats) = ap (λ xs. slips seat ++ xs) (gathered slips seats)
+
+each_mapped : {S X : Type 0} (P : X → Type 0) (f : S → X) (seats : List S) → All (λ seat. P (f seat)) seats → AllByRecursion P (map f seats)
+each_mapped P f [] all = tt
+each_mapped P f (seat ∷ seats) all =
+    (all zero seat (omega arith), each_mapped P f seats (λ k d below. all (suc k) d (omega (arith, below))))
+
+-- ## All of them
+
+pub accounted_for : {S : Type 0} (network : Network NodeState) (job : Job) (journal : List Entry) (first next : ℕ) (slips : S → List (ℕ × Entry)) (seats : List S) (offered confirmed : List (ℕ × Entry))
+    → length seats ≡ job.workers → All (λ seat. Worked network job.quantum (slips seat)) seats → AreAll first next journal (flat_map slips seats ++ offered ++ confirmed)
+    → Accounted network job journal first next (offered ++ confirmed)
+accounted_for network job journal first next slips seats offered confirmed many worked all = record {
+  workers = map slips seats;
+  count = length-map seats slips ∙ many;
+  worked = each_mapped (Worked network job.quantum) slips seats worked;
+  all = subst (λ xs. AreAll first next journal (xs ++ offered ++ confirmed)) (sym (gathered slips seats)) all;
+}
+
+-- an answer that is known, and what comes of it
+pub all_settled : {E : Type 0} (r : Result ℕ E) (next : ℕ) (P Q : ℕ → Type 0) → IfOk r (λ answer. answer ≡ next) → IfOk r P → (P next → Q next) → IfOk r Q
+all_settled (Ok answer) next P Q is p turn = subst Q (sym is) (turn (subst P is p))
+all_settled (Err e) next P Q is p turn = tt

@@ -1,0 +1,50 @@
+//! Who made what was journalled.
+
+ghost use Rattle.std.specs.Prelude.{◌≡◌, ◌++◌, flat_map, IfErr, IfOk};
+ghost use Rattle.tp_flush.specs.All.{AreAll};
+ghost use Rattle.tp_flush.specs.Known.{Began};
+ghost use Rattle.tp_run.specs.Faults.{IsBegun};
+
+use crate::fault::RunFault;
+use tp_disk::Disk;
+use tp_flush::Flusher;
+use tp_shared::{Locked, Naming, Receipt};
+use tp_work::Seat;
+
+/// The slips of all `seats`, in their order.
+fn slips_of<J: Naming>(seats: Vec<Seat<J>>) -> tp_shared::Seat<J>
+    ensures { result ≡ flat_map (λ seat. seat.slips) seats.items }
+{
+    let mut all = tp_shared::Seat::new();
+    for seat in seats {
+        all.absorb(seat.into_slips());
+    }
+    all
+}
+
+/// Tests, under the book's lock, that the slips of `seats` and of two receipts are those of all that was journalled from the number `first`
+/// on, and that the next number is `next`, which it answers. It changes nothing.
+pub(crate) fn account<J: Naming, D: Disk>(
+    held: &mut Locked<J>,
+    flusher: &mut Flusher<J, D>,
+    first: u64,
+    next: u64,
+    seats: Vec<Seat<J>>,
+    offered: Receipt<J>,
+    confirmed: Receipt<J>,
+) -> Result<u64, RunFault>
+    requires first { first ≡ J.first }
+    ensures same { (flusher.new ≡ flusher.old) × (held.new ≡ held.old) }
+    ensures next { IfOk result (λ answer. answer ≡ next) }
+    ensures all { D.keeps → Began J.formatted J.before flusher.old.opened
+        → IfOk result (λ answer. AreAll J.first answer flusher.old.world.journal (flat_map (λ seat. seat.slips) seats.items ++ offered.seat ++ confirmed.seat)) }
+    ensures begun { IfErr result IsBegun }
+{
+    let mut all = slips_of(seats);
+    all.absorb(offered.into_seat());
+    all.absorb(confirmed.into_seat());
+    if flusher.settle_all(held, &mut all, first) && held.book().next() == next {
+        return Ok(next);
+    }
+    Err(RunFault::Unaccounted)
+}
