@@ -2,8 +2,8 @@
 # What checkpoints cost a run, as ratios of programs that run in turns on one machine, outside the gate:
 #   entries   16 busy nodes of 256 pages, one step a turn: durable entries a second with checkpoints as they come beside none
 #   copy      the seconds of a checkpoint of these nodes beside a raw copy of as many bytes with the same syncs
-#   turns     one worker, 1,024 steps a turn, and the flusher: the slowest turn of a hundred (the 99th percentile) while a snapshot of these
-#             nodes runs beside the median turn without one (bench/turns.rattle)
+#   turns     one worker, 1,024 steps a turn, and the flusher, woken each 64 turns: the slowest turn of a hundred (the 99th percentile) while
+#             a snapshot of these nodes runs beside the median turn just before it, in many short rounds (bench/turns.rattle)
 # usage: bench/checkpoint.sh TPNET [ROUNDS [FOLDER ..]]      5 rounds in /dev/shm (in memory, so only our own cost shows) by default
 set -e
 top=$(cd "$(dirname "$0")/.." && pwd)
@@ -50,7 +50,7 @@ int main(int count, char **words) {
 C
 cc -O2 -o "$work/raw" "$work/raw.c"
 
-cp -r "$top/crates" "$top/crates.txt" "$top/HANDLES" "$work"
+(cd "$top" && tar cf - --exclude=incremental crates crates.txt HANDLES) | tar xf - -C "$work"
 turns=$work/crates/bench_turns
 mkdir -p "$turns/src" "$turns/specs" "$turns/proofs/time_in"
 gate=$top/crates/tp_tests_gate
@@ -61,6 +61,16 @@ echo 'pub mod Spelt' > "$turns/specs/Lib.antt"
 cp -r "$gate/proofs/opening" "$turns/proofs/"
 cp "$gate/proofs/scenes/play_in/"*.antt "$turns/proofs/time_in/"
 sed -i 's/^const QUANTUM: u16 = .*/const QUANTUM: u16 = 1024;/; s/std::test::Fail/crate::Fault/; s/, Fail>/, Fault>/' "$turns/src/opening.rt"
+mkdir -p "$turns/proofs/make_turns" "$turns/proofs/make_rounds"
+for pair in make_turns:loop-number make_rounds:loop; do
+    cat > "$turns/proofs/${pair%:*}/Invariants.antt" <<A
+use Rattle.std.proofs.Common.{◌≡◌, Some}
+use Rattle.bench_turns.proofs.${pair%:*}.Given as goal
+
+abbrev pub invariant-${pair#*:} : goal.invariant-${pair#*:}
+invariant-${pair#*:} g l = l.seat.hand ≡ Some l.net.queue
+A
+done
 find "$turns" -type f | xargs sed -i 's/tp_tests_gate/bench_turns/g; s/proofs\.scenes\.play_in/proofs.time_in/g; s/-play\b/-time_all/g; s/play-requires/time_all-requires/g'
 sed -n 's/^tp_tests_gate:/bench_turns:/p' "$top/crates.txt" >> "$work/crates.txt"
 (cd "$turns" && rt run > "$work/build.log" 2>&1) || true
@@ -98,6 +108,17 @@ def said(name, mine, other, what):
     print("    %-8s %s; ratio %.2f best, %.2f median" % (
         name, what, min(other) / min(mine), statistics.median(other) / statistics.median(mine)), flush=True)
 
+def rounds_of(turns):
+    """The nanoseconds of the turns alone and of those beside a snapshot, of each round."""
+    found, last = [], 1
+    for runs, time, steps in turns:
+        if last and not runs:
+            found.append(([], []))
+        last = runs
+        if steps == 1024:
+            found[-1][runs].append(time)
+    return [(alone, beside) for alone, beside in found if len(beside) > 1]
+
 for folder in sys.argv[4:]:
     kind = subprocess.run(["stat", "-f", "-c", "%T", folder], capture_output=True, text=True, check=True).stdout.strip()
     print("%s (%s), best and median of %d:" % (folder, kind, len(rounds)))
@@ -122,15 +143,17 @@ for folder in sys.argv[4:]:
             ours.append(took - plain)
             raw.append(timed([os.path.join(work, "raw"), file, str(512)]) - timed(["true"]))
         said("copy", ours, raw, "ours %.1f, raw %.1f milliseconds" % (1e3 * min(ours), 1e3 * min(raw)))
-        alone, beside = [], []
+        of_rounds = []
         for _ in rounds:
             subprocess.run(["cp", "--sparse=always", os.path.join(work, "device"), file], check=True)
             program = os.path.join(work, "crates", "bench_turns", "out", "bench_turns")
-            said_of = subprocess.run([program, file, "4", "2000"], capture_output=True, text=True, check=True).stdout
-            turns = [list(map(int, line.split())) for line in said_of.splitlines()]
-            alone += [time for runs, time, steps in turns if not runs and steps == 1024]
-            beside += [time for runs, time, steps in turns if runs]
-        middle, late = statistics.median(alone), statistics.quantiles(beside, n=100)[98]
-        print("    turns    %d alone: median %.1f us; %d beside a snapshot: median %.1f, 99th percentile %.1f, slowest %.1f; ratio %.2f" % (
-            len(alone), middle / 1e3, len(beside), statistics.median(beside) / 1e3, late / 1e3, max(beside) / 1e3, late / middle), flush=True)
+            lines = subprocess.run([program, file, "20", "600"], capture_output=True, text=True, check=True).stdout.splitlines()
+            of_rounds += rounds_of([tuple(map(int, line.split())) for line in lines])
+        medians = [statistics.median(alone) for alone, _ in of_rounds]
+        late = [statistics.quantiles(beside, n=100)[98] / middle for (_, beside), middle in zip(of_rounds, medians)]
+        kept = [statistics.quantiles(alone, n=100)[98] / middle for (alone, _), middle in zip(of_rounds, medians)]
+        slowest = [max(beside) / middle for (_, beside), middle in zip(of_rounds, medians)]
+        print("    turns    %d rounds, of %d turns alone and %d beside a snapshot: %.1f us alone; the 99th percentile %.2f times that, %.2f alone; the slowest %.1f" % (
+            len(of_rounds), statistics.median(len(alone) for alone, _ in of_rounds), statistics.median(len(beside) for _, beside in of_rounds),
+            statistics.median(medians) / 1e3, statistics.median(late), statistics.median(kept), statistics.median(slowest)), flush=True)
 PY

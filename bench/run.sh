@@ -5,7 +5,9 @@
 #             before it writes, as a node's does, and over flat memory
 #   turns     four busy nodes, one step a turn, one worker: nanoseconds of a turn, in memory alone
 #   entries   one busy node, one step a turn: durable entries a second beside the same groups written and synced alone. Where a sync costs
-#             next to nothing, as in memory, this compares turns with writes: two turns make an entry, that of the node and that of the host
+#             next to nothing, as in memory, this compares turns with writes: two turns make an entry, that of the node and that of the host.
+#             Now the run goes first, now the groups, four times as often as the others: on a disk a sync takes now 70 and now 2,000
+#             microseconds, and what one of the two leaves to be written in the background falls upon the next
 # usage: bench/run.sh TPNET [ROUNDS [FOLDER ..]]      5 rounds in /dev/shm (in memory, so only our own cost shows) by default.
 #                                                     The time of a run is that of a run without turns less
 set -e
@@ -128,17 +130,27 @@ for folder in sys.argv[4:]:
                 idle = run("four", file, 0, 1, 1)
                 turns.append((run("four", file, SHORT_TURNS, 1, 1) - idle) / SHORT_TURNS)
             print("    turns    one step: %.0f ns best, %.0f median" % (1e9 * min(turns), 1e9 * statistics.median(turns)), flush=True)
-        ours, plain, sizes = [], [], []
-        for _ in rounds:
+        def run_entries():
             idle = run("one", file, 0, 2, 1)
             took = run("one", file, SHORT_TURNS, 2, 1) - idle
             first, counts = groups(file)
-            fresh("one", file)
-            given = " ".join(map(str, counts)).encode()
-            ours.append(took / sum(counts))
+            return took / sum(counts), first, counts
+        def write_groups(first, counts):
             raw = [os.path.join(work, "raw"), file, str(first)]
+            fresh("one", file)
             idle = timed(raw, given=b"")
-            plain.append((timed(raw, given=given) - idle) / sum(counts))
+            return (timed(raw, given=" ".join(map(str, counts)).encode()) - idle) / sum(counts)
+        ours, plain, sizes = [], [], []
+        _, first, counts = run_entries()
+        for number in range(4 * len(rounds)):
+            if number % 2 == 1:
+                plain.append(write_groups(first, counts))
+            took, first, now = run_entries()
+            if number % 2 == 0:
+                plain.append(write_groups(first, now))
+            counts = now
+            ours.append(took)
             sizes.append(sum(counts) / len(counts))
-        said("entries", ours, plain, "run %.0f, raw %.0f a second, groups of %.1f" % (1 / min(ours), 1 / min(plain), statistics.median(sizes)))
+        said("entries", ours, plain, "run %.0f, raw %.0f a second, groups of %.1f" % (
+            1 / statistics.median(ours), 1 / statistics.median(plain), statistics.median(sizes)))
 PY

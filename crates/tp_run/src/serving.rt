@@ -158,6 +158,7 @@ fn settle<J: Naming, D: Disk, R: Wait>(
     ensures next { IfOk result (λ answer. answer ≡ next) }
     ensures all { D.keeps → Began J.formatted J.before flusher.old.opened
         → IfOk result (λ answer. AreAll J.first answer flusher.old.world.journal (flat_map (λ seat. seat.slips) seats.items ++ offered.seat ++ confirmed.seat)) }
+    ensures late { IfErr result IsLate }
     ensures begun { IfErr result IsBegun }
 {
     let mut offered = offered;

@@ -1,5 +1,7 @@
-use Rattle.std.proofs.Common.{◌≡◌, Err, refl, sym, ap, subst, ◌∙◌}
+use Rattle.std.proofs.Common.{◌≡◌, Err, length, refl, sym, ap, subst, ◌∙◌}
 use Rattle.tp_model.specs.Disk.{Moment}
+use Rattle.tp_model.specs.NodeState.{NodeState}
+use Rattle.tp_model.specs.Snapshot.{MarkedNetwork}
 use Rattle.tp_flush.specs.Known.{Began}
 use Rattle.tp_run.specs.declared.fault.RunFault.TheVariants.{Opening, Memory}
 use Rattle.tp_run.specs.Ran.{Ran}
@@ -10,13 +12,12 @@ use Rattle.tp_run.proofs.running.run.Goals as goal
 pub run_parts-requires-clause-names : goal.run_parts-requires-clause-names
 run_parts-requires-clause-names g c κs within =
     let S = c.in-Ok-2.ensures.parts in
-    let start : (n : MarkedNetwork NodeState) → Network NodeState = λ n. n.start in
     record {
       roll_is = refl;
       first_is = refl;
       wires_are = ap (λ (n : MarkedNetwork NodeState). n.start.wires) S.book;
       count_is = ap (λ (n : MarkedNetwork NodeState). length n.start.nodes) S.book;
-      ports_are = ?;
+      ports_are = S.ports ∙ sym c.known.ensures.cut.count;
       nodes_are = λ i. refl;
       mark_is = refl;
       flusher_is = refl;

@@ -1,10 +1,13 @@
-use Rattle.std.proofs.Common.{◌≡◌, Ok, Err, sym, subst, ◌∙◌}
+use Rattle.std.proofs.Common.{◌≡◌, Ok, Err, ap, sym, subst, ◌∙◌}
 use Rattle.std.specs.Prelude.{IfOk}
 use Rattle.tp_model.specs.DiskHistory.{State}
 use Rattle.tp_model.specs.Opening.{verdict}
 use Rattle.tp_flush.specs.Known.{Began}
 use Rattle.tp_run.specs.declared.fault.RunFault.TheVariants.{Memory}
+use Rattle.tp_model.specs.NodeState.{NodeState}
+use Rattle.tp_model.specs.Network.{Network}
 use Rattle.tp_run.specs.Input.{input_slips}
+use Rattle.tp_run.specs.Outset.{outset_in}
 use Rattle.tp_run.specs.declared.outset.Outset.{Outset}
 use Rattle.tp_run.specs.Ran.{Ran, Settled}
 use Rattle.tp_run.specs.Shown.{MayPrint}
@@ -43,3 +46,6 @@ returns-clause-ran g c k began =
     let ran : Ran start job input was now done old.state new.state =
     served_ran c.stored_slips_are_recovered.ensures start opened job input was now old new done reads (c.known.ensures.reached k first) (c.serve-flusher.ensures.walks k first) c.serve-flusher.ensures.stored settled shown in
     subst (λ s. Ran start job input was now done (g.D.Disk.state c.args.store.disk) s) (sym c.into_disk-2.ensures.state) (subst (λ s. Ran start job input was now done s new.state) c.over-flusher.ensures.device.0 ran)
+
+pub serve-flusher-requires-clause-first : goal.serve-flusher-requires-clause-first
+serve-flusher-requires-clause-first g c = ap (λ (u : Outset). u.next) c.requires.outset ∙ sym c.requires.stands.first ∙ c.requires.names.first_is

@@ -1,11 +1,15 @@
-use Rattle.std.proofs.Common.{◌≤◌, sym, ap, subst, ◌∙◌, arith}
+use Rattle.std.proofs.Common.{◌≡◌, ◌≤◌, sym, ap, subst, ◌∙◌, arith, IfOk}
 use Rattle.tp_flush.specs.Known.{Began}
 use Rattle.tp_flush.specs.Flushing.{Flushing, Walked}
 use Rattle.tp_flush.proofs.Turns.{walked_then}
 use Rattle.tp_run.specs.Ran.{Settled}
 use Rattle.tp_run.specs.Shown.{MayPrint}
 use Rattle.tp_run.proofs.Shown.{may_print, may_print_last, shows_on, walked_reached}
-use Rattle.tp_run.proofs.Slips.{both_settled}
+use Rattle.tp_flush.specs.All.{AreAll}
+use Rattle.tp_work.specs.declared.seat.Seat.{Seat}
+use Rattle.tp_run.proofs.Accounting.{accounted_for, all_settled}
+use Rattle.tp_run.proofs.Faults.{late_said}
+use Rattle.tp_run.proofs.Slips.{both_settled, if_ok}
 use Rattle.tp_run.proofs.serving.finish.Goals as goal
 
 -- ## Each moment of the device
@@ -89,3 +93,15 @@ returns-clause-settled g c k began =
     (λ all. both_settled start g.J.Naming.start c.args.job c.args.outset _ was now two.world.journal next c.args.offered c.in_ok-confirmed.confirmed O shows first second S.below.0 S.below.1 stand.0 stand.1
     (accounted_for g.J.Naming.start c.args.job two.world.journal c.args.outset.next next (λ (seat : Seat g.J.row). seat.slips) c.args.seats.items c.args.offered.seat c.in_ok-confirmed.confirmed.seat
     c.requires.count c.requires.seats (subst (λ n. AreAll n next two.world.journal _) (sym c.requires.first) all))))
+
+-- ## How it ended
+
+pub returns-clause-stored : goal.returns-clause-stored
+returns-clause-stored g c =
+    let next = c.later-next.result in
+    let mark = c.flush_upto-2.new.flusher.world.mark in
+    let low : next ≤ mark = ? in
+    ?
+
+pub returns-clause-silent : goal.returns-clause-silent
+returns-clause-silent g c silent = absurd (late_said c.settle.result c.settle.ensures.late silent)

@@ -2,6 +2,7 @@ use Rattle.std.proofs.Common.{sym, subst, IfOk}
 use Rattle.tp_flush.specs.Known.{Began}
 use Rattle.tp_flush.proofs.Turns.{walked_nowhere, walked_then}
 use Rattle.tp_run.specs.Ran.{Settled}
+use Rattle.tp_run.specs.Worked.{Worked, idle}
 use Rattle.tp_run.proofs.Shown.{may_print_since}
 use Rattle.tp_run.proofs.serving.serve.Goals as goal
 
@@ -25,3 +26,14 @@ returns-clause-shown g c k began =
     may_print_since g.J.Naming.formatted c.args.flusher c.work-flusher.result.0 c.finish-done.new.flusher (c.work-flusher.ensures.walks k began) c.args.outset.port c.args.outset.confirmed
     (g.O.Write.contents c.args.out.now) (g.O.Write.contents c.finish-done.new.out)
     (c.finish-done.ensures.shown k (subst (Began g.J.Naming.formatted g.J.Naming.before) (sym c.work-flusher.ensures.process.opened) began))
+
+-- ## Who made what
+
+pub work-flusher-requires : goal.work-flusher-requires
+work-flusher-requires g c k d below =
+    let seat = c.requires.seats k d below in
+    (seat.0, subst (Worked g.J.Naming.start c.args.net.now.quantum) (sym seat.1) idle)
+
+pub finish-done-requires-clause-seats : goal.finish-done-requires-clause-seats
+finish-done-requires-clause-seats g c k d below =
+    subst (λ quantum. Worked g.J.Naming.start quantum _) c.requires.quantum (c.work-flusher.ensures.seats k d below)
