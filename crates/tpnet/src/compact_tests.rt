@@ -65,7 +65,7 @@ fn image_of(alloc: Global, code: &[u8]) -> Result<Vec<u8>, Fail> {
     Ok(image)
 }
 
-/// A node that puts out `A` for ever, beside one that loops. The areas have room for 32768 entries.
+/// A node that puts out `A` for ever, beside one that loops. The areas have room for 17000 entries.
 fn busy_device<
     R: Files<File = F> + AllocGlobal + Threads + Wait + Sync,
     F: FileExt + OpenFile + Drop + Send,
@@ -84,16 +84,16 @@ fn busy_device<
     }
 }
 
-const WEDGED_AREA: &str = "1066246";
+const WEDGED_AREA: &str = "561670";
 
-/// The port is full after 4096 rounds of 5 entries, and only then a snapshot begins. The byte on the port's line keeps it from being whole, and
-/// the other node fills the journal.
+/// The port is full after 4096 rounds of three turns and four entries, and only then a snapshot begins. The byte on the port's line keeps
+/// it from being whole, and the other node fills the journal.
 const WEDGE: &[&str] = &[
     "run",
     "@device",
-    "--turns=60000",
+    "--turns=15000",
     "--workers=1",
-    "--every=30000",
+    "--every=16400",
 ];
 
 const HUNDRED_ROUNDS: &[&str] = &["run", "@device", "--turns=300", "--workers=1"];
@@ -111,9 +111,9 @@ fn a_wedged_device_goes_on(rt: HostRuntime) -> Result<(), Fail> {
         &[
             (WEDGE, 1, full, "tpnet: JournalFull\n"),
             (NONE, 1, full, "tpnet: JournalFull\n"),
-            (COMPACT, 0, "generation 2 next 32768 room 32768\n", ""),
-            (NONE, 0, full, "next 32769\n"),
-            (HUNDRED_ROUNDS, 0, hundred, "next 33168\n"),
+            (COMPACT, 0, "generation 2 next 17000 room 17000\n", ""),
+            (NONE, 0, full, "next 17001\n"),
+            (HUNDRED_ROUNDS, 0, hundred, "next 17400\n"),
         ],
     )?;
     scratch.remove(&rt)
