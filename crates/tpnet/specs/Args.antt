@@ -7,7 +7,7 @@ use Rattle.std.specs.declared.string.String.{String}
 use Rattle.tp_model.specs.declared.limits.TheConstants.{MAX_STEPS}
 use Rattle.tp_run.specs.declared.job.TheConstants.{MAX_WORKERS}
 use Rattle.tpnet.specs.declared.args.Asked.{Asked}
-use Rattle.tpnet.specs.declared.args.Asked.TheVariants.{Help, Try, Format, Run as Runs, Recover, Show, Check, View as Views}
+use Rattle.tpnet.specs.declared.args.Asked.TheVariants.{Help, Try, Format, Run as Runs, Compact, Recover, Show, Check, View as Views}
 use Rattle.tpnet.specs.declared.args.Run.{Run}
 use Rattle.tpnet.specs.declared.args.TheConstants.{MAX_AREA}
 use Rattle.tpnet.specs.declared.view.View.{View}
@@ -30,6 +30,7 @@ IsInRange (Help text) = Unit {0}
 IsInRange (Try image turns) = turns < 2 ^ 32
 IsInRange (Format new) = new.area ≤ MAX_AREA
 IsInRange (Runs run) = IsRun run
+IsInRange (Compact device) = Unit {0}
 IsInRange (Recover device) = Unit {0}
 IsInRange (Show device) = Unit {0}
 IsInRange (Check topology images) = Unit {0}
@@ -61,6 +62,7 @@ WasTyped words (Try image turns) = (has_word (string_bytes image) words ≡ true
 WasTyped words (Format new) = (has_word (string_bytes new.device) words ≡ true) × (has_word (string_bytes new.topology) words ≡ true)
     × (has_word (string_bytes new.images) words ≡ true) × (was_typed words (decimal new.area) ≡ true)
 WasTyped words (Runs run) = IsTypedRun words run
+WasTyped words (Compact device) = has_word (string_bytes device) words ≡ true
 WasTyped words (Recover device) = has_word (string_bytes device) words ≡ true
 WasTyped words (Show device) = has_word (string_bytes device) words ≡ true
 WasTyped words (Check topology images) = (has_word (string_bytes topology) words ≡ true) × (has_word (string_bytes images) words ≡ true)

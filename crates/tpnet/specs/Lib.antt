@@ -7,3 +7,4 @@ pub mod Opens
 pub mod Attempt
 pub mod Formats
 pub mod Running
+pub mod Compacting

@@ -26,6 +26,8 @@ pub enum Asked {
     Format(NewDevice),
     /// A run of a device's network.
     Run(Run),
+    /// Makes a device's network, as it is, its cut, behind which the journal is empty.
+    Compact { device: String },
     /// Opens a device and says what the next entry's number is.
     Recover { device: String },
     /// Opens a device and says what it holds.
@@ -231,6 +233,9 @@ fn asked_in(alloc: Global, words: &[String], matches: &ArgMatches) -> Result<Ask
         Some(("check", found)) => Ok(Asked::Check {
             topology: text_of(alloc, words, found, "TOPOLOGY")?,
             images: text_of(alloc, words, found, "DIR")?,
+        }),
+        Some(("compact", found)) => Ok(Asked::Compact {
+            device: text_of(alloc, words, found, "DEVICE")?,
         }),
         Some(("recover", found)) => Ok(Asked::Recover {
             device: text_of(alloc, words, found, "DEVICE")?,

@@ -288,7 +288,7 @@ fn push_journal(
     }
     write!(
         text,
-        "  {device}: its journal has {entries} entries since the checkpoint, and room for {most}.\n  No more is taken than that: no input, no turn's steps, and not that output was confirmed, which each run then prints again.\n  Nothing that was acknowledged or shown is lost, but the network doesn't go on: make a device with a larger AREA\n  (tpnet check says how large), confirm the output of each port often, and watch unconfirmed in tpnet show.\n"
+        "  {device}: its journal has {entries} entries since the checkpoint, and room for {most}.\n  No more is taken than that: no input, no turn's steps, and not that output was confirmed, which each run then prints again.\n  Nothing that was acknowledged or shown is lost, but the network doesn't go on: make a device with a larger AREA\n  (tpnet check says how large), confirm the output of each port often, and watch unconfirmed in tpnet show.\n  tpnet compact empties the journal.\n"
     )
 }
 
@@ -319,6 +319,26 @@ fn push_run<R: Files<File = F> + AllocGlobal, F: FileExt + OpenFile + Drop>(
     }
 }
 
+/// Says why a device wasn't compacted.
+fn push_compact<R: Files<File = F> + AllocGlobal, F: FileExt + OpenFile + Drop>(
+    rt: &R,
+    text: &mut String,
+    device: &str,
+    system: Option<&io::Error>,
+) -> Result<(), AllocError> {
+    if let Some(error) = system {
+        push_file(text, device, error)?;
+        return write!(
+            text,
+            "  It is read and written: mend that, and give the same command again. Nothing is lost.\n"
+        );
+    }
+    if push_opening(rt, text, device)?.is_some() {
+        push_rest(text)?;
+    }
+    Ok(())
+}
+
 fn explanation<R: Files<File = F> + AllocGlobal, F: FileExt + OpenFile + Drop>(
     rt: &R,
     asked: &Asked,
@@ -335,6 +355,7 @@ fn explanation<R: Files<File = F> + AllocGlobal, F: FileExt + OpenFile + Drop>(
                 push_rest(&mut text)?;
             }
         }
+        Asked::Compact { device } => push_compact(rt, &mut text, device.as_str(), system)?,
         Asked::Recover { device } | Asked::Show { device } | Asked::View { device, .. } => {
             if push_opening(rt, &mut text, device.as_str())?.is_some() {
                 push_rest(&mut text)?;

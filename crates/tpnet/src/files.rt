@@ -8,6 +8,7 @@ ghost use Rattle.tpnet.specs.declared.args.TheConstants.{MAX_AREA};
 use crate::args::{NewDevice, Run};
 use crate::checking::check_on;
 use crate::commands::{refuse, try_on};
+use crate::compacting::compact_on;
 use crate::formatting::format_on;
 use crate::opening::{recover_on, show_on};
 use crate::refusal::Refusal;
@@ -210,6 +211,29 @@ fn disk_to_read<R: Files<File = F>, F: FileExt + OpenFile + Drop>(
     device: &str,
 ) -> Result<Counted<RawFile<NotedFile<F>>>, Refusal> {
     Counted::open_to_read(rt, device).map_err(|_| Refusal::ReadFailed)
+}
+
+/// `tpnet compact`, on a device's file, which is opened as it is, and keeps its length. What the system said of a call on it that failed
+/// is put into `system`.
+pub fn compact_file<
+    R: Files<File = F> + AllocGlobal + Wait,
+    F: FileExt + OpenFile + Drop,
+    O: Write,
+    E: Write,
+>(rt: &R, device: &str, system: &mut Option<io::Error>, out: &mut O, err: &mut E) -> u8
+    ensures { result ≤ 1 }
+{
+    let disk = match Counted::open(rt, device) {
+        Ok(disk) => disk,
+        Err(error) => {
+            let refusal = read_refusal(&error);
+            *system = Some(error);
+            return refuse(err, refusal);
+        }
+    };
+    let (disk, status) = compact_on(rt, rt.alloc(), disk, out, err);
+    *system = disk.raw().failure().map(said_again);
+    status
 }
 
 /// `tpnet recover`, on a device's file, which stays as it is.

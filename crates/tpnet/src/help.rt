@@ -42,6 +42,19 @@ pub const OPENING_REFUSALS: &str = "Refusals (status 1); nothing is written to D
   DeviceFailed  standard output can't be written
   Memory        there is no memory left";
 
+/// What `tpnet compact` refuses.
+pub const COMPACT_REFUSALS: &str =
+    "Nothing runs, and nothing is lost: all output that isn't confirmed stays.
+Refusals (status 1):
+  ReadFailed    DEVICE can't be opened to read and write, or be read: look at its path and its rights
+  NotFormatted  DEVICE is none: make one with tpnet format
+  BadVersion    DEVICE is of another version of tpnet
+  NoOpenArea    neither area is open: format was stopped, or the device was written over
+  Damaged AT    what stands at offset AT breaks its rule: restore a copy
+  JournalFull   no generation is left: 2^48 checkpoints were made
+  DeviceFailed  DEVICE can't be written or synced, or standard output can't: look at rights and room
+  Memory        there is no memory left";
+
 /// What `tpnet run` refuses.
 pub const RUN_REFUSALS: &str =
     "All that is read before DEVICE opens is refused without a change of it.

@@ -4,6 +4,9 @@
 mod args;
 mod checking;
 mod commands;
+#[cfg(test)]
+mod compact_tests;
+mod compacting;
 mod damage;
 mod entries;
 mod explain;

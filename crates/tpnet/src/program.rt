@@ -7,7 +7,7 @@ use crate::args::{Asked, read_args};
 use crate::commands::print_help;
 use crate::explain::explain;
 use crate::files::{
-    check_file, format_file, recover_file, run_file, show_file, try_file, view_file,
+    check_file, compact_file, format_file, recover_file, run_file, show_file, try_file, view_file,
 };
 use crate::numbers::has_word;
 use std::fs::{Files, OpenFile};
@@ -33,6 +33,7 @@ fn carry_out<
         Asked::Try { image, turns } => try_file(rt, image.as_str(), *turns, out, err),
         Asked::Format(new) => format_file(rt, new, system, out, err),
         Asked::Run(run) => run_file(rt, run, system, out, err),
+        Asked::Compact { device } => compact_file(rt, device.as_str(), system, out, err),
         Asked::Recover { device } => recover_file(rt, device.as_str(), out, err),
         Asked::Show { device } => show_file(rt, device.as_str(), out, err),
         Asked::Check { topology, images } => {

@@ -4,7 +4,7 @@ use thiserror::Error;
 use tp_area::FormatFault;
 use tp_model::NetFault;
 use tp_recover::Unopened;
-use tp_run::RunFault;
+use tp_run::{CompactFault, RunFault};
 use tp_turn::TryFault;
 
 /// The program then ends with status 1 and this name on standard error.
@@ -25,6 +25,9 @@ pub enum Refusal {
     /// The device's network wasn't run to its end.
     #[error(transparent)]
     Run(RunFault),
+    /// The device wasn't compacted.
+    #[error(transparent)]
+    Compact(CompactFault),
     /// A file can't be read.
     #[error("ReadFailed")]
     ReadFailed,

@@ -30,7 +30,7 @@ fn echo(alloc: Global) -> Result<Vec<u8>, Fail> {
 }
 
 /// A folder with a device that has one node with that image, and a port.
-fn device<
+pub(crate) fn device<
     R: Files<File = F> + AllocGlobal + Threads + Wait + Sync,
     F: FileExt + OpenFile + Drop + Send,
 >(rt: &R, name: &str, image: &[u8], area: &str) -> Result<Scratch, Fail> {

@@ -1,6 +1,8 @@
 //! The words that `clap` takes.
 
-use crate::help::{CHECK_REFUSALS, FORMAT_REFUSALS, OPENING_REFUSALS, RUN_REFUSALS, TRY_REFUSALS};
+use crate::help::{
+    CHECK_REFUSALS, COMPACT_REFUSALS, FORMAT_REFUSALS, OPENING_REFUSALS, RUN_REFUSALS, TRY_REFUSALS,
+};
 use clap::{Arg, ArgAction, Command};
 use std::alloc::{AllocError, Global};
 
@@ -178,6 +180,16 @@ fn run_command<'a>(alloc: Global) -> Result<Command<'a>, AllocError> {
     with_run_options(alloc, command)
 }
 
+fn compact_command<'a>(alloc: Global) -> Result<Command<'a>, AllocError> {
+    explained(
+        alloc,
+        "compact",
+        "Writes all of a device's network into its other area, which empties the journal, and prints the number of the next entry",
+        COMPACT_REFUSALS,
+    )?
+    .arg(word(alloc, "DEVICE", "the device's file, which is written"))
+}
+
 /// A command that opens a device and says something of a node.
 fn node_command<'a>(
     alloc: Global,
@@ -223,6 +235,7 @@ pub fn command<'a>(alloc: Global) -> Result<Command<'a>, AllocError> {
         .subcommand(try_command(alloc)?)?
         .subcommand(check_command(alloc)?)?
         .subcommand(format_command(alloc)?)?
-        .subcommand(run_command(alloc)?)?;
+        .subcommand(run_command(alloc)?)?
+        .subcommand(compact_command(alloc)?)?;
     with_views(alloc, command)
 }

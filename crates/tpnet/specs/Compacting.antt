@@ -1,0 +1,31 @@
+-- What `compact` does and prints.
+use Rattle.std.specs.Prelude.{◌≡◌, ℕ, List, [], ◌∷◌, ◌++◌, codes, Option, Result, Ok, IfOk}
+use Rattle.std.specs.Fmt.{decimal}
+use Rattle.std.specs.Io.KnownBytes.{Appends}
+use Rattle.tp_flush.specs.Known.{Began}
+use Rattle.tp_model.specs.DiskHistory.{State}
+use Rattle.tp_model.specs.Opening.{verdict}
+use Rattle.tp_recover.specs.Reading.{LeavesNothingNew}
+use Rattle.tp_run.specs.Compacted.{Compacted, Grown, IsUnbegun}
+use Rattle.tp_run.specs.Ran.{History}
+use Rattle.tp_run.specs.declared.compacting.Compaction.{Compaction}
+use Rattle.tp_run.specs.declared.compacting.CompactFault.{CompactFault}
+
+-- the generation of the cut, the number of the next entry, and how many entries the journal takes
+abbrev pub compaction_line : Compaction → List ℕ
+compaction_line done =
+    codes "generation " ++ (decimal done.generation ++ (codes " next " ++ (decimal done.next ++ (codes " room " ++ (decimal done.room ++ 10 ∷ [])))))
+
+-- The device was compacted, and exactly that is printed of it.
+pub record PrintsDone (done : Result Compaction CompactFault) (was now : Option (List ℕ)) : Type 0 where
+  pub given : Compaction
+  pub is : done ≡ Ok given
+  pub printed : Appends was now (compaction_line given)
+
+-- How a device was compacted that ended with this status, and what was left of it and on standard output.
+pub record CompactedAs (keeps : Type 0) (history : History) (old new : State) (was now : Option (List ℕ)) (status : ℕ) : Type 0 where
+  pub done : Result Compaction CompactFault
+  pub kept : keeps → Began history.formatted history.before old.now.bytes → Compacted history.formatted done old new
+  pub grown : keeps → IfOk done (Grown (verdict old.now.bytes))
+  pub unwritten : keeps → IsUnbegun done → LeavesNothingNew old new
+  pub printed : status ≡ 0 → PrintsDone done was now
