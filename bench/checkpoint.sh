@@ -2,6 +2,7 @@
 # What checkpoints cost a run, as ratios of programs that run in turns on one machine, outside the gate:
 #   entries   16 busy nodes of 256 pages, one step a turn: durable entries a second with checkpoints as they come beside none
 #   copy      the seconds of a checkpoint of these nodes beside a raw copy of as many bytes with the same syncs
+# What is compared goes first in turns.
 #   turns     one worker, 1,024 steps a turn, and the flusher, woken each 64 turns: the slowest turn of a hundred (the 99th percentile) while
 #             a snapshot of these nodes runs beside the median turn just before it, in many short rounds (bench/turns.rattle)
 # usage: bench/checkpoint.sh TPNET [ROUNDS [FOLDER ..]]      5 rounds in /dev/shm (in memory, so only our own cost shows) by default
@@ -88,7 +89,7 @@ python3 - "$tpnet" "$work" "$rounds" "${folders[@]}" <<'PY'
 import os, re, statistics, subprocess, sys, tempfile, time
 tpnet, work, rounds = sys.argv[1:4]
 rounds = range(int(rounds))
-TURNS, NEVER = 60000, (1 << 32) - 1
+TURNS, NEVER = 130000, (1 << 32) - 1
 
 def timed(command):
     begun = time.monotonic()
@@ -105,8 +106,7 @@ def run(file, turns, workers, every):
     return took, int(found[1]) - 1, int(found[2])
 
 def said(name, mine, other, what):
-    print("    %-8s %s; ratio %.2f best, %.2f median" % (
-        name, what, min(other) / min(mine), statistics.median(other) / statistics.median(mine)), flush=True)
+    print("    %-8s %s; ratio of the medians %.2f" % (name, what, statistics.median(other) / statistics.median(mine)), flush=True)
 
 def rounds_of(turns):
     """The nanoseconds of the turns alone and of those beside a snapshot, of each round."""
@@ -121,28 +121,36 @@ def rounds_of(turns):
 
 for folder in sys.argv[4:]:
     kind = subprocess.run(["stat", "-f", "-c", "%T", folder], capture_output=True, text=True, check=True).stdout.strip()
-    print("%s (%s), best and median of %d:" % (folder, kind, len(rounds)))
+    print("%s (%s), medians of %d:" % (folder, kind, len(rounds)))
     with tempfile.TemporaryDirectory(prefix="bench-checkpoint-", dir=folder) as place:
         file = os.path.join(place, "device")
-        with_them, without, switches = [], [], []
-        for _ in rounds:
-            idle = run(file, 0, 2, NEVER)[0]
-            took, count, entries = run(file, TURNS, 2, 10000)
-            with_them.append((took - idle) / entries)
-            switches.append(count)
-            took, count, entries = run(file, TURNS, 2, NEVER)
-            assert count == 0
-            without.append((took - idle) / entries)
+        idle = statistics.median(run(file, 0, 2, NEVER)[0] for _ in rounds)
+        times, switches = {10000: [], NEVER: []}, []
+        for number in rounds:
+            for every in (10000, NEVER) if number % 2 else (NEVER, 10000):
+                took, count, entries = run(file, TURNS, 2, every)
+                times[every].append((took - idle) / entries)
+                if every == NEVER:
+                    assert count == 0
+                else:
+                    switches.append(count)
+        with_them, without = times[10000], times[NEVER]
         said("entries", with_them, without, "with %.0f, without %.0f a second, %d checkpoints a run" % (
-            1 / min(with_them), 1 / min(without), statistics.median(switches)))
-        ours, raw = [], []
-        for _ in rounds:
+            1 / statistics.median(with_them), 1 / statistics.median(without), statistics.median(switches)))
+        def checkpoint():
             plain = run(file, 68, 1, NEVER)[0]
             took, count, entries = run(file, 68, 1, 30)
             assert count == 1, count
-            ours.append(took - plain)
-            raw.append(timed([os.path.join(work, "raw"), file, str(512)]) - timed(["true"]))
-        said("copy", ours, raw, "ours %.1f, raw %.1f milliseconds" % (1e3 * min(ours), 1e3 * min(raw)))
+            return took - plain
+        def copy():
+            subprocess.run(["cp", "--sparse=always", os.path.join(work, "device"), file], check=True)
+            subprocess.run(["sync", file], check=True)
+            return timed([os.path.join(work, "raw"), file, str(512)]) - timed(["true"])
+        ours, raw = [], []
+        for number in range(4 * len(rounds)):
+            for what, found in ((checkpoint, ours), (copy, raw)) if number % 2 else ((copy, raw), (checkpoint, ours)):
+                found.append(what())
+        said("copy", ours, raw, "ours %.1f, raw %.1f milliseconds" % (1e3 * statistics.median(ours), 1e3 * statistics.median(raw)))
         of_rounds = []
         for _ in rounds:
             subprocess.run(["cp", "--sparse=always", os.path.join(work, "device"), file], check=True)

@@ -7,7 +7,7 @@
 #   entries   one busy node, one step a turn: durable entries a second beside the same groups written and synced alone. Where a sync costs
 #             next to nothing, as in memory, this compares turns with writes: two turns make an entry, that of the node and that of the host.
 #             Now the run goes first, now the groups, four times as often as the others: on a disk a sync takes now 70 and now 2,000
-#             microseconds, and what one of the two leaves to be written in the background falls upon the next
+#             microseconds, so a few rounds say nothing
 # usage: bench/run.sh TPNET [ROUNDS [FOLDER ..]]      5 rounds in /dev/shm (in memory, so only our own cost shows) by default.
 #                                                     The time of a run is that of a run without turns less
 set -e

@@ -1,4 +1,4 @@
-pub mod Accounting
+pub mod Gathered
 pub mod Faults
 pub mod Fronts
 pub mod Made

@@ -7,7 +7,7 @@ use Rattle.tp_run.specs.Shown.{MayPrint}
 use Rattle.tp_run.proofs.Shown.{may_print, may_print_last, shows_on, walked_reached}
 use Rattle.tp_flush.specs.All.{AreAll}
 use Rattle.tp_work.specs.declared.seat.Seat.{Seat}
-use Rattle.tp_run.proofs.Accounting.{accounted_for, all_settled}
+use Rattle.tp_run.proofs.Gathered.{accounted_for, all_settled}
 use Rattle.tp_run.proofs.Faults.{late_said}
 use Rattle.tp_run.proofs.Slips.{both_settled, if_ok}
 use Rattle.tp_run.proofs.serving.finish.Goals as goal
