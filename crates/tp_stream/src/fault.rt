@@ -19,13 +19,13 @@ pub enum StreamFault {
     #[error("Unnamed {0}")]
     Unnamed(u8),
     /// A sink has fewer bytes than are to stand before the next one.
-    #[error("Short {has} {from}")]
+    #[error("Short {port} {has} {from}")]
     Short { port: u8, has: u64, from: u64 },
     /// A reader has fewer outputs than were confirmed: those between are gone.
-    #[error("Gone {have} {confirmed}")]
+    #[error("Gone {port} {have} {confirmed}")]
     Gone { port: u8, have: u64, confirmed: u64 },
     /// A reader says that it has more outputs than are shown.
-    #[error("NotShown {have} {shown}")]
+    #[error("NotShown {port} {have} {shown}")]
     NotShown { port: u8, have: u64, shown: u64 },
     /// The input of a port can't be read.
     #[error("ReadFailed")]

@@ -11,12 +11,13 @@ use std::marker::Model;
 use tp_host::{OfferFault, offer};
 use tp_shared::{Locked, Naming};
 
-/// A port's whole input and where it comes from, and whether its end was come to.
+/// A port's whole input and where it comes from, whether its end was come to, and whether the port had no room for more.
 #[derive(Drop)]
 pub struct Input<I: Source> {
     pub(crate) port: u8,
     pub(crate) source: I,
     pub(crate) has_ended: bool,
+    pub(crate) is_blocked: bool,
 }
 
 /// Hands a port bytes, under the book's lock, where it accepts those at this position. Whether it took them: it takes none that it, or
@@ -54,6 +55,7 @@ impl<I: Source> Input<I> {
             port,
             source,
             has_ended: false,
+            is_blocked: false,
         }
     }
 
@@ -62,6 +64,18 @@ impl<I: Source> Input<I> {
         ensures { result ≡ self.now.port }
     {
         self.port
+    }
+
+    /// Whether nothing is left that its port may take.
+    pub(crate) fn is_over(&self) -> bool {
+        self.has_ended || self.is_blocked
+    }
+
+    /// Whether a step would wait for bytes that haven't come yet, where the port has accepted those up to `at`.
+    pub(crate) fn would_wait(&mut self, at: u64) -> bool
+        ensures same { (self.new.port ≡ self.old.port) × (I.input self.new.source ≡ I.input self.old.source) }
+    {
+        !self.has_ended && self.source.would_wait(at)
     }
 
     /// Hands the port the next bytes of its input, under the book's lock: at most `most`, as many as `piece` has, and as the port has
@@ -81,7 +95,9 @@ impl<I: Source> Input<I> {
     {
         let port = self.port;
         let at = held.book().accepted(port);
-        let room = (held.book().room(port).min(piece.len()) as u64).min(most) as usize;
+        let place = held.book().room(port);
+        self.is_blocked = place == 0;
+        let room = (place.min(piece.len()) as u64).min(most) as usize;
         if room == 0 || self.has_ended {
             return Ok(false);
         }

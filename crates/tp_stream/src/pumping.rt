@@ -53,12 +53,14 @@ fn step_outputs<J: Naming, S: Sink, R: Wait>(
     Ok(has_moved)
 }
 
-/// A step of a port's input, which takes the book's lock. Whether the port took more. Room for the confirms is kept.
+/// A step of a port's input, which takes the book's lock. Whether the port took more. Room for the confirms is kept. Where it may not
+/// wait for bytes that haven't come yet, the port then takes none.
 fn step_input<J: Naming, I: Source, R: Wait>(
     rt: &R,
     shared: &Shared<J>,
     pace: Pace,
     piece: &mut [u8],
+    may_wait: bool,
     input: &mut Input<I>,
 ) -> Result<bool, StreamFault>
     ensures { IfErr result IsBegun }
@@ -67,6 +69,10 @@ fn step_input<J: Naming, I: Source, R: Wait>(
     held.known();
     if input.port() >= shared.ports() {
         return Err(StreamFault::InputFailed(input.port()));
+    }
+    let at = held.book().accepted(input.port());
+    if !may_wait && input.would_wait(at) {
+        return Ok(false);
     }
     let free = pace.rooms.free(held.book());
     input.step(&mut held, piece, free.saturating_sub(u64::from(pace.need)))
@@ -77,6 +83,7 @@ fn step_inputs<J: Naming, I: Source, R: Wait>(
     rt: &R,
     shared: &Shared<J>,
     pace: Pace,
+    may_wait: bool,
     inputs: &mut [Input<I>],
 ) -> Result<bool, StreamFault>
     ensures { IfErr result IsBegun }
@@ -84,24 +91,29 @@ fn step_inputs<J: Naming, I: Source, R: Wait>(
     let mut piece = [0u8; MAX_HELD];
     let mut has_moved = false;
     for input in inputs.iter_mut() {
-        if step_input(rt, shared, pace, &mut piece, input)? {
+        if step_input(rt, shared, pace, &mut piece, may_wait, input)? {
             has_moved = true;
         }
     }
     Ok(has_moved)
 }
 
-/// A step of each stream, where the mark is `mark`. Whether one has moved.
+/// A step of each stream, where the mark is `mark`. Whether one has moved. Where none has, and it may wait, it waits for input that
+/// hasn't come yet.
 pub(crate) fn pump<J: Naming, S: Sink, I: Source, R: Wait>(
     rt: &R,
     shared: &Shared<J>,
     pace: Pace,
     mark: u64,
+    may_wait: bool,
     streams: &mut Streams<S, I>,
 ) -> Result<bool, StreamFault>
     ensures { IfErr result IsBegun }
 {
     let has_put = step_outputs(rt, shared, mark, &mut streams.outputs)?;
-    let has_taken = step_inputs(rt, shared, pace, &mut streams.inputs)?;
-    Ok(has_put || has_taken)
+    let has_taken = step_inputs(rt, shared, pace, false, &mut streams.inputs)?;
+    if has_put || has_taken || !may_wait {
+        return Ok(has_put || has_taken);
+    }
+    step_inputs(rt, shared, pace, true, &mut streams.inputs)
 }

@@ -52,11 +52,12 @@ impl Rooms {
         (self.most.saturating_sub(self.kept) / ENTRY_ROOM as u64).saturating_sub(made)
     }
 
-    /// How many entries since the kept cut begin a snapshot, where `asked` were asked for; by default those that fill half of it.
+    /// How many entries since the kept cut begin a snapshot, where `asked` were asked for: at most those that fill half of it.
     pub(crate) fn every(self, asked: Option<u32>) -> u64 {
+        let half = (self.most.saturating_sub(self.kept) / (2 * ENTRY_ROOM as u64)).max(1);
         match asked {
-            Some(entries) => entries.into(),
-            None => (self.most.saturating_sub(self.kept) / (2 * ENTRY_ROOM as u64)).max(1),
+            Some(entries) => half.min(entries.into()),
+            None => half,
         }
     }
 

@@ -70,9 +70,9 @@ fn tell<J: Naming, S: Sink, L: Listener, R: Wait>(
     });
 }
 
-/// Whether no input is left.
-fn are_ended<I: Source>(inputs: &[Input<I>]) -> bool {
-    inputs.iter().all(|input| input.has_ended)
+/// Whether no input is left that its port may take.
+fn are_over<I: Source>(inputs: &[Input<I>]) -> bool {
+    inputs.iter().all(|input| input.is_over())
 }
 
 /// Whether nothing more is to be done: no turn is left, or it was asked to end where nothing is left to do.
@@ -83,11 +83,11 @@ fn is_over<S: Sink, I: Source>(
     has_moved: bool,
     streams: &Streams<S, I>,
 ) -> bool {
-    let is_quiet = turns.is_quiet(nodes) && !has_moved && are_ended(&streams.inputs);
+    let is_quiet = turns.is_quiet(nodes) && !has_moved && are_over(&streams.inputs);
     turns.left == 0 || (task.until_quiet && is_quiet)
 }
 
-/// A step of each stream, and then turns; where the journal has no room for one, a snapshot is brought to its end. Whether it goes on.
+/// A step of each stream, which waits for input where nothing else is left to do, and then turns; where the journal has no room for one, a snapshot is brought to its end. Whether it goes on.
 fn go_on<J: Naming, S: Sink, I: Source, L: Listener, R: Wait>(
     rt: &R,
     alloc: Global,
@@ -101,7 +101,8 @@ fn go_on<J: Naming, S: Sink, I: Source, L: Listener, R: Wait>(
 ) -> Result<bool, StreamFault>
     ensures { IfErr result IsBegun }
 {
-    let has_moved = pump(rt, shared, pace, mark, streams)?;
+    let may_wait = going.turns.left > 0 && going.turns.is_quiet(shared.nodes());
+    let has_moved = pump(rt, shared, pace, mark, may_wait, streams)?;
     if is_over(task, &going.turns, shared.nodes(), has_moved, streams) {
         return Ok(false);
     }

@@ -12,6 +12,10 @@ pub trait Source {
     /// All of its bytes, where they are known.
     ghost input: { Self → Option (List ℕ) } = { λ _. None };
 
+    /// Whether a read from this position would wait for bytes that haven't come yet.
+    fn would_wait(&mut self, at: u64) -> bool
+        ensures { input self.new ≡ input self.old };
+
     /// Reads bytes from a position on into `out`, and answers how many: fewer than `out` has where fewer have come, and none only at
     /// the end. The position is that of the last read, or one behind it.
     fn read(&mut self, at: u64, out: &mut [u8]) -> Result<usize, SourceFailed>

@@ -5,13 +5,15 @@
 pub struct Task {
     /// How many turns are made at most. A refused turn counts; one that only settles doesn't.
     pub turns: u32,
-    /// Whether it ends once nothing is left to do: no node has a step, no line a token that can be taken, and no input is left.
+    /// Whether it ends once nothing is left to do: no node has a step, no line a token that can be taken, and no input is left for which
+    /// its port has room.
     pub until_quiet: bool,
     /// How many steps a turn may run, 1 to 4,096.
     pub quantum: u16,
     /// How many spare frames each node has, at most its pages, for pages that it writes while it is frozen.
     pub spare: u16,
-    /// How many entries since the kept cut begin a snapshot; none: as many as fill half of the journal, and at least one.
+    /// How many entries since the kept cut begin a snapshot, at most as many as fill half of the journal; none: that many, and at least
+    /// one.
     pub every: Option<u32>,
     /// After how many turns it is told again how far it has come; 0: never.
     pub tells: u32,

@@ -24,11 +24,12 @@ pub(crate) const QUIET: Task = Task {
     tells: 0,
 };
 
-/// A source whose bytes come a few at a time.
+/// A source whose bytes come a few at a time. Before each of the first `late` reads nothing has come yet.
 #[derive(Drop)]
 pub(crate) struct Pieces {
     pub(crate) bytes: Vec<u8>,
     pub(crate) most: usize,
+    pub(crate) late: u32,
 }
 
 /// What stands from a position on.
@@ -43,7 +44,12 @@ fn rest_from(bytes: &[u8], at: u64) -> &[u8] {
 impl Source for Pieces {
     ghost input = { λ _. None };
 
+    fn would_wait(&mut self, _at: u64) -> bool {
+        self.late > 0
+    }
+
     fn read(&mut self, at: u64, out: &mut [u8]) -> Result<usize, SourceFailed> {
+        self.late = self.late.saturating_sub(1);
         let rest = rest_from(&self.bytes, at);
         let count = rest.len().min(out.len()).min(self.most);
         out[..count].copy_from_slice(&rest[..count]);
@@ -101,7 +107,8 @@ pub(crate) fn streams(
     let mut outputs = Vec::new(alloc);
     let mut inputs = Vec::new(alloc);
     outputs.push(Output::new(0, have, sink))?;
-    inputs.push(Input::new(0, Pieces { bytes, most }))?;
+    let late = 1;
+    inputs.push(Input::new(0, Pieces { bytes, most, late }))?;
     Ok(Streams { outputs, inputs })
 }
 
