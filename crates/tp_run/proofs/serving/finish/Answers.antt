@@ -91,7 +91,7 @@ returns-clause-settled g c k began =
     subst (λ (f : Flushing). IfOk c.settle.result (Settled start g.J.Naming.start c.args.job c.args.outset c.args.offered.seat was now f.world.journal)) (sym S.same)
     (all_settled c.settle.result next _ _ S.next (S.all k last)
     (λ all. both_settled start g.J.Naming.start c.args.job c.args.outset _ was now two.world.journal next c.args.offered c.in_ok-confirmed.confirmed O shows first second S.below.0 S.below.1 stand.0 stand.1
-    (accounted_for g.J.Naming.start c.args.job two.world.journal c.args.outset.next next (λ (seat : Seat g.J.row). seat.slips) c.args.seats.items c.args.offered.seat c.in_ok-confirmed.confirmed.seat
+    (accounted_for g.J.Naming.start c.args.job two.world.journal c.args.outset.next next (λ (seat : Seat g.row.J.Denot). seat.slips) c.args.seats.items c.args.offered.seat c.in_ok-confirmed.confirmed.seat
     c.requires.count c.requires.seats (subst (λ n. AreAll n next two.world.journal _) (sym c.requires.first) all))))
 
 -- ## How it ended
@@ -99,9 +99,13 @@ returns-clause-settled g c k began =
 pub returns-clause-stored : goal.returns-clause-stored
 returns-clause-stored g c =
     let next = c.later-next.result in
-    let mark = c.flush_upto-2.new.flusher.world.mark in
-    let low : next ≤ mark = ? in
-    ?
+    let two = c.flush_upto-2.new.flusher in
+    let stored = c.in_ok-_mark.ensures.stored in
+    let here = stored.0 in
+    let up = stored.1 in
+    let low : next ≤ two.world.mark = omega (arith, here, up) in
+    subst (λ (f : Flushing). IfOk c.settle.result (λ answer. answer ≤ f.world.mark)) (sym c.settle.ensures.same)
+    (if_ok c.settle.result (λ answer. answer ≡ next) (λ answer. answer ≤ two.world.mark) (λ answer is. subst (λ n. n ≤ two.world.mark) (sym is) low) c.settle.ensures.next)
 
 pub returns-clause-silent : goal.returns-clause-silent
 returns-clause-silent g c silent = absurd (late_said c.settle.result c.settle.ensures.late silent)
