@@ -11,7 +11,7 @@ use Rattle.tp_run.proofs.running.run.Goals as goal
 
 pub run_parts-requires-clause-names : goal.run_parts-requires-clause-names
 run_parts-requires-clause-names g c κs within =
-    let S = c.in-Ok-2.ensures.parts in
+    let S = c.in-Ok-parts_of.ensures.parts in
     record {
       roll_is = refl;
       first_is = refl;
