@@ -31,8 +31,8 @@ returns-clause-shown g c k began =
 
 -- ## Who made what
 
-pub work-flusher-requires : goal.work-flusher-requires
-work-flusher-requires g c κs within k d below =
+pub work-flusher-requires-clause-seats : goal.work-flusher-requires-clause-seats
+work-flusher-requires-clause-seats g c κs within k d below =
     let seat = c.requires.seats k d below in
     (seat.0, subst (Worked g.J.Naming.start c.args.net.now.quantum) (sym seat.1) idle)
 
