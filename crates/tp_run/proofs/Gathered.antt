@@ -1,5 +1,5 @@
 -- What workers and receipts have, together.
-use Rattle.std.proofs.Common.{◌≡◌, ℕ, List, [], ◌∷◌, ◌++◌, map, length, refl, sym, ap, subst, ◌∙◌, arith, zero, suc, ◌<◌, Result, Ok, Err}
+use Rattle.std.proofs.Common.{◌≡◌, ℕ, List, [], ◌∷◌, ◌++◌, map, length, refl, sym, ap, subst, ◌∙◌, arith, zero, suc, ◌<◌, append_assoc, Result, Ok, Err}
 use Rattle.std.specs.Prelude.{All, flat_map, IfOk}
 use Rattle.std.specs.List.{AllByRecursion}
 use Rattle.std.proofs.lemmas.List.{length-map}
@@ -31,7 +31,7 @@ accounted_for network job journal first next slips seats offered confirmed many 
   workers = map slips seats;
   count = length-map seats slips ∙ many;
   worked = each_mapped (Worked network job.quantum) slips seats worked;
-  all = subst (λ xs. AreAll first next journal (xs ++ offered ++ confirmed)) (sym (gathered slips seats)) all;
+  all = subst (AreAll first next journal) (append_assoc (flat_map slips seats) offered confirmed ∙ ap (λ xs. xs ++ (offered ++ confirmed)) (sym (gathered slips seats))) all;
 }
 
 -- an answer that is known, and what comes of it

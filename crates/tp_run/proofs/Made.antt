@@ -5,6 +5,7 @@ use Rattle.std.proofs.lemmas.List.{length-map}
 use Rattle.tp_model.specs.NodeState.{NodeState}
 use Rattle.tp_model.specs.Node.{t414, t414_ends}
 use Rattle.tp_model.specs.Network.{Network, Port}
+use Rattle.tp_model.specs.Snapshot.{MarkedNetwork}
 use Rattle.tp_model.specs.Opening.{Opened, held_of, next_of}
 use Rattle.tp_model.specs.OpensTo.{book_of}
 use Rattle.tp_model.specs.Order.{after}
@@ -75,3 +76,12 @@ first_told before o parts raiser bytes first S at = record {
       append-nil (take first before.journal)
       ∙ ap (λ n. take n before.journal) (sym at ∙ S.first ∙ ap (λ n. o.base + n) (sym (length-map o.kept (λ e. e.0))));
 }
+
+-- their network is of the kept cut's shape
+pub shape_is : (o other : Opened) (parts : PartsValue) (raiser : RaiserValue) → other ≡ o → StandsFor o parts raiser → IsCut t414_ends o.head.topology o.base o.cut
+    → (parts.book.state.start.wires ≡ other.cut.wires) × (length parts.book.state.start.nodes ≡ length other.cut.nodes) × (length parts.book.state.ports ≡ length other.cut.ports)
+shape_is o other parts raiser same S cut = (
+  ap (λ (n : MarkedNetwork NodeState). n.start.wires) S.book ∙ ap (λ (x : Opened). x.cut.wires) (sym same),
+  ap (λ (n : MarkedNetwork NodeState). length n.start.nodes) S.book ∙ ap (λ (x : Opened). length x.cut.nodes) (sym same),
+  S.ports ∙ sym cut.count ∙ ap (λ (x : Opened). length x.cut.ports) (sym same),
+)

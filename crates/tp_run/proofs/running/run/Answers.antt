@@ -1,23 +1,22 @@
-use Rattle.std.proofs.Common.{◌≡◌, Err, length, refl, sym, ap, subst, ◌∙◌}
+use Rattle.std.proofs.Common.{◌≡◌, Err, refl, sym, ap, subst, ◌∙◌}
 use Rattle.tp_model.specs.Disk.{Moment}
-use Rattle.tp_model.specs.NodeState.{NodeState}
-use Rattle.tp_model.specs.Snapshot.{MarkedNetwork}
 use Rattle.tp_flush.specs.Known.{Began}
 use Rattle.tp_run.specs.declared.fault.RunFault.TheVariants.{Opening, Memory}
 use Rattle.tp_run.specs.Ran.{Ran}
 use Rattle.tp_run.proofs.Faults.{begun_written}
+use Rattle.tp_run.proofs.Made.{shape_is}
 use Rattle.tp_run.proofs.Runs.{opened_ran, unwritten_ran}
 use Rattle.tp_run.proofs.running.run.Goals as goal
 
 pub run_parts-requires-clause-names : goal.run_parts-requires-clause-names
 run_parts-requires-clause-names g c κs within =
-    let S = c.in-Ok-2.ensures.parts in
+    let N = shape_is c.in-Ok.opened c.of-known.result.value c.in-Ok-parts_of.parts c.in-Ok-parts_of.raiser c.of-known.ensures c.in-Ok-parts_of.ensures.parts c.known.ensures.cut in
     record {
       roll_is = refl;
       first_is = refl;
-      wires_are = ap (λ (n : MarkedNetwork NodeState). n.start.wires) S.book;
-      count_is = ap (λ (n : MarkedNetwork NodeState). length n.start.nodes) S.book;
-      ports_are = S.ports ∙ sym c.known.ensures.cut.count;
+      wires_are = N.0;
+      count_is = N.1;
+      ports_are = N.2;
       nodes_are = λ i. refl;
       mark_is = refl;
       flusher_is = refl;

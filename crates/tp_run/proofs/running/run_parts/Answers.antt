@@ -48,4 +48,4 @@ returns-clause-ran g c k began =
     subst (λ s. Ran start job input was now done (g.D.Disk.state c.args.store.disk) s) (sym c.into_disk-2.ensures.state) (subst (λ s. Ran start job input was now done s new.state) c.over-flusher.ensures.device.0 ran)
 
 pub serve-flusher-requires-clause-first : goal.serve-flusher-requires-clause-first
-serve-flusher-requires-clause-first g c = ap (λ (u : Outset). u.next) c.requires.outset ∙ sym c.requires.stands.first ∙ c.requires.names.first_is
+serve-flusher-requires-clause-first g c κs within = ap (λ (u : Outset). u.next) c.requires.outset ∙ sym c.requires.stands.first ∙ c.requires.names.first_is

@@ -1,4 +1,5 @@
-use Rattle.std.proofs.Common.{◌≡◌, ◌≤◌, sym, ap, subst, ◌∙◌, arith, IfOk}
+use Rattle.std.proofs.Common.{◌≡◌, ◌≤◌, ◌++◌, sym, ap, subst, ◌∙◌, arith, IfOk}
+use Rattle.std.specs.Prelude.{flat_map}
 use Rattle.tp_flush.specs.Known.{Began}
 use Rattle.tp_flush.specs.Flushing.{Flushing, Walked}
 use Rattle.tp_flush.proofs.Turns.{walked_then}
@@ -92,7 +93,7 @@ returns-clause-settled g c k began =
     (all_settled c.settle.result next _ _ S.next (S.all k last)
     (λ all. both_settled start g.J.Naming.start c.args.job c.args.outset _ was now two.world.journal next c.args.offered c.in_ok-confirmed.confirmed O shows first second S.below.0 S.below.1 stand.0 stand.1
     (accounted_for g.J.Naming.start c.args.job two.world.journal c.args.outset.next next (λ (seat : Seat g.row.J.Denot). seat.slips) c.args.seats.items c.args.offered.seat c.in_ok-confirmed.confirmed.seat
-    c.requires.count c.requires.seats (subst (λ n. AreAll n next two.world.journal _) (sym c.requires.first) all))))
+    (sym c.args.seats.ok.0 ∙ c.requires.count) c.requires.seats (subst (λ n. AreAll n next two.world.journal (flat_map (λ (seat : Seat g.row.J.Denot). seat.slips) c.args.seats.items ++ c.args.offered.seat ++ c.in_ok-confirmed.confirmed.seat)) (sym c.requires.first) all))))
 
 -- ## How it ended
 

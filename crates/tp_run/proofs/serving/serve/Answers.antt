@@ -1,4 +1,6 @@
 use Rattle.std.proofs.Common.{sym, subst, IfOk}
+use Rattle.std.specs.Prelude.{All}
+use Rattle.tp_work.specs.declared.seat.Seat.{Seat}
 use Rattle.tp_flush.specs.Known.{Began}
 use Rattle.tp_flush.proofs.Turns.{walked_nowhere, walked_then}
 use Rattle.tp_run.specs.Ran.{Settled}
@@ -29,11 +31,11 @@ returns-clause-shown g c k began =
 
 -- ## Who made what
 
-pub work-flusher-requires : goal.work-flusher-requires
-work-flusher-requires g c k d below =
+pub work-flusher-requires-clause-seats : goal.work-flusher-requires-clause-seats
+work-flusher-requires-clause-seats g c κs within k d below =
     let seat = c.requires.seats k d below in
     (seat.0, subst (Worked g.J.Naming.start c.args.net.now.quantum) (sym seat.1) idle)
 
 pub finish-done-requires-clause-seats : goal.finish-done-requires-clause-seats
-finish-done-requires-clause-seats g c k d below =
-    subst (λ quantum. Worked g.J.Naming.start quantum _) c.requires.quantum (c.work-flusher.ensures.seats k d below)
+finish-done-requires-clause-seats g c =
+    subst (λ quantum. All (λ (seat : Seat g.row.J.Denot). Worked g.J.Naming.start quantum seat.slips) c.work-flusher.result.1.items) c.requires.quantum c.work-flusher.ensures.seats
