@@ -45,7 +45,9 @@ impl<J: Naming> Seat<J> {
         ensures { self.new ≡ self.old ++ other }
     {
         let Seat {
-            mut slips, count, ..
+            mut slips,
+            count,
+            ..
         } = other;
         transfer(&mut self.slips, &mut slips);
         self.count = self.count.saturating_add(count);
