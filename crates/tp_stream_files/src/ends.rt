@@ -1,0 +1,86 @@
+//! What a stream's ports live on, by the names of files.
+
+use thiserror::Error;
+
+/// A port, and the path of a file; `-` is standard input or output.
+#[derive(Drop)]
+pub struct PortFile {
+    pub port: u8,
+    pub path: String,
+}
+
+impl PortFile {
+    /// Whether it is standard input or output.
+    pub fn is_standard(&self) -> bool {
+        self.path.as_str() == "-"
+    }
+}
+
+/// A port, and up to where its reader has its output.
+#[derive(Clone, Copy)]
+pub struct PortNumber {
+    pub port: u8,
+    pub number: u64,
+}
+
+/// The ends of ports: where outputs go, up to where readers say that they have them, ports whose output is let go, and where inputs
+/// come from.
+#[derive(Drop)]
+pub struct Ends {
+    pub outs: Vec<PortFile>,
+    pub haves: Vec<PortNumber>,
+    pub discards: Vec<u8>,
+    pub ins: Vec<PortFile>,
+}
+
+/// The port that lives on standard input or output.
+fn standard_of(files: &[PortFile]) -> Option<u8> {
+    for file in files {
+        if file.is_standard() {
+            return Some(file.port);
+        }
+    }
+    None
+}
+
+impl Ends {
+    /// The port whose output goes to standard output.
+    pub fn standard_out(&self) -> Option<u8> {
+        standard_of(&self.outs)
+    }
+
+    /// The port whose input comes from standard input.
+    pub fn standard_in(&self) -> Option<u8> {
+        standard_of(&self.ins)
+    }
+
+    /// Up to where the reader of a port has its output.
+    pub(crate) fn have_of(&self, port: u8) -> Option<u64> {
+        for have in &self.haves {
+            if have.port == port {
+                return Some(have.number);
+            }
+        }
+        None
+    }
+}
+
+/// Why ends aren't opened.
+#[derive(Clone, Copy, Debug, PartialEq, Eq, Error)]
+pub enum EndFault {
+    /// The file that a port's input comes from can't be read.
+    #[error("ReadFailed")]
+    ReadFailed(u8),
+    /// The file that takes a port's output can't be opened to be written, or not be made.
+    #[error("DeviceFailed")]
+    DeviceFailed(u8),
+    /// The file that takes a port's output is the device, or another port's.
+    #[error("SameFile {0}")]
+    SameFile(u8),
+    /// Standard input or output is named for this port and another one.
+    #[error("Twice {0}")]
+    Twice(u8),
+    /// Memory was refused.
+    #[error("Memory")]
+    Memory,
+}

@@ -1,0 +1,103 @@
+//! What takes a port's output in the program: a file, standard output, or nothing.
+
+ghost use Rattle.std.specs.Prelude.{None};
+ghost use Rattle.tp_stream.specs.Held.{HasPut, IsSafe, KeepsBytes, KeepsFront, Reaches};
+
+use std::fs::{Files, OpenFile, OpenOptions};
+use std::io;
+use std::io::Write;
+use std::os::unix::fs::FileExt;
+use tp_disk::{NotedFile, SystemFile};
+use tp_stream::{Sink, SinkFailed};
+
+/// A file whose byte number q is byte number q of the port.
+#[derive(Drop)]
+pub struct FileSink<F: Drop> {
+    file: NotedFile<F>,
+    length: u64,
+}
+
+/// What takes a port's output.
+#[derive(Drop)]
+pub enum AnySink<'a, F: Drop, O> {
+    File(FileSink<F>),
+    /// Standard output, which has no positions: what is put goes behind what was put.
+    Out(&'a mut O),
+    /// Each byte is let go.
+    Nothing,
+}
+
+/// Syncs the folder of a path, so that a name made in it lasts.
+fn sync_folder<R: Files>(rt: &R, path: &str) -> io::Result<()> {
+    let folder = match path.rsplit_once('/') {
+        Some(("", _)) => "/",
+        Some((folder, _)) => folder,
+        None => ".",
+    };
+    OpenOptions::new().read(true).open(rt, folder)?.sync_all()
+}
+
+/// The file of that path as it is, or an empty one that is made.
+fn file_at<R: Files>(rt: &R, path: &str) -> io::Result<R::File> {
+    OpenOptions::new()
+        .read(true)
+        .write(true)
+        .create(true)
+        .open(rt, path)
+}
+
+/// The answer to a call of the system.
+fn answer(done: io::Result<()>) -> Result<(), SinkFailed> {
+    match done {
+        Ok(()) => Ok(()),
+        Err(_) => Err(SinkFailed),
+    }
+}
+
+impl<F: FileExt + OpenFile + Drop> FileSink<F> {
+    /// The file of that path as it is, or an empty one that is made. What is in it is synced: it counts as safe. So is the folder of one
+    /// that is empty, since it may be new.
+    pub fn open<R: Files<File = F>>(rt: &R, path: &str) -> io::Result<FileSink<F>> {
+        let mut file = NotedFile::new(file_at(rt, path)?);
+        let length = file.measure()?;
+        file.sync()?;
+        if length == 0 {
+            sync_folder(rt, path)?;
+        }
+        Ok(FileSink { file, length })
+    }
+
+    /// Writes over what stands at a position.
+    fn put(&mut self, at: u64, bytes: &[u8]) -> Result<(), SinkFailed> {
+        answer(self.file.write_all(at, bytes))?;
+        self.length = self.length.max(at.saturating_add(bytes.len() as u64));
+        Ok(())
+    }
+}
+
+impl<'a, F: FileExt + OpenFile + Drop, O: Write> Sink for AnySink<'a, F, O> {
+    ghost held = { λ _. None };
+
+    fn reach(&self) -> u64 {
+        match self {
+            AnySink::File(sink) => sink.length,
+            AnySink::Out(_) | AnySink::Nothing => u64::MAX,
+        }
+    }
+
+    fn put(&mut self, at: u64, bytes: &[u8]) -> Result<(), SinkFailed> {
+        match self {
+            AnySink::File(sink) => sink.put(at, bytes),
+            AnySink::Out(out) => answer(out.write_all(bytes)),
+            AnySink::Nothing => Ok(()),
+        }
+    }
+
+    fn settle(&mut self) -> Result<(), SinkFailed> {
+        match self {
+            AnySink::File(sink) => answer(sink.file.sync()),
+            AnySink::Out(out) => answer(out.flush()),
+            AnySink::Nothing => Ok(()),
+        }
+    }
+}

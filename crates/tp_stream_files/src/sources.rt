@@ -1,0 +1,33 @@
+//! Where a port's input comes from in the program: a file, or standard input.
+
+ghost use Rattle.std.specs.Prelude.{◌≤◌, None, length, IfOk};
+
+use crate::feeds::Feed;
+use crate::pipes::Pipe;
+use std::os::unix::fs::FileExt;
+use tp_stream::{Source, SourceFailed};
+
+/// Where a port's input comes from.
+#[derive(Drop)]
+pub enum AnySource<'a, F: Drop, I> {
+    File(F),
+    In(Pipe<'a, I>),
+}
+
+impl<'a, F: FileExt + Drop, I: Feed> Source for AnySource<'a, F, I> {
+    ghost input = { λ _. None };
+
+    fn would_wait(&mut self, at: u64) -> bool {
+        match self {
+            AnySource::File(_) => false,
+            AnySource::In(pipe) => pipe.would_wait_at(at),
+        }
+    }
+
+    fn read(&mut self, at: u64, out: &mut [u8]) -> Result<usize, SourceFailed> {
+        match self {
+            AnySource::File(file) => file.read_at(out, at).map_err(|_| SourceFailed),
+            AnySource::In(pipe) => pipe.read_from(at, out),
+        }
+    }
+}
