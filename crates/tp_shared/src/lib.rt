@@ -19,6 +19,7 @@ mod parts;
 mod pieces;
 mod place;
 mod receipt;
+mod recording;
 mod run;
 mod seal;
 mod seat;

@@ -12,11 +12,10 @@ ghost use Rattle.tp_shared.specs.Told.{told_of};
 ghost use Rattle.tp_shared.specs.Went.{IsOf};
 ghost use Rattle.tp_book.specs.Acts.{run_acts};
 ghost use Rattle.tp_book.specs.Calls.{without_run};
-ghost use Rattle.tp_turn.specs.Moments.{Added, Done, IsNodeOf, moment};
-ghost use Rattle.tp_turn.specs.Settled.{Records};
+ghost use Rattle.tp_turn.specs.Moments.{Added, IsNodeOf, moment};
 ghost use Rattle.tp_turn.specs.Stages.{Opens};
 
-use crate::hold::{begin, commit, record};
+use crate::hold::{begin, commit};
 use crate::naming::Naming;
 use crate::place::Place;
 use crate::seal::NodeSeal;
@@ -134,26 +133,6 @@ impl<J: Naming> Locked<J> {
         let Seat { slips, count, .. } = seat;
         write_new(book, before, roll, slips, count);
         done
-    }
-
-    /// The node records where it is asked to. It takes nothing, and nothing runs.
-    pub(crate) fn record(&mut self, place: &mut Place, number: u8)
-        requires there { number < length J.start.nodes }
-        requires named { place.old.key.name ≡ J.node number }
-        requires shows { Shows place.old false }
-        ensures named { place.new.key.name ≡ place.old.key.name }
-        ensures shows { Shows place.new false }
-        ensures did { Done number (Records number) (moment self.old.book place.old.node) (moment self.new.book place.new.node) }
-        ensures all { self.new.all ≡ self.old.all }
-    {
-        let Locked { book, seals, .. } = self;
-        let Place { node, key } = place;
-        let here = &mut seals[number as usize];
-        agree(&mut here.seal, key);
-        record(book, node, number);
-        let now = Shown::free(node);
-        turn(&mut here.seal, key, &now);
-        here.frozen = node.is_frozen();
     }
 
     /// What a node ran is journalled. Its key still shows the node before the run.

@@ -93,10 +93,17 @@ const WEDGE: &[&str] = &[
     "@device",
     "--turns=15000",
     "--workers=1",
+    "--quantum=16",
     "--every=16400",
 ];
 
-const HUNDRED_ROUNDS: &[&str] = &["run", "@device", "--turns=300", "--workers=1"];
+const HUNDRED_ROUNDS: &[&str] = &[
+    "run",
+    "@device",
+    "--turns=300",
+    "--workers=1",
+    "--quantum=16",
+];
 
 /// What a full port holds is confirmed once its device is compacted, and the network goes on: the byte on the line comes in the first
 /// round, and one more in each. Each round but the first makes four entries: a run of each node, the byte and its Ack.
