@@ -6,6 +6,7 @@ mod effect;
 mod fetch;
 mod operation;
 mod plain;
+mod plain_channel;
 mod plain_operation;
 mod spelling;
 mod stepping;
