@@ -10,6 +10,7 @@ mod plain_channel;
 mod plain_operation;
 mod spelling;
 mod stepping;
+mod waiting;
 
 pub use advancing::advance;
 pub use stepping::step;
