@@ -1,3 +1,4 @@
 pub mod Advances
 pub mod Ahead
 pub mod Spelt
+pub mod Waits

@@ -1,2 +1,3 @@
 pub mod Acts
 pub mod Advance
+pub mod Meets
