@@ -8,7 +8,7 @@ rounds=${1:-5}
 work=$(mktemp -d /tmp/bench-book-XXXX)
 trap 'rm -rf "$work"' EXIT
 
-cp -r "$top/crates" "$top/crates.txt" "$top/HANDLES" "$work"
+tar -C "$top" -c --exclude=incremental crates crates.txt HANDLES | tar -C "$work" -x
 mkdir -p "$work/crates/bench_book/src"
 cp "$top/bench/book.rattle" "$work/crates/bench_book/src/main.rt"
 echo "bench_book: tp_book tp_disk tp_recover" >> "$work/crates.txt"

@@ -12,7 +12,7 @@ work=$(mktemp -d /tmp/bench-journal-XXXX)
 trap 'rm -rf "$work"' EXIT
 
 rustc -O --edition 2021 -o "$work/raw" "$top/bench/raw.rs"
-cp -r "$top/crates" "$top/crates.txt" "$top/HANDLES" "$work"
+tar -C "$top" -c --exclude=incremental crates crates.txt HANDLES | tar -C "$work" -x
 mkdir -p "$work/crates/bench_journal/src"
 cp "$top/bench/journal.rattle" "$work/crates/bench_journal/src/main.rt"
 echo "bench_journal: tp_area tp_disk tp_model tp_recover" >> "$work/crates.txt"

@@ -8,7 +8,7 @@ rounds=${1:-5}
 work=$(mktemp -d /tmp/bench-memories-XXXX)
 trap 'rm -rf "$work"' EXIT
 
-cp -r "$top/crates" "$top/crates.txt" "$top/HANDLES" "$work"
+tar -C "$top" -c --exclude=incremental crates crates.txt HANDLES | tar -C "$work" -x
 cow='s/FlatMemory::new(rt.alloc(), 4, /CowMemory::new(rt.alloc(), 4, 4, /; s/FlatMemory/CowMemory/g'
 frozen="$cow; s/use tp_mem::CowMemory;/use tp_mem::{CowMemory, Freeze};/; s/^    let none = /    memory.freeze();\n&/"
 for kind in flat cow frozen; do

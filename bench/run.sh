@@ -19,7 +19,7 @@ folders=("${@:3}")
 work=$(mktemp -d /tmp/bench-run-XXXX)
 trap 'rm -rf "$work"' EXIT
 
-cp -r "$top/crates" "$top/crates.txt" "$top/HANDLES" "$work"
+tar -C "$top" -c --exclude=incremental crates crates.txt HANDLES | tar -C "$work" -x
 cow='s/FlatMemory::new(rt.alloc(), 4, /CowMemory::new(rt.alloc(), 4, 4, /; s/FlatMemory/CowMemory/g'
 mkdir -p "$work/crates/bench_flat/src" "$work/crates/bench_cow/src" "$work/steps"
 cp "$top/bench/steps.rattle" "$work/crates/bench_flat/src/main.rt"

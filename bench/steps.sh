@@ -8,7 +8,7 @@ work=$(mktemp -d /tmp/bench-steps-XXXX)
 trap 'rm -rf "$work"' EXIT
 
 rustc -O --edition 2021 -o "$work/plain" "$top/bench/plain.rs"
-cp -r "$top/crates" "$top/crates.txt" "$top/HANDLES" "$work"
+tar -C "$top" -c --exclude=incremental crates crates.txt HANDLES | tar -C "$work" -x
 mkdir -p "$work/crates/bench_steps/src"
 cp "$top/bench/steps.rattle" "$work/crates/bench_steps/src/main.rt"
 echo "bench_steps: tp_cpu tp_mem tp_model" >> "$work/crates.txt"
