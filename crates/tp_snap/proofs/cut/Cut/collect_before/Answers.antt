@@ -29,8 +29,9 @@ pub loop-at-preserved : goal.loop-at-preserved
 loop-at-preserved c =
     let was = c.args.self.now in
     let us = on_line c.args.lines.now c.args.line in
-    let at : slice_get us c.loop-at.at ≡ Some c.in-Some.token = sym c.get.ensures ∙ c.in-Some.is in
-    (c.collect.ensures
-    ∙ ap (λ (x : WholeCut). record x { lines = set x.lines c.args.line (on_line x.lines c.args.line ++ c.in-Some.token ∷ []) }) c.loop-at.invariant.0
-    ∙ ap (λ ls. record was { lines = ls }) (one_more us c.loop-at.at c.in-Some.token at was.lines c.args.line (on_line was.lines c.args.line) c.requires.there.0),
-    before_goes_on us c.loop-at.at c.in-Some.token at c.loop-at.invariant.1 (sym c.is_marker.ensures ∙ c.if-is_marker.false))
+    let at : slice_get us c.loop-at.at ≡ Some c.in-Some.token = sym c.get.ensures ∙ c.in-Some.is in (
+      c.collect.ensures
+          ∙ ap (λ (x : WholeCut). record x { lines = set x.lines c.args.line (on_line x.lines c.args.line ++ c.in-Some.token ∷ []) }) c.loop-at.invariant.0
+          ∙ ap (λ ls. record was { lines = ls }) (one_more us c.loop-at.at c.in-Some.token at was.lines c.args.line (on_line was.lines c.args.line) c.requires.there.0),
+      before_goes_on us c.loop-at.at c.in-Some.token at c.loop-at.invariant.1 (sym c.is_marker.ensures ∙ c.if-is_marker.false),
+    )
