@@ -2,16 +2,20 @@
 
 ghost use Rattle.std.specs.Prelude.{◌≡◌};
 ghost use Rattle.tp_model.specs.Channel.{waits_first};
-ghost use Rattle.tp_model.specs.Step.{operate, effect};
-ghost use Rattle.tp_model.specs.StepWrites.{waits_first_ranges, operate_ranges, effect_ranges};
-ghost use Rattle.tp_cpu.specs.Advance.{WasDone, Leads};
+ghost use Rattle.tp_model.specs.Coding.{fun_of};
+ghost use Rattle.tp_model.specs.Step.{operate};
+ghost use Rattle.tp_model.specs.StepWrites.{waits_first_ranges, operate_ranges};
+ghost use Rattle.tp_cpu.specs.Advance.{WasDone, Leads, effect_at, ranges_at};
 
 use crate::advancing::runs;
 use crate::spelling::spelling_at;
 use tp_isa::op_at;
 use tp_mem::Mem;
-use tp_model::{ChannelWord, Cpu, Fun, Op, Regs};
+use tp_model::{ChannelWord, Cpu, Op, Regs};
 use tp_proc::{NOT_PROCESS, channel_at, descriptor_of, end, pass, saved_at, state_at};
+
+/// The code of `opr`.
+const OPR: u8 = 0xF;
 
 /// Waits as the first process at the channel B: count A, pointer C.
 #[inline(always)]
@@ -49,14 +53,14 @@ fn wait_at_channel<M: Mem>(cpu: &mut Cpu, mem: &mut M) -> bool
     wait_first(cpu, mem)
 }
 
-/// Does a function with its operand, if it is an operation by which a process waits at a channel.
+/// Does the function of a code with its operand, if it is an operation by which a process waits at a channel.
 #[inline(always)]
-fn wait_by<M: Mem>(cpu: &mut Cpu, mem: &mut M, fun: Fun, operand: u32) -> bool
-    ensures { WasDone (effect fun operand) (effect_ranges fun operand) (M.kept mem.old) cpu.old (M.bytes mem.old) result cpu.new (M.bytes mem.new) (M.kept mem.new) }
+fn wait_by<M: Mem>(cpu: &mut Cpu, mem: &mut M, code: u8, operand: u32) -> bool
+    ensures { WasDone (effect_at (fun_of code) operand) (ranges_at (fun_of code) operand) (M.kept mem.old) cpu.old (M.bytes mem.old) result cpu.new (M.bytes mem.new) (M.kept mem.new) }
 {
-    let Fun::Opr = fun else {
+    if code != OPR {
         return false;
-    };
+    }
     match op_at(operand) {
         Some(Op::In | Op::Out) => wait_at_channel(cpu, mem),
         _ => false,
@@ -78,7 +82,7 @@ pub(crate) fn wait<M: Mem>(cpu: &mut Cpu, mem: &mut M) -> bool
     let iptr = cpu.iptr;
     let slice = cpu.slice;
     pass(cpu, spelling.next);
-    if wait_by(cpu, mem, spelling.fun, spelling.operand) {
+    if wait_by(cpu, mem, spelling.code, spelling.operand) {
         return true;
     }
     cpu.iptr = iptr;
