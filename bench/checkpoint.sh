@@ -51,7 +51,7 @@ int main(int count, char **words) {
 C
 cc -O2 -o "$work/raw" "$work/raw.c"
 
-(cd "$top" && tar cf - --exclude=incremental crates crates.txt HANDLES) | tar xf - -C "$work"
+tar -C "$top" -c --exclude=incremental crates crates.txt HANDLES | tar -C "$work" -x
 turns=$work/crates/bench_turns
 mkdir -p "$turns/src" "$turns/specs" "$turns/proofs/time_in"
 gate=$top/crates/tp_tests_gate

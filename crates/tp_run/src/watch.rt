@@ -4,9 +4,15 @@ ghost use Rattle.std.specs.Prelude.{◌≡◌, ◌<◌, ◌≤◌, ◌+◌, ◌-
 
 use std::sync::Wait;
 use std::sync::atomic::{AtomicBool, AtomicU64, Ordering};
+use std::time::Duration;
 
-/// How many turns are drawn until one wakes the flusher where it sleeps, and has the entries counted anew. No turn makes more entries.
+/// How many turns are drawn until the entries are counted anew, and the flusher has a turn to make though none was made. No turn makes
+/// more entries.
 pub(crate) const EACH: u64 = 64;
+
+/// How many microseconds the flusher sleeps where nothing was made. No turn wakes it, so what is journalled then, and the mark with it,
+/// waits for the device and for one such sleep.
+const SLEEP: u64 = 500;
 
 /// How many entries are made when those since the kept cut are counted again, once `made` were made and `missing` were wanting. Where none
 /// is, a snapshot has begun or can't, and they aren't until that may have changed.
@@ -52,23 +58,18 @@ impl Watch {
         self.every
     }
 
-    /// Takes one of the turns that are left; false where none is. The last one of [`EACH`] wakes the flusher.
+    /// Takes one of the turns that are left; false where none is. With the last one of [`EACH`] the flusher has a turn to make: a
+    /// snapshot may go on by what is no entry. Nobody is woken.
     pub(crate) fn draw(&self) -> bool {
         let before = self.drawn.fetch_add(1, Ordering::SeqCst);
         if before % EACH == EACH - 1 {
             self.count_anew();
-            self.ring();
+            self.tell(1);
         }
         before < self.turns
     }
 
-    /// Wakes the flusher, also where nothing was made: a snapshot may go on by what is no entry.
-    fn ring(&self) {
-        self.made.fetch_add(1, Ordering::SeqCst);
-        self.made.wake_one();
-    }
-
-    /// Tells that a turn made `count` entries, or fewer. The flusher sees it where it is awake.
+    /// Tells that a turn made `count` entries, or fewer. The flusher sees it where it is awake, and once it has slept.
     pub(crate) fn tell(&self, count: u64) {
         if count > 0 {
             self.made.fetch_add(count, Ordering::SeqCst);
@@ -94,14 +95,15 @@ impl Watch {
         self.due.store(0, Ordering::SeqCst);
     }
 
-    /// Tells that the workers have ended.
+    /// Tells that the workers have ended, and wakes the flusher.
     pub(crate) fn end(&self) {
         self.ended.store(true, Ordering::SeqCst);
-        self.ring();
+        self.tell(1);
+        self.made.wake_one();
     }
 
-    /// Waits until other numbers of entries were made than `seen`, and answers it; `None` once the workers have ended. Where none were
-    /// made it sleeps, until it is woken.
+    /// Waits until another number of entries was made than `seen`, and answers it; `None` once the workers have ended. Where none were
+    /// made it sleeps for [`SLEEP`] microseconds, and looks again.
     pub(crate) fn wait<R: Wait>(&self, rt: &R, seen: u64) -> Option<u64> {
         for _ in rt.forever() {
             if self.ended.load(Ordering::SeqCst) {
@@ -111,7 +113,11 @@ impl Watch {
             if made != seen {
                 return Some(made);
             }
-            self.made.park(rt, (seen & 0xffff_ffff) as u32);
+            self.made.park_timeout(
+                rt,
+                (seen & 0xffff_ffff) as u32,
+                Duration::from_micros(SLEEP),
+            );
         }
         None
     }

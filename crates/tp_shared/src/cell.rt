@@ -162,6 +162,7 @@ impl<const I: usize, J: Naming> Cell<I, J> {
         let place = &mut places[number as usize / 4];
         turn_of(rt, gate, book, place, seat, number, quantum)
     }
+
     /// The node `number`, which is one of the cell's, records where it is asked to.
     pub(crate) fn record<R: Wait>(&mut self, rt: &R, book: &Mutex<Locked<J>>, number: u8)
         requires there { number < length J.start.nodes }

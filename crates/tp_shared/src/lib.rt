@@ -27,6 +27,7 @@ mod shared;
 mod shared_pieces;
 mod shown;
 mod snapshot;
+mod soon;
 mod tail;
 mod tell;
 mod told;

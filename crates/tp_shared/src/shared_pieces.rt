@@ -6,6 +6,7 @@ ghost use Rattle.tp_shared.specs.Told.{Since};
 
 use crate::naming::Naming;
 use crate::shared::Shared;
+use crate::soon::lock_soon;
 use crate::told::Told;
 use std::sync::Wait;
 use tp_model::limits::{IMAGE_HEAD_BYTES, PAGE_BYTES};
@@ -29,10 +30,10 @@ impl<J: Naming> Shared<J> {
     {
         let book = self.book();
         match number % 4 {
-            0 => self.c0.lock(rt).frozen_head(rt, book, key, number, out),
-            1 => self.c1.lock(rt).frozen_head(rt, book, key, number, out),
-            2 => self.c2.lock(rt).frozen_head(rt, book, key, number, out),
-            _ => self.c3.lock(rt).frozen_head(rt, book, key, number, out),
+            0 => lock_soon(rt, &self.c0).frozen_head(rt, book, key, number, out),
+            1 => lock_soon(rt, &self.c1).frozen_head(rt, book, key, number, out),
+            2 => lock_soon(rt, &self.c2).frozen_head(rt, book, key, number, out),
+            _ => lock_soon(rt, &self.c3).frozen_head(rt, book, key, number, out),
         }
     }
 
@@ -54,22 +55,10 @@ impl<J: Naming> Shared<J> {
     {
         let book = self.book();
         match number % 4 {
-            0 => self
-                .c0
-                .lock(rt)
-                .frozen_page(rt, book, key, number, page, out),
-            1 => self
-                .c1
-                .lock(rt)
-                .frozen_page(rt, book, key, number, page, out),
-            2 => self
-                .c2
-                .lock(rt)
-                .frozen_page(rt, book, key, number, page, out),
-            _ => self
-                .c3
-                .lock(rt)
-                .frozen_page(rt, book, key, number, page, out),
+            0 => lock_soon(rt, &self.c0).frozen_page(rt, book, key, number, page, out),
+            1 => lock_soon(rt, &self.c1).frozen_page(rt, book, key, number, page, out),
+            2 => lock_soon(rt, &self.c2).frozen_page(rt, book, key, number, page, out),
+            _ => lock_soon(rt, &self.c3).frozen_page(rt, book, key, number, page, out),
         }
     }
 
@@ -79,10 +68,10 @@ impl<J: Naming> Shared<J> {
     {
         let book = self.book();
         match number % 4 {
-            0 => self.c0.lock(rt).drop_frozen(rt, book, number),
-            1 => self.c1.lock(rt).drop_frozen(rt, book, number),
-            2 => self.c2.lock(rt).drop_frozen(rt, book, number),
-            _ => self.c3.lock(rt).drop_frozen(rt, book, number),
+            0 => lock_soon(rt, &self.c0).drop_frozen(rt, book, number),
+            1 => lock_soon(rt, &self.c1).drop_frozen(rt, book, number),
+            2 => lock_soon(rt, &self.c2).drop_frozen(rt, book, number),
+            _ => lock_soon(rt, &self.c3).drop_frozen(rt, book, number),
         }
     }
 }
