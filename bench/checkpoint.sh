@@ -3,8 +3,9 @@
 #   entries   16 busy nodes of 256 pages, one step a turn: durable entries a second with checkpoints as they come beside none
 #   copy      the seconds of a checkpoint of these nodes beside a raw copy of as many bytes with the same syncs
 # What is compared goes first in turns.
-#   turns     one worker, 1,024 steps a turn, and the flusher, woken each 64 turns: the slowest turn of a hundred (the 99th percentile) while
-#             a snapshot of these nodes runs beside the median turn just before it, in many short rounds (bench/turns.rattle)
+#   turns     one worker, 1,024 steps a turn, and the flusher, which sleeps where nothing is new: the slowest turn of a hundred (the 99th
+#             percentile) while a snapshot of these nodes runs beside the median turn just before it, in many short rounds
+#             (bench/turns.rattle)
 # usage: bench/checkpoint.sh TPNET [ROUNDS [FOLDER ..]]      5 rounds in /dev/shm (in memory, so only our own cost shows) by default
 set -e
 top=$(cd "$(dirname "$0")/.." && pwd)
