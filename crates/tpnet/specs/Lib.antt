@@ -8,3 +8,4 @@ pub mod Attempt
 pub mod Formats
 pub mod Running
 pub mod Compacting
+pub mod Streaming
