@@ -1,7 +1,8 @@
 //! What a command line with `--stream` asks for.
 
-ghost use Rattle.std.specs.Prelude.{IfOk};
-ghost use Rattle.tpnet.specs.Streaming.{IsStreamInRange};
+ghost use Rattle.std.specs.Prelude.{IfOk, codes};
+ghost use Rattle.tpnet.specs.Given.{given};
+ghost use Rattle.tpnet.specs.Streaming.{AreTurns, IsStreamInRange, WasStreamTyped};
 
 use crate::args::{ArgFault, MAX_TURNS, every_of};
 use crate::found::{option_number, option_or, text_of};
@@ -104,7 +105,9 @@ fn turns_of(
     words: &[String],
     found: &ArgMatches,
     until_quiet: bool,
-) -> Result<u32, StreamArgFault> {
+) -> Result<u32, StreamArgFault>
+    ensures { IfOk result (λ turns. AreTurns until_quiet turns (given (codes "turns") words.now)) }
+{
     match option_number(alloc, words, found, "turns", 0, MAX_TURNS)? {
         Some(turns) => Ok(turns as u32),
         None if until_quiet => Ok(u32::MAX),
@@ -119,7 +122,8 @@ fn run_of(
     words: &[String],
     found: &ArgMatches,
 ) -> Result<StreamAsked, StreamArgFault>
-    ensures { IfOk result IsStreamInRange }
+    ensures range { IfOk result IsStreamInRange }
+    ensures typed { IfOk result (WasStreamTyped words.now) }
 {
     let until_quiet = found.get_flag("until-quiet");
     let quantum = MAX_STEPS as u64;
@@ -135,9 +139,11 @@ fn run_of(
     }))
 }
 
-/// Reads the words of a command line with `--stream`, the program's name first. Each number is in its range.
+/// Reads the words of a command line with `--stream`, the program's name first. Each number is the decimal that was typed, and in its
+/// range, and the device is one of the words.
 pub fn read_stream_args(alloc: Global, words: &[String]) -> Result<StreamAsked, StreamArgFault>
-    ensures { IfOk result IsStreamInRange }
+    ensures range { IfOk result IsStreamInRange }
+    ensures typed { IfOk result (WasStreamTyped words.now) }
 {
     let command = match stream_command(alloc) {
         Ok(command) => command,

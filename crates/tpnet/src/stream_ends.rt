@@ -1,5 +1,9 @@
 //! What was typed of the ends of a stream's ports.
 
+ghost use Rattle.std.specs.Prelude.{◌≡◌, ◌<◌, ◌≤◌, ◌==◌, All, IfOk, IfSome, None, count_by};
+ghost use Rattle.tpnet.specs.Ends.{AreApart, AreEnds, HavePorts, inputs, places};
+ghost use Rattle.tp_model.specs.declared.limits.TheConstants.{MAX_PORTS};
+
 use crate::numbers::number_of;
 use clap::ArgMatches;
 use std::alloc::{AllocError, AllocFailed, Global};
@@ -75,7 +79,9 @@ impl<T: Drop> From<AllocFailed<T>> for EndsFault {
 }
 
 /// The port of that number, where a device may have one.
-fn port_of(alloc: Global, text: &str) -> Result<Option<u8>, EndsFault> {
+fn port_of(alloc: Global, text: &str) -> Result<Option<u8>, EndsFault>
+    ensures { IfOk result (λ found. IfSome found (λ port. port < MAX_PORTS)) }
+{
     match number_of(alloc, text)? {
         Some(number) if number < MAX_PORTS as u64 => Ok(Some(number as u8)),
         _ => Ok(None),
@@ -83,7 +89,9 @@ fn port_of(alloc: Global, text: &str) -> Result<Option<u8>, EndsFault> {
 }
 
 /// The port and the text behind the equals sign.
-fn pair_of<'a>(alloc: Global, text: &'a str) -> Result<Option<(u8, &'a str)>, EndsFault> {
+fn pair_of<'a>(alloc: Global, text: &'a str) -> Result<Option<(u8, &'a str)>, EndsFault>
+    ensures { IfOk result (λ found. IfSome found (λ pair. pair.0 < MAX_PORTS)) }
+{
     let Some((port, rest)) = text.split_once('=') else {
         return Ok(None);
     };
@@ -98,7 +106,9 @@ fn files_of(
     alloc: Global,
     found: &ArgMatches,
     id: &'static str,
-) -> Result<Vec<PortFile>, EndsFault> {
+) -> Result<Vec<PortFile>, EndsFault>
+    ensures { IfOk result (λ files. HavePorts files.items) }
+{
     let mut files = Vec::new(alloc);
     let Some(texts) = found.get_strs(id) else {
         return Ok(files);
@@ -114,7 +124,9 @@ fn files_of(
 }
 
 /// Up to where readers have what they were given.
-fn haves_of(alloc: Global, found: &ArgMatches) -> Result<Vec<PortNumber>, EndsFault> {
+fn haves_of(alloc: Global, found: &ArgMatches) -> Result<Vec<PortNumber>, EndsFault>
+    ensures { IfOk result (λ haves. All (λ have. have.port < MAX_PORTS) haves.items) }
+{
     let mut haves = Vec::new(alloc);
     let Some(texts) = found.get_strs("have") else {
         return Ok(haves);
@@ -132,7 +144,9 @@ fn haves_of(alloc: Global, found: &ArgMatches) -> Result<Vec<PortNumber>, EndsFa
 }
 
 /// The ports whose output is let go.
-fn discards_of(alloc: Global, found: &ArgMatches) -> Result<Vec<u8>, EndsFault> {
+fn discards_of(alloc: Global, found: &ArgMatches) -> Result<Vec<u8>, EndsFault>
+    ensures { IfOk result (λ ports. All (λ port. port < MAX_PORTS) ports.items) }
+{
     let mut ports = Vec::new(alloc);
     let Some(texts) = found.get_strs("discard") else {
         return Ok(ports);
@@ -147,7 +161,9 @@ fn discards_of(alloc: Global, found: &ArgMatches) -> Result<Vec<u8>, EndsFault> 
 }
 
 /// How many of the files are for a port.
-fn count_of(files: &[PortFile], port: u8) -> usize {
+fn count_of(files: &[PortFile], port: u8) -> usize
+    ensures { result ≡ count_by (λ file. file.port == port) files.now }
+{
     files.iter().filter(|file| file.port == port).count()
 }
 
@@ -156,15 +172,27 @@ fn standards(files: &[PortFile]) -> usize {
     files.iter().filter(|file| file.is_standard()).count()
 }
 
-/// A port that has two places for its output, or two inputs.
-fn named_twice(ends: &Ends) -> Option<EndsFault> {
+/// What is wrong with the ends of a port that has two places for its output, or two inputs.
+fn fault_at(ends: &Ends, port: u8) -> Option<EndsFault>
+    ensures { result ≡ None → (places ends.now port ≤ 1) × (inputs ends.now port ≤ 1) }
+{
+    let discards = ends.discards.iter().filter(|other| **other == port).count();
+    if count_of(&ends.outs, port).saturating_add(discards) > 1 {
+        return Some(EndsFault::TwoOutputs(port));
+    }
+    if count_of(&ends.ins, port) > 1 {
+        return Some(EndsFault::TwoInputs(port));
+    }
+    None
+}
+
+/// What is wrong with the ends of the first port that has two places for its output, or two inputs.
+fn named_twice(ends: &Ends) -> Option<EndsFault>
+    ensures { result ≡ None → AreApart MAX_PORTS ends.now }
+{
     for port in 0..MAX_PORTS as u8 {
-        let discards = ends.discards.iter().filter(|other| **other == port).count();
-        if count_of(&ends.outs, port).saturating_add(discards) > 1 {
-            return Some(EndsFault::TwoOutputs(port));
-        }
-        if count_of(&ends.ins, port) > 1 {
-            return Some(EndsFault::TwoInputs(port));
+        if let Some(fault) = fault_at(ends, port) {
+            return Some(fault);
         }
     }
     None
@@ -181,7 +209,9 @@ fn no_reader(ends: &Ends) -> Option<EndsFault> {
 }
 
 /// What is wrong with ends that were typed.
-fn fault_of(ends: &Ends) -> Option<EndsFault> {
+fn fault_of(ends: &Ends) -> Option<EndsFault>
+    ensures { result ≡ None → AreApart MAX_PORTS ends.now }
+{
     if let Some(fault) = named_twice(ends) {
         return Some(fault);
     }
@@ -195,7 +225,9 @@ fn fault_of(ends: &Ends) -> Option<EndsFault> {
 }
 
 /// The ends of ports that were typed.
-pub fn ends_of(alloc: Global, found: &ArgMatches) -> Result<Ends, EndsFault> {
+pub fn ends_of(alloc: Global, found: &ArgMatches) -> Result<Ends, EndsFault>
+    ensures { IfOk result AreEnds }
+{
     let ends = Ends {
         outs: files_of(alloc, found, "out")?,
         haves: haves_of(alloc, found)?,

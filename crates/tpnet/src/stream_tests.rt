@@ -192,7 +192,7 @@ const LESS: Streams<'static> = &[
         "abcd",
         0,
         "",
-        "in 0 0\nnext 38\n",
+        "in 0 0\nnext 26\n",
     ),
     (
         &["--until-quiet", "--out", "0=@short"],

@@ -1,12 +1,14 @@
 //! `tpnet run --stream`, over any device.
 
-ghost use Rattle.std.specs.Prelude.{◌≡◌, ◌≤◌};
+ghost use Rattle.std.specs.Prelude.{◌≡◌, ◌≤◌, Err, IsErr};
 ghost use Rattle.tp_flush.specs.Known.{Began};
+ghost use Rattle.tp_model.specs.Opening.{verdict};
 ghost use Rattle.tp_model.specs.declared.limits.TheConstants.{MAX_STEPS};
 ghost use Rattle.tp_recover.specs.Reading.{LeavesNothingNew};
+ghost use Rattle.tp_recover.specs.declared.unopened.Unopened.{Unopened};
 ghost use Rattle.tp_run.specs.Ran.{History};
 ghost use Rattle.tp_stream.specs.Streamed.{IsUnbegun, Streamed as StreamLeft};
-ghost use Rattle.tpnet.specs.Streaming.{IsStreamRun, IsUnwritten, StreamedOn, end_status, fault_status, stream_status};
+ghost use Rattle.tpnet.specs.Streaming.{IsStreamRun, IsUnopened, IsUnwritten, StreamedOn, end_status, fault_status, stream_status, task_of};
 
 use crate::stream_args::StreamRun;
 use std::fs::{Files, OpenFile};
@@ -43,7 +45,8 @@ pub struct Streamed {
 #[tactic(auto, unfolding(crate::specs::Streaming::IsStreamRun))]
 fn task_of(asked: &StreamRun) -> Task
     requires { IsStreamRun asked.now }
-    ensures { result.quantum ≤ MAX_STEPS }
+    ensures value { result ≡ task_of asked.now }
+    ensures quantum { result.quantum ≤ MAX_STEPS }
 {
     let tells = if asked.has_progress { TURNS_TOLD } else { 0 };
     Task {
@@ -145,6 +148,7 @@ fn stream_opened<R: AllocGlobal + Wait, D: Disk + Drop, S: Sink, I: Source, E: W
     ensures streamed { D.keeps → Began history.formatted history.before (D.state disk).now.bytes
         → StreamLeft history.formatted result.1 (D.state disk) (D.state result.0) }
     ensures unwritten { D.keeps → IsUnbegun result.1 → LeavesNothingNew (D.state disk) (D.state result.0) }
+    ensures unopened { D.keeps → IsErr (verdict (D.state disk).now.bytes) → (unopened : Unopened) × (result.1 ≡ Err (StreamFault.Opening unopened)) }
 {
     let standard_out = ends.standard_out();
     let mut teller = Teller::new(err, standard_out, ends.standard_in());
@@ -177,6 +181,7 @@ fn stream_files<
     ensures streamed { D.keeps → Began history.formatted history.before (D.state disk).now.bytes
         → StreamedOn history.formatted result.1 (D.state disk) (D.state result.0) }
     ensures unwritten { D.keeps → IsUnwritten result.1 (D.state disk) (D.state result.0) }
+    ensures unopened { D.keeps → IsErr (verdict (D.state disk).now.bytes) → IsUnopened result.1 }
 {
     let mut streams = match open_ends(rt, asked.device.as_str(), &asked.ends, feed, out) {
         Ok(streams) => streams,
@@ -208,6 +213,7 @@ pub fn stream_on<
     ensures streamed { D.keeps → Began history.formatted history.before (D.state disk).now.bytes
         → StreamedOn history.formatted result.1.done (D.state disk) (D.state result.0) }
     ensures unwritten { D.keeps → IsUnwritten result.1.done (D.state disk) (D.state result.0) }
+    ensures unopened { D.keeps → IsErr (verdict (D.state disk).now.bytes) → IsUnopened result.1.done }
 {
     let (disk, done) = stream_files(rt, asked, disk, feed, out, err);
     let status = report(err, done);
