@@ -1,6 +1,6 @@
 //! What the program does for the words of a command line with `--stream`.
 
-ghost use Rattle.std.specs.Prelude.{◌≤◌};
+ghost use Rattle.std.specs.Prelude.{◌≡◌, ◌≤◌};
 ghost use Rattle.tpnet.specs.Streaming.{IsStreamRun};
 
 use crate::commands::{print_help, refuse};
