@@ -102,11 +102,7 @@ fn pair_of<'a>(alloc: Global, text: &'a str) -> Result<Option<(u8, &'a str)>, En
 }
 
 /// The ports and files that were typed for an option.
-fn files_of(
-    alloc: Global,
-    found: &ArgMatches,
-    id: &'static str,
-) -> Result<Vec<PortFile>, EndsFault>
+fn files_of(alloc: Global, found: &ArgMatches, id: &'static str) -> Result<Vec<PortFile>, EndsFault>
     ensures { IfOk result (λ files. HavePorts files.items) }
 {
     let mut files = Vec::new(alloc);

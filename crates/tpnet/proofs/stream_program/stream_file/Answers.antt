@@ -9,4 +9,4 @@ stream_on-disk-requires g c κs within =
     let one = ⊑_meet κ _ _ within.1.1.0 none in
     let note = ⊑_meet κ _ _ (⊑_meet κ _ _ one one) none in
     let raw = ⊑_meet κ _ _ (⊑_meet κ _ _ note note) none in
-    (within.0, (within.1.0, (⊑_meet κ _ _ raw raw, (within.1.1.1.0, (within.1.1.1.1.0, (within.1.1.1.1.1, c.requires))))))
+    (within.0, (within.1.0, (⊑_meet κ _ _ raw raw, (within.1.1.1.0, (within.1.1.1.1.0, (within.1.1.1.1.1.0, (within.1.1.1.1.1.1, c.requires)))))))
