@@ -8,3 +8,5 @@ pub mod Attempt
 pub mod Formats
 pub mod Running
 pub mod Compacting
+pub mod Ends
+pub mod Streaming

@@ -156,7 +156,11 @@ fn asked_format(alloc: Global, words: &[String], found: &ArgMatches) -> Result<A
 }
 
 /// The entries after which a snapshot begins.
-fn every_of(alloc: Global, words: &[String], found: &ArgMatches) -> Result<Option<u32>, ArgFault>
+pub fn every_of(
+    alloc: Global,
+    words: &[String],
+    found: &ArgMatches,
+) -> Result<Option<u32>, ArgFault>
     ensures range { IfOk result IsEvery }
     ensures typed { IfOk result (λ every. given (codes "every") words.now ≡ option_map decimal every) }
 {

@@ -23,7 +23,7 @@ const ENTRY_ROOM: u64 = 32;
 const KEPT_ROOM: u64 = 96;
 
 /// A file that can't be opened or read.
-fn push_file(text: &mut String, path: &str, error: &io::Error) -> Result<(), AllocError> {
+pub fn push_file(text: &mut String, path: &str, error: &io::Error) -> Result<(), AllocError> {
     write!(
         text,
         "  {path}: {error}\n  Look at the path, and at your rights to it.\n"
@@ -234,7 +234,7 @@ fn push_try<R: Files + AllocGlobal>(
 }
 
 /// Opens a device's file again, and says why it wasn't opened, where it doesn't open now either.
-fn push_opening<R: Files<File = F> + AllocGlobal, F: FileExt + OpenFile + Drop>(
+pub fn push_opening<R: Files<File = F> + AllocGlobal, F: FileExt + OpenFile + Drop>(
     rt: &R,
     text: &mut String,
     device: &str,

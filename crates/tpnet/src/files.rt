@@ -275,7 +275,7 @@ fn read_input<R: Files + AllocGlobal>(rt: &R, run: &Run) -> Result<Vec<u8>, Refu
 }
 
 /// The same error of the system.
-fn said_again(error: &io::Error) -> io::Error {
+pub fn said_again(error: &io::Error) -> io::Error {
     match error.raw_os_error() {
         Some(code) => io::Error::from_raw_os_error(code),
         None => io::Error::from(error.kind()),

@@ -39,6 +39,14 @@ mod running;
 #[cfg(test)]
 mod scratch;
 mod shown;
+mod stream_args;
+mod stream_ends;
+mod stream_explain;
+mod stream_program;
+#[cfg(test)]
+mod stream_tests;
+mod stream_words;
+mod streaming;
 #[cfg(test)]
 mod tests;
 #[cfg(test)]
@@ -52,6 +60,9 @@ use program::answer;
 use std::env;
 use std::process::ExitCode;
 use std::rt::Env;
+use stream_args::{is_stream, wants_input};
+use stream_program::answer_stream;
+use tp_stream_files::Threaded;
 
 fn words_of<R: Env + AllocGlobal>(rt: &R) -> Option<Vec<String>> {
     let words = env::args(rt).ok()?;
@@ -64,5 +75,15 @@ fn main(rt: HostRuntime) -> ExitCode {
     let Some(words) = words_of(&rt) else {
         return ExitCode::from(2);
     };
+    if is_stream(words.as_slice()) {
+        let reader = if wants_input(words.as_slice()) {
+            Some(rt.reader())
+        } else {
+            None
+        };
+        let mut feed = Threaded::new(rt, reader);
+        let status = answer_stream(&rt, words.as_slice(), &mut feed, &mut out, &mut err);
+        return ExitCode::from(status);
+    }
     ExitCode::from(answer(&rt, words.as_slice(), &mut out, &mut err))
 }

@@ -20,7 +20,7 @@ use std::thread::Threads;
 use tp_disk::{Disk, MemDisk, PlannedFault};
 
 /// The image of a node that sends back each byte that it gets on link 0.
-fn echo(alloc: Global) -> Result<Vec<u8>, Fail> {
+pub(crate) fn echo(alloc: Global) -> Result<Vec<u8>, Fail> {
     let mut image = letter(alloc)?;
     let code = [
         0x11, 0x24, 0xF2, 0x54, 0x41, 0xF7, 0x11, 0x24, 0xF2, 0x41, 0xFB, 0x60, 0x03,

@@ -10,7 +10,7 @@ use std::alloc::{AllocError, Global};
 const VERSION: &str = "0.1.0\nproved with rattle-kit-13b, logic dac8208d650f15bf";
 
 /// A word that has to be there.
-fn word<'a>(alloc: Global, id: &'a str, help: &'a str) -> Arg<'a> {
+pub fn word<'a>(alloc: Global, id: &'a str, help: &'a str) -> Arg<'a> {
     Arg::new(alloc, id)
         .required(true)
         .action(ArgAction::Set)
@@ -18,7 +18,7 @@ fn word<'a>(alloc: Global, id: &'a str, help: &'a str) -> Arg<'a> {
 }
 
 /// An option without a value.
-fn flag<'a>(alloc: Global, id: &'a str, help: &'a str) -> Arg<'a> {
+pub fn flag<'a>(alloc: Global, id: &'a str, help: &'a str) -> Arg<'a> {
     Arg::new(alloc, id)
         .long(id)
         .action(ArgAction::SetTrue)
@@ -26,7 +26,7 @@ fn flag<'a>(alloc: Global, id: &'a str, help: &'a str) -> Arg<'a> {
 }
 
 /// An option with a value.
-fn option<'a>(alloc: Global, id: &'a str, value: &'a str, help: &'a str) -> Arg<'a> {
+pub fn option<'a>(alloc: Global, id: &'a str, value: &'a str, help: &'a str) -> Arg<'a> {
     Arg::new(alloc, id)
         .long(id)
         .action(ArgAction::Set)
@@ -35,7 +35,7 @@ fn option<'a>(alloc: Global, id: &'a str, value: &'a str, help: &'a str) -> Arg<
 }
 
 /// A command that says more of a refusal where it is asked to.
-fn explained<'a>(
+pub fn explained<'a>(
     alloc: Global,
     name: &'a str,
     about: &'a str,
@@ -166,7 +166,12 @@ fn with_run_options<'a>(alloc: Global, command: Command<'a>) -> Result<Command<'
         .arg(option(alloc, "spare", "S", spare))?
         .arg(option(alloc, "every", "E", every))?
         .arg(option(alloc, "port", "P", port))?
-        .arg(option(alloc, "in", "FILE", input))
+        .arg(option(alloc, "in", "FILE", input))?
+        .arg(flag(
+            alloc,
+            "stream",
+            "let ports live on files and standard streams: see tpnet run --stream --help",
+        ))
 }
 
 fn run_command<'a>(alloc: Global) -> Result<Command<'a>, AllocError> {

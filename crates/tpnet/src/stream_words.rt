@@ -1,0 +1,84 @@
+//! The words that `clap` takes with `run --stream`.
+
+use crate::words::{explained, flag, option, word};
+use clap::{Arg, ArgAction, Command};
+use std::alloc::{AllocError, Global};
+
+/// What `tpnet run --stream` refuses.
+const STREAM_REFUSALS: &str =
+    "P is a port's number, as in tpnet show. Byte number q of port P stands at offset q of its FILE.
+Each port with a wire needs an --out or a --discard, and --turns or --until-quiet has to be there.
+Refusals (status 1):
+  ReadFailed    an input can't be read, or DEVICE can't be opened to read and write, or be read: look at paths and rights
+  NotFormatted  DEVICE is none: make one with tpnet format
+  BadVersion    DEVICE is of another version of tpnet
+  NoOpenArea    neither area is open: format was stopped, or the device was written over
+  Damaged AT    what stands at offset AT breaks its rule: restore a copy
+  Short P H C   port P's FILE has H bytes, and C were confirmed: it was cut, or is another file
+  Gone P H C    --have P=H, and C bytes were confirmed: those from H on aren't on DEVICE any more
+  NotShown P H S  --have P=H, and only S bytes were shown
+  DeviceFailed  DEVICE, an output's FILE or standard output can't be written or synced: look at rights and room
+  JournalFull   DEVICE has no room for further entries: see --explain
+  Memory        there is no memory left
+A fault of the words ends with status 2; so do, once DEVICE is open, a --spare above a node's pages, a port that isn't there, and a port
+with a wire for whose output nothing was said.";
+
+/// An option that may be there for several ports.
+fn many<'a>(alloc: Global, id: &'a str, value: &'a str, help: &'a str) -> Arg<'a> {
+    Arg::new(alloc, id)
+        .long(id)
+        .action(ArgAction::Append)
+        .value_name(value)
+        .help(help)
+}
+
+/// Where the bytes of ports go and come from.
+fn with_ends<'a>(alloc: Global, command: Command<'a>) -> Result<Command<'a>, AllocError> {
+    let out =
+        "where port P's output goes: a file, which is made where it isn't there and never emptied, or standard output (-)";
+    let have = "what the reader of standard output has of port P already, in bytes from position 0";
+    let discard = "port P's output is let go";
+    let input =
+        "port P's whole input, from position 0: a file, or standard input (-); what was accepted before is passed over";
+    command
+        .arg(many(alloc, "out", "P=FILE", out))?
+        .arg(many(alloc, "have", "P=Z", have))?
+        .arg(many(alloc, "discard", "P", discard))?
+        .arg(many(alloc, "in", "P=FILE", input))
+}
+
+/// How turns are made, and when the stream ends.
+fn with_turns<'a>(alloc: Global, command: Command<'a>) -> Result<Command<'a>, AllocError> {
+    let turns = "turns that are made at most, 0 to 4294967295";
+    let quiet =
+        "end once no node has a step, no line a token that can be taken, and no input is left";
+    let progress = "say on standard error how far it has come, each 10000 turns";
+    let quantum = "steps that a turn may run, 1 to 4096 (1024)";
+    let spare =
+        "spare frames of each node, for writes while pages are frozen, 0 to the pages of the smallest node (4)";
+    let every =
+        "entries since the kept cut after which a snapshot begins, 1 to 4294967295 (where the journal is half full, at the latest)";
+    command
+        .arg(option(alloc, "turns", "N", turns))?
+        .arg(flag(alloc, "until-quiet", quiet))?
+        .arg(flag(alloc, "progress", progress))?
+        .arg(option(alloc, "quantum", "Q", quantum))?
+        .arg(option(alloc, "spare", "S", spare))?
+        .arg(option(alloc, "every", "E", every))
+}
+
+/// The words that the program takes with `run --stream`.
+pub fn stream_command<'a>(alloc: Global) -> Result<Command<'a>, AllocError> {
+    let run = explained(
+        alloc,
+        "run",
+        "Opens a device and runs its network, whose ports live on files, standard input and standard output for as long as it runs",
+        STREAM_REFUSALS,
+    )?
+    .arg(word(alloc, "DEVICE", "the device's file, which is written"))?
+    .arg(flag(alloc, "stream", "ports live on streams"))?;
+    let run = with_turns(alloc, with_ends(alloc, run)?)?;
+    Command::new(alloc, "tpnet")
+        .subcommand_required(true)
+        .subcommand(run)
+}
