@@ -1,0 +1,38 @@
+use Rattle.std.proofs.Common.{◌≡◌, ◌∙◌, ℕ, [], ap, sym, Ok, Err, Result}
+use contract.BorrowLft.{◌⊑◌, ⊑_meet, ⊑_static}
+use Rattle.tp_recover.specs.declared.unopened.Unopened.{Unopened}
+use Rattle.tp_stream.specs.declared.fault.StreamFault.{StreamFault}
+use Rattle.tp_stream.specs.declared.fault.StreamFault.TheVariants.{Opening}
+use Rattle.tp_program.proofs.streaming.stream_files.Goals as goal
+
+-- the fault of a stream that ended early
+abbrev fault_in : StreamFault → Result ℕ StreamFault → StreamFault
+fault_in other (Ok next) = other
+fault_in other (Err fault) = fault
+
+same_fault : (done : Result ℕ StreamFault) (fault : StreamFault) → done ≡ Err fault → (unopened : Unopened) × (done ≡ Err (Opening unopened)) → (unopened : Unopened) × (fault ≡ Opening unopened)
+same_fault done fault is (unopened, same) = (unopened, ap (fault_in fault) (sym is ∙ same))
+
+-- the file, standard output and standard input outlive what takes outputs and gives inputs
+pub stream_opened-disk-requires : goal.stream_opened-disk-requires
+stream_opened-disk-requires g c κs within =
+    let κ = κs.1.1.1.1.1.1.0 in
+    let none : κ ⊑ [] = ⊑_static κ in
+    let file = within.1.1.1.0 in
+    let out = within.1.1.1.1.0 in
+    let one = ⊑_meet κ _ _ file none in
+    let note = ⊑_meet κ _ _ (⊑_meet κ _ _ one one) none in
+    let writer = ⊑_meet κ _ _ (⊑_meet κ _ _ (⊑_meet κ _ _ within.0.0 out) none) none in
+    let sinks = ⊑_meet κ _ _ (⊑_meet κ _ _ file (⊑_meet κ _ _ out none)) (⊑_meet κ _ _ (⊑_meet κ _ _ (⊑_meet κ _ _ one note) none) writer) in
+    let μ = κs.1.1.1.1.1.1.1.0 in
+    let nothing : μ ⊑ [] = ⊑_static μ in
+    let read = within.1.1.1.1.1.0 in
+    let feed = within.1.1.1.1.1.1.0 in
+    let pipe = ⊑_meet μ _ _ (⊑_meet μ _ _ within.0.1.0 feed) nothing in
+    let piped = ⊑_meet μ _ _ (⊑_meet μ _ _ (⊑_meet μ _ _ (⊑_meet μ _ _ feed nothing) pipe) nothing) nothing in
+    let sources = ⊑_meet μ _ _ (⊑_meet μ _ _ read (⊑_meet μ _ _ feed nothing)) (⊑_meet μ _ _ (⊑_meet μ _ _ read nothing) piped) in
+    (within.1.0, (within.1.1.0, (sinks, (sources, (within.1.1.1.1.1.1.1.0, c.task_of-task.ensures.quantum)))))
+
+pub returns-clause-unopened : goal.returns-clause-unopened
+returns-clause-unopened g c keeps refused =
+    same_fault c.stream_opened-disk.result.1 c.in-Err-done.fault c.in-Err-done.is (c.stream_opened-disk.ensures.unopened keeps refused)

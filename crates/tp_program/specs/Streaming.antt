@@ -1,0 +1,111 @@
+-- What `run --stream` does.
+use Rattle.std.specs.Prelude.{◌≡◌, ◌≤◌, ◌<◌, ◌^◌, ℕ, Bool, true, List, Option, None, Result, Ok, Err, if◌then◌else◌, min, codes, string_bytes}
+use Rattle.std.specs.Fmt.{decimal}
+use Rattle.std.specs.Option.{option_map}
+use Rattle.std.specs.declared.alloc.Global.{Global}
+use Rattle.std.specs.declared.string.String.{String}
+use Rattle.tp_model.specs.declared.limits.TheConstants.{MAX_STEPS}
+use Rattle.tp_model.specs.NodeState.{NodeState}
+use Rattle.tp_model.specs.Network.{Network}
+use Rattle.tp_model.specs.DiskHistory.{State}
+use Rattle.tp_recover.specs.Reading.{LeavesNothingNew}
+use Rattle.tp_recover.specs.declared.unopened.Unopened.{Unopened}
+use Rattle.tp_stream.specs.Streamed.{IsUnbegun, Streamed}
+use Rattle.tp_stream.specs.declared.fault.StreamFault.{StreamFault}
+use Rattle.tp_stream.specs.declared.fault.StreamFault.TheVariants.{Opening, Spare, Port, Unnamed, Short, Gone, NotShown, InputFailed, OutputFailed, FlushFailed, JournalFull, Memory}
+use Rattle.tp_stream.specs.declared.task.Task.{Task}
+use Rattle.tp_stream_files.specs.declared.ends.EndFault.{EndFault}
+use Rattle.tp_stream_files.specs.declared.ends.EndFault.TheVariants.{ReadFailed, DeviceFailed, SameFile, Twice, Memory as NoMemory}
+use Rattle.tp_program.specs.declared.streaming.FilesFault.{FilesFault}
+use Rattle.tp_program.specs.declared.streaming.FilesFault.TheVariants.{End, Stream}
+use Rattle.tp_program.specs.declared.stream_args.StreamAsked.{StreamAsked}
+use Rattle.tp_program.specs.declared.stream_args.StreamAsked.TheVariants.{Help, Run}
+use Rattle.tp_program.specs.declared.stream_args.StreamRun.{StreamRun}
+use Rattle.tp_program.specs.declared.args.TheConstants.{MAX_TURNS}
+use Rattle.tp_program.specs.Args.{IsEvery}
+use Rattle.tp_program.specs.Ends.{AreEnds}
+use Rattle.tp_program.specs.Given.{given, IsGivenOr}
+use Rattle.tp_program.specs.Typed.{has_word}
+
+-- each number of a stream is in its range
+unfoldable pub IsStreamRun : StreamRun → Type 0
+IsStreamRun run = (run.turns < 2 ^ 32) × (0 < run.quantum) × (run.quantum ≤ MAX_STEPS) × IsEvery run.every
+
+-- and each port
+abbrev pub IsStreamInRange : StreamAsked → Type 0
+IsStreamInRange (Help text) = Unit {0}
+IsStreamInRange (Run run) = IsStreamRun run × AreEnds run.ends
+
+-- Its turns are as many as there may be where none were typed, and then it ends where nothing is left to do.
+abbrev pub AreTurns : Bool → ℕ → Option (List ℕ) → Type 0
+AreTurns until_quiet turns typed = IsGivenOr MAX_TURNS turns typed × (typed ≡ None → until_quiet ≡ true)
+
+-- each number of a stream is what was typed for it, and else what docs/PROGRAM.md says
+abbrev pub IsTypedStream : List (String Global) → StreamRun → Type 0
+IsTypedStream words run = (has_word (string_bytes run.device) words ≡ true)
+    × AreTurns run.until_quiet run.turns (given (codes "turns") words)
+    × IsGivenOr 1024 run.quantum (given (codes "quantum") words)
+    × IsGivenOr 4 run.spare (given (codes "spare") words)
+    × (given (codes "every") words ≡ option_map decimal run.every)
+
+abbrev pub WasStreamTyped : List (String Global) → StreamAsked → Type 0
+WasStreamTyped words (Help text) = Unit {0}
+WasStreamTyped words (Run run) = IsTypedStream words run
+
+-- what a network is asked: a number of frames that no node has is the greatest of its kind
+abbrev pub task_of : StreamRun → Task
+task_of run = record {
+  turns = run.turns;
+  until_quiet = run.until_quiet;
+  quantum = run.quantum;
+  spare = min run.spare 65535;
+  every = run.every;
+  tells = if run.has_progress then 10000 else 0;
+}
+
+-- the status that a stream ends with whose ends aren't opened
+abbrev pub end_status : EndFault → ℕ
+end_status (ReadFailed port) = 1
+end_status (DeviceFailed port) = 1
+end_status (SameFile port) = 2
+end_status (Twice port) = 2
+end_status NoMemory = 1
+
+-- the status that a stream ends with that is refused
+abbrev pub fault_status : StreamFault → ℕ
+fault_status (Opening unopened) = 1
+fault_status Spare = 2
+fault_status (Port port) = 2
+fault_status (Unnamed port) = 2
+fault_status (Short port has from) = 1
+fault_status (Gone port have confirmed) = 1
+fault_status (NotShown port have shown) = 1
+fault_status (InputFailed port) = 1
+fault_status (OutputFailed port) = 1
+fault_status FlushFailed = 1
+fault_status JournalFull = 1
+fault_status Memory = 1
+
+-- the status that a stream ends with
+abbrev pub stream_status : Result ℕ FilesFault → ℕ
+stream_status (Ok next) = 0
+stream_status (Err (End fault)) = end_status fault
+stream_status (Err (Stream fault)) = fault_status fault
+
+-- What a stream leaves; or the device is as it was.
+abbrev pub StreamedOn : Network NodeState → Result ℕ FilesFault → State → State → Type 0
+StreamedOn start (Ok next) old new = Streamed start (Ok next) old new
+StreamedOn start (Err (End fault)) old new = new ≡ old
+StreamedOn start (Err (Stream fault)) old new = Streamed start (Err fault) old new
+
+-- A stream that was not begun finds nothing on the device that it made.
+abbrev pub IsUnwritten : Result ℕ FilesFault → State → State → Type 0
+IsUnwritten (Ok next) old new = Unit {0}
+IsUnwritten (Err (End fault)) old new = new ≡ old
+IsUnwritten (Err (Stream fault)) old new = IsUnbegun {A = ℕ} (Err fault) → LeavesNothingNew old new
+
+-- A device that doesn't open is refused so, where all ends are opened.
+abbrev pub IsUnopened : Result ℕ FilesFault → Type 0
+IsUnopened (Ok next) = ⊥
+IsUnopened (Err (End fault)) = Unit {0}
+IsUnopened (Err (Stream fault)) = (unopened : Unopened) × (fault ≡ Opening unopened)

@@ -1,0 +1,78 @@
+//! `tpnet compact`, over any device.
+
+ghost use Rattle.std.specs.Prelude.{◌≡◌, ◌≤◌, IfOk, IsErr, Ok, OnOk, string_bytes};
+ghost use Rattle.std.specs.Io.KnownBytes.{Appends};
+ghost use Rattle.tp_model.specs.Opening.{verdict};
+ghost use Rattle.tp_recover.specs.Reading.{LeavesNothingNew};
+ghost use Rattle.tp_run.specs.Ran.{History};
+ghost use Rattle.tp_program.specs.Compacting.{CompactedAs, PrintsDone, compaction_line};
+
+use crate::commands::{put, refuse};
+use crate::refusal::Refusal;
+use std::alloc::{AllocError, Global};
+use std::io::Write;
+use std::sync::Wait;
+use tp_disk::Disk;
+use tp_run::{CompactFault, Compaction, compact};
+
+/// What is printed of a device that was compacted.
+fn compaction_line(alloc: Global, done: Compaction) -> Result<String, AllocError>
+    ensures { IfOk result (λ text. string_bytes text ≡ compaction_line done) }
+{
+    let Compaction {
+        next,
+        generation,
+        room,
+    } = done;
+    format!(in alloc; "generation {generation} next {next} room {room}\n")
+}
+
+fn print_done<O: Write>(alloc: Global, done: Compaction, out: &mut O) -> Result<(), Refusal>
+    ensures { OnOk result (Appends (O.contents out.old) (O.contents out.new) (compaction_line done)) }
+{
+    let Ok(text) = compaction_line(alloc, done) else {
+        return Err(Refusal::Memory);
+    };
+    put(out, text.as_bytes())
+}
+
+/// Prints what is so of a device that was compacted, or says why it wasn't. Answers the status.
+fn report<O: Write, E: Write>(
+    alloc: Global,
+    done: Result<Compaction, CompactFault>,
+    out: &mut O,
+    err: &mut E,
+) -> u8
+    ensures status { result ≤ 1 }
+    ensures printed { result ≡ 0 → PrintsDone done (O.contents out.old) (O.contents out.new) }
+    ensures refused { IsErr done → (result ≡ 1) × (O.contents out.new ≡ O.contents out.old) }
+{
+    let done = match done {
+        Ok(done) => done,
+        Err(fault) => return refuse(err, Refusal::Compact(fault)),
+    };
+    match print_done(alloc, done, out) {
+        Ok(()) => 0,
+        Err(refusal) => refuse(err, refusal),
+    }
+}
+
+/// `tpnet compact`, on a device: makes its network, as it is, its cut, behind which the journal is empty, and prints the generation of that
+/// cut, which number the next entry gets, and how many entries the journal takes. Answers the device, and the program's status: 0 where
+/// that was done and printed, else 1. A device that doesn't open is left as it is, and nothing is printed then.
+pub fn compact_on<D: Disk, O: Write, E: Write, R: Wait>(
+    rt: &R,
+    alloc: Global,
+    disk: D,
+    out: &mut O,
+    err: &mut E,
+) -> (D, u8)
+    ghost history: { History }
+    ensures status { result.1 ≤ 1 }
+    ensures size { D.size_of result.0 ≡ D.size_of disk }
+    ensures done { CompactedAs D.keeps history (D.state disk) (D.state result.0) (O.contents out.old) (O.contents out.new) result.1 }
+    ensures unopened { D.keeps → IsErr (verdict (D.state disk).now.bytes) → (result.1 ≡ 1) × LeavesNothingNew (D.state disk) (D.state result.0) × (O.contents out.new ≡ O.contents out.old) }
+{
+    let (disk, done) = compact(rt, alloc, disk);
+    (disk, report(alloc, done, out, err))
+}

@@ -1,0 +1,311 @@
+//! The commands on files.
+
+ghost use Rattle.std.specs.Prelude.{◌≡◌, ◌≤◌, true};
+ghost use Rattle.tp_model.specs.Topology.{is_topology};
+ghost use Rattle.tp_program.specs.Args.{IsRun};
+ghost use Rattle.tp_program.specs.declared.args.TheConstants.{MAX_AREA};
+
+use crate::args::{NewDevice, Run};
+use crate::checking::check_on;
+use crate::commands::{refuse, try_on};
+use crate::compacting::compact_on;
+use crate::formatting::format_on;
+use crate::opening::{recover_on, show_on};
+use crate::refusal::Refusal;
+use crate::running::run_on;
+use crate::view::{View, view_on};
+use std::fs::{Files, OpenFile};
+use std::io::Write;
+use std::os::unix::fs::FileExt;
+use std::sync::Wait;
+use std::thread::Threads;
+use std::{fs, io};
+use tp_disk::{Counted, NewDisk, NotedFile, RawFile};
+use tp_layout::area_start;
+use tp_net::{Named, Topology};
+
+/// Why a file wasn't read.
+fn read_refusal(error: &io::Error) -> Refusal {
+    match error.kind() {
+        io::ErrorKind::OutOfMemory => Refusal::Memory,
+        _ => Refusal::ReadFailed,
+    }
+}
+
+/// `tpnet try`, on the image's file.
+pub fn try_file<R: Files + AllocGlobal, O: Write, E: Write>(
+    rt: &R,
+    image: &str,
+    turns: u32,
+    out: &mut O,
+    err: &mut E,
+) -> u8
+    ensures { result ≤ 1 }
+{
+    match fs::read(rt, image) {
+        Ok(bytes) => try_on(rt.alloc(), bytes.as_slice(), turns, out, err),
+        Err(error) => refuse(err, read_refusal(&error)),
+    }
+}
+
+/// Reads a whole file.
+fn read_file<R: Files + AllocGlobal>(rt: &R, path: &str) -> Result<Vec<u8>, Refusal> {
+    fs::read(rt, path).map_err(|error| read_refusal(&error))
+}
+
+/// Reads the image of each node, in their order.
+fn read_images<R: Files + AllocGlobal>(
+    rt: &R,
+    folder: &str,
+    names: &[&str],
+) -> Result<Vec<Vec<u8>>, Refusal> {
+    let mut images = Vec::new(rt.alloc());
+    for name in names {
+        let Ok(path) = format!(in rt.alloc(); "{folder}/{name}.img") else {
+            return Err(Refusal::Memory);
+        };
+        if images.push(read_file(rt, path.as_str())?).is_err() {
+            return Err(Refusal::Memory);
+        }
+    }
+    Ok(images)
+}
+
+/// Why a device wasn't made.
+fn making_refusal(error: &io::Error) -> Refusal {
+    match error.kind() {
+        io::ErrorKind::AlreadyExists => Refusal::DeviceExists,
+        _ => Refusal::DeviceFailed,
+    }
+}
+
+/// A device that has room for the head and two areas, in a file that is made for it, or in one that is there.
+fn new_disk<R: Files<File = F>, F: FileExt + OpenFile + Drop>(
+    rt: &R,
+    new: &NewDevice,
+) -> io::Result<NewDisk<F>>
+    requires { new.now.area ≤ MAX_AREA }
+{
+    let (path, size) = (new.device.as_str(), area_start(new.area, true) + new.area);
+    if new.only_new {
+        NewDisk::create_new(rt, path, size)
+    } else {
+        NewDisk::create(rt, path, size)
+    }
+}
+
+/// What is formatted: the topology, and the image of each node.
+fn read_network<'a, R: Files + AllocGlobal>(
+    rt: &R,
+    text: &'a [u8],
+    folder: &str,
+) -> Result<(Named<'a>, Vec<Vec<u8>>), Refusal> {
+    let named = Topology::read_named(rt.alloc(), text)?;
+    let images = read_images(rt, folder, named.names.as_slice())?;
+    Ok((named, images))
+}
+
+/// Formats the device of this network. What the system said of a call that failed is put into `system`.
+fn format_network<
+    R: Files<File = F> + AllocGlobal,
+    F: FileExt + OpenFile + Drop,
+    O: Write,
+    E: Write,
+>(
+    rt: &R,
+    new: &NewDevice,
+    topology: &Topology,
+    images: &[Vec<u8>],
+    system: &mut Option<io::Error>,
+    out: &mut O,
+    err: &mut E,
+) -> u8
+    requires area { new.now.area ≤ MAX_AREA }
+    requires valid { is_topology topology.now ≡ true }
+    ensures { result ≤ 1 }
+{
+    match new_disk(rt, new) {
+        Ok(mut disk) => {
+            let status = format_on(rt.alloc(), &mut disk, topology, images, new.area, out, err);
+            *system = disk.into_raw().into_failure();
+            status
+        }
+        Err(error) => {
+            let refusal = making_refusal(&error);
+            *system = Some(error);
+            refuse(err, refusal)
+        }
+    }
+}
+
+/// `tpnet format`, on files. A file that is there stays as it is until nothing is left to refuse.
+pub fn format_file<
+    R: Files<File = F> + AllocGlobal,
+    F: FileExt + OpenFile + Drop,
+    O: Write,
+    E: Write,
+>(rt: &R, new: &NewDevice, system: &mut Option<io::Error>, out: &mut O, err: &mut E) -> u8
+    requires { new.now.area ≤ MAX_AREA }
+    ensures { result ≤ 1 }
+{
+    let text = match read_file(rt, new.topology.as_str()) {
+        Ok(text) => text,
+        Err(refusal) => return refuse(err, refusal),
+    };
+    let (named, images) = match read_network(rt, text.as_slice(), new.images.as_str()) {
+        Ok(network) => network,
+        Err(refusal) => return refuse(err, refusal),
+    };
+    let _rules = named.topology.pages();
+    format_network(
+        rt,
+        new,
+        &named.topology,
+        images.as_slice(),
+        system,
+        out,
+        err,
+    )
+}
+
+/// `tpnet check`, on files. Nothing is written.
+pub fn check_file<R: Files + AllocGlobal, O: Write, E: Write>(
+    rt: &R,
+    topology: &str,
+    folder: &str,
+    out: &mut O,
+    err: &mut E,
+) -> u8
+    ensures { result ≤ 1 }
+{
+    let text = match read_file(rt, topology) {
+        Ok(text) => text,
+        Err(refusal) => return refuse(err, refusal),
+    };
+    let (named, images) = match read_network(rt, text.as_slice(), folder) {
+        Ok(network) => network,
+        Err(refusal) => return refuse(err, refusal),
+    };
+    let _rules = named.topology.pages();
+    check_on(rt.alloc(), &named.topology, images.as_slice(), out, err)
+}
+
+/// `tpnet node`, `image`, `journal` and `port`, on a device's file, which stays as it is.
+pub fn view_file<
+    R: Files<File = F> + AllocGlobal,
+    F: FileExt + OpenFile + Drop,
+    O: Write,
+    E: Write,
+>(rt: &R, device: &str, view: View, out: &mut O, err: &mut E) -> u8
+    ensures { result ≤ 2 }
+{
+    match disk_to_read(rt, device) {
+        Ok(mut disk) => view_on(rt.alloc(), &mut disk, view, out, err),
+        Err(refusal) => refuse(err, refusal),
+    }
+}
+
+/// The device in a file that is there, to be read alone.
+fn disk_to_read<R: Files<File = F>, F: FileExt + OpenFile + Drop>(
+    rt: &R,
+    device: &str,
+) -> Result<Counted<RawFile<NotedFile<F>>>, Refusal> {
+    Counted::open_to_read(rt, device).map_err(|_| Refusal::ReadFailed)
+}
+
+/// `tpnet compact`, on a device's file, which is opened as it is, and keeps its length. What the system said of a call on it that failed
+/// is put into `system`.
+pub fn compact_file<
+    R: Files<File = F> + AllocGlobal + Wait,
+    F: FileExt + OpenFile + Drop,
+    O: Write,
+    E: Write,
+>(rt: &R, device: &str, system: &mut Option<io::Error>, out: &mut O, err: &mut E) -> u8
+    ensures { result ≤ 1 }
+{
+    let disk = match Counted::open(rt, device) {
+        Ok(disk) => disk,
+        Err(error) => {
+            let refusal = read_refusal(&error);
+            *system = Some(error);
+            return refuse(err, refusal);
+        }
+    };
+    let (disk, status) = compact_on(rt, rt.alloc(), disk, out, err);
+    *system = disk.raw().failure().map(said_again);
+    status
+}
+
+/// `tpnet recover`, on a device's file, which stays as it is.
+pub fn recover_file<
+    R: Files<File = F> + AllocGlobal,
+    F: FileExt + OpenFile + Drop,
+    O: Write,
+    E: Write,
+>(rt: &R, device: &str, out: &mut O, err: &mut E) -> u8
+    ensures { result ≤ 1 }
+{
+    match disk_to_read(rt, device) {
+        Ok(mut disk) => recover_on(rt.alloc(), &mut disk, out, err),
+        Err(refusal) => refuse(err, refusal),
+    }
+}
+
+/// `tpnet show`, on a device's file, which stays as it is.
+pub fn show_file<
+    R: Files<File = F> + AllocGlobal,
+    F: FileExt + OpenFile + Drop,
+    O: Write,
+    E: Write,
+>(rt: &R, device: &str, out: &mut O, err: &mut E) -> u8
+    ensures { result ≤ 1 }
+{
+    match disk_to_read(rt, device) {
+        Ok(mut disk) => show_on(rt.alloc(), &mut disk, out, err),
+        Err(refusal) => refuse(err, refusal),
+    }
+}
+
+/// The input of a run, which has none where no file was named.
+fn read_input<R: Files + AllocGlobal>(rt: &R, run: &Run) -> Result<Vec<u8>, Refusal> {
+    match &run.input {
+        Some(path) => read_file(rt, path.as_str()),
+        None => Ok(Vec::new(rt.alloc())),
+    }
+}
+
+/// The same error of the system.
+pub fn said_again(error: &io::Error) -> io::Error {
+    match error.raw_os_error() {
+        Some(code) => io::Error::from_raw_os_error(code),
+        None => io::Error::from(error.kind()),
+    }
+}
+
+/// `tpnet run`, on files. The input is read first. The device's file is opened as it is, and keeps its length. What the system said of
+/// a call on it that failed is put into `system`.
+pub fn run_file<
+    R: Files<File = F> + AllocGlobal + Threads + Wait + Sync,
+    F: FileExt + OpenFile + Drop + Send,
+    O: Write,
+    E: Write,
+>(rt: &R, run: &Run, system: &mut Option<io::Error>, out: &mut O, err: &mut E) -> u8
+    requires { IsRun run.now }
+    ensures { result ≤ 2 }
+{
+    let input = match read_input(rt, run) {
+        Ok(input) => input,
+        Err(refusal) => return refuse(err, refusal),
+    };
+    let disk = match Counted::open(rt, run.device.as_str()) {
+        Ok(disk) => disk,
+        Err(error) => {
+            let refusal = read_refusal(&error);
+            *system = Some(error);
+            return refuse(err, refusal);
+        }
+    };
+    let (disk, status) = run_on(rt, rt.alloc(), run, disk, input.as_slice(), out, err);
+    *system = disk.raw().failure().map(said_again);
+    status
+}

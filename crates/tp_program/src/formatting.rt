@@ -1,0 +1,69 @@
+//! `tpnet format`, over any device.
+
+ghost use Rattle.std.specs.Prelude.{◌≡◌, ◌≤◌, true, false, None, map, IsErr, OnOk};
+ghost use Rattle.std.specs.Io.KnownBytes.{Appends};
+ghost use Rattle.tp_model.specs.Device.{fits};
+ghost use Rattle.tp_model.specs.DiskHistory.{LeavesOnly};
+ghost use Rattle.tp_model.specs.Format.{start_of};
+ghost use Rattle.tp_model.specs.Topology.{is_topology};
+ghost use Rattle.tp_area.specs.Formatting.{Formatted, IsOldOrNew};
+ghost use Rattle.tp_program.specs.Front.{AppendsFront};
+ghost use Rattle.tp_program.specs.Formats.{formatted_text};
+
+use crate::commands::{put, refuse};
+use crate::refusal::Refusal;
+use std::alloc::Global;
+use std::io::Write;
+use tp_area::format;
+use tp_disk::Disk;
+use tp_net::Topology;
+
+/// Formats the device, and says so.
+fn make<D: Disk, O: Write>(
+    alloc: Global,
+    disk: &mut D,
+    topology: &Topology,
+    images: &[Vec<u8>],
+    area: u64,
+    out: &mut O,
+) -> Result<(), Refusal>
+    requires valid { is_topology topology.now ≡ true }
+    ensures formatted { D.keeps → OnOk result (Formatted topology.now (map (λ image. image.items) images.now) area (D.state disk.old) (D.state disk.new)) }
+    ensures fits { OnOk result (fits (D.size_of disk.old) topology.now area ≡ true) }
+    ensures printed { OnOk result (Appends (O.contents out.old) (O.contents out.new) formatted_text) }
+    ensures refused { start_of topology.now (map (λ image. image.items) images.now) ≡ None → (IsErr result) × (disk.new ≡ disk.old) × (O.contents out.new ≡ O.contents out.old) }
+    ensures small { fits (D.size_of disk.old) topology.now area ≡ false → (IsErr result) × (disk.new ≡ disk.old) × (O.contents out.new ≡ O.contents out.old) }
+    ensures front { AppendsFront (O.contents out.old) (O.contents out.new) formatted_text }
+    ensures leaves { D.keeps → LeavesOnly (D.state disk.old) (D.state disk.new) (IsOldOrNew topology.now (map (λ image. image.items) images.now) area (D.state disk.old)) }
+{
+    format(alloc, disk, topology, images, area)?;
+    put(out, b"formatted\n")
+}
+
+/// `tpnet format`, on a device of the size that is asked for. Answers the program's status: 0 where the device is formatted,
+/// all of it synced, and that is printed; else 1. Where the images don't fit the topology, or the device is too small, nothing
+/// has changed. Whatever a crash on the way leaves is old outside the areas, or has both areas complete.
+pub fn format_on<D: Disk, O: Write, E: Write>(
+    alloc: Global,
+    disk: &mut D,
+    topology: &Topology,
+    images: &[Vec<u8>],
+    area: u64,
+    out: &mut O,
+    err: &mut E,
+) -> u8
+    requires valid { is_topology topology.now ≡ true }
+    ensures status { result ≤ 1 }
+    ensures formatted { D.keeps → result ≡ 0 → Formatted topology.now (map (λ image. image.items) images.now) area (D.state disk.old) (D.state disk.new) }
+    ensures fits { result ≡ 0 → fits (D.size_of disk.old) topology.now area ≡ true }
+    ensures printed { result ≡ 0 → Appends (O.contents out.old) (O.contents out.new) formatted_text }
+    ensures refused { start_of topology.now (map (λ image. image.items) images.now) ≡ None → (result ≡ 1) × (disk.new ≡ disk.old) × (O.contents out.new ≡ O.contents out.old) }
+    ensures small { fits (D.size_of disk.old) topology.now area ≡ false → (result ≡ 1) × (disk.new ≡ disk.old) × (O.contents out.new ≡ O.contents out.old) }
+    ensures front { AppendsFront (O.contents out.old) (O.contents out.new) formatted_text }
+    ensures leaves { D.keeps → LeavesOnly (D.state disk.old) (D.state disk.new) (IsOldOrNew topology.now (map (λ image. image.items) images.now) area (D.state disk.old)) }
+{
+    match make(alloc, disk, topology, images, area, out) {
+        Ok(()) => 0,
+        Err(refusal) => refuse(err, refusal),
+    }
+}

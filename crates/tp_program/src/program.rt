@@ -1,0 +1,70 @@
+//! What the program does for the words of its command line.
+
+ghost use Rattle.std.specs.Prelude.{◌≡◌, ◌≤◌};
+ghost use Rattle.tp_program.specs.Args.{IsInRange};
+
+use crate::args::{Asked, read_args};
+use crate::commands::print_help;
+use crate::explain::explain;
+use crate::files::{
+    check_file, compact_file, format_file, recover_file, run_file, show_file, try_file, view_file,
+};
+use crate::numbers::has_word;
+use std::fs::{Files, OpenFile};
+use std::io;
+use std::io::Write;
+use std::os::unix::fs::FileExt;
+use std::sync::Wait;
+use std::thread::Threads;
+
+/// Does what was asked for. Answers the program's status: 0 where it was done, 1 where it was refused, 2 where a node or port
+/// isn't there. What the system said of a call on a device that failed is put into `system`.
+fn carry_out<
+    R: Files<File = F> + AllocGlobal + Threads + Wait + Sync,
+    F: FileExt + OpenFile + Drop + Send,
+    O: Write,
+    E: Write,
+>(rt: &R, asked: &Asked, system: &mut Option<io::Error>, out: &mut O, err: &mut E) -> u8
+    requires { IsInRange asked.now }
+    ensures { result ≤ 2 }
+{
+    match asked {
+        Asked::Help(text) => print_help(text.as_str(), out, err),
+        Asked::Try { image, turns } => try_file(rt, image.as_str(), *turns, out, err),
+        Asked::Format(new) => format_file(rt, new, system, out, err),
+        Asked::Run(run) => run_file(rt, run, system, out, err),
+        Asked::Compact { device } => compact_file(rt, device.as_str(), system, out, err),
+        Asked::Recover { device } => recover_file(rt, device.as_str(), out, err),
+        Asked::Show { device } => show_file(rt, device.as_str(), out, err),
+        Asked::Check { topology, images } => {
+            check_file(rt, topology.as_str(), images.as_str(), out, err)
+        }
+        Asked::View { device, view } => view_file(rt, device.as_str(), *view, out, err),
+    }
+}
+
+/// Does what the words of a command line ask for, the program's name first. Answers the program's status: that of the
+/// command, or 2 where the words ask for nothing; no file is opened then. Asking for help is no fault.
+pub fn answer<
+    R: Files<File = F> + AllocGlobal + Threads + Wait + Sync,
+    F: FileExt + OpenFile + Drop + Send,
+    O: Write,
+    E: Write,
+>(rt: &R, words: &[String], out: &mut O, err: &mut E) -> u8
+    ensures { result ≤ 2 }
+{
+    match read_args(rt.alloc(), words) {
+        Ok(asked) => {
+            let mut system = None;
+            let status = carry_out(rt, &asked, &mut system, out, err);
+            if status == 1 && has_word(words, "--explain") {
+                explain(rt, &asked, system.as_ref(), err);
+            }
+            status
+        }
+        Err(fault) => {
+            let _ = write!(err, "{fault}");
+            2
+        }
+    }
+}

@@ -1,0 +1,87 @@
+//! `tpnet run`, over any device.
+
+ghost use Rattle.std.specs.Prelude.{◌≡◌, ◌≤◌, ◌<◌, IsErr};
+ghost use Rattle.tp_model.specs.Opening.{verdict};
+ghost use Rattle.tp_model.specs.declared.limits.TheConstants.{MAX_STEPS};
+ghost use Rattle.tp_recover.specs.Reading.{LeavesNothingNew};
+ghost use Rattle.tp_run.specs.Ran.{History};
+ghost use Rattle.tp_run.specs.declared.job.TheConstants.{MAX_WORKERS};
+ghost use Rattle.tp_program.specs.Args.{IsRun};
+ghost use Rattle.tp_program.specs.Running.{RanAs, job_of, status_of};
+
+use crate::args::Run;
+use crate::commands::refuse;
+use crate::refusal::Refusal;
+use std::alloc::Global;
+use std::io::Write;
+use std::sync::Wait;
+use std::thread::Threads;
+use tp_disk::Disk;
+use tp_run::{Job, RunFault, run};
+
+/// What the threads are asked. A number that no device has is the greatest of its kind.
+#[tactic(auto, unfolding(crate::specs::Args::IsRun))]
+fn job_of(asked: &Run) -> Job
+    requires { IsRun asked.now }
+    ensures value { result ≡ job_of asked.now }
+    ensures workers { (0 < result.workers) × (result.workers ≤ MAX_WORKERS) }
+    ensures quantum { (0 < result.quantum) × (result.quantum ≤ MAX_STEPS) }
+{
+    Job {
+        turns: asked.turns,
+        workers: asked.workers,
+        quantum: asked.quantum,
+        spare: asked.spare.min(u16::MAX as u64) as u16,
+        every: asked.every,
+        port: asked.port.min(u8::MAX as u64) as u8,
+    }
+}
+
+/// Says that there is no such thing on the device.
+fn is_not_there<E: Write>(err: &mut E, what: &str) -> u8
+    ensures { result ≡ 2 }
+{
+    let _ = write!(err, "tpnet: {what}; see tpnet show\n");
+    2
+}
+
+/// Says on standard error what came of a run. Answers the status. A failed write of that is let go.
+fn report<E: Write>(err: &mut E, done: Result<u64, RunFault>) -> u8
+    ensures { result ≡ status_of done }
+{
+    match done {
+        Ok(next) => {
+            let _ = write!(err, "next {next}\n");
+            0
+        }
+        Err(RunFault::Spare) => is_not_there(err, "--spare is above the pages of a node"),
+        Err(RunFault::Port) => is_not_there(err, "the device has no such port"),
+        Err(fault) => refuse(err, Refusal::Run(fault)),
+    }
+}
+
+/// `tpnet run`, on a device: hands in what the port hasn't accepted of `input`, lets workers make the turns, keeps the journal, prints
+/// and confirms what the port shows, and says on standard error which number the next entry gets. Answers the device, and the
+/// program's status: 0 where that was done, 2 where `--spare` is above a node's pages or the port isn't there, else 1. A device
+/// that doesn't open is left as it is, and so it is at status 2; nothing is printed then.
+pub fn run_on<D: Disk + Drop + Send, O: Write, E: Write, R: Threads + Wait + Sync>(
+    rt: &R,
+    alloc: Global,
+    asked: &Run,
+    disk: D,
+    input: &[u8],
+    out: &mut O,
+    err: &mut E,
+) -> (D, u8)
+    ghost history: { History }
+    requires { IsRun asked.now }
+    ensures status { result.1 ≤ 2 }
+    ensures size { D.size_of result.0 ≡ D.size_of disk }
+    ensures ran { RanAs D.keeps history (job_of asked.now) input.now (D.state disk) (D.state result.0) (O.contents out.old) (O.contents out.new) result.1 }
+    ensures words { result.1 ≡ 2 → (D.keeps → LeavesNothingNew (D.state disk) (D.state result.0)) × (O.contents out.new ≡ O.contents out.old) }
+    ensures unopened { D.keeps → IsErr (verdict (D.state disk).now.bytes) → (result.1 ≡ 1) × LeavesNothingNew (D.state disk) (D.state result.0) × (O.contents out.new ≡ O.contents out.old) }
+{
+    let job = job_of(asked);
+    let (disk, done) = run(rt, alloc, job, disk, input, out);
+    (disk, report(err, done))
+}

@@ -1,0 +1,163 @@
+//! What a command line with `--stream` asks for.
+
+ghost use Rattle.std.specs.Prelude.{IfOk, codes};
+ghost use Rattle.tp_program.specs.Given.{given};
+ghost use Rattle.tp_program.specs.Streaming.{AreTurns, IsStreamInRange, WasStreamTyped};
+
+use crate::args::{ArgFault, MAX_TURNS, every_of};
+use crate::found::{option_number, option_or, text_of};
+use crate::numbers::has_word;
+use crate::stream_ends::{EndsFault, ends_of};
+use crate::stream_words::stream_command;
+use clap::ArgMatches;
+use std::alloc::Global;
+use std::fmt;
+use tp_model::limits::MAX_STEPS;
+use tp_stream_files::Ends;
+
+/// What a command line with `--stream` asks for.
+#[derive(Drop)]
+pub enum StreamAsked {
+    /// How to call it.
+    Help(String),
+    /// A stream of a device's network.
+    Run(StreamRun),
+}
+
+/// A stream of a device's network: its file, how many turns are made and how, and the ends of its ports.
+#[derive(Drop)]
+pub struct StreamRun {
+    pub device: String,
+    pub turns: u32,
+    /// Whether it ends once nothing is left to do.
+    pub until_quiet: bool,
+    /// Whether it says how far it has come.
+    pub has_progress: bool,
+    /// The most steps of a turn.
+    pub quantum: u16,
+    /// The spare frames of each node.
+    pub spare: u64,
+    /// The entries since the kept cut after which a snapshot begins; `None`: where the journal is half full.
+    pub every: Option<u32>,
+    pub ends: Ends,
+}
+
+/// Why the words ask for no stream. Each ends the program with status 2.
+#[derive(Drop)]
+pub enum StreamArgFault {
+    Arg(ArgFault),
+    Ends(EndsFault),
+    /// Nothing says when it ends.
+    Unending,
+}
+
+impl fmt::Display for StreamArgFault {
+    fn fmt<W: fmt::Write>(&self, f: &mut fmt::Formatter<W>) -> fmt::Result {
+        match self {
+            StreamArgFault::Arg(fault) => write!(f, "{fault}"),
+            StreamArgFault::Ends(fault) => write!(f, "{fault}"),
+            StreamArgFault::Unending => write!(
+                f,
+                "tpnet: say when the stream ends: --turns N, --until-quiet, or both\n"
+            ),
+        }
+    }
+}
+
+impl From<ArgFault> for StreamArgFault {
+    fn from(fault: ArgFault) -> StreamArgFault {
+        StreamArgFault::Arg(fault)
+    }
+}
+
+impl From<EndsFault> for StreamArgFault {
+    fn from(fault: EndsFault) -> StreamArgFault {
+        StreamArgFault::Ends(fault)
+    }
+}
+
+/// Whether the words ask for a stream: they are those of `run`, and `--stream` is one of them.
+pub fn is_stream(words: &[String]) -> bool {
+    let is_run = words.get(1).is_some_and(|word| word.as_str() == "run");
+    is_run && has_word(words, "--stream")
+}
+
+/// Whether a word, behind the one before it, says that a port's input comes from standard input.
+fn is_standard_input(before: &str, word: &str) -> bool {
+    word.ends_with("=-") && (before == "--in" || word.starts_with("--in="))
+}
+
+/// Whether the words of a stream say that a port's input comes from standard input.
+pub fn wants_input(words: &[String]) -> bool {
+    let mut before = "";
+    for word in words {
+        if is_standard_input(before, word.as_str()) {
+            return true;
+        }
+        before = word.as_str();
+    }
+    false
+}
+
+/// How many turns are made; as many as there may be where it ends by itself.
+fn turns_of(
+    alloc: Global,
+    words: &[String],
+    found: &ArgMatches,
+    until_quiet: bool,
+) -> Result<u32, StreamArgFault>
+    ensures { IfOk result (λ turns. AreTurns until_quiet turns (given (codes "turns") words.now)) }
+{
+    match option_number(alloc, words, found, "turns", 0, MAX_TURNS)? {
+        Some(turns) => Ok(turns as u32),
+        None if until_quiet => Ok(u32::MAX),
+        None => Err(StreamArgFault::Unending),
+    }
+}
+
+/// The stream that was found among the words.
+#[tactic(auto, unfolding(crate::specs::Streaming::IsStreamRun))]
+fn run_of(
+    alloc: Global,
+    words: &[String],
+    found: &ArgMatches,
+) -> Result<StreamAsked, StreamArgFault>
+    ensures range { IfOk result IsStreamInRange }
+    ensures typed { IfOk result (WasStreamTyped words.now) }
+{
+    let until_quiet = found.get_flag("until-quiet");
+    let quantum = MAX_STEPS as u64;
+    Ok(StreamAsked::Run(StreamRun {
+        device: text_of(alloc, words, found, "DEVICE")?,
+        turns: turns_of(alloc, words, found, until_quiet)?,
+        until_quiet,
+        has_progress: found.get_flag("progress"),
+        quantum: option_or(alloc, words, found, "quantum", 1, quantum, 1024)? as u16,
+        spare: option_or(alloc, words, found, "spare", 0, u64::MAX, 4)?,
+        every: every_of(alloc, words, found)?,
+        ends: ends_of(alloc, found)?,
+    }))
+}
+
+/// Reads the words of a command line with `--stream`, the program's name first. Each number is the decimal that was typed, and in its
+/// range, and the device is one of the words.
+pub fn read_stream_args(alloc: Global, words: &[String]) -> Result<StreamAsked, StreamArgFault>
+    ensures range { IfOk result IsStreamInRange }
+    ensures typed { IfOk result (WasStreamTyped words.now) }
+{
+    let command = match stream_command(alloc) {
+        Ok(command) => command,
+        Err(_) => return Err(StreamArgFault::Arg(ArgFault::Memory)),
+    };
+    match command.try_get_matches_from(words) {
+        Ok(matches) => match matches.subcommand() {
+            Some((_, found)) => run_of(alloc, words, found),
+            None => Err(StreamArgFault::Arg(ArgFault::Missing)),
+        },
+        Err(error) if !error.use_stderr() => match format!(in alloc; "{error}") {
+            Ok(text) => Ok(StreamAsked::Help(text)),
+            Err(_) => Err(StreamArgFault::Arg(ArgFault::Memory)),
+        },
+        Err(error) => Err(StreamArgFault::Arg(ArgFault::Words(error))),
+    }
+}

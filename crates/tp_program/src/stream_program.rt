@@ -1,0 +1,90 @@
+//! What the program does for the words of a command line with `--stream`.
+
+ghost use Rattle.std.specs.Prelude.{◌≡◌, ◌≤◌};
+ghost use Rattle.tp_program.specs.Streaming.{IsStreamRun};
+
+use crate::commands::{print_help, refuse};
+use crate::files::said_again;
+use crate::numbers::has_word;
+use crate::refusal::Refusal;
+use crate::stream_args::{StreamAsked, StreamRun, read_stream_args};
+use crate::stream_explain::explain_stream;
+use crate::streaming::{FilesFault, Streamed, stream_on};
+use std::fs::{Files, OpenFile};
+use std::io;
+use std::io::Write;
+use std::os::unix::fs::FileExt;
+use std::sync::Wait;
+use tp_disk::Counted;
+use tp_stream_files::Feed;
+
+/// What came of a command: its status, why a stream ended early, and what the system said of a call on the device that failed.
+#[derive(Drop)]
+struct Ended {
+    status: u8,
+    fault: Option<FilesFault>,
+    system: Option<io::Error>,
+}
+
+/// What came of a stream.
+fn outcome(streamed: Streamed, system: Option<io::Error>) -> Ended
+    ensures { result.status ≡ streamed.status }
+{
+    Ended {
+        status: streamed.status,
+        fault: streamed.done.err(),
+        system,
+    }
+}
+
+/// `tpnet run --stream`, on files. The device's file is opened as it is, and keeps its length.
+fn stream_file<
+    R: Files<File = F> + AllocGlobal + Wait,
+    F: FileExt + OpenFile + Drop,
+    I: Feed,
+    O: Write,
+    E: Write,
+>(rt: &R, asked: &StreamRun, feed: &mut I, out: &mut O, err: &mut E) -> Ended
+    requires { IsStreamRun asked.now }
+    ensures { result.status ≤ 2 }
+{
+    let disk = match Counted::open(rt, asked.device.as_str()) {
+        Ok(disk) => disk,
+        Err(error) => {
+            return Ended {
+                status: refuse(err, Refusal::ReadFailed),
+                fault: None,
+                system: Some(error),
+            };
+        }
+    };
+    let (disk, streamed) = stream_on(rt, asked, disk, feed, out, err);
+    outcome(streamed, disk.raw().failure().map(said_again))
+}
+
+/// Does what the words of a command line with `--stream` ask for, the program's name first; `feed` is standard input. Answers the
+/// program's status: that of the stream, or 2 where the words ask for nothing; no file is opened then. Asking for help is no fault.
+pub fn answer_stream<
+    R: Files<File = F> + AllocGlobal + Wait,
+    F: FileExt + OpenFile + Drop,
+    I: Feed,
+    O: Write,
+    E: Write,
+>(rt: &R, words: &[String], feed: &mut I, out: &mut O, err: &mut E) -> u8
+    ensures { result ≤ 2 }
+{
+    match read_stream_args(rt.alloc(), words) {
+        Ok(StreamAsked::Help(text)) => print_help(text.as_str(), out, err),
+        Ok(StreamAsked::Run(asked)) => {
+            let ended = stream_file(rt, &asked, feed, out, err);
+            if ended.status == 1 && has_word(words, "--explain") {
+                explain_stream(rt, &asked, ended.fault, ended.system.as_ref(), err);
+            }
+            ended.status
+        }
+        Err(fault) => {
+            let _ = write!(err, "{fault}");
+            2
+        }
+    }
+}

@@ -1,0 +1,221 @@
+//! `tpnet run --stream`, over any device.
+
+ghost use Rattle.std.specs.Prelude.{◌≡◌, ◌≤◌, Err, IsErr};
+ghost use Rattle.tp_flush.specs.Known.{Began};
+ghost use Rattle.tp_model.specs.Opening.{verdict};
+ghost use Rattle.tp_model.specs.declared.limits.TheConstants.{MAX_STEPS};
+ghost use Rattle.tp_recover.specs.Reading.{LeavesNothingNew};
+ghost use Rattle.tp_recover.specs.declared.unopened.Unopened.{Unopened};
+ghost use Rattle.tp_run.specs.Ran.{History};
+ghost use Rattle.tp_stream.specs.Streamed.{IsUnbegun, Streamed as StreamLeft};
+ghost use Rattle.tp_program.specs.Streaming.{IsStreamRun, IsUnopened, IsUnwritten, StreamedOn, end_status, fault_status, stream_status, task_of};
+
+use crate::stream_args::StreamRun;
+use std::fs::{Files, OpenFile};
+use std::io::Write;
+use std::os::unix::fs::FileExt;
+use std::sync::Wait;
+use thiserror::Error;
+use tp_disk::Disk;
+use tp_stream::{Sink, Source, StreamFault, Streams, Task, stream};
+use tp_stream_files::{EndFault, Ends, Feed, Teller, open_ends, say_end};
+
+/// After how many turns it is said again how far a stream has come.
+const TURNS_TOLD: u32 = 10_000;
+
+/// Why a stream on files ends early.
+#[derive(Clone, Copy, Debug, PartialEq, Eq, Error)]
+pub enum FilesFault {
+    /// An end isn't opened. The device is as it was.
+    #[error(transparent)]
+    End(EndFault),
+    /// The stream ended early.
+    #[error(transparent)]
+    Stream(StreamFault),
+}
+
+/// What came of a stream, and the program's status.
+#[derive(Clone, Copy)]
+pub struct Streamed {
+    pub status: u8,
+    pub done: Result<u64, FilesFault>,
+}
+
+/// What the network is asked. A number of frames that no node has is the greatest of its kind.
+#[tactic(auto, unfolding(crate::specs::Streaming::IsStreamRun))]
+fn task_of(asked: &StreamRun) -> Task
+    requires { IsStreamRun asked.now }
+    ensures value { result ≡ task_of asked.now }
+    ensures quantum { result.quantum ≤ MAX_STEPS }
+{
+    let tells = if asked.has_progress { TURNS_TOLD } else { 0 };
+    Task {
+        turns: asked.turns,
+        until_quiet: asked.until_quiet,
+        quantum: asked.quantum,
+        spare: asked.spare.min(u16::MAX as u64) as u16,
+        every: asked.every,
+        tells,
+    }
+}
+
+/// Says why a port's end isn't opened. Answers the status.
+fn report_end<E: Write>(err: &mut E, fault: EndFault) -> u8
+    ensures value { result ≡ end_status fault }
+    ensures few { result ≤ 2 }
+{
+    match fault {
+        EndFault::SameFile(port) => {
+            let _ = write!(
+                err,
+                "tpnet: --out {port} names the device, an input or another port's file\n"
+            );
+            2
+        }
+        EndFault::Twice(port) => {
+            let _ = write!(
+                err,
+                "tpnet: port {port} and another one have the same end\n"
+            );
+            2
+        }
+        EndFault::ReadFailed(_) | EndFault::DeviceFailed(_) | EndFault::Memory => {
+            let _ = write!(err, "tpnet: {fault}\n");
+            1
+        }
+    }
+}
+
+/// Says why a stream was refused. Answers the status.
+fn report_fault<E: Write>(err: &mut E, fault: StreamFault) -> u8
+    ensures value { result ≡ fault_status fault }
+    ensures few { result ≤ 2 }
+{
+    match fault {
+        StreamFault::Spare => {
+            let _ = write!(
+                err,
+                "tpnet: --spare is above the pages of a node; see tpnet show\n"
+            );
+            2
+        }
+        StreamFault::Port(port) => {
+            let _ = write!(
+                err,
+                "tpnet: the device has no port {port}; see tpnet show\n"
+            );
+            2
+        }
+        StreamFault::Unnamed(port) => {
+            let _ = write!(
+                err,
+                "tpnet: port {port} has a wire: say --out {port}=FILE, --out {port}=- or --discard {port}\n"
+            );
+            2
+        }
+        _ => {
+            let _ = write!(err, "tpnet: {fault}\n");
+            1
+        }
+    }
+}
+
+/// Says why a stream ended early. A stream that was done has said so itself. Answers the status. A failed write is let go.
+fn report<E: Write>(err: &mut E, done: Result<u64, FilesFault>) -> u8
+    ensures value { result ≡ stream_status done }
+    ensures few { result ≤ 2 }
+{
+    match done {
+        Ok(_) => 0,
+        Err(FilesFault::End(fault)) => report_end(err, fault),
+        Err(FilesFault::Stream(fault)) => report_fault(err, fault),
+    }
+}
+
+/// Streams a device's network on ends that are open. What is said of it goes to `err`: where standard output and standard input begin,
+/// how far it has come, and at the end `next M`, with how much standard output was given and how much of that is confirmed.
+fn stream_opened<R: AllocGlobal + Wait, D: Disk + Drop, S: Sink, I: Source, E: Write>(
+    rt: &R,
+    task: Task,
+    disk: D,
+    ends: &Ends,
+    streams: &mut Streams<S, I>,
+    err: &mut E,
+) -> (D, Result<u64, StreamFault>)
+    ghost history: { History }
+    requires { task.quantum ≤ MAX_STEPS }
+    ensures size { D.size_of result.0 ≡ D.size_of disk }
+    ensures streamed { D.keeps → Began history.formatted history.before (D.state disk).now.bytes
+        → StreamLeft history.formatted result.1 (D.state disk) (D.state result.0) }
+    ensures unwritten { D.keeps → IsUnbegun result.1 → LeavesNothingNew (D.state disk) (D.state result.0) }
+    ensures unopened { D.keeps → IsErr (verdict (D.state disk).now.bytes) → (unopened : Unopened) × (result.1 ≡ Err (StreamFault.Opening unopened)) }
+{
+    let standard_out = ends.standard_out();
+    let mut teller = Teller::new(err, standard_out, ends.standard_in());
+    let (disk, done) = stream(rt, rt.alloc(), task, disk, streams, &mut teller);
+    if let Ok(next) = done {
+        say_end(err, next, standard_out, &streams.outputs);
+    }
+    (disk, done)
+}
+
+/// Opens the ends of a device's ports, and streams its network on them.
+fn stream_files<
+    R: Files<File = F> + AllocGlobal + Wait,
+    F: FileExt + OpenFile + Drop,
+    D: Disk + Drop,
+    I: Feed,
+    O: Write,
+    E: Write,
+>(
+    rt: &R,
+    asked: &StreamRun,
+    disk: D,
+    feed: &mut I,
+    out: &mut O,
+    err: &mut E,
+) -> (D, Result<u64, FilesFault>)
+    ghost history: { History }
+    requires { IsStreamRun asked.now }
+    ensures size { D.size_of result.0 ≡ D.size_of disk }
+    ensures streamed { D.keeps → Began history.formatted history.before (D.state disk).now.bytes
+        → StreamedOn history.formatted result.1 (D.state disk) (D.state result.0) }
+    ensures unwritten { D.keeps → IsUnwritten result.1 (D.state disk) (D.state result.0) }
+    ensures unopened { D.keeps → IsErr (verdict (D.state disk).now.bytes) → IsUnopened result.1 }
+{
+    let mut streams = match open_ends(rt, asked.device.as_str(), &asked.ends, feed, out) {
+        Ok(streams) => streams,
+        Err(fault) => return (disk, Err(FilesFault::End(fault))),
+    };
+    let task = task_of(asked);
+    let (disk, done) = stream_opened(rt, task, disk, &asked.ends, &mut streams, err);
+    match done {
+        Ok(next) => (disk, Ok(next)),
+        Err(fault) => (disk, Err(FilesFault::Stream(fault))),
+    }
+}
+
+/// `tpnet run --stream`, on a device: opens the ends of its ports, lets its network run, and puts, makes safe and confirms what ports
+/// show as it comes. Answers the device, the program's status and what came of it.
+pub fn stream_on<
+    R: Files<File = F> + AllocGlobal + Wait,
+    F: FileExt + OpenFile + Drop,
+    D: Disk + Drop,
+    I: Feed,
+    O: Write,
+    E: Write,
+>(rt: &R, asked: &StreamRun, disk: D, feed: &mut I, out: &mut O, err: &mut E) -> (D, Streamed)
+    ghost history: { History }
+    requires { IsStreamRun asked.now }
+    ensures status { result.1.status ≡ stream_status result.1.done }
+    ensures few { result.1.status ≤ 2 }
+    ensures size { D.size_of result.0 ≡ D.size_of disk }
+    ensures streamed { D.keeps → Began history.formatted history.before (D.state disk).now.bytes
+        → StreamedOn history.formatted result.1.done (D.state disk) (D.state result.0) }
+    ensures unwritten { D.keeps → IsUnwritten result.1.done (D.state disk) (D.state result.0) }
+    ensures unopened { D.keeps → IsErr (verdict (D.state disk).now.bytes) → IsUnopened result.1.done }
+{
+    let (disk, done) = stream_files(rt, asked, disk, feed, out, err);
+    let status = report(err, done);
+    (disk, Streamed { status, done })
+}

@@ -1,0 +1,328 @@
+//! What `tpnet run --stream` does with files and standard streams, and what it refuses.
+
+use crate::run_tests::{device, echo};
+use crate::scratch::{Output, Scratch};
+use crate::tests::{letter, place};
+use std::alloc::Global;
+use std::fs::{Files, OpenFile};
+use std::os::unix::fs::FileExt;
+use std::sync::Wait;
+use std::test::Fail;
+use tp_program::{answer_stream, is_stream};
+use tp_stream_files::Plain;
+
+/// The words of a stream of the folder's device.
+const STREAM: &[&str] = &["run", "@device", "--stream", "--quantum=64"];
+
+/// A word of a command line: where it has the form P=@NAME, the file is in the folder.
+fn word_in(alloc: Global, scratch: &Scratch, word: &str) -> Result<String, Fail> {
+    match word.split_once("=@") {
+        Some((front, name)) => {
+            let path = scratch.path(alloc, name)?;
+            let path = path.as_str();
+            Ok(format!(in alloc; "{front}={path}")?)
+        }
+        None => Ok(String::from_str(alloc, word)?),
+    }
+}
+
+/// What the program does for the words of a stream, those of `STREAM` first, with these bytes as standard input.
+fn stream<R: Files<File = F> + AllocGlobal + Wait, F: FileExt + OpenFile + Drop>(
+    rt: &R,
+    scratch: &Scratch,
+    words: &[&str],
+    input: &[u8],
+) -> Result<Output, Fail> {
+    let alloc = rt.alloc();
+    let mut line = scratch.line(alloc, STREAM)?;
+    for word in words {
+        line.push(word_in(alloc, scratch, word)?)?;
+    }
+    if !is_stream(line.as_slice()) {
+        return Err(Fail::new("no stream"));
+    }
+    let (mut out, mut err) = (Vec::new(alloc), Vec::new(alloc));
+    let mut feed = Plain::new(input);
+    let status = answer_stream(rt, line.as_slice(), &mut feed, &mut out, &mut err);
+    Ok(Output { status, out, err })
+}
+
+/// Words of a stream, standard input, and the status, standard output and standard error.
+type Streams<'a> = &'a [(&'a [&'a str], &'a str, u8, &'a str, &'a str)];
+
+/// Does what each row asks for, after the one before it. A failure says what stood on standard error.
+fn plays<R: Files<File = F> + AllocGlobal + Wait, F: FileExt + OpenFile + Drop>(
+    rt: &R,
+    scratch: &Scratch,
+    rows: Streams<'_>,
+) -> Result<(), Fail> {
+    for (words, input, status, out, err) in rows {
+        let output = stream(rt, scratch, words, input.as_bytes())?;
+        if output.status != *status
+            || output.out.as_slice() != out.as_bytes()
+            || output.err.as_slice() != err.as_bytes()
+        {
+            return Err(Fail::new(String::from_utf8(output.err)?));
+        }
+    }
+    Ok(())
+}
+
+/// What the words alone are refused for, and what the device and its ends are, in their order.
+const REFUSED: Streams<'static> = &[
+    (
+        &["--out", "0=-"],
+        "",
+        2,
+        "",
+        "tpnet: say when the stream ends: --turns N, --until-quiet, or both\n",
+    ),
+    (
+        &["--until-quiet", "--out", "bytes"],
+        "",
+        2,
+        "",
+        "tpnet: with --stream --out takes P=FILE or P=-, P a port from 0 to 7; as --out 0=bytes\n",
+    ),
+    (
+        &["--until-quiet", "--in", "8=-"],
+        "",
+        2,
+        "",
+        "tpnet: with --stream --in takes P=FILE or P=-, P a port from 0 to 7; as --in 0=bytes\n",
+    ),
+    (
+        &["--until-quiet", "--have", "0=+1"],
+        "",
+        2,
+        "",
+        "tpnet: --have takes P=Z, P a port from 0 to 7 and Z a decimal; as --have 0=4096\n",
+    ),
+    (
+        &["--until-quiet", "--discard", "x"],
+        "",
+        2,
+        "",
+        "tpnet: --discard takes a port from 0 to 7\n",
+    ),
+    (
+        &["--until-quiet", "--out", "0=-", "--discard", "0"],
+        "",
+        2,
+        "",
+        "tpnet: port 0 has two places for its output: leave one --out 0 or --discard 0\n",
+    ),
+    (
+        &["--until-quiet", "--in", "1=-", "--in", "1=@in"],
+        "",
+        2,
+        "",
+        "tpnet: port 1 has two inputs: leave one --in 1\n",
+    ),
+    (
+        &["--until-quiet", "--out", "0=-", "--out", "1=-"],
+        "",
+        2,
+        "",
+        "tpnet: --out P=- may be there once: the bytes of two ports would be mixed\n",
+    ),
+    (
+        &["--until-quiet", "--discard", "0", "--have", "0=1"],
+        "",
+        2,
+        "",
+        "tpnet: --have 0 goes with --out 0=-, once: a file's reader needs none\n",
+    ),
+    (
+        &["--until-quiet", "--out", "0=@device"],
+        "",
+        2,
+        "",
+        "tpnet: --out 0 names the device, an input or another port's file\n",
+    ),
+    (
+        &["--until-quiet", "--out", "0=-", "--in", "0=@nowhere"],
+        "",
+        1,
+        "",
+        "tpnet: ReadFailed\n",
+    ),
+    (
+        &["--until-quiet", "--out", "0=@nowhere/out"],
+        "",
+        1,
+        "",
+        "tpnet: DeviceFailed\n",
+    ),
+    (
+        &["--until-quiet", "--spare", "5"],
+        "",
+        2,
+        "",
+        "tpnet: --spare is above the pages of a node; see tpnet show\n",
+    ),
+    (
+        &["--until-quiet", "--out", "0=-", "--discard", "1"],
+        "",
+        2,
+        "",
+        "tpnet: the device has no port 1; see tpnet show\n",
+    ),
+    (
+        &["--until-quiet"],
+        "",
+        2,
+        "",
+        "tpnet: port 0 has a wire: say --out 0=FILE, --out 0=- or --discard 0\n",
+    ),
+    (
+        &["--until-quiet", "--out", "0=-", "--have", "0=1"],
+        "",
+        1,
+        "",
+        "tpnet: NotShown 0 1 0\n",
+    ),
+];
+
+/// What was put and confirmed is refused where an end has less of it.
+const LESS: Streams<'static> = &[
+    (
+        &["--until-quiet", "--out", "0=@out", "--in", "0=-"],
+        "abcd",
+        0,
+        "",
+        "in 0 0\nnext 26\n",
+    ),
+    (
+        &["--until-quiet", "--out", "0=@short"],
+        "",
+        1,
+        "",
+        "tpnet: Short 0 0 4\n",
+    ),
+    (
+        &["--until-quiet", "--out", "0=-", "--have", "0=3"],
+        "",
+        1,
+        "",
+        "tpnet: Gone 0 3 4\n",
+    ),
+    (
+        &["--until-quiet", "--out", "0=-", "--have", "0=5"],
+        "",
+        1,
+        "",
+        "tpnet: NotShown 0 5 4\n",
+    ),
+];
+
+#[test]
+fn a_refused_stream_leaves_the_device(rt: HostRuntime) -> Result<(), Fail> {
+    let scratch = device(&rt, "stream_refused", echo(rt.alloc())?.as_slice(), "16384")?;
+    scratch.put(&rt, "in", b"ab")?;
+    let fresh = scratch.read(&rt, "device")?;
+    plays(&rt, &scratch, REFUSED)?;
+    assert_eq!(rt; scratch.read(&rt, "device")?.as_slice(), fresh.as_slice());
+    plays(&rt, &scratch, LESS)?;
+    assert_eq!(rt; scratch.read(&rt, "out")?.as_slice(), b"abcd".as_slice());
+    scratch.remove(&rt)
+}
+
+/// A word of standard error, the last of which says how far a stream has come.
+fn ends_with(output: &Output, end: &str) -> bool {
+    output.err.as_slice().ends_with(end.as_bytes())
+}
+
+/// Standard input, what its reader has, and what it gets: the rest of what a longer input gives, once.
+const PIPED: &[(&str, &str, &str, &str)] = &[
+    ("ab", "0=0", "ab", " written 2 confirmed 2\n"),
+    ("ab", "0=2", "", " written 2 confirmed 2\n"),
+    ("abcdef", "0=2", "cdef", " written 6 confirmed 6\n"),
+    ("a", "0=6", "", " written 6 confirmed 6\n"),
+];
+
+/// What goes through standard streams comes once, and what was accepted is passed over.
+#[test]
+fn standard_streams_go_on(rt: HostRuntime) -> Result<(), Fail> {
+    let scratch = device(&rt, "stream_piped", echo(rt.alloc())?.as_slice(), "16384")?;
+    for (input, have, printed, end) in PIPED {
+        let words: &[&str] = &[
+            "--until-quiet",
+            "--out",
+            "0=-",
+            "--in",
+            "0=-",
+            "--have",
+            have,
+        ];
+        let ran = stream(&rt, &scratch, words, input.as_bytes())?;
+        assert_eq!(rt; ran.status, 0);
+        assert_eq!(rt; ran.out.as_slice(), printed.as_bytes());
+        assert!(rt; ran.err.as_slice().starts_with(b"out 0 ") && ends_with(&ran, end));
+    }
+    scratch.remove(&rt)
+}
+
+/// Far more bytes than a port holds go from file to file, a few turns at a time: the file is never emptied, and at the end it is the
+/// input.
+#[test]
+fn files_go_on(rt: HostRuntime) -> Result<(), Fail> {
+    let alloc = rt.alloc();
+    let scratch = device(&rt, "stream_files", echo(alloc)?.as_slice(), "65536")?;
+    let mut input = Vec::new(alloc);
+    for number in 0..6000u32 {
+        input.push((number % 251) as u8)?;
+    }
+    scratch.put(&rt, "in", input.as_slice())?;
+    let few: &[&str] = &[
+        "--turns",
+        "9000",
+        "--out",
+        "0=@out",
+        "--in",
+        "0=@in",
+        "--progress",
+    ];
+    let mut had = 0;
+    for _ in 0..2 {
+        assert_eq!(rt; stream(&rt, &scratch, few, b"")?.status, 0);
+        let out = scratch.read(&rt, "out")?;
+        assert!(rt; out.len() > had && input.as_slice().starts_with(out.as_slice()));
+        had = out.len();
+    }
+    let quiet: &[&str] = &["--until-quiet", "--out", "0=@out", "--in", "0=@in"];
+    assert_eq!(rt; stream(&rt, &scratch, quiet, b"")?.status, 0);
+    assert_eq!(rt; scratch.read(&rt, "out")?.as_slice(), input.as_slice());
+    scratch.remove(&rt)
+}
+
+/// A port that puts out more than it holds, beside a node that never rests: it runs on, over at least two checkpoints. The output of a
+/// port that is let go is confirmed, too.
+#[test]
+fn a_full_port_runs_on(rt: HostRuntime) -> Result<(), Fail> {
+    let alloc = rt.alloc();
+    let scratch = Scratch::new(&rt, "stream_full")?;
+    let mut letters = letter(alloc)?;
+    place(&mut letters, 172 + 0x10B, &[0x60, 0x03]);
+    scratch.put(
+        &rt,
+        "net.txt",
+        b"node a 4\nnode busy 4\nport h\nwire a.0 h\n",
+    )?;
+    scratch.put(&rt, "a.img", letters.as_slice())?;
+    scratch.put(&rt, "busy.img", letters.as_slice())?;
+    let format: &[&str] = &["format", "@device", "@net.txt", "@", "32768"];
+    assert_eq!(rt; scratch.run(&rt, format)?.status, 0);
+    for end in [["--out", "0=@out"], ["--discard", "0"]] {
+        let words: &[&str] = &["--turns", "16000", end[0], end[1]];
+        assert_eq!(rt; stream(&rt, &scratch, words, b"")?.status, 0);
+    }
+    let out = scratch.read(&rt, "out")?;
+    assert!(rt; out.len() > 1000 && out.iter().all(|byte| *byte == b'A'));
+    let shown = String::from_utf8(scratch.run(&rt, &["show", "@device"])?.out)?;
+    assert!(rt; shown.as_str().ends_with(" unconfirmed 0\n"));
+    assert!(rt;
+        !shown.as_str().contains("generation 1 ") && !shown.as_str().contains("generation 2 ")
+    );
+    scratch.remove(&rt)
+}

@@ -1,3 +1,0 @@
-mod Fronts
-mod Histories
-mod Statuses

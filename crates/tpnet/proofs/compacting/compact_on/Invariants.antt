@@ -1,4 +1,0 @@
-use Rattle.tpnet.proofs.compacting.compact_on.Given as goal
-
-abbrev pub ghost-compact : goal.ghost-compact
-ghost-compact g a = g.history

@@ -1,4 +1,0 @@
-use Rattle.tpnet.proofs.streaming.stream_opened.Given as goal
-
-abbrev pub ghost-stream : goal.ghost-stream
-ghost-stream g a = g.history
