@@ -3,10 +3,12 @@
 #   entries   16 busy nodes of 256 pages, one step a turn: durable entries a second with checkpoints as they come beside none
 #   copy      the seconds of a checkpoint of these nodes beside a raw copy of as many bytes with the same syncs
 # What is compared goes first in turns.
-#   turns     one worker, 1,024 steps a turn, and the flusher, which sleeps where nothing is new: the slowest turn of a hundred (the 99th
-#             percentile) while a snapshot of these nodes runs beside the median turn just before it, in many short rounds
-#             (bench/turns.rattle)
+#   turns     one worker, 1,024 or 4,096 steps a turn, and the flusher, which sleeps where nothing is new: the slowest turn of a hundred
+#             (the 99th percentile) while a snapshot of these nodes runs beside the median turn just before it, in many short rounds
+#             (bench/turns.rattle); and the same of a bare loop that takes as long as that median, beside the raw copy of a checkpoint again and
+#             again, which says how much of it is the machine's
 # usage: bench/checkpoint.sh TPNET [ROUNDS [FOLDER ..]]      5 rounds in /dev/shm (in memory, so only our own cost shows) by default
+#        TURNS_ALONE=1 bench/checkpoint.sh ..                the turns alone, also without a TPNET of the same day
 set -e
 top=$(cd "$(dirname "$0")/.." && pwd)
 tpnet=$(realpath "$1")
@@ -52,6 +54,44 @@ int main(int count, char **words) {
 C
 cc -O2 -o "$work/raw" "$work/raw.c"
 
+# prints the nanoseconds of each of COUNT loops that call nothing and take about as long as it is told
+cat > "$work/bare.c" <<'C'
+#include <stdint.h>
+#include <stdio.h>
+#include <stdlib.h>
+#include <time.h>
+
+static uint64_t now(void) {
+    struct timespec at;
+    clock_gettime(CLOCK_MONOTONIC, &at);
+    return at.tv_sec * 1000000000ull + at.tv_nsec;
+}
+
+static volatile uint64_t word = 1;
+
+static uint64_t timed(uint64_t steps) {
+    uint64_t begun = now(), it = word;
+    for (uint64_t step = 0; step < steps; step++) it = it * 6364136223846793005ull + 1442695040888963407ull;
+    word = it;
+    return now() - begun;
+}
+
+int main(int count, char **words) {
+    uint64_t least = UINT64_MAX, wanted = strtoull(words[1], 0, 10), loops = strtoull(words[2], 0, 10);
+    uint64_t *times = count == 3 ? calloc(loops, sizeof *times) : 0;
+    if (!times) return 1;
+    for (int it = 0; it < 1000; it++) {
+        uint64_t took = timed(10000);
+        if (took < least) least = took;
+    }
+    for (uint64_t it = 0; it < loops; it++) times[it] = 1;
+    for (uint64_t it = 0; it < loops; it++) times[it] = timed(wanted * 10000 / least);
+    for (uint64_t it = 0; it < loops; it++) printf("%llu\n", (unsigned long long)times[it]);
+    return 0;
+}
+C
+cc -O2 -o "$work/bare" "$work/bare.c"
+
 tar -C "$top" -c --exclude=incremental crates crates.txt HANDLES | tar -C "$work" -x
 turns=$work/crates/bench_turns
 mkdir -p "$turns/src" "$turns/specs" "$turns/proofs/time_in"
@@ -62,7 +102,7 @@ cp "$gate/specs/Spelt.antt" "$turns/specs/"
 echo 'pub mod Spelt' > "$turns/specs/Lib.antt"
 cp -r "$gate/proofs/opening" "$turns/proofs/"
 cp "$gate/proofs/scenes/play_in/"*.antt "$turns/proofs/time_in/"
-sed -i 's/^const QUANTUM: u16 = .*/const QUANTUM: u16 = 1024;/; s/std::test::Fail/crate::Fault/; s/, Fail>/, Fault>/' "$turns/src/opening.rt"
+sed -i 's/std::test::Fail/crate::Fault/; s/, Fail>/, Fault>/' "$turns/src/opening.rt"
 mkdir -p "$turns/proofs/make_turns" "$turns/proofs/make_rounds"
 for pair in make_turns:loop-number make_rounds:loop; do
     cat > "$turns/proofs/${pair%:*}/Invariants.antt" <<A
@@ -87,7 +127,7 @@ done
 echo 'port host' >> "$work/net"
 "$tpnet" format "$work/device" "$work/net" "$work" $((1 << 23)) > "$work/said"
 python3 - "$tpnet" "$work" "$rounds" "${folders[@]}" <<'PY'
-import os, re, statistics, subprocess, sys, tempfile, time
+import os, re, statistics, subprocess, sys, tempfile, threading, time
 tpnet, work, rounds = sys.argv[1:4]
 rounds = range(int(rounds))
 TURNS, NEVER = 130000, (1 << 32) - 1
@@ -109,22 +149,64 @@ def run(file, turns, workers, every):
 def said(name, mine, other, what):
     print("    %-8s %s; ratio of the medians %.2f" % (name, what, statistics.median(other) / statistics.median(mine)), flush=True)
 
-def rounds_of(turns):
+def rounds_of(turns, quantum):
     """The nanoseconds of the turns alone and of those beside a snapshot, of each round."""
     found, last = [], 1
     for runs, time, steps in turns:
         if last and not runs:
             found.append(([], []))
         last = runs
-        if steps == 1024:
+        if steps == quantum:
             found[-1][runs].append(time)
     return [(alone, beside) for alone, beside in found if len(beside) > 1]
+
+def late(times, middle):
+    return statistics.quantiles(times, n=100)[98] / middle
+
+def bare(file, usual, count):
+    """The nanoseconds of bare loops of `usual` nanoseconds in 20 rounds of `count`, while a raw copy is made again and again."""
+    ended = threading.Event()
+    def copies():
+        while not ended.is_set():
+            subprocess.run([os.path.join(work, "raw"), file, str(512)], check=True)
+    copier = threading.Thread(target=copies)
+    copier.start()
+    words = [os.path.join(work, "bare"), str(round(usual)), str(20 * count)]
+    loops = [int(line) for line in subprocess.run(words, capture_output=True, text=True, check=True).stdout.split()]
+    ended.set()
+    copier.join()
+    return [loops[at:at + count] for at in range(0, len(loops), count)]
+
+def of_turns(file, quantum):
+    """Times turns of `quantum` steps, and in turns with them a bare loop that takes as long as the median turn."""
+    of_rounds, loops = [], []
+    for _ in rounds:
+        subprocess.run(["cp", "--sparse=always", os.path.join(work, "device"), file], check=True)
+        program = os.path.join(work, "crates", "bench_turns", "out", "bench_turns")
+        lines = subprocess.run([program, file, "20", "600", str(quantum)], capture_output=True, text=True, check=True).stdout.splitlines()
+        found = rounds_of([tuple(map(int, line.split())) for line in lines], quantum)
+        usual = statistics.median(statistics.median(alone) for alone, _ in found)
+        loops += bare(file, usual, round(statistics.median(len(beside) for _, beside in found)))
+        of_rounds += found
+    medians = [statistics.median(alone) for alone, _ in of_rounds]
+    print("    turns    of %d steps, %d rounds, of %d turns alone and %d beside a snapshot: %.1f us alone; the 99th percentile %.2f times that, %.2f alone, %.2f of a bare loop beside a raw copy; the slowest %.1f, of a bare loop %.1f" % (
+        quantum, len(of_rounds), statistics.median(len(alone) for alone, _ in of_rounds),
+        statistics.median(len(beside) for _, beside in of_rounds), statistics.median(medians) / 1e3,
+        statistics.median(late(beside, middle) for (_, beside), middle in zip(of_rounds, medians)),
+        statistics.median(late(alone, middle) for (alone, _), middle in zip(of_rounds, medians)),
+        statistics.median(late(times, statistics.median(times)) for times in loops),
+        statistics.median(max(beside) / middle for (_, beside), middle in zip(of_rounds, medians)),
+        statistics.median(max(times) / statistics.median(times) for times in loops)), flush=True)
 
 for folder in sys.argv[4:]:
     kind = subprocess.run(["stat", "-f", "-c", "%T", folder], capture_output=True, text=True, check=True).stdout.strip()
     print("%s (%s), medians of %d:" % (folder, kind, len(rounds)))
     with tempfile.TemporaryDirectory(prefix="bench-checkpoint-", dir=folder) as place:
         file = os.path.join(place, "device")
+        if os.environ.get("TURNS_ALONE"):
+            of_turns(file, 1024)
+            of_turns(file, 4096)
+            continue
         idle = statistics.median(run(file, 0, 2, NEVER)[0] for _ in rounds)
         times, switches = {10000: [], NEVER: []}, []
         for number in rounds:
@@ -152,17 +234,6 @@ for folder in sys.argv[4:]:
             for what, found in ((checkpoint, ours), (copy, raw)) if number % 2 else ((copy, raw), (checkpoint, ours)):
                 found.append(what())
         said("copy", ours, raw, "ours %.1f, raw %.1f milliseconds" % (1e3 * statistics.median(ours), 1e3 * statistics.median(raw)))
-        of_rounds = []
-        for _ in rounds:
-            subprocess.run(["cp", "--sparse=always", os.path.join(work, "device"), file], check=True)
-            program = os.path.join(work, "crates", "bench_turns", "out", "bench_turns")
-            lines = subprocess.run([program, file, "20", "600"], capture_output=True, text=True, check=True).stdout.splitlines()
-            of_rounds += rounds_of([tuple(map(int, line.split())) for line in lines])
-        medians = [statistics.median(alone) for alone, _ in of_rounds]
-        late = [statistics.quantiles(beside, n=100)[98] / middle for (_, beside), middle in zip(of_rounds, medians)]
-        kept = [statistics.quantiles(alone, n=100)[98] / middle for (alone, _), middle in zip(of_rounds, medians)]
-        slowest = [max(beside) / middle for (_, beside), middle in zip(of_rounds, medians)]
-        print("    turns    %d rounds, of %d turns alone and %d beside a snapshot: %.1f us alone; the 99th percentile %.2f times that, %.2f alone; the slowest %.1f" % (
-            len(of_rounds), statistics.median(len(alone) for alone, _ in of_rounds), statistics.median(len(beside) for _, beside in of_rounds),
-            statistics.median(medians) / 1e3, statistics.median(late), statistics.median(kept), statistics.median(slowest)), flush=True)
+        for quantum in (1024, 4096):
+            of_turns(file, quantum)
 PY

@@ -119,11 +119,11 @@ for folder in sys.argv[4:]:
         for _ in rounds:
             idle = run("one", file, 0, 1, 4096)
             ours.append((run("one", file, TURNS, 1, 4096) - idle) / (TURNS // 2 * 4096))
-            for kind, times in alone.items():
-                program = os.path.join(work, "crates", "bench_" + kind, "out", "bench_" + kind)
+            for memory, times in alone.items():
+                program = os.path.join(work, "crates", "bench_" + memory, "out", "bench_" + memory)
                 times.append(timed([program], cwd=os.path.join(work, "steps")) / 1e8)
-        for kind, times in alone.items():
-            said("steps", ours, times, "run %.1f, interpreter alone %.1f million a second (%s memory)" % (1e-6 / min(ours), 1e-6 / min(times), kind))
+        for memory, times in alone.items():
+            said("steps", ours, times, "run %.1f, interpreter alone %.1f million a second (%s memory)" % (1e-6 / min(ours), 1e-6 / min(times), memory))
         if kind == "tmpfs":
             turns = []
             for _ in rounds:

@@ -18,6 +18,7 @@ use crate::naming::Naming;
 use crate::node_turn::NodeTurn;
 use crate::place::Place;
 use crate::seat::Seat;
+use crate::soon::lock_soon;
 use std::marker::{Model, PhantomData};
 use std::sync::{Mutex, Wait};
 use tp_book::Refusal;
@@ -60,7 +61,7 @@ fn begin<J: Naming, R: Wait>(
     ensures gained { Gained (TakesOf J.start number result) seat.old seat.new }
     ensures refused { IfErr result IsTurnRefusal }
 {
-    let mut held = book.lock(rt);
+    let mut held = lock_soon(rt, book);
     held.begin(place, seat, number)
 }
 
@@ -86,7 +87,7 @@ fn commit<J: Naming, R: Wait>(
     ensures committed { CommittedBy J.start number stretch.ran.count place.old.node }
     ensures gained { Gained (λ entries. entries ≡ run_entries number stretch.ran.count) seat.old seat.new }
 {
-    let mut held = book.lock(rt);
+    let mut held = lock_soon(rt, book);
     held.commit(place, seat, number, stretch)
 }
 
@@ -127,7 +128,7 @@ fn record_of<J: Naming, R: Wait>(rt: &R, book: &Mutex<Locked<J>>, place: &mut Pl
     ensures named { place.new.key.name ≡ place.old.key.name }
     ensures shows { Shows place.new false }
 {
-    let mut held = book.lock(rt);
+    let mut held = lock_soon(rt, book);
     held.record(place, number);
 }
 

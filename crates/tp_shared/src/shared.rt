@@ -16,6 +16,7 @@ use crate::naming::Naming;
 use crate::node_turn::NodeTurn;
 use crate::parts::Parts;
 use crate::seat::Seat;
+use crate::soon::lock_soon;
 use crate::told::Told;
 use std::sync::{Mutex, Wait};
 use tp_book::Refusal;
@@ -32,7 +33,7 @@ fn host_hold<J: Naming, R: Wait>(
     ensures went { HostWent J.start result }
     ensures refused { IfErr result IsTurnRefusal }
 {
-    let mut held = book.lock(rt);
+    let mut held = lock_soon(rt, book);
     held.host_turn(seat)
 }
 
