@@ -12,7 +12,7 @@ use Rattle.tp_recover.specs.Reading.{LeavesNothingNew}
 use Rattle.tp_recover.specs.declared.unopened.Unopened.{Unopened}
 use Rattle.tp_stream.specs.Streamed.{IsUnbegun, Streamed}
 use Rattle.tp_stream.specs.declared.fault.StreamFault.{StreamFault}
-use Rattle.tp_stream.specs.declared.fault.StreamFault.TheVariants.{Opening, Spare, Port, Unnamed, Short, Gone, NotShown, InputFailed, OutputFailed, FlushFailed, JournalFull, Memory}
+use Rattle.tp_stream.specs.declared.fault.StreamFault.TheVariants.{Opening, Spare, Port, Unnamed, Short, Long, Gone, NotShown, InputFailed, OutputFailed, FlushFailed, JournalFull, Memory}
 use Rattle.tp_stream.specs.declared.task.Task.{Task}
 use Rattle.tp_stream_files.specs.declared.ends.EndFault.{EndFault}
 use Rattle.tp_stream_files.specs.declared.ends.EndFault.TheVariants.{ReadFailed, DeviceFailed, SameFile, Twice, Memory as NoMemory}
@@ -78,6 +78,7 @@ fault_status Spare = 2
 fault_status (Port port) = 2
 fault_status (Unnamed port) = 2
 fault_status (Short port has from) = 1
+fault_status (Long port has upto) = 1
 fault_status (Gone port have confirmed) = 1
 fault_status (NotShown port have shown) = 1
 fault_status (InputFailed port) = 1

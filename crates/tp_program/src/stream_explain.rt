@@ -84,6 +84,14 @@ fn push_numbers(
                 "  {path} has {has} bytes, and {from} bytes of port {port} were confirmed: it was cut short, or is another file.\n  Restore it. The device hasn't those bytes any more; to go on without them, make the file {from} bytes long.\n"
             )
         }
+        StreamFault::Long { port, has, upto } => {
+            let path = path_of(&asked.ends.outs, port);
+            let device = asked.device.as_str();
+            write!(
+                text,
+                "  {path} has {has} bytes, and port {port} of {device} has put out {upto} in all: it is another file, or {device} is an older copy. It was left as it is.\n  Name the file that has this port's output or, where there is none yet, a new one.\n"
+            )
+        }
         StreamFault::Gone {
             port,
             have,

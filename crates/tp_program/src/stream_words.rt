@@ -15,6 +15,7 @@ Refusals (status 1):
   NoOpenArea    neither area is open: format was stopped, or the device was written over
   Damaged AT    what stands at offset AT breaks its rule: restore a copy
   Short P H C   port P's FILE has H bytes, and C were confirmed: it was cut, or is another file
+  Long P H U    port P's FILE has H bytes, and the port put out U in all: it is another file, and stays as it is
   Gone P H C    --have P=H, and C bytes were confirmed: those from H on aren't on DEVICE any more
   NotShown P H S  --have P=H, and only S bytes were shown
   DeviceFailed  DEVICE, an output's FILE or standard output can't be written or synced: look at rights and room

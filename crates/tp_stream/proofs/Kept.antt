@@ -1,10 +1,9 @@
 -- Room that is kept.
-use Rattle.std.proofs.Common.{◌≡◌, ℕ, ◌+◌, ◌-◌, ◌*◌, ◌≤◌, ◌<◌, ◌||◌, Bool, true, false, length, Option, Some, sym, subst, arith}
-use Rattle.std.specs.Prelude.{nat_le, nat_lt}
+use Rattle.std.proofs.Common.{◌≡◌, ℕ, ◌+◌, ◌-◌, ◌*◌, ◌≤◌, ◌<◌, true, false, length, Option, Some, sym, subst, arith}
 use Rattle.std.proofs.lemmas.Bool.{and_parts, leb-true, le-ltb, ltb-true, or_from}
 use Rattle.tp_model.specs.declared.limits.TheConstants.{NUMBER_LIMIT}
 use Rattle.tp_model.specs.Journal.{entry_room, is_full, reserve}
-use Rattle.tp_book.specs.Book.{BookValue, next_number, reserved}
+use Rattle.tp_book.specs.Book.{BookValue, reserved}
 use Rattle.tp_book.specs.Refusals.{is_journal_full}
 use Rattle.tp_stream.specs.Rooms.{Lies, has_room}
 

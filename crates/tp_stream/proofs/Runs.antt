@@ -1,5 +1,5 @@
 -- What streams leave of a device.
-use Rattle.std.proofs.Common.{◌≡◌, ℕ, ◌≤◌, ◌⊎◌, inl, inr, List, [], Result, Ok, Err, arith}
+use Rattle.std.proofs.Common.{ℕ, ◌≤◌, ◌⊎◌, inl, inr, List, [], Result, Ok, Err, arith}
 use Rattle.std.specs.Prelude.{IfOk}
 use Rattle.tp_model.specs.declared.entry.Entry.{Entry}
 use Rattle.tp_model.specs.NodeState.{NodeState}
@@ -17,7 +17,7 @@ use Rattle.tp_flush.specs.Flushing.{Flushing, Walked}
 use Rattle.tp_flush.proofs.Kept.{reached_then}
 use Rattle.tp_flush.proofs.Turns.{walked_nowhere, walked_recovers}
 use Rattle.tp_stream.specs.declared.fault.StreamFault.{StreamFault}
-use Rattle.tp_stream.specs.declared.fault.StreamFault.TheVariants.{Opening, Spare, Port, Unnamed, Short, Gone, NotShown, InputFailed, OutputFailed, FlushFailed, JournalFull, Memory}
+use Rattle.tp_stream.specs.declared.fault.StreamFault.TheVariants.{Opening, Spare, Port, Unnamed, Short, Long, Gone, NotShown, InputFailed, OutputFailed, FlushFailed, JournalFull, Memory}
 use Rattle.tp_stream.specs.Streamed.{IsBegun, IsUnbegun, Streamed}
 use Rattle.std.specs.Prelude.{IfErr}
 
@@ -75,6 +75,7 @@ begun_written (Err Spare) begun unbegun = begun
 begun_written (Err (Port port)) begun unbegun = begun
 begun_written (Err (Unnamed port)) begun unbegun = begun
 begun_written (Err (Short port has from)) begun unbegun = begun
+begun_written (Err (Long port has upto)) begun unbegun = begun
 begun_written (Err (Gone port have confirmed)) begun unbegun = begun
 begun_written (Err (NotShown port have shown)) begun unbegun = begun
 begun_written (Err (InputFailed port)) begun unbegun = unbegun

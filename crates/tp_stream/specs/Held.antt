@@ -1,5 +1,5 @@
 -- What a sink holds, where that is known.
-use Rattle.std.specs.Prelude.{◌≡◌, ◌≤◌, ℕ, ◌+◌, List, ◌++◌, length, take, Option, Some, None}
+use Rattle.std.specs.Prelude.{◌≡◌, ◌≤◌, ℕ, ◌+◌, List, ◌++◌, length, min, take, Option, Some, None}
 
 -- its bytes, and how many of the first ones a crash leaves as they are
 pub record Held : Type 0 where
@@ -10,6 +10,21 @@ pub record Held : Type 0 where
 abbrev pub Reaches : ℕ → Option Held → Type 0
 Reaches n None = Unit {0}
 Reaches n (Some h) = (n ≤ h.safe) × (n ≤ length h.bytes)
+
+-- Just `n` bytes are there that are safe.
+abbrev pub HasReach : ℕ → Option Held → Type 0
+HasReach n None = Unit {0}
+HasReach n (Some h) = n ≡ min h.safe (length h.bytes)
+
+-- That many bytes are there.
+abbrev pub HasLength : Option ℕ → Option Held → Type 0
+HasLength n None = Unit {0}
+HasLength n (Some h) = n ≡ Some (length h.bytes)
+
+-- No byte is there behind the first `n`.
+abbrev pub HasAtMost : ℕ → Option Held → Type 0
+HasAtMost n None = Unit {0}
+HasAtMost n (Some h) = length h.bytes ≤ n
 
 -- The first ones are as they were, and safe.
 abbrev pub KeepsFront : ℕ → Option Held → Option Held → Type 0

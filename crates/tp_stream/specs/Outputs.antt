@@ -11,6 +11,15 @@ pub record OutputValue : Type 0 where
   pub next : ℕ
   pub held : Option Held
 
+-- An output as it is given: its port, up to where its reader says that it has the outputs, and what the sink holds.
+pub record Given : Type 0 where
+  pub port : ℕ
+  pub have : Option ℕ
+  pub held : Option Held
+
+abbrev pub given_of : OutputValue → Given
+given_of o = record { port = o.port; have = o.have; held = o.held }
+
 -- Bytes were put behind those that there were, and are safe. Nothing was confirmed.
 pub record Grew (bytes : List ℕ) (old new : OutputValue) : Type 0 where
   pub port : new.port ≡ old.port

@@ -1,5 +1,5 @@
 -- What a stream leaves, whatever becomes of the device in it.
-use Rattle.std.specs.Prelude.{◌≡◌, ◌⊎◌, ℕ, List, Result, Ok, Err, IfOk}
+use Rattle.std.specs.Prelude.{◌⊎◌, ℕ, List, Result, Ok, Err, IfOk}
 use Rattle.tp_model.specs.declared.entry.Entry.{Entry}
 use Rattle.tp_model.specs.NodeState.{NodeState}
 use Rattle.tp_model.specs.Node.{t414}
@@ -9,7 +9,7 @@ use Rattle.tp_model.specs.DiskHistory.{State, LeavesOnly}
 use Rattle.tp_model.specs.DeviceAreas.{device_areas}
 use Rattle.tp_model.specs.Walks.{RecoversTo}
 use Rattle.tp_stream.specs.declared.fault.StreamFault.{StreamFault}
-use Rattle.tp_stream.specs.declared.fault.StreamFault.TheVariants.{Opening, Spare, Port, Unnamed, Short, Gone, NotShown, InputFailed, OutputFailed, FlushFailed, JournalFull, Memory}
+use Rattle.tp_stream.specs.declared.fault.StreamFault.TheVariants.{Opening, Spare, Port, Unnamed, Short, Long, Gone, NotShown, InputFailed, OutputFailed, FlushFailed, JournalFull, Memory}
 
 -- A crash at any moment of the stream leaves what one just before might have left, or what opens to where a prefix of the journal leads,
 -- with all that the device had as it was opened. After a stream that was done, the prefix has each entry below the answered number.
@@ -27,6 +27,7 @@ IsUnbegun (Err Spare) = Unit {0}
 IsUnbegun (Err (Port port)) = Unit {0}
 IsUnbegun (Err (Unnamed port)) = Unit {0}
 IsUnbegun (Err (Short port has from)) = Unit {0}
+IsUnbegun (Err (Long port has upto)) = Unit {0}
 IsUnbegun (Err (Gone port have confirmed)) = Unit {0}
 IsUnbegun (Err (NotShown port have shown)) = Unit {0}
 IsUnbegun (Err (InputFailed port)) = ⊥
@@ -42,6 +43,7 @@ IsBegun Spare = ⊥
 IsBegun (Port port) = ⊥
 IsBegun (Unnamed port) = ⊥
 IsBegun (Short port has from) = ⊥
+IsBegun (Long port has upto) = ⊥
 IsBegun (Gone port have confirmed) = ⊥
 IsBegun (NotShown port have shown) = ⊥
 IsBegun (InputFailed port) = Unit {0}

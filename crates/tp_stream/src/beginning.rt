@@ -1,5 +1,11 @@
 //! What is tested before a stream begins.
 
+ghost use Rattle.std.specs.Prelude.{◌≡◌, ◌≤◌, ◌⊎◌, ℕ, length, map, IfSome, OnOk, IfErr};
+ghost use Rattle.tp_port.specs.Counted.{AreCounted};
+ghost use Rattle.tp_stream.specs.declared.fault.StreamFault.TheVariants.{Port as Absent};
+ghost use Rattle.tp_stream.specs.Outputs.{given_of};
+ghost use Rattle.tp_stream.specs.Standing.{AllMayBegin, IsFirstRefused, IsNotBegun, OfOutput, standing};
+
 use crate::fault::StreamFault;
 use crate::listener::Listener;
 use crate::output::Output;
@@ -52,7 +58,9 @@ pub(crate) fn task_fault<S: Sink, I: Source>(
     task: Task,
     topology: &Topology,
     streams: &Streams<S, I>,
-) -> Option<StreamFault> {
+) -> Option<StreamFault>
+    ensures { IfSome result (λ fault. OfOutput fault ⊥) }
+{
     if topology.pages().iter().any(|pages| *pages < task.spare) {
         return Some(StreamFault::Spare);
     }
@@ -66,21 +74,29 @@ pub(crate) fn task_fault<S: Sink, I: Source>(
     }
 }
 
-/// Sets out where each sink's port stands in the book of a device that opened, and tells where each stream begins.
-pub(crate) fn begin_all<S: Sink, I: Source, L: Listener>(
+/// Sets out where each sink's port stands in the book of a device that opened, and tells where each output begins. The first one that
+/// may not begin ends that.
+fn begin_outputs<S: Sink, L: Listener>(
     book: &Book,
     mark: u64,
-    streams: &mut Streams<S, I>,
+    outputs: &mut [Output<S>],
     listener: &mut L,
-) -> Result<(), StreamFault> {
-    for output in streams.outputs.iter_mut() {
+) -> Result<(), StreamFault>
+    requires { AreCounted mark book.now.state.ports }
+    ensures begun { OnOk result (AllMayBegin (standing book.now mark) (map given_of outputs.old)) }
+    ensures refused { IfErr result (IsFirstRefused (length book.now.state.ports) (standing book.now mark) (map given_of outputs.old)) }
+    ensures same { map given_of outputs.new ≡ map given_of outputs.old }
+{
+    for output in outputs.iter_mut() {
         if usize::from(output.port()) >= book.ports() {
             return Err(StreamFault::Port(output.port()));
         }
-        output.begin(book, mark)?;
-        listener.output(output.port(), output.put());
+        match output.begin(book, mark) {
+            Ok(()) => listener.output(output.port(), output.put()),
+            Err(fault) => return Err(fault),
+        }
     }
-    tell_inputs(book, streams, listener)
+    Ok(())
 }
 
 /// Tells how much of its input each source's port has accepted.
@@ -88,7 +104,9 @@ fn tell_inputs<S: Sink, I: Source, L: Listener>(
     book: &Book,
     streams: &Streams<S, I>,
     listener: &mut L,
-) -> Result<(), StreamFault> {
+) -> Result<(), StreamFault>
+    ensures { IfErr result (λ fault. (port : ℕ) × (fault ≡ Absent port) × (length book.now.state.ports ≤ port)) }
+{
     for input in &streams.inputs {
         if usize::from(input.port()) >= book.ports() {
             return Err(StreamFault::Port(input.port()));
@@ -96,4 +114,20 @@ fn tell_inputs<S: Sink, I: Source, L: Listener>(
         listener.input(input.port(), book.accepted(input.port()));
     }
     Ok(())
+}
+
+/// Sets out where each sink's port stands in the book of a device that opened, and tells where each stream begins.
+pub(crate) fn begin_all<S: Sink, I: Source, L: Listener>(
+    book: &Book,
+    mark: u64,
+    streams: &mut Streams<S, I>,
+    listener: &mut L,
+) -> Result<(), StreamFault>
+    requires { AreCounted mark book.now.state.ports }
+    ensures begun { OnOk result (AllMayBegin (standing book.now mark) (map given_of streams.old.outputs.items)) }
+    ensures refused { IfErr result (IsNotBegun (length book.now.state.ports) (standing book.now mark) (map given_of streams.old.outputs.items)) }
+    ensures same { map given_of streams.new.outputs.items ≡ map given_of streams.old.outputs.items }
+{
+    begin_outputs(book, mark, &mut streams.outputs, listener)?;
+    tell_inputs(book, streams, listener)
 }

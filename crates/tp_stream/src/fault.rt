@@ -3,7 +3,7 @@
 use thiserror::Error;
 use tp_recover::Unopened;
 
-/// Each of the first seven leaves the device as it is, and nothing was put.
+/// Each of the first eight leaves the device as it is, and nothing was put.
 #[derive(Clone, Copy, Debug, PartialEq, Eq, Error)]
 pub enum StreamFault {
     /// The device isn't opened.
@@ -21,6 +21,9 @@ pub enum StreamFault {
     /// A sink has fewer bytes than are to stand before the next one.
     #[error("Short {port} {has} {from}")]
     Short { port: u8, has: u64, from: u64 },
+    /// A sink has more bytes than the port has put out: those behind are another's.
+    #[error("Long {port} {has} {upto}")]
+    Long { port: u8, has: u64, upto: u64 },
     /// A reader has fewer outputs than were confirmed: those between are gone.
     #[error("Gone {port} {have} {confirmed}")]
     Gone { port: u8, have: u64, confirmed: u64 },

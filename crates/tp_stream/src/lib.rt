@@ -15,6 +15,7 @@ mod serving;
 mod settling;
 mod sink;
 mod source;
+mod standing;
 mod streaming;
 mod streams;
 mod task;

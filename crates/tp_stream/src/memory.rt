@@ -1,7 +1,7 @@
 //! A sink in memory. One of its calls may fail.
 
 ghost use Rattle.std.specs.Prelude.{◌≡◌, ◌≤◌, ◌++◌, length, take, Some, OnOk, OnErr};
-ghost use Rattle.tp_stream.specs.Held.{HasPut, IsSafe, KeepsBytes, KeepsFront, Reaches};
+ghost use Rattle.tp_stream.specs.Held.{HasLength, HasPut, HasReach, IsSafe, KeepsBytes, KeepsFront, Reaches};
 
 use crate::sink::{Sink, SinkFailed};
 use std::alloc::Global;
@@ -88,6 +88,10 @@ impl Sink for MemSink {
 
     fn reach(&self) -> u64 {
         self.safe.min(self.bytes.len() as u64)
+    }
+
+    fn length(&self) -> Option<u64> {
+        Some(self.bytes.len() as u64)
     }
 
     fn put(&mut self, at: u64, bytes: &[u8]) -> Result<(), SinkFailed> {

@@ -1,10 +1,13 @@
 //! What is made of a device that opened.
 
-ghost use Rattle.std.specs.Prelude.{◌≡◌, IfOk, Some};
+ghost use Rattle.std.specs.Prelude.{◌≡◌, ◌⊎◌, IfOk, OnOk, IfErr, Some, length, map};
 ghost use Rattle.tp_model.specs.Journal.{room};
 ghost use Rattle.tp_book.specs.Book.{next_number};
 ghost use Rattle.tp_book.specs.Opened.{IsOpened, opened_book};
 ghost use Rattle.tp_run.specs.Made.{StandsFor};
+ghost use Rattle.tp_stream.specs.declared.fault.StreamFault.TheVariants.{Memory};
+ghost use Rattle.tp_stream.specs.Outputs.{given_of};
+ghost use Rattle.tp_stream.specs.Standing.{AllMayBegin, IsNotBegun, stands_opened};
 
 use crate::beginning::begin_all;
 use crate::fault::StreamFault;
@@ -48,6 +51,9 @@ pub(crate) fn parts_of<S: Sink, I: Source, L: Listener>(
 ) -> Result<(Parts, Raiser), StreamFault>
     ensures parts { IfOk result (λ made. StandsFor opened made.0 made.1) }
     ensures bound { IfOk result (λ made. made.0.book.room ≡ Some (room opened.head.topology opened.head.area)) }
+    ensures begun { OnOk result (AllMayBegin (stands_opened opened) (map given_of streams.old.outputs.items)) }
+    ensures refused { IfErr result (λ fault. (fault ≡ Memory) ⊎ IsNotBegun (length opened.now.ports) (stands_opened opened) (map given_of streams.old.outputs.items) fault) }
+    ensures untouched { map given_of streams.new.outputs.items ≡ map given_of streams.old.outputs.items }
 {
     opened_books_begin();
     opened.known();
@@ -58,9 +64,11 @@ pub(crate) fn parts_of<S: Sink, I: Source, L: Listener>(
     let Ok(book) = Book::open(alloc, &state, Some(room)) else {
         return Err(StreamFault::Memory);
     };
-    begin_all(&book, state.next, streams, listener)?;
-    match parts_with(alloc, &state, book, spare) {
-        Ok(made) => Ok(made),
-        Err(_) => Err(StreamFault::Memory),
+    match begin_all(&book, state.next, streams, listener) {
+        Ok(()) => match parts_with(alloc, &state, book, spare) {
+            Ok(made) => Ok(made),
+            Err(_) => Err(StreamFault::Memory),
+        },
+        Err(fault) => Err(fault),
     }
 }

@@ -1,16 +1,17 @@
 //! A port's output: put at its positions, made safe, and then confirmed.
 
-ghost use Rattle.std.specs.Prelude.{◌≡◌, ◌<◌, ◌≤◌, ◌+◌, length, true, false, None, Ok, IfOk, OnOk, IfErr, OnErr};
-ghost use Rattle.std.specs.Option.{unwrap_or};
+ghost use Rattle.std.specs.Prelude.{◌≡◌, ◌<◌, ◌≤◌, ◌+◌, length, true, false, Some, None, Ok, IfSome, IfNone, IfOk, OnOk, IfErr, OnErr};
 ghost use Rattle.tp_book.specs.Host.{after_confirm, port_in, shown_from, shown_upto_of};
 ghost use Rattle.tp_shared.specs.Entries.{confirm_entries};
 ghost use Rattle.tp_host.specs.Receipts.{IsFor};
-ghost use Rattle.tp_stream.specs.Held.{HasPut, KeepsFront, Reaches};
-ghost use Rattle.tp_stream.specs.Outputs.{Grew};
+ghost use Rattle.tp_stream.specs.Held.{HasAtMost, HasLength, HasPut, KeepsFront, Reaches};
+ghost use Rattle.tp_stream.specs.Outputs.{Grew, given_of};
+ghost use Rattle.tp_stream.specs.Standing.{MayBegin, Refuses, from_of, put_out, standing};
 ghost use Rattle.tp_stream.specs.Streamed.{IsBegun};
 
 use crate::fault::StreamFault;
 use crate::sink::{Sink, SinkFailed};
+use crate::standing::Standing;
 use std::marker::Model;
 use tp_book::Book;
 use tp_host::{ConfirmFault, confirm};
@@ -52,6 +53,18 @@ fn put_safe<S: Sink>(sink: &mut S, at: u64, bytes: &[u8]) -> Result<(), SinkFail
     match sink.put(at, bytes) {
         Ok(()) => sink.settle(),
         Err(failed) => Err(failed),
+    }
+}
+
+/// How many bytes a sink has, where those are more than `upto`.
+#[tactic(auto, using(crate::proofs::Standings::has_at_most, crate::proofs::Standings::has_no_length))]
+fn excess<S: Sink>(sink: &S, upto: u64) -> Option<u64>
+    ensures some { IfSome result (λ has. HasLength (Some has) (S.held sink.now) × (upto < has)) }
+    ensures none { IfNone result (HasAtMost upto (S.held sink.now)) }
+{
+    match sink.length() {
+        Some(has) if upto < has => Some(has),
+        _ => None,
     }
 }
 
@@ -119,13 +132,20 @@ impl<S: Sink> Output<S> {
         sink
     }
 
-    /// Sets out where a port stands that has `confirmed` outputs confirmed, and `shown` of them shown.
-    fn set_out(&mut self, confirmed: u64, shown: u64) -> Result<(), StreamFault>
-        ensures next { OnOk result (self.new.next ≡ unwrap_or self.old.have confirmed) }
-        ensures confirmed { OnOk result (self.new.confirmed ≡ confirmed) }
-        ensures shown { OnOk result (self.new.next ≤ shown) }
-        ensures same { (self.new.port ≡ self.old.port) × (self.new.held ≡ self.old.held) }
+    /// Sets out where its port stands, where it may begin there.
+    #[tactic(auto, using(crate::proofs::Sinks::reaches_less))]
+    fn set_out(&mut self, stand: Standing) -> Result<(), StreamFault>
+        ensures begun { OnOk result (MayBegin stand (given_of self.old)) }
+        ensures refused { IfErr result (Refuses stand (given_of self.old)) }
+        ensures next { OnOk result (self.new.next ≡ from_of stand (given_of self.old)) }
+        ensures confirmed { OnOk result (self.new.confirmed ≡ stand.confirmed) }
+        ensures same { given_of self.new ≡ given_of self.old }
     {
+        let Standing {
+            confirmed,
+            shown,
+            upto,
+        } = stand;
         let port = self.port;
         let from = self.have.unwrap_or(confirmed);
         if from < confirmed {
@@ -146,22 +166,26 @@ impl<S: Sink> Output<S> {
         if has < from {
             return Err(StreamFault::Short { port, has, from });
         }
+        if let Some(has) = excess(&self.sink, upto) {
+            return Err(StreamFault::Long { port, has, upto });
+        }
         self.confirmed = confirmed;
         self.next = from;
         Ok(())
     }
 
-    /// Sets out where its port stands in a book, as a device is opened whose mark is `mark`.
+    /// Sets out where its port stands in a book, as a device is opened whose mark is `mark`. Where it may not begin there, it says why.
     pub(crate) fn begin(&mut self, book: &Book, mark: u64) -> Result<(), StreamFault>
         requires there { self.old.port < length book.now.state.ports }
-        ensures next { OnOk result (self.new.next ≡ unwrap_or self.old.have (port_in book.now self.old.port).out_base) }
+        requires few { put_out (port_in book.now self.old.port) ≤ mark }
+        ensures begun { OnOk result (MayBegin (standing book.now mark self.old.port) (given_of self.old)) }
+        ensures refused { IfErr result (Refuses (standing book.now mark self.old.port) (given_of self.old)) }
+        ensures next { OnOk result (self.new.next ≡ from_of (standing book.now mark self.old.port) (given_of self.old)) }
         ensures confirmed { OnOk result (self.new.confirmed ≡ (port_in book.now self.old.port).out_base) }
         ensures shown { OnOk result (self.new.next ≤ shown_upto_of book.now self.old.port mark) }
-        ensures same { (self.new.port ≡ self.old.port) × (self.new.held ≡ self.old.held) }
+        ensures same { given_of self.new ≡ given_of self.old }
     {
-        let confirmed = book.out_base(self.port);
-        let shown = book.shown_upto(self.port, mark);
-        self.set_out(confirmed, shown)
+        self.set_out(Standing::of(book, self.port, mark))
     }
 
     /// Puts, at their positions, all outputs that `mark` shows behind those that were put, and makes them safe.

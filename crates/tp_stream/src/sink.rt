@@ -1,7 +1,7 @@
 //! What takes a port's output.
 
 ghost use Rattle.std.specs.Prelude.{Option, None, OnOk};
-ghost use Rattle.tp_stream.specs.Held.{Held, HasPut, IsSafe, KeepsBytes, KeepsFront, Reaches};
+ghost use Rattle.tp_stream.specs.Held.{Held, HasLength, HasPut, HasReach, IsSafe, KeepsBytes, KeepsFront, Reaches};
 
 /// Bytes couldn't be put, or not be made safe.
 #[derive(Clone, Copy, Debug, PartialEq, Eq)]
@@ -14,7 +14,12 @@ pub trait Sink {
 
     /// Up to which position it can be put at: its bytes up to there are there, and safe.
     fn reach(&self) -> u64
-        ensures { Reaches result (held self.now) };
+        ensures there { Reaches result (held self.now) }
+        ensures exactly { HasReach result (held self.now) };
+
+    /// How many bytes it has; none where it has no positions, so that nothing is put over what stands there.
+    fn length(&self) -> Option<u64>
+        ensures { HasLength result (held self.now) };
 
     /// Puts bytes at a position, over what stands there. Whatever is answered, those before them are as they were.
     fn put(&mut self, at: u64, bytes: &[u8]) -> Result<(), SinkFailed>

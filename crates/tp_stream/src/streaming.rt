@@ -1,20 +1,22 @@
 //! A stream, from a device to a device.
 
 ghost use Rattle.std.specs.List.{AllByRecursion};
-ghost use Rattle.std.specs.Prelude.{◌≡◌, ◌<◌, ◌≤◌, false, true, Ok, Err, Some, IfErr, IsErr};
+ghost use Rattle.std.specs.Prelude.{◌≡◌, ◌⊎◌, ◌<◌, ◌≤◌, false, true, Ok, Err, Some, length, map, OnOk, IfErr, IsErr};
 ghost use Rattle.tp_area.specs.Places.{place_at};
 ghost use Rattle.tp_flush.specs.Known.{Began};
 ghost use Rattle.tp_model.specs.DiskHistory.{IsSynced};
 ghost use Rattle.tp_law_machine.specs.NodeOfBytes.{IsNodeOfBytes};
 ghost use Rattle.tp_model.specs.Journal.{is_roomy, room};
 ghost use Rattle.tp_model.specs.Node.{t414_ends};
-ghost use Rattle.tp_model.specs.Opening.{verdict};
+ghost use Rattle.tp_model.specs.Opening.{Opened as OpenedValue, verdict};
 ghost use Rattle.tp_model.specs.Spelling.{IsCut};
 ghost use Rattle.tp_model.specs.declared.limits.TheConstants.{MAX_STEPS};
 ghost use Rattle.tp_recover.specs.Reading.{LeavesNothingNew};
 ghost use Rattle.tp_run.specs.Made.{StandsFor};
 ghost use Rattle.tp_run.specs.Ran.{History};
 ghost use Rattle.tp_shared.specs.Named.{Names};
+ghost use Rattle.tp_stream.specs.Outputs.{given_of};
+ghost use Rattle.tp_stream.specs.Standing.{AllMayBegin, IsFirstRefused, OfOutput, stands_opened};
 ghost use Rattle.tp_stream.specs.Streamed.{IsBegun, IsUnbegun, Streamed};
 ghost use Rattle.tp_recover.specs.declared.unopened.Unopened.{Unopened};
 
@@ -120,6 +122,13 @@ pub fn stream<D: Disk + Drop, S: Sink, I: Source, L: Listener, R: Wait>(
         → Streamed history.formatted result.1 (D.state disk) (D.state result.0) }
     ensures unwritten { D.keeps → IsUnbegun result.1 → LeavesNothingNew (D.state disk) (D.state result.0) }
     ensures unopened { D.keeps → IsErr (verdict (D.state disk).now.bytes) → (unopened : Unopened) × (result.1 ≡ Err (StreamFault.Opening unopened)) }
+    ensures begun { D.keeps → (opened : OpenedValue) → verdict (D.state disk).now.bytes ≡ Ok opened
+        → OnOk result.1 (AllMayBegin (stands_opened opened) (map given_of streams.old.outputs.items)) }
+    ensures refused { D.keeps → (opened : OpenedValue) → verdict (D.state disk).now.bytes ≡ Ok opened
+        → IfErr result.1 (λ fault. OfOutput fault (IsFirstRefused (length opened.now.ports) (stands_opened opened) (map given_of streams.old.outputs.items) fault)) }
+    ensures kept { D.keeps → (opened : OpenedValue) → verdict (D.state disk).now.bytes ≡ Ok opened
+        → (map given_of streams.new.outputs.items ≡ map given_of streams.old.outputs.items) ⊎ AllMayBegin (stands_opened opened) (map given_of streams.old.outputs.items) }
+    ensures untouched { IsUnbegun result.1 → map given_of streams.new.outputs.items ≡ map given_of streams.old.outputs.items }
 {
     let mut disk = disk;
     let opened = match open(alloc, &mut disk) {

@@ -1,7 +1,7 @@
 //! What takes a port's output in the program: a file, standard output, or nothing.
 
 ghost use Rattle.std.specs.Prelude.{None};
-ghost use Rattle.tp_stream.specs.Held.{HasPut, IsSafe, KeepsBytes, KeepsFront, Reaches};
+ghost use Rattle.tp_stream.specs.Held.{HasLength, HasPut, HasReach, IsSafe, KeepsBytes, KeepsFront, Reaches};
 
 use std::fs::{Files, OpenFile, OpenOptions};
 use std::io;
@@ -82,6 +82,13 @@ impl<'a, F: FileExt + OpenFile + Drop, O: Write> Sink for AnySink<'a, F, O> {
         match self {
             AnySink::File(sink) => sink.length,
             AnySink::Out(_) | AnySink::Nothing => u64::MAX,
+        }
+    }
+
+    fn length(&self) -> Option<u64> {
+        match self {
+            AnySink::File(sink) => Some(sink.length),
+            AnySink::Out(_) | AnySink::Nothing => None,
         }
     }
 

@@ -4,10 +4,12 @@ use crate::run_tests::{device, echo};
 use crate::scratch::{Output, Scratch};
 use crate::tests::{letter, place};
 use std::alloc::Global;
+use std::fs;
 use std::fs::{Files, OpenFile};
-use std::os::unix::fs::FileExt;
+use std::os::unix::fs::{FileExt, MetadataExt};
 use std::sync::Wait;
 use std::test::Fail;
+use std::thread::Threads;
 use tp_program::{answer_stream, is_stream};
 use tp_stream_files::Plain;
 
@@ -225,6 +227,165 @@ fn a_refused_stream_leaves_the_device(rt: HostRuntime) -> Result<(), Fail> {
     assert_eq!(rt; scratch.read(&rt, "device")?.as_slice(), fresh.as_slice());
     plays(&rt, &scratch, LESS)?;
     assert_eq!(rt; scratch.read(&rt, "out")?.as_slice(), b"abcd".as_slice());
+    scratch.remove(&rt)
+}
+
+/// When a file was written last, and when anything of it was changed.
+fn times<R: Files + AllocGlobal>(
+    rt: &R,
+    scratch: &Scratch,
+    name: &str,
+) -> Result<(i64, i64, i64, i64), Fail> {
+    let path = scratch.path(rt.alloc(), name)?;
+    let kept = fs::metadata(rt, path.as_str())?;
+    Ok((
+        kept.mtime(),
+        kept.mtime_nsec(),
+        kept.ctime(),
+        kept.ctime_nsec(),
+    ))
+}
+
+/// Files that have one byte more than the port has put out, and such that have as many.
+const LONGER: Streams<'static> = &[
+    (
+        &["--until-quiet", "--out", "0=@one"],
+        "",
+        1,
+        "",
+        "tpnet: Long 0 1 0\n",
+    ),
+    (
+        &["--until-quiet", "--out", "0=@none", "--in", "0=-"],
+        "abcd",
+        0,
+        "",
+        "in 0 0\nnext 26\n",
+    ),
+    (
+        &["--until-quiet", "--out", "0=@five"],
+        "",
+        1,
+        "",
+        "tpnet: Long 0 5 4\n",
+    ),
+    (
+        &["--until-quiet", "--out", "0=@four"],
+        "",
+        0,
+        "",
+        "next 26\n",
+    ),
+];
+
+#[test]
+fn a_longer_file_stays_as_it_is(rt: HostRuntime) -> Result<(), Fail> {
+    let scratch = device(&rt, "stream_longer", echo(rt.alloc())?.as_slice(), "16384")?;
+    let files: &[(&str, &[u8])] = &[
+        ("one", b"x"),
+        ("none", b""),
+        ("five", b"vwxyz"),
+        ("four", b"stuv"),
+    ];
+    for (name, bytes) in files {
+        scratch.put(&rt, name, bytes)?;
+    }
+    let (one, five) = (times(&rt, &scratch, "one")?, times(&rt, &scratch, "five")?);
+    plays(&rt, &scratch, LONGER)?;
+    assert!(rt; times(&rt, &scratch, "one")? == one && times(&rt, &scratch, "five")? == five);
+    for (name, bytes) in [
+        ("one", "x"),
+        ("none", "abcd"),
+        ("five", "vwxyz"),
+        ("four", "stuv"),
+    ] {
+        assert_eq!(rt; scratch.read(&rt, name)?.as_slice(), bytes.as_bytes());
+    }
+    let told = stream(
+        &rt,
+        &scratch,
+        &["--until-quiet", "--out", "0=@five", "--explain"],
+        b"",
+    )?;
+    let text = String::from_utf8(told.err)?;
+    assert!(rt;
+        text.as_str().starts_with("tpnet: Long 0 5 4\n")
+            && text.as_str().contains("/five has 5 bytes")
+    );
+    scratch.remove(&rt)
+}
+
+/// A folder with a device whose node hands on what port 0 gets to port 1, which has put out `abcde` and nothing is confirmed.
+fn handed_on<
+    R: Files<File = F> + AllocGlobal + Threads + Wait + Sync,
+    F: FileExt + OpenFile + Drop + Send,
+>(rt: &R, name: &str) -> Result<Scratch, Fail> {
+    let scratch = Scratch::new(rt, name)?;
+    let mut image = letter(rt.alloc())?;
+    let code = [
+        0x11, 0x24, 0xF2, 0x54, 0x41, 0xF7, 0x11, 0x24, 0xF2, 0x53, 0x41, 0xFB, 0x60, 0x02,
+    ];
+    place(&mut image, 172 + 0x100, &code);
+    scratch.put(
+        rt,
+        "net.txt",
+        b"node a 4\nport from\nport to\nwire a.0 from\nwire a.3 to\n",
+    )?;
+    scratch.put(rt, "a.img", image.as_slice())?;
+    scratch.put(rt, "in", b"abcde")?;
+    let lines: &[&[&str]] = &[
+        &["format", "@device", "@net.txt", "@", "65536"],
+        &[
+            "run",
+            "@device",
+            "--turns=200",
+            "--workers=1",
+            "--in",
+            "@in",
+        ],
+    ];
+    for words in lines {
+        if scratch.run(rt, words)?.status != 0 {
+            return Err(Fail::new("nothing was handed on"));
+        }
+    }
+    Ok(scratch)
+}
+
+/// A file that has as many bytes as the port has put out is taken, though none of them is confirmed; one with one more isn't. Where
+/// another port's file is refused, it stays as it is.
+#[test]
+fn no_more_than_was_put_out(rt: HostRuntime) -> Result<(), Fail> {
+    let scratch = handed_on(&rt, "stream_put_out")?;
+    let files: &[(&str, &[u8])] = &[("one", b"x"), ("five", b"vwxyz"), ("six", b"uvwxyz")];
+    for (name, bytes) in files {
+        scratch.put(&rt, name, bytes)?;
+    }
+    let five = times(&rt, &scratch, "five")?;
+    let refused: Streams<'_> = &[
+        (
+            &["--until-quiet", "--discard", "0", "--out", "1=@six"],
+            "",
+            1,
+            "",
+            "tpnet: Long 1 6 5\n",
+        ),
+        (
+            &["--until-quiet", "--out", "1=@five", "--out", "0=@one"],
+            "",
+            1,
+            "",
+            "tpnet: Long 0 1 0\n",
+        ),
+    ];
+    plays(&rt, &scratch, refused)?;
+    for (name, bytes) in files {
+        assert_eq!(rt; scratch.read(&rt, name)?.as_slice(), *bytes);
+    }
+    assert!(rt; times(&rt, &scratch, "five")? == five);
+    let taken: &[&str] = &["--until-quiet", "--discard", "0", "--out", "1=@five"];
+    assert_eq!(rt; stream(&rt, &scratch, taken, b"")?.status, 0);
+    assert_eq!(rt; scratch.read(&rt, "five")?.as_slice(), b"abcde".as_slice());
     scratch.remove(&rt)
 }
 

@@ -2,7 +2,10 @@
 
 use crate::devices::{ECHO, LETTERS, ONE, formatted};
 use crate::players::{QUIET, left, nobody, numbered, play, sink_of, streams};
+use std::process::Abort;
+use std::sync::Wait;
 use std::test::Fail;
+use tp_disk::MemDisk;
 use tp_stream::{MemSink, StreamFault, Streams, Task};
 
 /// Far more bytes than a port holds, in pieces of different sizes: all come back, in an area that is switched again and again.
@@ -127,5 +130,59 @@ fn streams_are_refused(rt: HostRuntime) -> Result<(), Fail> {
             confirmed: 9
         })
     );
+    Ok(())
+}
+
+/// What a stream answers to a sink that has `has` bytes of something else. Where it is refused they stay; else there are as many
+/// numbered ones in their place.
+fn answer_to<R: Wait + Abort>(
+    rt: &R,
+    disk: MemDisk,
+    has: usize,
+) -> Result<(MemDisk, Result<u64, StreamFault>), Fail>
+where
+    R: AllocGlobal,
+{
+    let alloc = rt.alloc();
+    let other = Vec::from_elem(alloc, b'x', has)?;
+    let mut streams = streams(alloc, None, MemSink::new(other), Vec::new(alloc), 1)?;
+    let (disk, done) = play(rt, alloc, QUIET, disk, &mut streams, &mut nobody());
+    let wanted = match done {
+        Ok(_) => numbered(alloc, has)?,
+        Err(_) => Vec::from_elem(alloc, b'x', has)?,
+    };
+    let sink = sink_of(streams)?;
+    assert!(rt; sink.bytes() == wanted.as_slice());
+    Ok((disk, done))
+}
+
+/// A sink may have as many bytes as its port has put out, confirmed or not, and not one more.
+#[test]
+fn a_sink_has_no_more_than_was_put_out(rt: HostRuntime) -> Result<(), Fail> {
+    let alloc = rt.alloc();
+    let disk = formatted(alloc, ONE, ECHO, 16_384)?;
+    let (disk, done) = answer_to(&rt, disk, 1)?;
+    assert!(rt;
+        done == Err(StreamFault::Long {
+            port: 0,
+            has: 1,
+            upto: 0
+        })
+    );
+    let failing = MemSink::empty(alloc).failing(0);
+    let mut first = streams(alloc, None, failing, numbered(alloc, 9)?, 9)?;
+    let (disk, done) = play(&rt, alloc, QUIET, disk, &mut first, &mut nobody());
+    assert!(rt; done == Err(StreamFault::OutputFailed(0)));
+    let (disk, _) = left(alloc, disk)?;
+    let (disk, done) = answer_to(&rt, disk, 10)?;
+    assert!(rt;
+        done == Err(StreamFault::Long {
+            port: 0,
+            has: 10,
+            upto: 9
+        })
+    );
+    let (_, done) = answer_to(&rt, disk, 9)?;
+    assert!(rt; done.is_ok());
     Ok(())
 }

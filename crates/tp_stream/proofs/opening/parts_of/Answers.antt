@@ -1,7 +1,25 @@
-use Rattle.std.proofs.Common.{Some, sym, ap, ◌∙◌}
-use Rattle.tp_book.specs.Book.{next_number}
+use Rattle.std.proofs.Common.{◌≡◌, length, map, inr, Some, sym, ap, subst, ◌∙◌}
+use Rattle.tp_port.specs.Counted.{AreCounted}
+use Rattle.tp_book.specs.Book.{BookValue, next_number}
 use Rattle.tp_run.proofs.Made.{kept_is, stands}
+use Rattle.tp_stream.specs.Outputs.{given_of}
+use Rattle.tp_stream.specs.Standing.{AllMayBegin, IsNotBegun, standing, stands_opened}
+use Rattle.tp_stream.proofs.Standings.{opened_stands}
 use Rattle.tp_stream.proofs.opening.parts_of.Goals as goal
+
+pub begin_all-requires : goal.begin_all-requires
+begin_all-requires g c = subst (λ (b : BookValue). AreCounted c.in-Ok.state.next b.state.ports) (sym c.in-Ok-open.ensures) c.in-Ok.ensures.opened.counted
+
+pub returns-clause-refused : goal.returns-clause-refused
+returns-clause-refused g c =
+    let s = c.in-Ok.state in
+    let o = c.args.opened in
+    let fault = c.in-Err.fault in
+    let gs = map given_of c.args.streams.now.outputs.items in
+    let where_ : standing c.in-Ok-open.book s.next ≡ stands_opened o =
+    ap (λ (b : BookValue). standing b s.next) c.in-Ok-open.ensures ∙ opened_stands s (Some c.journal_room-room.result) o s.next c.in-Ok.ensures.now in
+    let many : length c.in-Ok-open.book.state.ports ≡ length o.now.ports = ap (λ (b : BookValue). length b.state.ports) c.in-Ok-open.ensures ∙ ap (λ net. length net.ports) c.in-Ok.ensures.now in
+    inr (subst (λ at. IsNotBegun (length o.now.ports) at gs fault) where_ (subst (λ n. IsNotBegun n (standing c.in-Ok-open.book s.next) gs fault) many c.in-Err.ensures.refused))
 
 pub returns-in-Ok-parts_with-clause-parts : goal.returns-in-Ok-parts_with-clause-parts
 returns-in-Ok-parts_with-clause-parts g c =
@@ -12,3 +30,11 @@ returns-in-Ok-parts_with-clause-parts g c =
     let P = c.in-Ok-parts_with.ensures in
     stands s o room c.in-Ok-parts_with.made.0 c.in-Ok-parts_with.made.1 E.now E.base E.next E.kept c.known.ensures.cut c.known.ensures.leads
     (c.opened_books_begin.ensures.runs s room o E.opened E.cut (kept_is s o E.kept) E.now) (P.book ∙ c.in-Ok-open.ensures) (P.first ∙ ap next_number c.in-Ok-open.ensures) P.raiser
+
+pub returns-in-Ok-parts_with-clause-begun : goal.returns-in-Ok-parts_with-clause-begun
+returns-in-Ok-parts_with-clause-begun g c =
+    let s = c.in-Ok.state in
+    let o = c.args.opened in
+    let gs = map given_of c.args.streams.now.outputs.items in
+    subst (λ at. AllMayBegin at gs)
+    (ap (λ (b : BookValue). standing b s.next) c.in-Ok-open.ensures ∙ opened_stands s (Some c.journal_room-room.result) o s.next c.in-Ok.ensures.now) c.in-Ok-begin_all.ensures.begun

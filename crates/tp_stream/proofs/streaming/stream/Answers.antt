@@ -1,9 +1,12 @@
-use Rattle.std.proofs.Common.{◌≡◌, Err, refl, sym, ap, subst, ◌∙◌}
+use Rattle.std.proofs.Common.{◌≡◌, inl, inr, length, map, Err, refl, sym, ap, subst, ◌∙◌}
 use Rattle.tp_model.specs.Disk.{Moment}
 use Rattle.tp_flush.specs.Known.{Began}
 use Rattle.tp_stream.specs.declared.fault.StreamFault.TheVariants.{Opening}
 use Rattle.tp_stream.specs.Streamed.{Streamed}
+use Rattle.tp_stream.specs.Outputs.{given_of}
+use Rattle.tp_stream.specs.Standing.{AllMayBegin, IsFirstRefused, OfOutput, stands_opened}
 use Rattle.tp_stream.proofs.Runs.{begun_written, opened, unwritten}
+use Rattle.tp_stream.proofs.Standings.{begun_refused, no_output, on_ok, same_opened, says_first}
 use Rattle.tp_stream.proofs.streaming.stream.Goals as goal
 
 pub stream_parts-requires-clause-names : goal.stream_parts-requires-clause-names
@@ -35,3 +38,39 @@ returns-clause-streamed g c k began =
 
 pub returns-clause-unwritten : goal.returns-clause-unwritten
 returns-clause-unwritten g c k unbegun = absurd (begun_written c.stream_parts.result.1 c.stream_parts.ensures.begun unbegun)
+
+-- ## What outputs may begin, and what they hold
+
+pub returns-clause-begun : goal.returns-clause-begun
+returns-clause-begun g c k other is =
+    on_ok c.stream_parts.result.1 _
+    (subst (λ o. AllMayBegin (stands_opened o) (map given_of c.args.streams.now.outputs.items)) (same_opened _ _ _ (c.in-Ok.ensures.is k) is) c.in-Ok-parts_of.ensures.begun)
+
+pub returns-in-Some-clause-refused : goal.returns-in-Some-clause-refused
+returns-in-Some-clause-refused g c k other is = no_output c.in-Some.fault _ c.in-Some.ensures
+
+pub returns-in-Err-parts_of-clause-refused : goal.returns-in-Err-parts_of-clause-refused
+returns-in-Err-parts_of-clause-refused g c k other is =
+    let fault = c.in-Err-parts_of.fault in
+    let gs = map given_of c.args.streams.now.outputs.items in
+    subst (λ o. OfOutput fault (IsFirstRefused (length o.now.ports) (stands_opened o) gs fault)) (same_opened _ _ _ (c.in-Ok.ensures.is k) is)
+    (says_first _ _ gs fault c.in-Err-parts_of.ensures.refused)
+
+pub returns-clause-refused : goal.returns-clause-refused
+returns-clause-refused g c k other is = begun_refused c.stream_parts.result.1 _ c.stream_parts.ensures.begun
+
+pub returns-in-Err-clause-kept : goal.returns-in-Err-clause-kept
+returns-in-Err-clause-kept g c k other is = inl refl
+
+pub returns-in-Some-clause-kept : goal.returns-in-Some-clause-kept
+returns-in-Some-clause-kept g c k other is = inl refl
+
+pub returns-in-Err-parts_of-clause-kept : goal.returns-in-Err-parts_of-clause-kept
+returns-in-Err-parts_of-clause-kept g c k other is = inl c.in-Err-parts_of.ensures.untouched
+
+pub returns-clause-kept : goal.returns-clause-kept
+returns-clause-kept g c k other is =
+    inr (subst (λ o. AllMayBegin (stands_opened o) (map given_of c.args.streams.now.outputs.items)) (same_opened _ _ _ (c.in-Ok.ensures.is k) is) c.in-Ok-parts_of.ensures.begun)
+
+pub returns-clause-untouched : goal.returns-clause-untouched
+returns-clause-untouched g c unbegun = absurd (begun_written c.stream_parts.result.1 c.stream_parts.ensures.begun unbegun)

@@ -1,0 +1,159 @@
+-- Outputs that may begin.
+use Rattle.std.proofs.Common.{◌≡◌, ℕ, zero, suc, ◌+◌, ◌*◌, ◌≤◌, ◌<◌, ◌⊎◌, inl, inr, cond, List, [], ◌∷◌, length, map, set, get_or, replicate, Option, Some, None, Result, Ok, Err, refl, sym, ap, subst, ◌∙◌, arith, below_more}
+use Rattle.std.specs.Prelude.{slice_get, nat_le, count_by, IfErr, OnOk}
+use Rattle.std.specs.Option.{option_map}
+use Rattle.std.proofs.Math.Path.{fun_ext}
+use Rattle.std.proofs.lemmas.Bool.{le-leb}
+use Rattle.std.proofs.lemmas.List.{map-set, set-get_or}
+use Rattle.std.proofs.lemmas.List.Folds.{sum_by-replicate}
+use Rattle.std.proofs.lemmas.Option.{slice_get-get_or, slice_get-map, slice_get_within}
+use Rattle.tp_model.specs.Network.{Port}
+use Rattle.tp_model.specs.Opening.{Opened, verdict}
+use Rattle.tp_port.specs.Counted.{AreCounted}
+use Rattle.tp_port.specs.Ports.{fresh_port, opened_port}
+use Rattle.tp_book.specs.declared.state.NetState.{NetState}
+use Rattle.tp_book.specs.Book.{BookValue, outputs_of}
+use Rattle.tp_book.specs.Host.{port_in}
+use Rattle.tp_book.specs.Opened.{now_of, opened_book}
+use Rattle.tp_stream.specs.declared.fault.StreamFault.{StreamFault}
+use Rattle.tp_stream.specs.declared.fault.StreamFault.TheVariants.{Opening, Spare, Port as Absent, Unnamed, Short, Long, Gone, NotShown, InputFailed, OutputFailed, FlushFailed, JournalFull, Memory}
+use Rattle.tp_stream.specs.declared.standing.Standing.{Standing}
+use Rattle.tp_stream.specs.Held.{Held, HasAtMost, HasLength}
+use Rattle.tp_stream.specs.Outputs.{Given, OutputValue, given_of}
+use Rattle.tp_stream.specs.Standing.{AllMayBegin, IsFirstRefused, IsNotBegun, MayBegin, MayBeginBelow, OfOutput, put_out, standing, stands_opened}
+use Rattle.tp_stream.specs.Streamed.{IsBegun}
+
+-- ## What a port has put out
+
+outputs_in : (ports : List Port) (p : ℕ) (xs : List ℕ) → Some xs ≡ option_map (λ port. port.outputs) (slice_get ports p) → xs ≡ (get_or ports p fresh_port.port).outputs
+outputs_in [] p xs is = absurd (cc)
+outputs_in (q ∷ qs) zero xs is = cc
+outputs_in (q ∷ qs) (suc p) xs is = outputs_in qs p xs is
+
+-- as many as are seen of it
+pub length_outputs : (b : BookValue) (p : ℕ) (xs : List ℕ) → Some xs ≡ outputs_of b p → length xs ≡ length (port_in b p).outputs
+length_outputs b p xs is = ap length (outputs_in b.state.ports p xs is)
+
+-- no more than there are entries
+pub put_out_few : (b : BookValue) (mark p : ℕ) → AreCounted mark b.state.ports → p < length b.state.ports → put_out (port_in b p) ≤ mark
+put_out_few b mark p counted there = (counted p (port_in b p) (slice_get-get_or b.state.ports p fresh_port.port there)).outputs
+
+-- ## A sink's length
+
+pub has_at_most : (n most : ℕ) (h : Option Held) → HasLength (Some n) h → n ≤ most → HasAtMost most h
+has_at_most n most None has low = tt
+has_at_most n most (Some h) has low = let same : n ≡ length h.bytes = cc in omega (arith, same, low)
+
+pub has_no_length : (most : ℕ) (h : Option Held) → HasLength None h → HasAtMost most h
+has_no_length most None has = tt
+has_no_length most (Some h) has = absurd (cc)
+
+-- ## Outputs one behind the other
+
+-- what is set out is given as before
+pub given_set : (xs : List OutputValue) (i : ℕ) (d y : OutputValue) → given_of y ≡ given_of (get_or xs i d) → map given_of (set xs i y) ≡ map given_of xs
+given_set xs i d y same =
+    map-set given_of xs i y ∙ ap (set (map given_of xs) i) same ∙ sym (map-set given_of xs i (get_or xs i d)) ∙ ap (map given_of) (set-get_or xs i d)
+
+pub given_at : (xs : List OutputValue) (gs : List Given) (i : ℕ) (d : OutputValue) → map given_of xs ≡ gs → i < length xs → slice_get gs i ≡ Some (given_of (get_or xs i d))
+given_at xs gs i d same there = ap (λ l. slice_get l i) (sym same) ∙ slice_get-map given_of xs i ∙ ap (option_map given_of) (slice_get-get_or xs i d there)
+
+-- none stands behind the last one
+pub all_may_begin : (stands : ℕ → Standing) (gs : List Given) (n : ℕ) → length gs ≤ n → MayBeginBelow n stands gs → AllMayBegin stands gs
+all_may_begin stands gs n all below k g is = below k (let within = slice_get_within gs k g is in omega (arith, within, all)) g is
+
+some_same : (x y : Given) → Some x ≡ Some y → x ≡ y
+some_same x y e = cc
+
+-- one more may begin
+pub may_begin_more : (stands : ℕ → Standing) (gs : List Given) (i : ℕ) (h : Given) → MayBeginBelow i stands gs → slice_get gs i ≡ Some h → MayBegin (stands h.port) h → MayBeginBelow (i + 1) stands gs
+may_begin_more stands gs i h below at here =
+    below_more _ i below (λ g is. subst (λ x. MayBegin (stands x.port) x) (some_same h g (sym at ∙ is)) here)
+
+-- ## Of a device that opened
+
+zeros_shown : (mark n : ℕ) → count_by (λ least. nat_le least mark) (replicate n 0) ≡ n
+zeros_shown mark n =
+    sum_by-replicate (λ least. cond (nat_le least mark) 1 0) n 0 ∙ ap (λ b. n * cond b 1 0) (le-leb 0 mark (omega arith)) ∙ omega arith
+
+all_shown : (mark : ℕ) (ports : List Port) (p : ℕ)
+    → count_by (λ least. nat_le least mark) (get_or (map (λ port. (opened_port port).marks) ports) p []) ≡ length (get_or ports p fresh_port.port).outputs
+all_shown mark [] p = refl
+all_shown mark (q ∷ qs) zero = zeros_shown mark (length q.outputs)
+all_shown mark (q ∷ qs) (suc p) = all_shown mark qs p
+
+-- each port stands as it does in what was opened
+pub opened_stands : (s : NetState) (room : Option ℕ) (o : Opened) (mark : ℕ) → now_of s ≡ o.now → standing (opened_book s room) mark ≡ stands_opened o
+opened_stands s room o mark now = fun_ext (λ p.
+    ap (λ shown. record { confirmed = (get_or (now_of s).ports p fresh_port.port).out_base; shown = (get_or (now_of s).ports p fresh_port.port).out_base + shown; upto = put_out (get_or (now_of s).ports p fresh_port.port) }) (all_shown mark (now_of s).ports p)
+    ∙ ap (λ net. let port = get_or net.ports p fresh_port.port in record { confirmed = port.out_base; shown = put_out port; upto = put_out port }) now)
+
+-- a fault of an output names the first that may not begin
+said : (fault : StreamFault) (P : Type 0) → P → OfOutput fault P
+said (Opening unopened) P p = tt
+said Spare P p = tt
+said (Absent port) P p = tt
+said (Unnamed port) P p = tt
+said (Short port has from) P p = p
+said (Long port has upto) P p = p
+said (Gone port have confirmed) P p = p
+said (NotShown port have shown) P p = p
+said (InputFailed port) P p = tt
+said (OutputFailed port) P p = tt
+said FlushFailed P p = tt
+said JournalFull P p = tt
+said Memory P p = tt
+
+-- one that is of no output says nothing
+pub no_output : (fault : StreamFault) (P : Type 0) → OfOutput fault ⊥ → OfOutput fault P
+no_output (Opening unopened) P none = tt
+no_output Spare P none = tt
+no_output (Absent port) P none = tt
+no_output (Unnamed port) P none = tt
+no_output (Short port has from) P none = absurd none
+no_output (Long port has upto) P none = absurd none
+no_output (Gone port have confirmed) P none = absurd none
+no_output (NotShown port have shown) P none = absurd none
+no_output (InputFailed port) P none = tt
+no_output (OutputFailed port) P none = tt
+no_output FlushFailed P none = tt
+no_output JournalFull P none = tt
+no_output Memory P none = tt
+
+-- as one of a stream that was begun
+begun_says : (fault : StreamFault) → IsBegun fault → OfOutput fault ⊥
+begun_says (Opening unopened) begun = absurd begun
+begun_says Spare begun = absurd begun
+begun_says (Absent port) begun = absurd begun
+begun_says (Unnamed port) begun = absurd begun
+begun_says (Short port has from) begun = begun
+begun_says (Long port has upto) begun = begun
+begun_says (Gone port have confirmed) begun = begun
+begun_says (NotShown port have shown) begun = begun
+begun_says (InputFailed port) begun = tt
+begun_says (OutputFailed port) begun = tt
+begun_says FlushFailed begun = tt
+begun_says JournalFull begun = tt
+begun_says Memory begun = tt
+
+pub begun_refused : (r : Result ℕ StreamFault) (P : StreamFault → Type 0) → IfErr r IsBegun → IfErr r (λ fault. OfOutput fault (P fault))
+begun_refused (Ok next) P begun = tt
+begun_refused (Err fault) P begun = no_output fault (P fault) (begun_says fault begun)
+
+pub on_ok : (r : Result ℕ StreamFault) (P : Type 0) → P → OnOk r P
+on_ok (Ok next) P p = p
+on_ok (Err fault) P p = tt
+
+-- a device opens to one network
+pub same_opened : (bytes : List ℕ) (a b : Opened) → verdict bytes ≡ Ok a → verdict bytes ≡ Ok b → a ≡ b
+same_opened bytes a b first second = cc
+
+pub says_first : (ports : ℕ) (stands : ℕ → Standing) (gs : List Given) (fault : StreamFault) → (fault ≡ Memory) ⊎ IsNotBegun ports stands gs fault
+    → OfOutput fault (IsFirstRefused ports stands gs fault)
+says_first ports stands gs fault either =
+    let First : Type 0 = IsFirstRefused ports stands gs fault in
+    elim either [
+      | inl memory ↦ subst (λ f. OfOutput f First) (sym memory) tt
+      | inr (inl first) ↦ said fault First first
+      | inr (inr input) ↦ subst (λ f. OfOutput f First) (sym input.2) tt
+    ]

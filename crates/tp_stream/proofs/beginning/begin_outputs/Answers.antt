@@ -1,0 +1,57 @@
+use Rattle.std.proofs.Common.{◌≤◌, ◌<◌, inl, inr, length, map, slice_index_or, ap, ◌∙◌, arith}
+use Rattle.std.proofs.lemmas.List.{length-map}
+use Rattle.tp_stream.specs.declared.fault.StreamFault.TheVariants.{Port as Absent}
+use Rattle.tp_stream.specs.Outputs.{given_of}
+use Rattle.tp_stream.proofs.Standings.{all_may_begin, given_at, given_set, may_begin_more, put_out_few}
+use Rattle.tp_stream.proofs.beginning.begin_outputs.Goals as goal
+
+pub returns-then-from-ports-clause-refused : goal.returns-then-from-ports-clause-refused
+returns-then-from-ports-clause-refused g c =
+    let xs = c.loop-output.outputs in
+    let x = slice_index_or xs c.loop-output.output-index c.output-item.result in
+    let within : c.loop-output.output-index < length xs = omega arith in
+    let past : length c.args.book.now.state.ports ≤ x.port = omega arith in
+    record {
+      at = c.loop-output.output-index;
+      given = given_of x;
+      there = given_at xs _ c.loop-output.output-index c.output-item.result c.loop-output.invariant.same within;
+      before = c.loop-output.invariant.begun;
+      why = inr (ap Absent c.port-then-from-ports.ensures, past);
+    }
+
+pub begin-requires-clause-few : goal.begin-requires-clause-few
+begin-requires-clause-few g c =
+    let x = slice_index_or c.loop-output.outputs c.loop-output.output-index c.output-item.result in
+    let there : x.port < length c.args.book.now.state.ports = omega arith in
+    put_out_few c.args.book.now c.args.mark x.port c.requires there
+
+pub returns-in-Err-clause-refused : goal.returns-in-Err-clause-refused
+returns-in-Err-clause-refused g c =
+    let xs = c.loop-output.outputs in
+    let within : c.loop-output.output-index < length xs = omega arith in
+    record {
+      at = c.loop-output.output-index;
+      given = given_of (slice_index_or xs c.loop-output.output-index c.output-item.result);
+      there = given_at xs _ c.loop-output.output-index c.output-item.result c.loop-output.invariant.same within;
+      before = c.loop-output.invariant.begun;
+      why = inl c.in-Err.ensures.refused;
+    }
+
+pub returns-in-Err-clause-same : goal.returns-in-Err-clause-same
+returns-in-Err-clause-same g c =
+    given_set c.loop-output.outputs c.loop-output.output-index c.output-item.result c.begin.new.self c.begin.ensures.same ∙ c.loop-output.invariant.same
+
+pub loop-output-preserved : goal.loop-output-preserved
+loop-output-preserved g c =
+    let xs = c.loop-output.outputs in
+    let I = c.loop-output.invariant in
+    let within : c.loop-output.output-index < length xs = omega arith in
+    record {
+      same = given_set xs c.loop-output.output-index c.output-item.result c.begin.new.self c.begin.ensures.same ∙ I.same;
+      begun = may_begin_more _ _ c.loop-output.output-index _ I.begun (given_at xs _ c.loop-output.output-index c.output-item.result I.same within) c.in-Ok.ensures.begun;
+    }
+
+pub returns-clause-begun : goal.returns-clause-begun
+returns-clause-begun g c =
+    let many : length (map given_of c.args.outputs.now) ≤ c.loop-output.output-index = let same = length-map c.args.outputs.now given_of in omega arith in
+    all_may_begin _ _ c.loop-output.output-index many c.loop-output.invariant.begun

@@ -1,0 +1,94 @@
+-- Where ports stand as a device is opened, and which outputs may begin there.
+use Rattle.std.specs.Prelude.{◌≡◌, ◌⊎◌, ◌<◌, ◌≤◌, ℕ, ◌+◌, List, length, get_or, Some, slice_get}
+use Rattle.std.specs.Option.{unwrap_or}
+use Rattle.tp_model.specs.Network.{Port}
+use Rattle.tp_model.specs.Opening.{Opened}
+use Rattle.tp_port.specs.Ports.{fresh_port}
+use Rattle.tp_book.specs.Book.{BookValue}
+use Rattle.tp_book.specs.Host.{port_in, shown_upto_of}
+use Rattle.tp_stream.specs.declared.fault.StreamFault.{StreamFault}
+use Rattle.tp_stream.specs.declared.fault.StreamFault.TheVariants.{Opening, Spare, Port as Absent, Unnamed, Short, Long, Gone, NotShown, InputFailed, OutputFailed, FlushFailed, JournalFull, Memory}
+use Rattle.tp_stream.specs.declared.standing.Standing.{Standing}
+use Rattle.tp_stream.specs.Held.{HasAtMost, HasLength, HasReach, Reaches}
+use Rattle.tp_stream.specs.Outputs.{Given}
+
+-- how many outputs a port has put out in all, those that were confirmed among them
+abbrev pub put_out : Port → ℕ
+put_out port = port.out_base + length port.outputs
+
+-- where a port of a book stands, as a mark shows it
+abbrev pub standing : BookValue → ℕ → ℕ → Standing
+standing b mark p = record { confirmed = (port_in b p).out_base; shown = shown_upto_of b p mark; upto = put_out (port_in b p) }
+
+-- where a port stands of a device that opens: all that it has put out is shown
+abbrev pub stands_opened : Opened → ℕ → Standing
+stands_opened o p =
+    let port = get_or o.now.ports p fresh_port.port in
+    record { confirmed = port.out_base; shown = put_out port; upto = put_out port }
+
+-- up to where the reader of an output has it: where it says nothing, up to where it is confirmed
+abbrev pub from_of : Standing → Given → ℕ
+from_of s g = unwrap_or g.have s.confirmed
+
+-- The reader has all that was confirmed, and no more than is shown.
+pub record IsRead (s : Standing) (from : ℕ) : Type 0 where
+  pub confirmed : s.confirmed ≤ from
+  pub shown : from ≤ s.shown
+
+-- An output may begin: its sink has the bytes that its reader has, safe, and none that the port didn't put out.
+pub record MayBegin (s : Standing) (g : Given) : Type 0 where
+  pub reader : IsRead s (from_of s g)
+  pub front : Reaches (from_of s g) g.held
+  pub behind : HasAtMost s.upto g.held
+
+-- Why an output may not begin: what comes first of these.
+abbrev pub Refuses : Standing → Given → StreamFault → Type 0
+Refuses s g (Opening unopened) = ⊥
+Refuses s g Spare = ⊥
+Refuses s g (Absent port) = ⊥
+Refuses s g (Unnamed port) = ⊥
+Refuses s g (Gone port have confirmed) = (port ≡ g.port) × (have ≡ from_of s g) × (confirmed ≡ s.confirmed) × (have < confirmed)
+Refuses s g (NotShown port have shown) = (port ≡ g.port) × (have ≡ from_of s g) × (shown ≡ s.shown) × (s.confirmed ≤ have) × (shown < have)
+Refuses s g (Short port has from) = (port ≡ g.port) × (from ≡ from_of s g) × IsRead s from × HasReach has g.held × (has < from)
+Refuses s g (Long port has upto) = (port ≡ g.port) × (upto ≡ s.upto) × IsRead s (from_of s g) × Reaches (from_of s g) g.held × HasLength (Some has) g.held × (upto < has)
+Refuses s g (InputFailed port) = ⊥
+Refuses s g (OutputFailed port) = ⊥
+Refuses s g FlushFailed = ⊥
+Refuses s g JournalFull = ⊥
+Refuses s g Memory = ⊥
+
+-- Each of the first `n` outputs may begin where its port stands.
+abbrev pub MayBeginBelow : ℕ → (ℕ → Standing) → List Given → Type 0
+MayBeginBelow n stands gs = (k : ℕ) → k < n → (g : Given) → slice_get gs k ≡ Some g → MayBegin (stands g.port) g
+
+-- Each output may begin.
+abbrev pub AllMayBegin : (ℕ → Standing) → List Given → Type 0
+AllMayBegin stands gs = (k : ℕ) (g : Given) → slice_get gs k ≡ Some g → MayBegin (stands g.port) g
+
+-- The first output that may not begin, and why: as its port stands; or it is none of `ports` ports.
+pub record IsFirstRefused (ports : ℕ) (stands : ℕ → Standing) (gs : List Given) (fault : StreamFault) : Type 0 where
+  pub at : ℕ
+  pub given : Given
+  pub there : slice_get gs at ≡ Some given
+  pub before : MayBeginBelow at stands gs
+  pub why : Refuses (stands given.port) given fault ⊎ ((fault ≡ Absent given.port) × (ports ≤ given.port))
+
+-- Why nothing is begun: an output that may not; or an input for a port that isn't there, where each output may.
+abbrev pub IsNotBegun : ℕ → (ℕ → Standing) → List Given → StreamFault → Type 0
+IsNotBegun ports stands gs fault = IsFirstRefused ports stands gs fault ⊎ (AllMayBegin stands gs × (port : ℕ) × (fault ≡ Absent port) × (ports ≤ port))
+
+-- A fault of an output says so.
+abbrev pub OfOutput : StreamFault → Type 0 → Type 0
+OfOutput (Opening unopened) P = Unit {0}
+OfOutput Spare P = Unit {0}
+OfOutput (Absent port) P = Unit {0}
+OfOutput (Unnamed port) P = Unit {0}
+OfOutput (Short port has from) P = P
+OfOutput (Long port has upto) P = P
+OfOutput (Gone port have confirmed) P = P
+OfOutput (NotShown port have shown) P = P
+OfOutput (InputFailed port) P = Unit {0}
+OfOutput (OutputFailed port) P = Unit {0}
+OfOutput FlushFailed P = Unit {0}
+OfOutput JournalFull P = Unit {0}
+OfOutput Memory P = Unit {0}
