@@ -1,22 +1,54 @@
 //! `tpnet`: the program.
 #![tactic(auto)]
 
-use std::env;
+mod holding;
+mod stand_ins;
+
+use holding::hold;
+use stand_ins::stand_in;
+use std::io::Write;
 use std::process::ExitCode;
 use std::rt::Env;
+use std::{env, io};
 use tp_program::{answer, answer_stream, is_stream, wants_input};
 use tp_stream_files::Threaded;
 
-fn words_of<R: Env + AllocGlobal>(rt: &R) -> Option<Vec<String>> {
-    let words = env::args(rt).ok()?;
-    words.collect(rt.alloc()).ok()
+fn words_of<R: Env + AllocGlobal>(rt: &R) -> io::Result<Vec<String>> {
+    let words = env::args(rt)?;
+    Ok(words.collect(rt.alloc())?)
+}
+
+/// Says why the words can't be taken.
+fn refuse_words<E: Write>(err: &mut E, error: &io::Error) -> ExitCode {
+    let _ = match error.kind() {
+        io::ErrorKind::OutOfMemory => write!(err, "tpnet: Memory\n"),
+        _ => write!(
+            err,
+            "tpnet: a word isn't UTF-8; rename the file, or go to its folder\n"
+        ),
+    };
+    ExitCode::from(2)
+}
+
+/// Says that another process holds the device.
+fn refuse_device<E: Write>(err: &mut E) -> ExitCode {
+    let _ = write!(
+        err,
+        "tpnet: InUse\n  Another tpnet runs, formats or compacts this device: wait until it ends, or end it.\n"
+    );
+    ExitCode::from(1)
 }
 
 fn main(rt: HostRuntime) -> ExitCode {
+    let _stand_ins = (stand_in(&rt), stand_in(&rt), stand_in(&rt));
     let mut out = rt.stdout();
     let mut err = rt.stderr();
-    let Some(words) = words_of(&rt) else {
-        return ExitCode::from(2);
+    let words = match words_of(&rt) {
+        Ok(words) => words,
+        Err(error) => return refuse_words(&mut err, &error),
+    };
+    let Ok(_held) = hold(&rt, words.as_slice()) else {
+        return refuse_device(&mut err);
     };
     if is_stream(words.as_slice()) {
         let reader = if wants_input(words.as_slice()) {
