@@ -85,8 +85,8 @@ fn image_replaced<R: Files + AllocGlobal>(
     new: &NewDevice,
     names: &[&str],
 ) -> Result<Option<String>, Refusal> {
-    for name in names {
-        let path = image_path(rt.alloc(), new.images.as_str(), name)?;
+    for node in names {
+        let path = image_path(rt.alloc(), new.images.as_str(), node)?;
         if is_one_file(rt, new.device.as_str(), path.as_str()) {
             return Ok(Some(path));
         }
