@@ -1,6 +1,6 @@
 //! The commands on files.
 
-ghost use Rattle.std.specs.Prelude.{◌≡◌, ◌≤◌, true};
+ghost use Rattle.std.specs.Prelude.{◌≡◌, ◌≤◌, true, IfSome};
 ghost use Rattle.tp_model.specs.Topology.{is_topology};
 ghost use Rattle.tp_program.specs.Args.{IsRun};
 ghost use Rattle.tp_program.specs.declared.args.TheConstants.{MAX_AREA};
@@ -14,6 +14,7 @@ use crate::opening::{recover_on, show_on};
 use crate::refusal::Refusal;
 use crate::running::run_on;
 use crate::view::{View, view_on};
+use std::alloc::Global;
 use std::fs::{Files, OpenFile};
 use std::io::Write;
 use std::os::unix::fs::FileExt;
@@ -23,6 +24,7 @@ use std::{fs, io};
 use tp_disk::{Counted, NewDisk, NotedFile, RawFile};
 use tp_layout::area_start;
 use tp_net::{Named, Topology};
+use tp_stream_files::is_one_file;
 
 /// Why a file wasn't read.
 fn read_refusal(error: &io::Error) -> Refusal {
@@ -53,6 +55,14 @@ fn read_file<R: Files + AllocGlobal>(rt: &R, path: &str) -> Result<Vec<u8>, Refu
     fs::read(rt, path).map_err(|error| read_refusal(&error))
 }
 
+/// The path of a node's image.
+fn image_path(alloc: Global, folder: &str, name: &str) -> Result<String, Refusal> {
+    match format!(in alloc; "{folder}/{name}.img") {
+        Ok(path) => Ok(path),
+        Err(_) => Err(Refusal::Memory),
+    }
+}
+
 /// Reads the image of each node, in their order.
 fn read_images<R: Files + AllocGlobal>(
     rt: &R,
@@ -61,14 +71,58 @@ fn read_images<R: Files + AllocGlobal>(
 ) -> Result<Vec<Vec<u8>>, Refusal> {
     let mut images = Vec::new(rt.alloc());
     for name in names {
-        let Ok(path) = format!(in rt.alloc(); "{folder}/{name}.img") else {
-            return Err(Refusal::Memory);
-        };
+        let path = image_path(rt.alloc(), folder, name)?;
         if images.push(read_file(rt, path.as_str())?).is_err() {
             return Err(Refusal::Memory);
         }
     }
     Ok(images)
+}
+
+/// The path of the first image whose file is the device's.
+fn image_replaced<R: Files + AllocGlobal>(
+    rt: &R,
+    new: &NewDevice,
+    names: &[&str],
+) -> Result<Option<String>, Refusal> {
+    for node in names {
+        let path = image_path(rt.alloc(), new.images.as_str(), node)?;
+        if is_one_file(rt, new.device.as_str(), path.as_str()) {
+            return Ok(Some(path));
+        }
+    }
+    Ok(None)
+}
+
+/// Says that the device would replace a file that it is made from. Answers the status. A failed write is let go.
+fn refuse_source<E: Write>(err: &mut E, device: &str, what: &str, path: &str) -> u8
+    ensures { result ≡ 2 }
+{
+    let _ = write!(
+        err,
+        "tpnet: DEVICE {device} is the file of the {what} {path}: name another file for the device; nothing was written\n"
+    );
+    2
+}
+
+/// Says which of the files that a device is made from it would replace. Answers the status; none where each stays.
+fn refuse_sources<R: Files + AllocGlobal, E: Write>(
+    rt: &R,
+    new: &NewDevice,
+    names: &[&str],
+    err: &mut E,
+) -> Option<u8>
+    ensures { IfSome result (λ status. status ≤ 2) }
+{
+    let (device, topology) = (new.device.as_str(), new.topology.as_str());
+    if is_one_file(rt, device, topology) {
+        return Some(refuse_source(err, device, "topology", topology));
+    }
+    match image_replaced(rt, new, names) {
+        Ok(Some(path)) => Some(refuse_source(err, device, "image", path.as_str())),
+        Ok(None) => None,
+        Err(refusal) => Some(refuse(err, refusal)),
+    }
 }
 
 /// Why a device wasn't made.
@@ -138,7 +192,8 @@ fn format_network<
     }
 }
 
-/// `tpnet format`, on files. A file that is there stays as it is until nothing is left to refuse.
+/// `tpnet format`, on files. A file that is there stays as it is until nothing is left to refuse; the topology's and the images' files
+/// always do.
 pub fn format_file<
     R: Files<File = F> + AllocGlobal,
     F: FileExt + OpenFile + Drop,
@@ -146,7 +201,7 @@ pub fn format_file<
     E: Write,
 >(rt: &R, new: &NewDevice, system: &mut Option<io::Error>, out: &mut O, err: &mut E) -> u8
     requires { new.now.area ≤ MAX_AREA }
-    ensures { result ≤ 1 }
+    ensures { result ≤ 2 }
 {
     let text = match read_file(rt, new.topology.as_str()) {
         Ok(text) => text,
@@ -156,6 +211,9 @@ pub fn format_file<
         Ok(network) => network,
         Err(refusal) => return refuse(err, refusal),
     };
+    if let Some(status) = refuse_sources(rt, new, named.names.as_slice(), err) {
+        return status;
+    }
     let _rules = named.topology.pages();
     format_network(
         rt,

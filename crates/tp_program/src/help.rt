@@ -30,7 +30,8 @@ pub const FORMAT_REFUSALS: &str =
   DeviceFailed  DEVICE can't be made or written, or standard output can't: look at rights and room
   BadImage      an image is none, has other pages than its node, or a link of it is at work
   AreaFull      AREA is too small: tpnet check says how large it has to be
-  Memory        there is no memory left";
+  Memory        there is no memory left
+A DEVICE that is the file of TOPOLOGY or of an image, under whatever name, ends with status 2, and stays as it was.";
 
 /// What a command refuses that opens a device.
 pub const OPENING_REFUSALS: &str = "Refusals (status 1); nothing is written to DEVICE:

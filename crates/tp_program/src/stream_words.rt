@@ -21,8 +21,8 @@ Refusals (status 1):
   DeviceFailed  DEVICE, an output's FILE or standard output can't be written or synced: look at rights and room
   JournalFull   DEVICE has no room for further entries: see --explain
   Memory        there is no memory left
-A fault of the words ends with status 2; so do, once DEVICE is open, a --spare above a node's pages, a port that isn't there, and a port
-with a wire for whose output nothing was said.";
+A fault of the words ends with status 2; so do, once DEVICE is open, an output that goes into the file of DEVICE, an input, another
+output or standard error, a --spare above a node's pages, a port that isn't there, and a port with a wire for whose output nothing was said.";
 
 /// An option that may be there for several ports.
 fn many<'a>(alloc: Global, id: &'a str, value: &'a str, help: &'a str) -> Arg<'a> {

@@ -68,7 +68,7 @@ fn report_end<E: Write>(err: &mut E, fault: EndFault) -> u8
         EndFault::SameFile(port) => {
             let _ = write!(
                 err,
-                "tpnet: --out {port} names the device, an input or another port's file\n"
+                "tpnet: --out {port} goes into the file of the device, an input, another port or standard error: give it one of its own\n"
             );
             2
         }

@@ -74,7 +74,7 @@ pub enum EndFault {
     /// The file that takes a port's output can't be opened to be written, or not be made.
     #[error("DeviceFailed")]
     DeviceFailed(u8),
-    /// The file that takes a port's output is the device, or another port's.
+    /// The file that takes a port's output is that of the device, of an input, of another port's output or of standard error.
     #[error("SameFile {0}")]
     SameFile(u8),
     /// Standard input or output is named for this port and another one.

@@ -15,6 +15,7 @@ pub use ends::{EndFault, Ends, PortFile, PortNumber};
 pub use feeds::{Feed, Plain};
 pub use opening::open_ends;
 pub use pipes::Pipe;
+pub use same::is_one_file;
 pub use sinks::{AnySink, FileSink};
 pub use sources::AnySource;
 pub use telling::{Teller, say_end};

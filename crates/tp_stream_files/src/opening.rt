@@ -3,18 +3,44 @@
 use crate::ends::{EndFault, Ends, PortFile};
 use crate::feeds::Feed;
 use crate::pipes::Pipe;
-use crate::same::same_file;
-use crate::sinks::{AnySink, FileSink};
+use crate::same::{
+    FileNumbers, Taken, are_one, numbers_at, numbers_of, same_file, standard_error, standard_in,
+    standard_out,
+};
+use crate::sinks::{AnySink, FileSink, file_at};
 use crate::sources::AnySource;
 use std::fs::{Files, OpenFile, OpenOptions};
 use std::io::Write;
 use std::os::unix::fs::FileExt;
 use tp_stream::{Input, Output, Streams};
 
+/// Gives a file its part in the stream.
+fn take(taken: &mut Taken, file: Option<FileNumbers>) -> Result<(), EndFault> {
+    taken.add(file).map_err(|_| EndFault::Memory)
+}
+
+/// Opens a file that takes an output, or makes it. One that has a part already, or is what standard error goes to, is refused as it is.
+fn file_sink<R: Files<File = F>, F: FileExt + OpenFile + Drop>(
+    rt: &R,
+    end: &PortFile,
+    taken: &mut Taken,
+) -> Result<FileSink<F>, EndFault> {
+    let path = end.path.as_str();
+    let failed = EndFault::DeviceFailed(end.port);
+    let file = file_at(rt, path).map_err(|_| failed)?;
+    let numbers = numbers_of(&file).map_err(|_| failed)?;
+    if taken.has(numbers) || are_one(numbers, standard_error(rt)) {
+        return Err(EndFault::SameFile(end.port));
+    }
+    take(taken, numbers)?;
+    FileSink::over(rt, path, file).map_err(|_| failed)
+}
+
 /// What takes the output of a port: standard output, which only one may have, or a file.
 fn sink_at<'a, R: Files<File = F>, F: FileExt + OpenFile + Drop, O: Write>(
     rt: &R,
     end: &PortFile,
+    taken: &mut Taken,
     out: &mut Option<&'a mut O>,
 ) -> Result<AnySink<'a, F, O>, EndFault> {
     if end.is_standard() {
@@ -23,46 +49,59 @@ fn sink_at<'a, R: Files<File = F>, F: FileExt + OpenFile + Drop, O: Write>(
             None => Err(EndFault::Twice(end.port)),
         };
     }
-    match FileSink::open(rt, end.path.as_str()) {
-        Ok(sink) => Ok(AnySink::File(sink)),
-        Err(_) => Err(EndFault::DeviceFailed(end.port)),
-    }
+    Ok(AnySink::File(file_sink(rt, end, taken)?))
+}
+
+/// Opens a file that an input comes from.
+fn file_source<R: Files<File = F>, F: FileExt + OpenFile + Drop>(
+    rt: &R,
+    end: &PortFile,
+    taken: &mut Taken,
+) -> Result<F, EndFault> {
+    let failed = EndFault::ReadFailed(end.port);
+    let opened = OpenOptions::new().read(true).open(rt, end.path.as_str());
+    let file = opened.map_err(|_| failed)?;
+    take(taken, numbers_of(&file).map_err(|_| failed)?)?;
+    Ok(file)
 }
 
 /// Where the input of a port comes from: standard input, which only one may have, or a file.
 fn source_at<'a, R: Files<File = F>, F: FileExt + OpenFile + Drop, I: Feed>(
     rt: &R,
     end: &PortFile,
+    taken: &mut Taken,
     feed: &mut Option<&'a mut I>,
 ) -> Result<AnySource<'a, F, I>, EndFault> {
     if end.is_standard() {
+        take(taken, standard_in(rt))?;
         return match feed.take() {
             Some(feed) => Ok(AnySource::In(Pipe::new(feed))),
             None => Err(EndFault::Twice(end.port)),
         };
     }
-    match OpenOptions::new().read(true).open(rt, end.path.as_str()) {
-        Ok(file) => Ok(AnySource::File(file)),
-        Err(_) => Err(EndFault::ReadFailed(end.port)),
-    }
+    Ok(AnySource::File(file_source(rt, end, taken)?))
 }
 
-/// Opens what takes the outputs of ports.
+/// Opens what takes the outputs of ports. What standard output goes to is looked at last, once all files are open.
 fn outputs_of<'a, R: Files<File = F> + AllocGlobal, F: FileExt + OpenFile + Drop, O: Write>(
     rt: &R,
     ends: &Ends,
+    taken: &mut Taken,
     out: &'a mut O,
 ) -> Result<Vec<Output<AnySink<'a, F, O>>>, EndFault> {
     let mut outputs = Vec::new(rt.alloc());
     let mut out = Some(out);
     for end in &ends.outs {
-        let sink = sink_at(rt, end, &mut out)?;
+        let sink = sink_at(rt, end, taken, &mut out)?;
         let have = ends.have_of(end.port);
         if outputs.push(Output::new(end.port, have, sink)).is_err() {
             return Err(EndFault::Memory);
         }
     }
-    Ok(outputs)
+    match ends.standard_out() {
+        Some(port) if taken.has(standard_out(rt)) => Err(EndFault::SameFile(port)),
+        _ => Ok(outputs),
+    }
 }
 
 /// Adds those whose output is let go.
@@ -83,12 +122,13 @@ fn add_discards<'a, F: Drop + FileExt + OpenFile, O: Write>(
 fn inputs_of<'a, R: Files<File = F> + AllocGlobal, F: FileExt + OpenFile + Drop, I: Feed>(
     rt: &R,
     ends: &Ends,
+    taken: &mut Taken,
     feed: &'a mut I,
 ) -> Result<Vec<Input<AnySource<'a, F, I>>>, EndFault> {
     let mut inputs = Vec::new(rt.alloc());
     let mut feed = Some(feed);
     for end in &ends.ins {
-        let source = source_at(rt, end, &mut feed)?;
+        let source = source_at(rt, end, taken, &mut feed)?;
         if inputs.push(Input::new(end.port, source)).is_err() {
             return Err(EndFault::Memory);
         }
@@ -96,8 +136,9 @@ fn inputs_of<'a, R: Files<File = F> + AllocGlobal, F: FileExt + OpenFile + Drop,
     Ok(inputs)
 }
 
-/// Opens all ends; `device` is the path of the device's file. A file that takes an output is made where it isn't there; none is where an output would go over the device, over an
-/// input or over another output.
+/// Opens all ends; `device` is the path of the device's file. A file that takes an output is made where it isn't there. No output goes
+/// into the file of the device, of an input, of another output or of standard error: where that can be told before, no file is made, and
+/// else each file is told from those that were opened before, and left as it is.
 pub fn open_ends<
     'a,
     R: Files<File = F> + AllocGlobal,
@@ -114,8 +155,10 @@ pub fn open_ends<
     if let Some(port) = same_file(rt, device, ends) {
         return Err(EndFault::SameFile(port));
     }
-    let inputs = inputs_of(rt, ends, feed)?;
-    let mut outputs = outputs_of(rt, ends, out)?;
+    let mut taken = Taken::new(rt.alloc());
+    take(&mut taken, numbers_at(rt, device))?;
+    let inputs = inputs_of(rt, ends, &mut taken, feed)?;
+    let mut outputs = outputs_of(rt, ends, &mut taken, out)?;
     add_discards(ends, &mut outputs)?;
     Ok(Streams { outputs, inputs })
 }

@@ -38,7 +38,7 @@ fn sync_folder<R: Files>(rt: &R, path: &str) -> io::Result<()> {
 }
 
 /// The file of that path as it is, or an empty one that is made.
-fn file_at<R: Files>(rt: &R, path: &str) -> io::Result<R::File> {
+pub(crate) fn file_at<R: Files>(rt: &R, path: &str) -> io::Result<R::File> {
     OpenOptions::new()
         .read(true)
         .write(true)
@@ -55,10 +55,10 @@ fn answer(done: io::Result<()>) -> Result<(), SinkFailed> {
 }
 
 impl<F: FileExt + OpenFile + Drop> FileSink<F> {
-    /// The file of that path as it is, or an empty one that is made. What is in it is synced: it counts as safe. So is the folder of one
-    /// that is empty, since it may be new.
-    pub fn open<R: Files<File = F>>(rt: &R, path: &str) -> io::Result<FileSink<F>> {
-        let mut file = NotedFile::new(file_at(rt, path)?);
+    /// The file of that path, which is open, as it is. What is in it is synced: it counts as safe. So is the folder of one that is empty,
+    /// since it may be new.
+    pub fn over<R: Files<File = F>>(rt: &R, path: &str, file: F) -> io::Result<FileSink<F>> {
+        let mut file = NotedFile::new(file);
         let length = file.measure()?;
         file.sync()?;
         if length == 0 {

@@ -18,7 +18,11 @@ mod program_tests;
 #[cfg(test)]
 mod run_tests;
 #[cfg(test)]
+mod same_tests;
+#[cfg(test)]
 mod scratch;
+#[cfg(test)]
+mod standing;
 #[cfg(test)]
 mod stream_tests;
 #[cfg(test)]

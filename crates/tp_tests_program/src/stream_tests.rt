@@ -29,7 +29,7 @@ fn word_in(alloc: Global, scratch: &Scratch, word: &str) -> Result<String, Fail>
 }
 
 /// What the program does for the words of a stream, those of `STREAM` first, with these bytes as standard input.
-fn stream<R: Files<File = F> + AllocGlobal + Wait, F: FileExt + OpenFile + Drop>(
+pub(crate) fn stream<R: Files<File = F> + AllocGlobal + Wait, F: FileExt + OpenFile + Drop>(
     rt: &R,
     scratch: &Scratch,
     words: &[&str],
@@ -140,7 +140,7 @@ const REFUSED: Streams<'static> = &[
         "",
         2,
         "",
-        "tpnet: --out 0 names the device, an input or another port's file\n",
+        "tpnet: --out 0 goes into the file of the device, an input, another port or standard error: give it one of its own\n",
     ),
     (
         &["--until-quiet", "--out", "0=-", "--in", "0=@nowhere"],
@@ -231,7 +231,7 @@ fn a_refused_stream_leaves_the_device(rt: HostRuntime) -> Result<(), Fail> {
 }
 
 /// When a file was written last, and when anything of it was changed.
-fn times<R: Files + AllocGlobal>(
+pub(crate) fn times<R: Files + AllocGlobal>(
     rt: &R,
     scratch: &Scratch,
     name: &str,
@@ -316,7 +316,7 @@ fn a_longer_file_stays_as_it_is(rt: HostRuntime) -> Result<(), Fail> {
 }
 
 /// A folder with a device whose node hands on what port 0 gets to port 1, which has put out `abcde` and nothing is confirmed.
-fn handed_on<
+pub(crate) fn handed_on<
     R: Files<File = F> + AllocGlobal + Threads + Wait + Sync,
     F: FileExt + OpenFile + Drop + Send,
 >(rt: &R, name: &str) -> Result<Scratch, Fail> {
