@@ -96,17 +96,23 @@ impl fmt::Display for ArgFault {
     fn fmt<W: fmt::Write>(&self, f: &mut fmt::Formatter<W>) -> fmt::Result {
         match self {
             ArgFault::Words(error) => write!(f, "{error}"),
-            ArgFault::Range { id, least, most } => write!(
-                f,
-                "tpnet: --{id} takes a decimal from {least} to {most}, without a sign or leading zeros\n"
-            ),
+            ArgFault::Range { id, least, most } => {
+                write!(f, "tpnet: --{id} takes a decimal ")?;
+                match *id {
+                    "spare" => write!(f, "from 0 to the pages of the smallest node"),
+                    "port" => write!(f, "from 0 to 7, a port of the device"),
+                    "from" => write!(f, "below 2^64"),
+                    _ => write!(f, "from {least} to {most}"),
+                }?;
+                write!(f, ", without a sign or leading zeros\n")
+            }
             ArgFault::Area => write!(
                 f,
                 "tpnet: AREA takes a decimal from 0 to 1099511627776, without a sign or leading zeros\n"
             ),
             ArgFault::Number => write!(
                 f,
-                "tpnet: a number of a node, a port or an entry is a decimal, without a sign or leading zeros\n"
+                "tpnet: a number of a node or a port is a decimal below 2^64, without a sign or leading zeros\n"
             ),
             ArgFault::Missing => write!(f, "tpnet: a word is missing; see tpnet --help\n"),
             ArgFault::Memory => write!(f, "tpnet: Memory\n"),

@@ -3,12 +3,13 @@
 use crate::args::{Asked, NewDevice, Run};
 use crate::damage::push_fault;
 use crate::image_rules::broken_rule;
+use crate::looking::{is_regular, is_special, is_writable, push_file, read_again};
 use std::alloc::{AllocError, Global};
 use std::fmt::Write as Push;
 use std::fs::{Files, OpenFile};
+use std::io;
 use std::io::Write;
 use std::os::unix::fs::FileExt;
-use std::{fs, io};
 use tp_disk::{Counted, NotedFile, RawFile};
 use tp_layout::area_for;
 use tp_model::NetFault;
@@ -22,19 +23,11 @@ const ENTRY_ROOM: u64 = 32;
 /// The bytes that are kept back for each line, to finish a snapshot.
 const KEPT_ROOM: u64 = 96;
 
-/// A file that can't be opened or read.
-pub fn push_file(text: &mut String, path: &str, error: &io::Error) -> Result<(), AllocError> {
-    write!(
-        text,
-        "  {path}: {error}\n  Look at the path, and at your rights to it.\n"
-    )
-}
-
 /// Says what is left where all files are good.
 fn push_rest(text: &mut String) -> Result<(), AllocError> {
     write!(
         text,
-        "  All files are good: standard output can't be written, or memory is wanting.\n"
+        "  All files are good now: standard output can't be written, or memory is wanting.\n"
     )
 }
 
@@ -79,7 +72,7 @@ fn push_topology(
         NetFault::Syntax(0) => (0, "a node or a port is missing"),
         NetFault::Syntax(line) => (
             line as usize,
-            "it has to be `node NAME PAGES`, `port NAME` or `wire END END`: a NAME is new and has 1 to 16 letters, digits and -, a letter first; PAGES are 4 to 256; an END is a port's name, or a node's with .0 to .3 behind it",
+            "it has to be `node NAME PAGES`, `port NAME` or `wire END END`: a NAME is new and has 1 to 16 of a to z, 0 to 9 and -, a letter first; PAGES are 4 to 256, without leading zeros; an END is a port's name, or a node's with .0 to .3 behind it, and one of the two is a node's; words are parted by spaces, and no space is before the first or behind the last",
         ),
         NetFault::TwoWires => (
             line_of_fault(alloc, bytes, fault),
@@ -136,16 +129,11 @@ fn push_images<R: Files + AllocGlobal>(
     let alloc = rt.alloc();
     for (name, pages) in named.names.iter().zip(named.topology.pages().iter()) {
         let path = format!(in alloc; "{folder}/{name}.img")?;
-        match fs::read(rt, path.as_str()) {
-            Ok(image) => {
-                if push_image(alloc, text, path.as_str(), &image, Some(*pages))? {
-                    return Ok(true);
-                }
-            }
-            Err(error) => {
-                push_file(text, path.as_str(), &error)?;
-                return Ok(true);
-            }
+        let Some(image) = read_again(rt, text, path.as_str())? else {
+            return Ok(true);
+        };
+        if push_image(alloc, text, path.as_str(), &image, Some(*pages))? {
+            return Ok(true);
         }
     }
     Ok(false)
@@ -159,16 +147,12 @@ fn push_network<R: Files + AllocGlobal>(
     folder: &str,
     area: u64,
 ) -> Result<bool, AllocError> {
-    let bytes = match fs::read(rt, topology) {
-        Ok(bytes) => bytes,
-        Err(error) => {
-            push_file(text, topology, &error)?;
-            write!(
-                text,
-                "  It was named as the topology: --help has the order of the words.\n"
-            )?;
-            return Ok(true);
-        }
+    let Some(bytes) = read_again(rt, text, topology)? else {
+        write!(
+            text,
+            "  It was named as the topology: --help has the order of the words.\n"
+        )?;
+        return Ok(true);
     };
     let named = match Topology::read_named(rt.alloc(), &bytes) {
         Ok(named) => named,
@@ -192,6 +176,38 @@ fn push_network<R: Files + AllocGlobal>(
     Ok(false)
 }
 
+/// Says that a file is there already, where it has to be new.
+fn push_there<R: Files>(rt: &R, text: &mut String, device: &str) -> Result<(), AllocError> {
+    if is_regular(rt, device) {
+        write!(
+            text,
+            "  {device}: it is there already\n  Name another path, or leave out --new to write over it: what is in it is lost then.\n"
+        )
+    } else {
+        write!(
+            text,
+            "  {device}: something is there already that is no regular file\n  Name another path.\n"
+        )
+    }
+}
+
+/// Says what the system said of a device that isn't made, and what may be left of one that was there.
+fn push_unmade<R: Files>(
+    rt: &R,
+    text: &mut String,
+    device: &str,
+    error: &io::Error,
+) -> Result<(), AllocError> {
+    push_file(text, device, error)?;
+    if is_writable(rt, device) {
+        write!(
+            text,
+            "  A device that was in {device} before may be gone: format empties a file before it writes it.\n  Mend that, and format it again, or name a new path: an old device that has to stay needs one.\n"
+        )?;
+    }
+    Ok(())
+}
+
 /// Says why a device wasn't made.
 fn push_format<R: Files + AllocGlobal>(
     rt: &R,
@@ -202,11 +218,10 @@ fn push_format<R: Files + AllocGlobal>(
     let (topology, images) = (new.topology.as_str(), new.images.as_str());
     let device = new.device.as_str();
     match system {
-        Some(error) if error.kind() == io::ErrorKind::AlreadyExists => write!(
-            text,
-            "  {device}: it is there already\n  Name another file, or leave out --new to write over it.\n"
-        ),
-        Some(error) => push_file(text, device, error),
+        Some(error) if error.kind() == io::ErrorKind::AlreadyExists => {
+            push_there(rt, text, device)
+        }
+        Some(error) => push_unmade(rt, text, device, error),
         None => {
             if push_network(rt, text, topology, images, new.area)? {
                 return Ok(());
@@ -222,15 +237,13 @@ fn push_try<R: Files + AllocGlobal>(
     text: &mut String,
     image: &str,
 ) -> Result<(), AllocError> {
-    match fs::read(rt, image) {
-        Ok(bytes) => {
-            if push_image(rt.alloc(), text, image, &bytes, None)? {
-                return Ok(());
-            }
-            push_rest(text)
-        }
-        Err(error) => push_file(text, image, &error),
+    let Some(bytes) = read_again(rt, text, image)? else {
+        return Ok(());
+    };
+    if push_image(rt.alloc(), text, image, &bytes, None)? {
+        return Ok(());
     }
+    push_rest(text)
 }
 
 /// Opens a device's file again, and says why it wasn't opened, where it doesn't open now either.
@@ -239,6 +252,13 @@ pub fn push_opening<R: Files<File = F> + AllocGlobal, F: FileExt + OpenFile + Dr
     text: &mut String,
     device: &str,
 ) -> Result<Option<Opened>, AllocError> {
+    if is_special(rt, device) {
+        write!(
+            text,
+            "  {device}: it is no regular file, so it isn't looked at again. A device is a regular file.\n"
+        )?;
+        return Ok(None);
+    }
     let mut disk: Counted<RawFile<NotedFile<F>>> = match Counted::open_to_read(rt, device) {
         Ok(disk) => disk,
         Err(error) => {
@@ -261,35 +281,85 @@ pub fn push_opening<R: Files<File = F> + AllocGlobal, F: FileExt + OpenFile + Dr
     Ok(None)
 }
 
-/// Says how full a device's journal is, where a run's input or the confirmation of its output has no room.
+/// How many entries of a run's input are handed in at once: as many bytes as there are behind those that its port has accepted, and
+/// as it has room for.
+fn offered(run: &Run, opened: &Opened, input: usize) -> u64 {
+    match opened.network().ports().iter().nth(run.port as usize) {
+        Some(port) => {
+            let accepted = port.in_base().saturating_add(port.pending().len() as u64);
+            let room = (MAX_HELD as u64).saturating_sub(port.pending().len() as u64);
+            (input as u64).saturating_sub(accepted).min(room)
+        }
+        None => 0,
+    }
+}
+
+/// How many entries a device's journal takes.
+fn journal_entries(opened: &Opened) -> u64 {
+    let lines = opened.head().topology().line_count() as u64;
+    opened
+        .journal_room()
+        .saturating_sub(lines.saturating_mul(KEPT_ROOM))
+        / ENTRY_ROOM
+}
+
+/// Says how full a device's journal is, where a run's input or the confirmation of its output has no room. `input` is how many bytes
+/// the run's input has, where that is known.
 fn push_journal(
     text: &mut String,
     run: &Run,
     opened: &Opened,
-    input: usize,
+    input: Option<usize>,
 ) -> Result<(), AllocError> {
-    let device = run.device.as_str();
-    let entries = opened.kept().len() as u64;
-    let lines = opened.head().topology().line_count() as u64;
-    let most = opened
-        .journal_room()
-        .saturating_sub(lines.saturating_mul(KEPT_ROOM))
-        / ENTRY_ROOM;
-    let wanted = match opened.network().ports().iter().nth(run.port as usize) {
-        Some(port) => {
-            let accepted = port.in_base().saturating_add(port.pending().len() as u64);
-            let room = (MAX_HELD as u64).saturating_sub(port.pending().len() as u64);
-            (input as u64).saturating_sub(accepted).min(room).max(1)
-        }
-        None => 1,
-    };
-    if entries.saturating_add(wanted) <= most {
+    let (device, port) = (run.device.as_str(), run.port);
+    let (entries, most) = (opened.kept().len() as u64, journal_entries(opened));
+    let wanted = input.map(|length| offered(run, opened, length));
+    if wanted.is_some_and(|wanted| entries.saturating_add(wanted.max(1)) <= most) {
         return push_rest(text);
     }
     write!(
         text,
-        "  {device}: its journal has {entries} entries since the checkpoint, and room for {most}.\n  No more is taken than that: no input, no turn's steps, and not that output was confirmed, which each run then prints again.\n  Nothing that was acknowledged or shown is lost, but the network doesn't go on: make a device with a larger AREA\n  (tpnet check says how large), confirm the output of each port often, and watch unconfirmed in tpnet show.\n  tpnet compact empties the journal.\n"
+        "  {device}: its journal has {entries} entries since the checkpoint, and room for {most}.\n"
+    )?;
+    let is_above = match wanted {
+        Some(wanted) if wanted > most => {
+            write!(
+                text,
+                "  --in brings {wanted} at once, one for each byte that the port has room for: tpnet compact doesn't help.\n"
+            )?;
+            true
+        }
+        _ => {
+            write!(
+                text,
+                "  tpnet compact {device} empties it and keeps all output: then give the same command again.\n"
+            )?;
+            wanted.is_none()
+        }
+    };
+    if is_above {
+        write!(
+            text,
+            "  tpnet run {device} --stream --in {port}=FILE takes input by pieces, as the journal has room: see tpnet run --stream --help.\n"
+        )?;
+    }
+    write!(
+        text,
+        "  Nothing that was acknowledged or shown is lost. So that it doesn't fill up: a larger AREA (tpnet check says how large),\n  and output that is confirmed often; watch unconfirmed in tpnet show.\n"
     )
+}
+
+/// How many bytes the input of a run has; `None` where its file can't be read again, and that is said. What isn't a regular file isn't
+/// read again.
+fn input_length<R: Files + AllocGlobal>(
+    rt: &R,
+    text: &mut String,
+    run: &Run,
+) -> Result<Option<usize>, AllocError> {
+    match &run.input {
+        Some(path) => Ok(read_again(rt, text, path.as_str())?.map(|bytes| bytes.len())),
+        None => Ok(Some(0)),
+    }
 }
 
 /// Says why a run was refused.
@@ -306,15 +376,17 @@ fn push_run<R: Files<File = F> + AllocGlobal, F: FileExt + OpenFile + Drop>(
             "  A run reads and writes it: mend that, and give the same command again. Nothing that was acknowledged or shown is lost.\n"
         );
     }
-    let mut input = 0;
-    if let Some(path) = &run.input {
-        match fs::read(rt, path.as_str()) {
-            Ok(bytes) => input = bytes.len(),
-            Err(error) => return push_file(text, path.as_str(), &error),
-        }
+    let length = input_length(rt, text, run)?;
+    if length.is_none()
+        && !run
+            .input
+            .as_ref()
+            .is_some_and(|path| is_special(rt, path.as_str()))
+    {
+        return Ok(());
     }
     match push_opening(rt, text, run.device.as_str())? {
-        Some(opened) => push_journal(text, run, &opened, input),
+        Some(opened) => push_journal(text, run, &opened, length),
         None => Ok(()),
     }
 }

@@ -20,14 +20,15 @@ pub const CHECK_REFUSALS: &str = "Refusals (status 1):
 
 /// What `tpnet format` refuses.
 pub const FORMAT_REFUSALS: &str =
-    "Refusals (status 1); a refused format leaves a file that is there as it was:
+    "Refusals (status 1); all but DeviceFailed leave a file that is there as it was:
   ReadFailed    TOPOLOGY or an image can't be read: look at its path and its rights
   Syntax L      line L of TOPOLOGY is malformed; at 0 a node or a port is missing
   TwoWires      a link or port has two wires, or a wire leads from a link to itself
   UnknownNode   a wire names what no line above declares
   TooMany       there are more than 16 nodes or 8 ports
   DeviceExists  with --new: DEVICE is there already
-  DeviceFailed  DEVICE can't be made or written, or standard output can't: look at rights and room
+  DeviceFailed  DEVICE can't be made or written, or standard output can't: look at rights and room; once DEVICE is
+                opened it is emptied, so what was there may be gone: --new or a new path keeps an old device
   BadImage      an image is none, has other pages than its node, or a link of it is at work
   AreaFull      AREA is too small: tpnet check says how large it has to be
   Memory        there is no memory left
@@ -58,14 +59,15 @@ Refusals (status 1):
 
 /// What `tpnet run` refuses.
 pub const RUN_REFUSALS: &str =
-    "All that is read before DEVICE opens is refused without a change of it.
+    "Where FILE can't be read, or DEVICE isn't opened, nothing is written to DEVICE.
 Refusals (status 1):
   ReadFailed    FILE can't be read, or DEVICE can't be opened to read and write, or be read: look at paths and rights
   NotFormatted  DEVICE is none: make one with tpnet format
   BadVersion    DEVICE is of another version of tpnet
   NoOpenArea    neither area is open: format was stopped, or the device was written over
   Damaged AT    what stands at offset AT breaks its rule: restore a copy
-  JournalFull   DEVICE has no room for FILE's bytes, or for the confirm, whose output was printed: see --explain
+  JournalFull   DEVICE has no room for all bytes of FILE that its port takes at once (--stream takes them by pieces), or for the
+                confirm, whose output was printed (tpnet compact makes room): see --explain
   DeviceFailed  DEVICE can't be written or synced, or standard output can't: look at rights and room
   Memory        there is no memory left
 A --spare above a node's pages and a --port that isn't there end with status 2, once DEVICE is open.";

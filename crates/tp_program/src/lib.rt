@@ -13,6 +13,7 @@ mod formatting;
 mod found;
 mod help;
 mod image_rules;
+mod looking;
 mod numbers;
 mod opening;
 mod places;

@@ -41,7 +41,7 @@ fn job_of(asked: &Run) -> Job
 fn is_not_there<E: Write>(err: &mut E, what: &str) -> u8
     ensures { result ≡ 2 }
 {
-    let _ = write!(err, "tpnet: {what}; see tpnet show\n");
+    let _ = write!(err, "tpnet: {what}\n");
     2
 }
 
@@ -54,8 +54,11 @@ fn report<E: Write>(err: &mut E, done: Result<u64, RunFault>) -> u8
             let _ = write!(err, "next {next}\n");
             0
         }
-        Err(RunFault::Spare) => is_not_there(err, "--spare is above the pages of a node"),
-        Err(RunFault::Port) => is_not_there(err, "the device has no such port"),
+        Err(RunFault::Spare) => is_not_there(
+            err,
+            "--spare is above the pages of a node; see tpnet node",
+        ),
+        Err(RunFault::Port) => is_not_there(err, "the device has no such port; see tpnet show"),
         Err(fault) => refuse(err, Refusal::Run(fault)),
     }
 }

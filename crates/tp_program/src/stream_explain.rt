@@ -1,6 +1,7 @@
 //! What `--explain` says of a stream that was refused: which end, why, and the way out.
 
-use crate::explain::{push_file, push_opening};
+use crate::explain::push_opening;
+use crate::looking::{is_special, push_error, push_file};
 use crate::stream_args::StreamRun;
 use crate::streaming::FilesFault;
 use std::alloc::AllocError;
@@ -10,7 +11,7 @@ use std::io;
 use std::io::Write;
 use std::os::unix::fs::FileExt;
 use tp_stream::StreamFault;
-use tp_stream_files::{EndFault, PortFile};
+use tp_stream_files::{EndFault, FileSink, PortFile};
 
 /// The path that was typed for a port.
 fn path_of<'a>(files: &'a [PortFile], port: u8) -> &'a str {
@@ -22,50 +23,127 @@ fn path_of<'a>(files: &'a [PortFile], port: u8) -> &'a str {
     "(no file)"
 }
 
-/// Says why a port's file can't be opened, where it still can't be.
-fn push_end<R: Files>(
+/// Says of a port whose end isn't a regular file how its bytes go through standard input or output.
+fn push_standard(
+    text: &mut String,
+    path: &str,
+    port: u8,
+    is_input: bool,
+) -> Result<(), AllocError> {
+    if is_input {
+        write!(
+            text,
+            "  It is no regular file, so it isn't looked at again. FILE is read at positions: what comes once, as from a FIFO,\n  comes by standard input: --in {port}=- < {path}\n"
+        )
+    } else {
+        write!(
+            text,
+            "  It is no regular file, and FILE is written at positions and synced. To let the output go: --discard {port}.\n  To hand it on: --out {port}=- > {path}\n"
+        )
+    }
+}
+
+/// Reads a byte of the file of an input again.
+fn read_byte<R: Files<File = F>, F: FileExt + OpenFile + Drop>(
+    rt: &R,
+    path: &str,
+) -> io::Result<usize> {
+    let file = OpenOptions::new().read(true).open(rt, path)?;
+    file.read_at(&mut [0; 1], 0)
+}
+
+/// Says why a port's input can't be opened or read, as far as that is found now.
+fn push_source<R: Files<File = F>, F: FileExt + OpenFile + Drop>(
     rt: &R,
     text: &mut String,
     files: &[PortFile],
     port: u8,
-    how: &mut OpenOptions,
-    what: &str,
 ) -> Result<(), AllocError> {
     let path = path_of(files, port);
-    write!(text, "  port {port}, {path}: it can't be {what}\n")?;
     if path == "-" {
-        return Ok(());
+        return write!(text, "  port {port}: standard input can't be read\n");
     }
-    match how.open(rt, path) {
-        Ok(_) => Ok(()),
+    write!(text, "  port {port}, {path}: it can't be read\n")?;
+    if is_special(rt, path) {
+        return push_standard(text, path, port, true);
+    }
+    match read_byte(rt, path) {
+        Ok(_) => write!(text, "  It can be opened and read now.\n"),
+        Err(error) => push_file(text, path, &error),
+    }
+}
+
+/// Says why a port's output can't be opened, as far as that is found now: it is opened again as before.
+fn push_sink<R: Files<File = F>, F: FileExt + OpenFile + Drop>(
+    rt: &R,
+    text: &mut String,
+    files: &[PortFile],
+    port: u8,
+) -> Result<(), AllocError> {
+    let path = path_of(files, port);
+    write!(
+        text,
+        "  port {port}, {path}: it can't be opened, made or synced\n"
+    )?;
+    let error = match FileSink::open(rt, path) {
+        Ok(_) => return write!(text, "  It can be now: give the same command again.\n"),
+        Err(error) => error,
+    };
+    if is_special(rt, path) {
+        push_error(text, path, &error)?;
+        return push_standard(text, path, port, false);
+    }
+    push_file(text, path, &error)?;
+    write!(
+        text,
+        "  Where FILE is new or empty its folder is synced, too: that has to be there, and you need the right to read it.\n"
+    )
+}
+
+/// Opens and syncs an output's file that is there again.
+fn sync_again<R: Files>(rt: &R, path: &str) -> io::Result<()> {
+    let mut how = OpenOptions::new();
+    how.read(true).write(true).open(rt, path)?.sync_all()
+}
+
+/// Says what is found now of a port's output that couldn't be written or synced.
+fn push_unwritten<R: Files>(
+    rt: &R,
+    text: &mut String,
+    files: &[PortFile],
+    port: u8,
+) -> Result<(), AllocError> {
+    let path = path_of(files, port);
+    if path == "-" {
+        return write!(
+            text,
+            "  port {port}: standard output can't be written: has its reader ended, or is its disk full?\n"
+        );
+    }
+    write!(
+        text,
+        "  port {port}, {path}: it can't be written or synced\n"
+    )?;
+    match sync_again(rt, path) {
+        Ok(()) => write!(
+            text,
+            "  What the system said isn't known any more; it can be opened and synced now. Look at the room of its disk, and at ulimit -f.\n"
+        ),
         Err(error) => push_file(text, path, &error),
     }
 }
 
 /// Says why a port's end failed.
-fn push_end_fault<R: Files>(
+fn push_end_fault<R: Files<File = F>, F: FileExt + OpenFile + Drop>(
     rt: &R,
     text: &mut String,
     asked: &StreamRun,
     fault: EndFault,
 ) -> Result<(), AllocError> {
-    let (mut reads, mut writes) = (OpenOptions::new(), OpenOptions::new());
     match fault {
-        EndFault::ReadFailed(port) => {
-            let reads = reads.read(true);
-            push_end(rt, text, &asked.ends.ins, port, reads, "opened to be read")
-        }
-        EndFault::DeviceFailed(port) => {
-            let writes = writes.read(true).write(true);
-            push_end(
-                rt,
-                text,
-                &asked.ends.outs,
-                port,
-                writes,
-                "opened to be written",
-            )
-        }
+        EndFault::ReadFailed(port) => push_source(rt, text, &asked.ends.ins, port),
+        EndFault::DeviceFailed(port) => push_sink(rt, text, &asked.ends.outs, port),
+        EndFault::Memory => write!(text, "  memory is wanting\n"),
         _ => write!(text, "  Nothing was opened.\n"),
     }
 }
@@ -98,7 +176,7 @@ fn push_numbers(
             confirmed,
         } => write!(
             text,
-            "  The reader has {have} bytes of port {port}, and {confirmed} were confirmed: the device hasn't those between any more.\n  Say --have {port}={confirmed} to go on behind them.\n"
+            "  The reader has {have} bytes of port {port}, and {confirmed} were confirmed: the device hasn't those between any more.\n  They were written to standard output: what its reader left there is lost. Say --have {port}={confirmed} to go on behind them.\n"
         ),
         StreamFault::NotShown { port, have, shown } => write!(
             text,
@@ -121,19 +199,23 @@ fn push_stream_fault<R: Files<File = F> + AllocGlobal, F: FileExt + OpenFile + D
             push_opening(rt, text, device)?;
             Ok(())
         }
-        StreamFault::InputFailed(port) => write!(
-            text,
-            "  port {port}, {}: it can't be read. What was accepted of it is kept: mend that, and give the same command again.\n",
-            path_of(&asked.ends.ins, port)
-        ),
-        StreamFault::OutputFailed(port) => write!(
-            text,
-            "  port {port}, {}: it can't be written or synced. What wasn't confirmed is put again: mend that, and give the same command again.\n",
-            path_of(&asked.ends.outs, port)
-        ),
+        StreamFault::InputFailed(port) => {
+            push_source(rt, text, &asked.ends.ins, port)?;
+            write!(
+                text,
+                "  What was accepted of it is kept: mend that, and give the same command again.\n"
+            )
+        }
+        StreamFault::OutputFailed(port) => {
+            push_unwritten(rt, text, &asked.ends.outs, port)?;
+            write!(
+                text,
+                "  What wasn't confirmed is put again: mend that, and give the same command again.\n"
+            )
+        }
         StreamFault::JournalFull => write!(
             text,
-            "  {device}: its journal has no room, and no checkpoint frees any. Nothing that was acknowledged or shown is lost.\n  Make a device with a larger AREA: tpnet check says how large.\n"
+            "  {device}: its journal has no room, and no checkpoint frees any. Nothing that was acknowledged or shown is lost.\n  tpnet compact {device} empties it and keeps all output: then give the same command again.\n  Where it fills up again and again, make a device with a larger AREA: tpnet check says how large.\n"
         ),
         StreamFault::Memory => write!(text, "  memory is wanting\n"),
         _ => push_numbers(text, asked, fault),

@@ -9,7 +9,8 @@ const STREAM_REFUSALS: &str =
     "P is a port's number, as in tpnet show. Byte number q of port P stands at offset q of its FILE.
 Each port with a wire needs an --out or a --discard, and --turns or --until-quiet has to be there.
 Refusals (status 1):
-  ReadFailed    an input can't be read, or DEVICE can't be opened to read and write, or be read: look at paths and rights
+  ReadFailed    an input can't be read (a FIFO: take --in P=- < FIFO), or DEVICE can't be opened to read and write, or be
+                read: look at paths and rights
   NotFormatted  DEVICE is none: make one with tpnet format
   BadVersion    DEVICE is of another version of tpnet
   NoOpenArea    neither area is open: format was stopped, or the device was written over
@@ -18,8 +19,9 @@ Refusals (status 1):
   Long P H U    port P's FILE has H bytes, and the port put out U in all: it is another file, and stays as it is
   Gone P H C    --have P=H, and C bytes were confirmed: those from H on aren't on DEVICE any more
   NotShown P H S  --have P=H, and only S bytes were shown
-  DeviceFailed  DEVICE, an output's FILE or standard output can't be written or synced: look at rights and room
-  JournalFull   DEVICE has no room for further entries: see --explain
+  DeviceFailed  DEVICE, an output's FILE or standard output can't be written or synced: look at rights and room; a FILE that
+                is no regular file can't be synced: take --out P=- > FILE, or --discard P
+  JournalFull   DEVICE has no room for further entries: tpnet compact DEVICE, then the same command again
   Memory        there is no memory left
 A fault of the words ends with status 2; so do, once DEVICE is open, an output that goes into the file of DEVICE, an input, another
 output or standard error, a --spare above a node's pages, a port that isn't there, and a port with a wire for whose output nothing was said.";
@@ -37,7 +39,8 @@ fn many<'a>(alloc: Global, id: &'a str, value: &'a str, help: &'a str) -> Arg<'a
 fn with_ends<'a>(alloc: Global, command: Command<'a>) -> Result<Command<'a>, AllocError> {
     let out =
         "where port P's output goes: a file, which is made where it isn't there and never emptied, or standard output (-)";
-    let have = "what the reader of standard output has of port P already, in bytes from position 0";
+    let have =
+        "what the reader of standard output has of port P already, in bytes from position 0; what a reader leaves in a pipe is lost";
     let discard = "port P's output is let go";
     let input =
         "port P's whole input, from position 0: a file, or standard input (-); what was accepted before is passed over";
@@ -77,7 +80,7 @@ pub fn stream_command<'a>(alloc: Global) -> Result<Command<'a>, AllocError> {
         STREAM_REFUSALS,
     )?
     .arg(word(alloc, "DEVICE", "the device's file, which is written"))?
-    .arg(flag(alloc, "stream", "ports live on streams"))?;
+    .arg(flag(alloc, "stream", "ports live on streams").required(true))?;
     let run = with_turns(alloc, with_ends(alloc, run)?)?;
     Command::new(alloc, "tpnet")
         .subcommand_required(true)

@@ -95,7 +95,7 @@ fn report_fault<E: Write>(err: &mut E, fault: StreamFault) -> u8
         StreamFault::Spare => {
             let _ = write!(
                 err,
-                "tpnet: --spare is above the pages of a node; see tpnet show\n"
+                "tpnet: --spare is above the pages of a node; see tpnet node\n"
             );
             2
         }

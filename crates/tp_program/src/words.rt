@@ -72,7 +72,7 @@ fn format_command<'a>(alloc: Global) -> Result<Command<'a>, AllocError> {
     explained(
         alloc,
         "format",
-        "Makes a device from a topology and the nodes' images",
+        "Makes a device from a topology and the nodes' images, over a file that is there unless --new is given",
         FORMAT_REFUSALS,
     )?
     .arg(flag(alloc, "new", "refuse a file that is there already"))?
@@ -133,6 +133,11 @@ fn journal_command<'a>(alloc: Global) -> Result<Command<'a>, AllocError> {
 }
 
 fn port_command<'a>(alloc: Global) -> Result<Command<'a>, AllocError> {
+    let outputs = flag(
+        alloc,
+        "outputs",
+        "the outputs that aren't confirmed (this is the default)",
+    );
     opening(
         alloc,
         "port",
@@ -140,11 +145,7 @@ fn port_command<'a>(alloc: Global) -> Result<Command<'a>, AllocError> {
     )?
     .arg(word(alloc, "P", "the port's number"))?
     .arg(flag(alloc, "pending", "the inputs that no node has taken"))?
-    .arg(flag(
-        alloc,
-        "outputs",
-        "the outputs that aren't confirmed (this is the default)",
-    ))
+    .arg(outputs.conflicts_with("pending")?)
 }
 
 /// The options of a run.
@@ -189,7 +190,7 @@ fn compact_command<'a>(alloc: Global) -> Result<Command<'a>, AllocError> {
     explained(
         alloc,
         "compact",
-        "Writes all of a device's network into its other area, which empties the journal, and prints the number of the next entry",
+        "Writes all of a device's network into its other area, which empties the journal, and prints the generation, the number of the next entry and how many entries the journal takes",
         COMPACT_REFUSALS,
     )?
     .arg(word(alloc, "DEVICE", "the device's file, which is written"))

@@ -40,6 +40,7 @@ const NOTHING: &[&[&str]] = &[
     &["run", "@device", "--turns", "4", "--port", ""],
     &["run", "@device", "--turns", "4", "--in"],
     &["run", "@device", "--turns", "4", "--new"],
+    &["port", "@device", "0", "--outputs", "--pending"],
 ];
 
 /// A fault of the words comes before that of any file: here there is no image, and the topology is malformed.
@@ -266,6 +267,11 @@ const HELP: &[(&[&str], &str)] = &[
     (&["format", "--help"], "AreaFull"),
     (&["recover", "-h"], "Damaged"),
     (&["run", "--help"], "JournalFull"),
+    (
+        &["format", "--help"],
+        "all but DeviceFailed leave a file that is there as it was",
+    ),
+    (&["compact", "--help"], "how many entries the journal takes"),
     (&["help", "run"], "--quantum <Q>"),
     (&["--version"], "tpnet 0.1.0\nproved with rattle-kit-"),
 ];

@@ -210,14 +210,14 @@ const REFUSED: &[(usize, u8, &[&str], u8, &str)] = &[
         b'T',
         SPARE,
         2,
-        "tpnet: --spare is above the pages of a node; see tpnet show\n",
+        "tpnet: --spare is above the pages of a node; see tpnet node\n",
     ),
     (
         0,
         b'T',
         WIDE,
         2,
-        "tpnet: --spare is above the pages of a node; see tpnet show\n",
+        "tpnet: --spare is above the pages of a node; see tpnet node\n",
     ),
     (
         0,

@@ -161,7 +161,7 @@ const REFUSED: Streams<'static> = &[
         "",
         2,
         "",
-        "tpnet: --spare is above the pages of a node; see tpnet show\n",
+        "tpnet: --spare is above the pages of a node; see tpnet node\n",
     ),
     (
         &["--until-quiet", "--out", "0=-", "--discard", "1"],
@@ -485,5 +485,45 @@ fn a_full_port_runs_on(rt: HostRuntime) -> Result<(), Fail> {
     assert!(rt;
         !shown.as_str().contains("generation 1 ") && !shown.as_str().contains("generation 2 ")
     );
+    scratch.remove(&rt)
+}
+
+/// Words of a stream whose end is refused, its refusal, and what is said of it.
+const ENDS_REFUSED: &[(&[&str], &str, &str)] = &[
+    (
+        &["--out", "0=/dev/null"],
+        "tpnet: DeviceFailed\n",
+        "--discard 0",
+    ),
+    (
+        &["--out", "0=@nowhere/out"],
+        "tpnet: DeviceFailed\n",
+        "it can't be opened, made or synced",
+    ),
+    (
+        &["--in", "0=@folder", "--discard", "0"],
+        "tpnet: ReadFailed\n",
+        "It is a folder: name a file.",
+    ),
+    (
+        &["--in", "0=@nowhere", "--discard", "0"],
+        "tpnet: ReadFailed\n",
+        "/nowhere: ",
+    ),
+];
+
+/// What is said of an end that is refused names what the system said, or the way out.
+#[test]
+fn refused_ends_are_explained(rt: HostRuntime) -> Result<(), Fail> {
+    let scratch = device(&rt, "stream_told", echo(rt.alloc())?.as_slice(), "16384")?;
+    fs::create_dir_all(&rt, scratch.path(rt.alloc(), "folder")?.as_str())?;
+    for (ends, refusal, part) in ENDS_REFUSED {
+        let mut words = Vec::from_slice(rt.alloc(), &["--turns=9", "--explain"])?;
+        words.extend_from_slice(ends)?;
+        let told = stream(&rt, &scratch, words.as_slice(), b"")?;
+        assert_eq!(rt; told.status, 1);
+        let text = String::from_utf8(told.err)?;
+        assert!(rt; text.as_str().starts_with(*refusal) && text.as_str().contains(*part));
+    }
     scratch.remove(&rt)
 }

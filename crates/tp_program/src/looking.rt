@@ -1,0 +1,79 @@
+//! What stands at a path, looked at again, and what the system says of it.
+
+use std::alloc::AllocError;
+use std::fmt::Write as Push;
+use std::fs::{Files, OpenOptions};
+use std::{fs, io};
+
+/// Says what the system said of a path.
+pub fn push_error(text: &mut String, path: &str, error: &io::Error) -> Result<(), AllocError> {
+    write!(text, "  {path}: {error}\n")
+}
+
+/// The way out of what the system said of a path.
+fn way_out(kind: io::ErrorKind) -> &'static str {
+    match kind {
+        io::ErrorKind::OutOfMemory => {
+            "There is no memory left for all that is in it: is it the file that you mean?"
+        }
+        io::ErrorKind::StorageFull | io::ErrorKind::QuotaExceeded => {
+            "Make room on its disk, or name a path on another one."
+        }
+        io::ErrorKind::FileTooLarge => {
+            "The system allows no file of that length there: name a path on another disk, or look at ulimit -f."
+        }
+        io::ErrorKind::IsADirectory => "It is a folder: name a file.",
+        _ => "Look at the path, and at your rights to it.",
+    }
+}
+
+/// Says what the system said of a path, and the way out.
+pub fn push_file(text: &mut String, path: &str, error: &io::Error) -> Result<(), AllocError> {
+    push_error(text, path, error)?;
+    let way = way_out(error.kind());
+    write!(text, "  {way}\n")
+}
+
+/// Whether a regular file is at a path, or at the end of the links there.
+pub fn is_regular<R: Files>(rt: &R, path: &str) -> bool {
+    match fs::metadata(rt, path) {
+        Ok(found) => found.is_file(),
+        Err(_) => false,
+    }
+}
+
+/// Whether something else than a regular file or a folder is at a path: reading it again may wait, or take what isn't there twice.
+pub fn is_special<R: Files>(rt: &R, path: &str) -> bool {
+    match fs::metadata(rt, path) {
+        Ok(found) => !found.is_file() && !found.is_dir(),
+        Err(_) => false,
+    }
+}
+
+/// Reads a whole file again. Where it isn't, says why.
+pub fn read_again<R: Files + AllocGlobal>(
+    rt: &R,
+    text: &mut String,
+    path: &str,
+) -> Result<Option<Vec<u8>>, AllocError> {
+    if is_special(rt, path) {
+        write!(
+            text,
+            "  {path}: it is no regular file, so it isn't looked at again.\n  Save what comes from it in a file, and name that.\n"
+        )?;
+        return Ok(None);
+    }
+    match fs::read(rt, path) {
+        Ok(bytes) => Ok(Some(bytes)),
+        Err(error) => {
+            push_file(text, path, &error)?;
+            Ok(None)
+        }
+    }
+}
+
+/// Whether a file that is there can be opened to be written.
+pub fn is_writable<R: Files>(rt: &R, path: &str) -> bool {
+    let mut how = OpenOptions::new();
+    is_regular(rt, path) && how.read(true).write(true).open(rt, path).is_ok()
+}
