@@ -55,6 +55,12 @@ fn answer(done: io::Result<()>) -> Result<(), SinkFailed> {
 }
 
 impl<F: FileExt + OpenFile + Drop> FileSink<F> {
+    /// The file of that path as it is, or an empty one that is made.
+    pub fn open<R: Files<File = F>>(rt: &R, path: &str) -> io::Result<FileSink<F>> {
+        let file = file_at(rt, path)?;
+        FileSink::over(rt, path, file)
+    }
+
     /// The file of that path, which is open, as it is. What is in it is synced: it counts as safe. So is the folder of one that is empty,
     /// since it may be new.
     pub fn over<R: Files<File = F>>(rt: &R, path: &str, file: F) -> io::Result<FileSink<F>> {
