@@ -30,7 +30,7 @@ for place in 0 1 2 3; do
     printf '.text\n.p2align 6\n.skip %d, 0xcc\n' $((16 * place + 16)) | cc -c -x assembler -o "$work/place.o" -
     for kind in flat cow; do
         "$kit/bin/rattle-link" --target x86_64-unknown-linux-gnu --toolchain "$kit/toolchain" -o "$work/$kind.$place" "$work/place.o" \
-            "$work/crates/bench_$kind/out/bench_$kind.o" "$kit"/c/lib{os,libc}_c.a > "$work/linked"
+            "$work/crates/bench_$kind/out/bench_$kind.o" "$kit"/c/lib{os,libc}_c.a > "$work/linked" 2>&1
     done
 done
 
