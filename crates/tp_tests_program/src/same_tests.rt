@@ -4,6 +4,7 @@ use crate::scratch::{Output, Scratch};
 use crate::standing::Standing;
 use crate::stream_tests::{handed_on, stream, times};
 use crate::tests::letter;
+use std::alloc::Global;
 use std::fs;
 use std::fs::{Files, OpenFile};
 use std::os::unix::fs::{FileExt, symlink};
@@ -196,19 +197,26 @@ const STANDARD: &[Refused<'static>] = &[
     ),
 ];
 
+/// The words of a stream with these ends, which ends once nothing is left to do.
+fn words_of(alloc: Global, ends: &'static [&'static str]) -> Result<Vec<&'static str>, Fail> {
+    let mut words = Vec::new(alloc);
+    words.push("--until-quiet")?;
+    for word in ends {
+        words.push(*word)?;
+    }
+    Ok(words)
+}
+
 /// Each of the rows is refused, and each time all files are as they were.
 fn are_refused<R: Files<File = F> + AllocGlobal + Wait, F: FileExt + OpenFile + Drop>(
     rt: &R,
     scratch: &Scratch,
-    rows: &[Refused<'_>],
+    rows: &'static [Refused<'static>],
 ) -> Result<(), Fail> {
     let fresh = scratch.path(rt.alloc(), "fresh")?;
     for (streams, ends, port) in rows {
         let before = all_kept(rt, scratch)?;
-        let mut words = Vec::from_slice(rt.alloc(), &["--until-quiet"])?;
-        for word in *ends {
-            words.push(*word)?;
-        }
+        let words = words_of(rt.alloc(), ends)?;
         let output = stream_standing(rt, scratch, streams, words.as_slice())?;
         let after = all_kept(rt, scratch)?;
         if !is_same(&output, *port) || !all_stay(before.as_slice(), after.as_slice()) {
@@ -233,49 +241,48 @@ fn standard_streams_are_files_too(rt: HostRuntime) -> Result<(), Fail> {
     scratch.remove(&rt)
 }
 
+/// What standard streams are, ends of a stream that have files of their own, and what is printed.
+const APART: &[(Streams<'static>, &[&'static str], &'static str)] = &[
+    (
+        &[],
+        &["--out", "0=@none", "--out", "1=@one", "--in", "0=@in"],
+        "",
+    ),
+    (
+        &[],
+        &[
+            "--out", "0=@none", "--out", "1=@one", "--in", "0=@in", "--in", "1=@in",
+        ],
+        "",
+    ),
+    (
+        &[("/dev/stdout", "one"), ("/dev/stdin", "in")],
+        &["--discard", "0", "--out", "1=@one", "--in", "0=@in"],
+        "",
+    ),
+    (
+        &[
+            ("/dev/stdout", "there"),
+            ("/dev/stdin", "in"),
+            ("/dev/stderr", "there"),
+        ],
+        &["--out", "0=@none", "--out", "1=-", "--in", "0=-"],
+        "",
+    ),
+    (
+        &[("/dev/stdout", ""), ("/dev/stdin", ""), ("/dev/stderr", "")],
+        &["--discard", "0", "--out", "1=-", "--in", "0=-"],
+        "",
+    ),
+];
+
 /// Files of their own are taken, also where standard streams are files, or both are no file, as a terminal. What no port uses isn't
 /// looked at, and two inputs may be one file.
 #[test]
 fn files_of_their_own_are_taken(rt: HostRuntime) -> Result<(), Fail> {
     let scratch = linked(&rt, "same_apart")?;
-    let rows: &[(Streams<'_>, &[&str], &str)] = &[
-        (
-            &[],
-            &["--out", "0=@none", "--out", "1=@one", "--in", "0=@in"],
-            "",
-        ),
-        (
-            &[],
-            &[
-                "--out", "0=@none", "--out", "1=@one", "--in", "0=@in", "--in", "1=@in",
-            ],
-            "",
-        ),
-        (
-            &[("/dev/stdout", "one"), ("/dev/stdin", "in")],
-            &["--discard", "0", "--out", "1=@one", "--in", "0=@in"],
-            "",
-        ),
-        (
-            &[
-                ("/dev/stdout", "there"),
-                ("/dev/stdin", "in"),
-                ("/dev/stderr", "there"),
-            ],
-            &["--out", "0=@none", "--out", "1=-", "--in", "0=-"],
-            "",
-        ),
-        (
-            &[("/dev/stdout", ""), ("/dev/stdin", ""), ("/dev/stderr", "")],
-            &["--discard", "0", "--out", "1=-", "--in", "0=-"],
-            "",
-        ),
-    ];
-    for (streams, ends, printed) in rows {
-        let mut words = Vec::from_slice(rt.alloc(), &["--until-quiet"])?;
-        for word in *ends {
-            words.push(*word)?;
-        }
+    for (streams, ends, printed) in APART {
+        let words = words_of(rt.alloc(), ends)?;
         let output = stream_standing(&rt, &scratch, streams, words.as_slice())?;
         if output.status != 0 || output.out.as_slice() != printed.as_bytes() {
             return Err(Fail::new(String::from_utf8(output.err)?));
