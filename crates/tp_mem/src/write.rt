@@ -73,6 +73,7 @@ pub(crate) fn put_byte_and_words(live: &mut [u8], address: u32, byte: u8, writes
 
 /// Copies a block, and then writes words, where all goes inside.
 #[tactic(auto, using(crate::proofs::Writes::behind_a_word))]
+#[inline(always)]
 pub(crate) fn move_and_put_words(
     live: &mut [u8],
     to: u32,
