@@ -1,5 +1,5 @@
 -- Which pages stay shared behind writes.
-use Rattle.std.proofs.Common.{◌≡◌, ℕ, zero, suc, ◌+◌, ◌*◌, ◌/◌, ◌<◌, ◌≤◌, Bool, true, false, not, ◌&&◌, ◌||◌, if◌then◌else◌, List, [], ◌∷◌, length, get_or, set, drop, refl, sym, ap, ◌∙◌, arith, ltb}
+use Rattle.std.proofs.Common.{◌≡◌, ℕ, zero, suc, ◌+◌, ◌*◌, ◌/◌, ◌<◌, ◌≤◌, Bool, true, false, not, ◌&&◌, ◌||◌, if◌then◌else◌, List, All, [], ◌∷◌, length, get_or, set, drop, refl, sym, ap, ◌∙◌, arith, ltb}
 use Rattle.std.proofs.lemmas.List.{set-get_or}
 use Rattle.std.proofs.lemmas.Bool.{ltb-true, and_parts, or_parts}
 use Rattle.std.proofs.Math.Seq.{drop-cons}
@@ -213,3 +213,72 @@ shared_from-true page (is_shared ∷ pages) ranges zero shared =
     let here : page + 0 ≡ page = omega arith in ap (λ p. list_any (touches p) ranges) here ∙ and_true is_shared (list_any (touches page) ranges) shared
 shared_from-true page (is_shared ∷ pages) ranges (suc i) shared =
     let place : page + suc i ≡ page + 1 + i = omega arith in ap (λ p. list_any (touches p) ranges) place ∙ shared_from-true (page + 1) pages ranges i shared
+
+-- words in one page have bytes in no other
+pub words_alone : (words : List (ℕ × ℕ)) (page other : ℕ) → All (λ word. word_offset word.0 / 1024 ≡ page) words → ¬ (other ≡ page) → list_any (touches other) (word_ranges words) ≡ false
+words_alone [] page other all differs = refl
+words_alone (word ∷ words) page other all differs =
+    let here : word_offset word.0 / 1024 ≡ page = all 0 word (omega arith) in
+    let untouched = not_true (touches other (word_offset word.0, 4)) (λ touched. let meets = touches-meets other (word_offset word.0) 4 touched in differs (omega (arith, here, meets.begins, meets.ends))) in
+    ap (λ b. b || list_any (touches other) (word_ranges words)) untouched ∙ words_alone words page other (λ k d within. all (suc k) d (omega (arith, within))) differs
+
+-- ---- where one page alone is touched
+and_touched : (is_shared is_touched : Bool) → is_touched ≡ true → (is_shared && not is_touched) ≡ false
+and_touched is_shared is_touched touched = ap (λ b. is_shared && not b) touched ∙ and_false is_shared
+
+first_differs : (i : ℕ) → ¬ (0 ≡ suc i)
+first_differs i same = absurd (omega (arith, same))
+
+module _ (ranges : List (ℕ × ℕ)) where
+  -- no page from one on but the one so many behind it has bytes of the ranges
+  abbrev pub Alone : ℕ → ℕ → Type 0
+  Alone page i = (j : ℕ) → ¬ (j ≡ i) → list_any (touches (page + j)) ranges ≡ false
+
+  at_next : (page j : ℕ) → list_any (touches (page + suc j)) ranges ≡ false → list_any (touches (page + 1 + j)) ranges ≡ false
+  at_next page j none = let place : page + 1 + j ≡ page + suc j = omega arith in ap (λ p. list_any (touches p) ranges) place ∙ none
+
+  at_first : (page : ℕ) → list_any (touches page) ranges ≡ list_any (touches (page + 0)) ranges
+  at_first page = let here : page + 0 ≡ page = omega arith in ap (λ p. list_any (touches p) ranges) (sym here)
+
+  next_alone : (page i : ℕ) → Alone page (suc i) → Alone (page + 1) i
+  next_alone page i alone j differs = at_next page j (alone (suc j) (λ same. differs (omega (arith, same))))
+
+  touched_next : (page i : ℕ) → list_any (touches (page + suc i)) ranges ≡ true → list_any (touches (page + 1 + i)) ranges ≡ true
+  touched_next page i touched = let place : page + 1 + i ≡ page + suc i = omega arith in ap (λ p. list_any (touches p) ranges) place ∙ touched
+
+  behind_first : (page : ℕ) → Alone page 0 → (pages : List Bool) (i : ℕ) → get_or pages i false ≡ true → list_any (touches (page + 1 + i)) ranges ≡ false
+  behind_first page alone pages i shared = at_next page i (alone (suc i) (λ same. absurd (omega (arith, same))))
+
+  -- that page is shared no more
+  shared_from-one : (page : ℕ) (pages : List Bool) (i : ℕ) → list_any (touches (page + i)) ranges ≡ true → Alone page i → shared_from page pages ranges ≡ set pages i false
+  shared_from-one page [] i touched alone = refl
+  shared_from-one page (is_shared ∷ pages) zero touched alone =
+      ap (λ b. b ∷ shared_from (page + 1) pages ranges) (and_touched is_shared (list_any (touches page) ranges) (at_first page ∙ touched))
+      ∙ ap (λ ps. false ∷ ps) (shared_from-untouched (page + 1) pages ranges (behind_first page alone pages))
+  shared_from-one page (is_shared ∷ pages) (suc i) touched alone =
+      ap (λ b. b ∷ shared_from (page + 1) pages ranges) (and_not is_shared (list_any (touches page) ranges) (λ shared. at_first page ∙ alone 0 (first_differs i)))
+      ∙ ap (λ ps. is_shared ∷ ps) (shared_from-one (page + 1) pages i (touched_next page i touched) (next_alone page i alone))
+
+  -- it wants a frame where it is shared
+  wanted_from-one : (page : ℕ) (pages : List Bool) (i : ℕ) → list_any (touches (page + i)) ranges ≡ true → Alone page i → wanted_from page pages ranges ≡ (if get_or pages i false then 1 else 0)
+  wanted_from-one page [] i touched alone = refl
+  wanted_from-one page (true ∷ pages) zero touched alone =
+      let here : want true (list_any (touches page) ranges) ≡ 1 = ap (want true) (at_first page ∙ touched) in
+      omega (arith, here, wanted_from-untouched (page + 1) pages ranges (behind_first page alone pages))
+  wanted_from-one page (false ∷ pages) zero touched alone = omega (arith, wanted_from-untouched (page + 1) pages ranges (behind_first page alone pages))
+  wanted_from-one page (is_shared ∷ pages) (suc i) touched alone =
+      let here = want_none is_shared (list_any (touches page) ranges) (λ shared. at_first page ∙ alone 0 (first_differs i)) in
+      omega (arith, here, wanted_from-one (page + 1) pages i (touched_next page i touched) (next_alone page i alone))
+
+  -- from the first page on
+  from_first : (i : ℕ) → list_any (touches i) ranges ≡ true → list_any (touches (0 + i)) ranges ≡ true
+  from_first i touched = ap (λ p. list_any (touches p) ranges) (zero_plus i) ∙ touched
+
+  alone_first : (i : ℕ) → ((j : ℕ) → ¬ (j ≡ i) → list_any (touches j) ranges ≡ false) → Alone 0 i
+  alone_first i alone j differs = ap (λ p. list_any (touches p) ranges) (zero_plus j) ∙ alone j differs
+
+  pub shared_from-page : (pages : List Bool) (i : ℕ) → list_any (touches i) ranges ≡ true → ((j : ℕ) → ¬ (j ≡ i) → list_any (touches j) ranges ≡ false) → shared_from 0 pages ranges ≡ set pages i false
+  shared_from-page pages i touched alone = shared_from-one 0 pages i (from_first i touched) (alone_first i alone)
+
+  pub wanted_from-page : (pages : List Bool) (i : ℕ) → list_any (touches i) ranges ≡ true → ((j : ℕ) → ¬ (j ≡ i) → list_any (touches j) ranges ≡ false) → wanted_from 0 pages ranges ≡ (if get_or pages i false then 1 else 0)
+  wanted_from-page pages i touched alone = wanted_from-one 0 pages i (from_first i touched) (alone_first i alone)

@@ -1,6 +1,6 @@
 //! Which pages the ranges of writes have bytes in.
 
-ghost use Rattle.std.specs.Prelude.{◌≡◌, ℕ, ◌+◌, ◌*◌, ◌/◌, ◌<◌, ◌≤◌, ◌^◌, ◌∷◌, true, false, ◌&&◌, if◌then◌else◌, length, get_or};
+ghost use Rattle.std.specs.Prelude.{◌≡◌, ℕ, ◌+◌, ◌*◌, ◌/◌, ◌<◌, ◌≤◌, ◌^◌, ◌∷◌, true, false, ◌&&◌, if◌then◌else◌, length, get_or, All, IfSome};
 ghost use Rattle.std.specs.List.{list_any};
 ghost use Rattle.tp_model.specs.Memory.{word_offset};
 ghost use Rattle.tp_model.specs.SharedPages.{block_ranges, word_ranges, touches, wanted_from};
@@ -101,6 +101,53 @@ pub(crate) fn shares(shared: &[bool], first: Range, block: Range, words: &[(u32,
         return true;
     }
     shares_word(shared, words)
+}
+
+/// Whether a range has bytes in no page but one.
+fn keeps_to(page: usize, range: Range) -> bool
+    requires page { page < 2 ^ 33 }
+    requires small { range.0 + range.1 < 2 ^ 33 }
+    ensures { result ≡ true → (other : ℕ) → ¬ (other ≡ page) → touches other range ≡ false }
+{
+    range.1 == 0
+        || range.0 / PAGE_BYTES == page && range.0 + range.1 <= PAGE_BYTES * page + PAGE_BYTES
+}
+
+/// Whether the words that are written lie in one page.
+fn have_page(page: usize, words: &[(u32, u32)]) -> bool
+    ensures { result ≡ true → All (λ word. word_offset word.0 / PAGE_BYTES ≡ page) words.now }
+{
+    words
+        .iter()
+        .all(|word| word_offset(word.0) / PAGE_BYTES == page)
+}
+
+/// Where the bytes of a range begin, and where it has none those of the first word.
+fn begin_of(range: Range, words: &[(u32, u32)]) -> Option<usize>
+    requires small { range.0 + range.1 < 2 ^ 33 }
+    ensures { IfSome result (λ at. (at < 2 ^ 33) × (list_any (touches (at / PAGE_BYTES)) (range ∷ word_ranges words.now) ≡ true)) }
+{
+    if range.1 > 0 {
+        return Some(range.0);
+    }
+    let (address, _) = words.first()?;
+    Some(word_offset(*address))
+}
+
+/// The page that two ranges and words that are written have bytes in, where they have them in no other. None also where only `block`
+/// has bytes.
+pub(crate) fn one_page(first: Range, block: Range, words: &[(u32, u32)]) -> Option<usize>
+    requires first { first.0 + first.1 < 2 ^ 33 }
+    requires block { block.0 + block.1 < 2 ^ 33 }
+    ensures touched { IfSome result (λ page. list_any (touches page) (first ∷ block ∷ word_ranges words.now) ≡ true) }
+    ensures alone { IfSome result (λ page. (other : ℕ) → ¬ (other ≡ page) → list_any (touches other) (first ∷ block ∷ word_ranges words.now) ≡ false) }
+{
+    let page = begin_of(first, words)? / PAGE_BYTES;
+    if keeps_to(page, first) && keeps_to(page, block) && have_page(page, words) {
+        Some(page)
+    } else {
+        None
+    }
 }
 
 /// One where a page is shared and has such bytes.
