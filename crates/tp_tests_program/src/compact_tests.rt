@@ -1,15 +1,16 @@
 //! What `tpnet compact` makes of a device, prints and refuses.
 
 use crate::faults::{Faults, FaultyFiles};
+use crate::program::{plays, tpnet};
 use crate::run_tests::device;
 use crate::scratch::{Lines, Scratch};
-use crate::tests::{letter, place};
 use std::alloc::Global;
 use std::fs::{Files, OpenFile};
 use std::os::unix::fs::FileExt;
 use std::sync::Wait;
 use std::test::Fail;
 use std::thread::Threads;
+use tp_tests_fixtures::{letter, place};
 
 const COMPACT: &[&str] = &["compact", "@device"];
 
@@ -53,7 +54,7 @@ const CONFIRMED: Lines<'static> = &[
 fn a_full_journal_is_emptied(rt: HostRuntime) -> Result<(), Fail> {
     let scratch = device(&rt, "compact_full", letter(rt.alloc())?.as_slice(), "13130")?;
     let length = scratch.read(&rt, "device")?.len();
-    scratch.plays(&rt, CONFIRMED)?;
+    plays(&rt, &scratch, CONFIRMED)?;
     assert_eq!(rt; scratch.read(&rt, "device")?.len(), length);
     scratch.remove(&rt)
 }
@@ -78,7 +79,7 @@ fn busy_device<
     scratch.put(rt, "a.img", image_of(rt.alloc(), &writes)?.as_slice())?;
     scratch.put(rt, "b.img", image_of(rt.alloc(), &[0x60, 0x0E])?.as_slice())?;
     let words = ["format", "@device", "@net.txt", "@", WEDGED_AREA];
-    match scratch.run(rt, &words)?.status {
+    match tpnet(rt, &scratch, &words)?.status {
         0 => Ok(scratch),
         _ => Err(Fail::new("not formatted")),
     }
@@ -113,8 +114,9 @@ fn a_wedged_device_goes_on(rt: HostRuntime) -> Result<(), Fail> {
     let all = [b'A'; 4096];
     let full = str::from_utf8(&all)?;
     let hundred = str::from_utf8(&all[..100])?;
-    scratch.plays(
+    plays(
         &rt,
+        &scratch,
         &[
             (WEDGE, 1, full, "tpnet: JournalFull\n"),
             (NONE, 1, full, "tpnet: JournalFull\n"),
@@ -135,15 +137,19 @@ fn each_call_of_the_file_may_fail(rt: HostRuntime) -> Result<(), Fail> {
         letter(rt.alloc())?.as_slice(),
         "13130",
     )?;
-    scratch.plays(&rt, &[(ALONE, 1, "A", "tpnet: JournalFull\n")])?;
+    plays(&rt, &scratch, &[(ALONE, 1, "A", "tpnet: JournalFull\n")])?;
     let full = scratch.read(&rt, "device")?;
     let mut calls = 0u64;
     for number in 0..200u64 {
         scratch.put(&rt, "device", full.as_slice())?;
         let faults = Faults::at(number, false);
-        let done = scratch.run(&FaultyFiles::new(&rt, &faults), COMPACT)?;
-        scratch.plays(&rt, &[(&["recover", "@device"], 0, "next 4\n", "")])?;
-        let again = scratch.run(&rt, COMPACT)?;
+        let done = tpnet(&FaultyFiles::new(&rt, &faults), &scratch, COMPACT)?;
+        plays(
+            &rt,
+            &scratch,
+            &[(&["recover", "@device"], 0, "next 4\n", "")],
+        )?;
+        let again = tpnet(&rt, &scratch, COMPACT)?;
         assert!(rt; again.status == 0 && again.out.as_slice().ends_with(b" next 4 room 4\n"));
         if done.status == 0 {
             break;
@@ -175,11 +181,11 @@ fn a_refused_device_stays(rt: HostRuntime) -> Result<(), Fail> {
         let mut bytes = Vec::from_slice(rt.alloc(), fresh.as_slice())?;
         place(&mut bytes, *at, &[*byte]);
         scratch.put(&rt, "device", bytes.as_slice())?;
-        scratch.plays(&rt, &[(COMPACT, 1, "", *err)])?;
+        plays(&rt, &scratch, &[(COMPACT, 1, "", *err)])?;
         assert_eq!(rt; scratch.read(&rt, "device")?.as_slice(), bytes.as_slice());
     }
     let nowhere: &[&str] = &["compact", "@nowhere"];
-    scratch.plays(&rt, &[(nowhere, 1, "", "tpnet: ReadFailed\n")])?;
+    plays(&rt, &scratch, &[(nowhere, 1, "", "tpnet: ReadFailed\n")])?;
     assert!(rt; !scratch.has(&rt, "nowhere")?);
     scratch.remove(&rt)
 }

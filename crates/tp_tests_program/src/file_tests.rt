@@ -1,8 +1,8 @@
 //! What the commands do to files: what a refusal leaves, which calls they make, and what follows where one fails.
 
 use crate::faults::{Faults, FaultyFiles};
+use crate::program::{is_refused, tpnet};
 use crate::scratch::Scratch;
-use crate::tests::{letter, place};
 use std::fs;
 use std::fs::{Files, OpenFile};
 use std::os::unix::fs::{FileExt, MetadataExt};
@@ -10,6 +10,7 @@ use std::sync::Wait;
 use std::sync::atomic::Ordering;
 use std::test::Fail;
 use std::thread::Threads;
+use tp_tests_fixtures::{letter, place};
 
 const FORMAT: &[&str] = &["format", "@device", "@net.txt", "@", "16384"];
 
@@ -21,7 +22,7 @@ fn network<
     let scratch = Scratch::new(rt, name)?;
     scratch.put(rt, "net.txt", b"node a 4\nport h\nwire a.0 h\n")?;
     scratch.put(rt, "a.img", letter(rt.alloc())?.as_slice())?;
-    if scratch.run(rt, FORMAT)?.status != 0 {
+    if tpnet(rt, &scratch, FORMAT)?.status != 0 {
         return Err(Fail::new("not formatted"));
     }
     let device = scratch.read(rt, "device")?;
@@ -57,15 +58,15 @@ fn a_refused_format_keeps_the_file(rt: HostRuntime) -> Result<(), Fail> {
         let _kept = network(&rt, "keeps")?;
         scratch.put(&rt, name, bytes)?;
         let words = ["format", "@device", "@net.txt", "@", area];
-        assert!(rt; scratch.is_refused(&rt, &words, line)?);
+        assert!(rt; is_refused(&rt, &scratch, &words, line)?);
         assert_eq!(rt; scratch.read(&rt, "device")?.as_slice(), device.as_slice());
     }
     let _kept = network(&rt, "keeps")?;
     let new = ["format", "--new", "@device", "@net.txt", "@", "16384"];
-    assert!(rt; scratch.is_refused(&rt, &new, "tpnet: DeviceExists\n")?);
+    assert!(rt; is_refused(&rt, &scratch, &new, "tpnet: DeviceExists\n")?);
     assert_eq!(rt; scratch.read(&rt, "device")?.as_slice(), device.as_slice());
     let other = ["format", "--new", "@other", "@net.txt", "@", "16384"];
-    assert_eq!(rt; scratch.run(&rt, &other)?.status, 0);
+    assert_eq!(rt; tpnet(&rt, &scratch, &other)?.status, 0);
     assert_eq!(rt; scratch.read(&rt, "other")?.as_slice(), device.as_slice());
     scratch.remove(&rt)
 }
@@ -74,7 +75,7 @@ fn a_refused_format_keeps_the_file(rt: HostRuntime) -> Result<(), Fail> {
 fn a_file_that_was_made_stays(rt: HostRuntime) -> Result<(), Fail> {
     let (scratch, _device) = network(&rt, "made")?;
     let words = ["format", "@made", "@net.txt", "@", "100"];
-    assert!(rt; scratch.is_refused(&rt, &words, "tpnet: AreaFull\n")?);
+    assert!(rt; is_refused(&rt, &scratch, &words, "tpnet: AreaFull\n")?);
     let made = scratch.read(&rt, "made")?;
     assert_eq!(rt; made.len(), 712);
     assert!(rt; made.iter().all(|byte| *byte == 0));
@@ -93,9 +94,9 @@ fn a_format_that_stops_opens_nothing_else(rt: HostRuntime) -> Result<(), Fail> {
         scratch.put(&rt, "device", old.as_slice())?;
         scratch.put(&rt, "a.img", other.as_slice())?;
         let faults = Faults::at(number, false);
-        let output = scratch.run(&FaultyFiles::new(&rt, &faults), FORMAT)?;
+        let output = tpnet(&FaultyFiles::new(&rt, &faults), &scratch, FORMAT)?;
         let left = scratch.read(&rt, "device")?;
-        let opens = scratch.run(&rt, &["recover", "@device"])?.status == 0;
+        let opens = tpnet(&rt, &scratch, &["recover", "@device"])?.status == 0;
         if output.status == 0 {
             done = number;
             break;
@@ -125,7 +126,7 @@ fn each_call_of_a_file_may_fail(rt: HostRuntime) -> Result<(), Fail> {
         for number in 0..100 {
             let _again = network(&rt, "fails")?;
             let faults = Faults::at(number, true);
-            let output = scratch.run(&FaultyFiles::new(&rt, &faults), words)?;
+            let output = tpnet(&FaultyFiles::new(&rt, &faults), &scratch, words)?;
             if output.status == 0 {
                 calls = number;
                 break;
@@ -142,16 +143,20 @@ fn each_call_of_a_file_may_fail(rt: HostRuntime) -> Result<(), Fail> {
 #[test]
 fn short_reads_and_writes_go_on(rt: HostRuntime) -> Result<(), Fail> {
     let (scratch, device) = network(&rt, "short")?;
-    let shown = scratch.run(&rt, &["show", "@device"])?;
+    let shown = tpnet(&rt, &scratch, &["show", "@device"])?;
     let sevens = Faults::short(7);
-    let output = scratch.run(&FaultyFiles::new(&rt, &sevens), FORMAT)?;
+    let output = tpnet(&FaultyFiles::new(&rt, &sevens), &scratch, FORMAT)?;
     assert_eq!(rt; output.status, 0);
     assert_eq!(rt; scratch.read(&rt, "device")?.as_slice(), device.as_slice());
-    let again = scratch.run(&FaultyFiles::new(&rt, &sevens), &["show", "@device"])?;
+    let again = tpnet(
+        &FaultyFiles::new(&rt, &sevens),
+        &scratch,
+        &["show", "@device"],
+    )?;
     assert_eq!(rt; again.out.as_slice(), shown.out.as_slice());
     for words in [FORMAT, &["show", "@device"]] {
         let nothing = Faults::short(0);
-        let none = scratch.run(&FaultyFiles::new(&rt, &nothing), words)?;
+        let none = tpnet(&FaultyFiles::new(&rt, &nothing), &scratch, words)?;
         assert_eq!(rt; none.status, 1);
         assert!(rt; none.out.is_empty());
     }
@@ -168,7 +173,7 @@ fn how_files_are_opened(rt: HostRuntime) -> Result<(), Fail> {
     for words in [["recover", "@device"], ["show", "@device"]] {
         let faults = Faults::short(usize::MAX);
         assert_eq!(rt;
-            scratch.run(&FaultyFiles::new(&rt, &faults), &words)?.status,
+            tpnet(&FaultyFiles::new(&rt, &faults), &scratch, &words)?.status,
             0
         );
         assert!(rt; !faults.writable.load(Ordering::SeqCst));
@@ -180,13 +185,13 @@ fn how_files_are_opened(rt: HostRuntime) -> Result<(), Fail> {
     assert_eq!(rt; scratch.read(&rt, "device")?.as_slice(), device.as_slice());
     let faults = Faults::short(usize::MAX);
     assert_eq!(rt;
-        scratch.run(&FaultyFiles::new(&rt, &faults), FORMAT)?.status,
+        tpnet(&FaultyFiles::new(&rt, &faults), &scratch, FORMAT)?.status,
         0
     );
     assert_eq!(rt; faults.synced.load(Ordering::SeqCst), 0);
     fs::remove_file(&rt, path.as_str())?;
     assert_eq!(rt;
-        scratch.run(&FaultyFiles::new(&rt, &faults), FORMAT)?.status,
+        tpnet(&FaultyFiles::new(&rt, &faults), &scratch, FORMAT)?.status,
         0
     );
     assert_eq!(rt; faults.synced.load(Ordering::SeqCst), 1);
@@ -199,14 +204,14 @@ fn how_files_are_opened(rt: HostRuntime) -> Result<(), Fail> {
 fn a_device_above_four_gigabytes(rt: HostRuntime) -> Result<(), Fail> {
     let (scratch, _device) = network(&rt, "large")?;
     let words = ["format", "@large", "@net.txt", "@", "4294967317"];
-    assert_eq!(rt; scratch.run(&rt, &words)?.status, 0);
+    assert_eq!(rt; tpnet(&rt, &scratch, &words)?.status, 0);
     let path = scratch.path(rt.alloc(), "large")?;
     assert_eq!(rt; fs::metadata(&rt, path.as_str())?.len(), 8_589_935_146);
-    let recovered = scratch.run(&rt, &["recover", "@large"])?;
+    let recovered = tpnet(&rt, &scratch, &["recover", "@large"])?;
     assert_eq!(rt; recovered.out.as_slice(), b"next 0\n".as_slice());
     let file = fs::OpenOptions::new().write(true).open(&rt, path.as_str())?;
     file.write_all_at(&[0xA5, 1], 4_294_967_829)?;
     let line = "tpnet: Damaged 4294967829\n";
-    assert!(rt; scratch.is_refused(&rt, &["show", "@large"], line)?);
+    assert!(rt; is_refused(&rt, &scratch, &["show", "@large"], line)?);
     scratch.remove(&rt)
 }

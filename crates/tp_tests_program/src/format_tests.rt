@@ -1,11 +1,11 @@
 //! What `tpnet format` writes and refuses.
 
-use crate::tests::{letter, place};
 use std::alloc::Global;
 use std::test::Fail;
 use tp_disk::{MemDisk, PlannedFault};
 use tp_net::Topology;
 use tp_program::format_on;
+use tp_tests_fixtures::{letter, place};
 
 pub(crate) const AREA: u64 = 16_384;
 

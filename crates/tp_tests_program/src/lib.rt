@@ -14,6 +14,8 @@ mod limit_tests;
 #[cfg(test)]
 mod opening_tests;
 #[cfg(test)]
+mod program;
+#[cfg(test)]
 mod program_tests;
 #[cfg(test)]
 mod run_tests;

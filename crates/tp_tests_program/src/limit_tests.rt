@@ -1,9 +1,10 @@
 //! What the program does at every limit.
 
+use crate::program::{plays, tpnet};
 use crate::scratch::Scratch;
-use crate::tests::{letter, place};
 use std::alloc::Global;
 use std::test::Fail;
+use tp_tests_fixtures::{letter, place};
 
 /// A network of 16 nodes, one of 256 pages, and 8 ports, in which each link has a wire.
 fn largest_network(alloc: Global) -> Result<String, Fail> {
@@ -50,13 +51,13 @@ fn the_largest_network(rt: HostRuntime) -> Result<(), Fail> {
     }
     let area = format!(in rt.alloc(); "{LEAST}")?;
     let less = format!(in rt.alloc(); "{}", LEAST - 1)?;
-    let small = ["format", "@device", "@net.txt", "@", less.as_str()];
-    assert!(rt; scratch.is_refused(&rt, &small, "tpnet: AreaFull\n")?);
+    let small: &[&str] = &["format", "@device", "@net.txt", "@", less.as_str()];
+    plays(&rt, &scratch, &[(small, 1, "", "tpnet: AreaFull\n")])?;
     let words = ["format", "@device", "@net.txt", "@", area.as_str()];
-    assert_eq!(rt; scratch.run(&rt, &words)?.status, 0);
-    let recovered = scratch.run(&rt, &["recover", "@device"])?;
+    assert_eq!(rt; tpnet(&rt, &scratch, &words)?.status, 0);
+    let recovered = tpnet(&rt, &scratch, &["recover", "@device"])?;
     assert_eq!(rt; recovered.out.as_slice(), b"next 0\n".as_slice());
-    let shown = String::from_utf8(scratch.run(&rt, &["show", "@device"])?.out)?;
+    let shown = String::from_utf8(tpnet(&rt, &scratch, &["show", "@device"])?.out)?;
     assert!(rt; shown.as_str().starts_with("nodes 16 ports 8 area "));
     assert!(rt; shown.as_str().contains("\nnode 15 halt 0\n"));
     assert!(rt;
@@ -72,7 +73,7 @@ fn the_largest_network(rt: HostRuntime) -> Result<(), Fail> {
 fn many_turns(rt: HostRuntime) -> Result<(), Fail> {
     let scratch = Scratch::new(&rt, "turns")?;
     scratch.put(&rt, "a.img", letter(rt.alloc())?.as_slice())?;
-    let tried = scratch.run(&rt, &["try", "@a.img", "--turns=100001"])?;
+    let tried = tpnet(&rt, &scratch, &["try", "@a.img", "--turns=100001"])?;
     assert_eq!(rt; tried.status, 0);
     assert_eq!(rt; tried.out.as_slice(), b"A".as_slice());
     scratch.remove(&rt)

@@ -1,11 +1,11 @@
 //! What `tpnet recover` and `tpnet show` print and refuse, on the device of one node.
 
 use crate::format_tests::{AREA, format_in_memory, images_of};
-use crate::tests::{letter, place};
 use std::alloc::Global;
 use std::test::Fail;
 use tp_disk::{MemDisk, PlannedFault};
 use tp_program::{recover_on, show_on};
+use tp_tests_fixtures::{letter, place};
 
 /// A device that was just formatted.
 fn fresh(alloc: Global) -> Result<Vec<u8>, Fail> {

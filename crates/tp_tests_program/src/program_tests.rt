@@ -1,10 +1,11 @@
 //! What the program answers to whole command lines, on files.
 
 use crate::format_tests::part;
+use crate::program::{is_refused, plays, tpnet};
 use crate::scratch::{Lines, Scratch};
-use crate::tests::{letter, place};
 use std::test::Fail;
 use tp_program::{Asked, NewDevice, Run, read_args};
+use tp_tests_fixtures::{letter, place};
 
 /// Command lines that ask for nothing: a word is missing, unknown, one too many, or out of its range.
 const NOTHING: &[&[&str]] = &[
@@ -49,7 +50,7 @@ fn words_that_ask_for_nothing(rt: HostRuntime) -> Result<(), Fail> {
     let scratch = Scratch::new(&rt, "words")?;
     scratch.put(&rt, "net.txt", b"node\n")?;
     for words in NOTHING {
-        let output = scratch.run(&rt, words)?;
+        let output = tpnet(&rt, &scratch, words)?;
         assert_eq!(rt; output.status, 2);
         assert!(rt; output.out.is_empty());
         assert!(rt; !output.err.is_empty());
@@ -184,7 +185,7 @@ fn each_command_on_files(rt: HostRuntime) -> Result<(), Fail> {
     scratch.put(&rt, "left.img", left.as_slice())?;
     scratch.put(&rt, "right.img", right.as_slice())?;
     scratch.put(&rt, "net.txt", TWO)?;
-    scratch.plays(&rt, COMMANDS)?;
+    plays(&rt, &scratch, COMMANDS)?;
     let device = scratch.read(&rt, "device")?;
     let bytes = device.as_slice();
     assert!(rt; bytes.len() == 66_048 && bytes.starts_with(b"TPNET"));
@@ -220,7 +221,7 @@ const NOWHERE: Lines<'static> = &[
 #[test]
 fn files_that_are_not_there(rt: HostRuntime) -> Result<(), Fail> {
     let scratch = Scratch::new(&rt, "nowhere")?;
-    scratch.plays(&rt, NOWHERE)?;
+    plays(&rt, &scratch, NOWHERE)?;
     scratch.remove(&rt)
 }
 
@@ -248,12 +249,12 @@ fn topologies_that_are_refused(rt: HostRuntime) -> Result<(), Fail> {
     let words = ["format", "@device", "@net.txt", "@", "16384"];
     for (text, name) in FAULTS {
         scratch.put(&rt, "net.txt", text)?;
-        assert!(rt; scratch.is_refused(&rt, &words, name)?);
+        assert!(rt; is_refused(&rt, &scratch, &words, name)?);
         assert!(rt; !scratch.has(&rt, "device")?);
     }
     scratch.put(&rt, "net.txt", b"node a 4\nport h\n")?;
     let nowhere = ["format", "@nowhere/device", "@net.txt", "@", "16384"];
-    assert!(rt; scratch.is_refused(&rt, &nowhere, "tpnet: DeviceFailed\n")?);
+    assert!(rt; is_refused(&rt, &scratch, &nowhere, "tpnet: DeviceFailed\n")?);
     scratch.remove(&rt)
 }
 
@@ -280,7 +281,7 @@ const HELP: &[(&[&str], &str)] = &[
 fn asking_is_no_fault(rt: HostRuntime) -> Result<(), Fail> {
     let scratch = Scratch::new(&rt, "help")?;
     for (words, part) in HELP {
-        let output = scratch.run(&rt, words)?;
+        let output = tpnet(&rt, &scratch, words)?;
         assert_eq!(rt; output.status, 0);
         assert!(rt; output.err.is_empty());
         let text = String::from_utf8(output.out)?;
@@ -302,7 +303,7 @@ fn images_stand_in_the_order_of_the_topology(rt: HostRuntime) -> Result<(), Fail
         scratch.put(&rt, name, image.as_slice())?;
     }
     let words = ["format", "@device", "@net.txt", "@", "32768"];
-    assert_eq!(rt; scratch.run(&rt, &words)?.status, 0);
+    assert_eq!(rt; tpnet(&rt, &scratch, &words)?.status, 0);
     let device = scratch.read(&rt, "device")?;
     for (node, letter_of) in [b'C', b'A', b'B'].iter().enumerate() {
         let at = 533 + 4268 * node + 172 + 0x109;

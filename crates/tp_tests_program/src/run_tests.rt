@@ -3,9 +3,8 @@
 ghost use Rattle.tp_program.specs.Args.{IsRun};
 
 use crate::faults::{Faults, FaultyFiles};
-use crate::format_tests::{AREA, format_in_memory, images_of};
+use crate::program::{plays, tpnet};
 use crate::scratch::{Lines, Output, Scratch};
-use crate::tests::{letter, place};
 use std::alloc::Global;
 use std::fs::{Files, OpenFile};
 use std::io;
@@ -17,6 +16,7 @@ use std::test::Fail;
 use std::thread::Threads;
 use tp_disk::{Disk, MemDisk, PlannedFault};
 use tp_program::{Run, run_on};
+use tp_tests_fixtures::{letter, place};
 
 /// The image of a node that sends back each byte that it gets on link 0.
 pub(crate) fn echo(alloc: Global) -> Result<Vec<u8>, Fail> {
@@ -37,7 +37,7 @@ pub(crate) fn device<
     scratch.put(rt, "net.txt", b"node a 4\nport h\nwire a.0 h\n")?;
     scratch.put(rt, "a.img", image)?;
     let words = ["format", "@device", "@net.txt", "@", area];
-    match scratch.run(rt, &words)?.status {
+    match tpnet(rt, &scratch, &words)?.status {
         0 => Ok(scratch),
         _ => Err(Fail::new("not formatted")),
     }
@@ -95,7 +95,7 @@ const LETTER: Lines<'static> = &[
 fn a_letter_is_printed_and_confirmed(rt: HostRuntime) -> Result<(), Fail> {
     let scratch = device(&rt, "run_letter", letter(rt.alloc())?.as_slice(), "16384")?;
     let length = scratch.read(&rt, "device")?.len();
-    scratch.plays(&rt, LETTER)?;
+    plays(&rt, &scratch, LETTER)?;
     assert_eq!(rt; scratch.read(&rt, "device")?.len(), length);
     scratch.remove(&rt)
 }
@@ -117,17 +117,17 @@ fn many_workers_print_it_once(rt: HostRuntime) -> Result<(), Fail> {
         ];
         let mut printed = Vec::new(alloc);
         for _ in 0..40 {
-            let ran = scratch.run(&rt, &words)?;
+            let ran = tpnet(&rt, &scratch, &words)?;
             assert_eq!(rt; ran.status, 0);
             printed.extend_from_slice(ran.out.as_slice())?;
-            let next = scratch.run(&rt, &["recover", "@device"])?.out;
+            let next = tpnet(&rt, &scratch, &["recover", "@device"])?.out;
             assert_eq!(rt; ran.err.as_slice(), next.as_slice());
             if !printed.is_empty() {
                 break;
             }
         }
         assert_eq!(rt; printed.as_slice(), b"A".as_slice());
-        scratch.plays(&rt, &[(&["port", "@device", "0"], 0, "", "")])?;
+        plays(&rt, &scratch, &[(&["port", "@device", "0"], 0, "", "")])?;
         scratch.remove(&rt)?;
     }
     Ok(())
@@ -156,11 +156,11 @@ fn a_port_takes_its_input_once(rt: HostRuntime) -> Result<(), Fail> {
         ("a", ""),
     ] {
         scratch.put(&rt, "input", input.as_bytes())?;
-        let ran = scratch.run(&rt, ECHO)?;
+        let ran = tpnet(&rt, &scratch, ECHO)?;
         assert_eq!(rt; ran.status, 0);
         assert_eq!(rt; ran.out.as_slice(), printed.as_bytes());
     }
-    let shown = String::from_utf8(scratch.run(&rt, SHOW)?.out)?;
+    let shown = String::from_utf8(tpnet(&rt, &scratch, SHOW)?.out)?;
     assert!(rt;
         shown
             .as_str()
@@ -178,8 +178,8 @@ fn as_much_input_as_there_is_room_for(rt: HostRuntime) -> Result<(), Fail> {
     let words: &[&str] = &["run", "@device", "--turns", "0", "--in", "@input"];
     let end = "port 0 in 0 pending 4096 out 0 unconfirmed 0\n";
     for _ in 0..2 {
-        scratch.plays(&rt, &[(words, 0, "", "next 4096\n")])?;
-        let shown = String::from_utf8(scratch.run(&rt, SHOW)?.out)?;
+        plays(&rt, &scratch, &[(words, 0, "", "next 4096\n")])?;
+        let shown = String::from_utf8(tpnet(&rt, &scratch, SHOW)?.out)?;
         assert!(rt; shown.as_str().ends_with(end));
     }
     scratch.remove(&rt)
@@ -243,11 +243,11 @@ fn a_refused_run_leaves_the_device(rt: HostRuntime) -> Result<(), Fail> {
         let mut bytes = Vec::from_slice(rt.alloc(), fresh.as_slice())?;
         place(&mut bytes, *at, &[*byte]);
         scratch.put(&rt, "device", bytes.as_slice())?;
-        scratch.plays(&rt, &[(*words, *status, "", *err)])?;
+        plays(&rt, &scratch, &[(*words, *status, "", *err)])?;
         assert_eq!(rt; scratch.read(&rt, "device")?.as_slice(), bytes.as_slice());
     }
     let nowhere: &[&str] = &["run", "@nowhere", "--turns", "4"];
-    scratch.plays(&rt, &[(nowhere, 1, "", "tpnet: ReadFailed\n")])?;
+    plays(&rt, &scratch, &[(nowhere, 1, "", "tpnet: ReadFailed\n")])?;
     assert!(rt; !scratch.has(&rt, "nowhere")?);
     scratch.remove(&rt)
 }
@@ -277,7 +277,7 @@ fn a_full_journal(rt: HostRuntime) -> Result<(), Fail> {
     for (area, lines) in FULL {
         let scratch = device(&rt, "run_full", letter(rt.alloc())?.as_slice(), area)?;
         scratch.put(&rt, "input", b"ab")?;
-        scratch.plays(&rt, lines)?;
+        plays(&rt, &scratch, lines)?;
         scratch.remove(&rt)?;
     }
     Ok(())
@@ -294,8 +294,8 @@ fn goes_on<
         || said == b"tpnet: ReadFailed\n".as_slice()
         || said == b"tpnet: DeviceFailed\n".as_slice();
     let has_printed = !ran.out.is_empty();
-    let unconfirmed = scratch.run(rt, &["port", "@device", "0"])?;
-    let again = scratch.run(rt, if has_printed { NONE } else { FOUR })?;
+    let unconfirmed = tpnet(rt, scratch, &["port", "@device", "0"])?;
+    let again = tpnet(rt, scratch, if has_printed { NONE } else { FOUR })?;
     let prints_letter = again.out.as_slice() == b"A".as_slice();
     let prints_unconfirmed = again.out.as_slice() == unconfirmed.out.as_slice();
     let prints = if has_printed {
@@ -314,7 +314,7 @@ fn each_call_of_the_file_may_fail(rt: HostRuntime) -> Result<(), Fail> {
     for number in 0..200u64 {
         scratch.put(&rt, "device", fresh.as_slice())?;
         let faults = Faults::at(number, false);
-        let ran = scratch.run(&FaultyFiles::new(&rt, &faults), FOUR)?;
+        let ran = tpnet(&FaultyFiles::new(&rt, &faults), &scratch, FOUR)?;
         assert!(rt; goes_on(&rt, &scratch, &ran)?);
         if ran.status == 0 {
             break;
@@ -332,7 +332,7 @@ fn a_file_to_read_alone(rt: HostRuntime) -> Result<(), Fail> {
     let before = scratch.read(&rt, "device")?;
     let faults = Faults::to_read();
     let files = FaultyFiles::new(&rt, &faults);
-    assert!(rt; scratch.is_refused(&files, FOUR, "tpnet: ReadFailed\n")?);
+    plays(&files, &scratch, &[(FOUR, 1, "", "tpnet: ReadFailed\n")])?;
     assert!(rt; faults.writable.load(Ordering::SeqCst));
     assert_eq!(rt; scratch.read(&rt, "device")?.as_slice(), before.as_slice());
     scratch.remove(&rt)
@@ -426,17 +426,21 @@ fn run_in_memory<R: AllocGlobal + Threads + Wait + Sync>(
     }
 }
 
-/// A device in memory, of one node with that image.
-fn in_memory(alloc: Global, image: Vec<u8>) -> Result<Vec<u8>, Fail> {
-    let images = images_of(alloc, image)?;
-    let disk = MemDisk::zeroed(alloc, 33_280)?;
-    Ok(format_in_memory(alloc, disk, images.as_slice(), AREA)?.bytes)
+/// The bytes of a device that was just formatted, whose node sends back what it gets.
+fn fresh_echo<
+    R: Files<File = F> + AllocGlobal + Threads + Wait + Sync,
+    F: FileExt + OpenFile + Drop + Send,
+>(rt: &R, name: &str) -> Result<Vec<u8>, Fail> {
+    let scratch = device(rt, name, echo(rt.alloc())?.as_slice(), "16384")?;
+    let bytes = scratch.read(rt, "device")?;
+    scratch.remove(rt)?;
+    Ok(bytes)
 }
 
 /// Where the output can't be written nothing is confirmed: the next run prints it again.
 #[test]
 fn an_output_that_fails(rt: HostRuntime) -> Result<(), Fail> {
-    let fresh = in_memory(rt.alloc(), echo(rt.alloc())?)?;
+    let fresh = fresh_echo(&rt, "run_output")?;
     for room in 0..3usize {
         let bytes = Vec::from_slice(rt.alloc(), fresh.as_slice())?;
         let ran = run_in_memory(&rt, MemDisk::of_bytes(bytes), 40, b"abc", room);
@@ -470,7 +474,7 @@ fn stops_at<R: AllocGlobal + Threads + Wait + Sync>(
 
 #[test]
 fn a_run_stops_at_each_call(rt: HostRuntime) -> Result<(), Fail> {
-    let fresh = in_memory(rt.alloc(), echo(rt.alloc())?)?;
+    let fresh = fresh_echo(&rt, "run_stops")?;
     let mut calls = 0u64;
     for call in 0..200u64 {
         let (is_done, goes_on) = stops_at(&rt, fresh.as_slice(), call)?;

@@ -1,9 +1,9 @@
 //! That no file has two parts in a command: what is refused, and that each file stays as it was.
 
+use crate::program::tpnet;
 use crate::scratch::{Output, Scratch};
 use crate::standing::Standing;
 use crate::stream_tests::{handed_on, stream, times};
-use crate::tests::letter;
 use std::alloc::Global;
 use std::fs;
 use std::fs::{Files, OpenFile};
@@ -11,6 +11,7 @@ use std::os::unix::fs::{FileExt, symlink};
 use std::sync::Wait;
 use std::test::Fail;
 use std::thread::Threads;
+use tp_tests_fixtures::letter;
 
 /// The bytes of a file, and when it was written and changed last; none where there is no such file.
 type Kept = Option<(Vec<u8>, (i64, i64, i64, i64))>;
@@ -302,7 +303,7 @@ fn is_kept<
     let old: &[&str] = &["format", device, "@net.txt", "@", "65536"];
     let new: &[&str] = &["format", "--new", device, "@net.txt", "@", "65536"];
     for words in [old, new] {
-        let output = scratch.run(rt, words)?;
+        let output = tpnet(rt, scratch, words)?;
         let text = output.err.as_slice();
         let is_said = text.starts_with(b"tpnet: DEVICE ")
             && text.ends_with(b"nothing was written\n");
@@ -341,7 +342,7 @@ fn no_format_replaces_what_it_reads(rt: HostRuntime) -> Result<(), Fail> {
     }
     for name in ["@to_other", "@also_other"] {
         let words: &[&str] = &["format", name, "@net.txt", "@", "65536"];
-        assert_eq!(rt; scratch.run(&rt, words)?.status, 0);
+        assert_eq!(rt; tpnet(&rt, &scratch, words)?.status, 0);
     }
     scratch.remove(&rt)
 }

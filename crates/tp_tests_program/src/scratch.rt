@@ -2,12 +2,8 @@
 
 use std::alloc::Global;
 use std::fs;
-use std::fs::{Files, OpenFile};
-use std::os::unix::fs::FileExt;
-use std::sync::Wait;
+use std::fs::Files;
 use std::test::Fail;
-use std::thread::Threads;
-use tp_program::answer;
 
 /// The folder. It is made empty, and `remove` removes it.
 #[derive(Drop)]
@@ -18,9 +14,29 @@ pub(crate) struct Scratch {
 /// The status that a command line ends with, and what it wrote.
 #[derive(Drop)]
 pub(crate) struct Output {
+    /// The status.
     pub(crate) status: u8,
+    /// What stands on standard output.
     pub(crate) out: Vec<u8>,
+    /// What stands on standard error.
     pub(crate) err: Vec<u8>,
+}
+
+impl Output {
+    /// Whether it has that status, and just these texts on standard output and standard error.
+    pub(crate) fn is(&self, status: u8, out: &str, err: &str) -> bool {
+        self.status == status
+            && self.out.as_slice() == out.as_bytes()
+            && self.err.as_slice() == err.as_bytes()
+    }
+
+    /// Fails where it isn't that. The failure says what stands on standard error.
+    pub(crate) fn ends(self, status: u8, out: &str, err: &str) -> Result<(), Fail> {
+        if self.is(status, out, err) {
+            return Ok(());
+        }
+        Err(Fail::new(String::from_utf8(self.err)?))
+    }
 }
 
 /// Command lines one after the other, and the status, standard output and standard error of each.
@@ -81,44 +97,6 @@ impl Scratch {
             line.push(self.word(alloc, word)?)?;
         }
         Ok(line)
-    }
-
-    /// What the program does for `words`.
-    pub(crate) fn run<
-        R: Files<File = F> + AllocGlobal + Threads + Wait + Sync,
-        F: FileExt + OpenFile + Drop + Send,
-    >(&self, rt: &R, words: &[&str]) -> Result<Output, Fail> {
-        let alloc = rt.alloc();
-        let line = self.line(alloc, words)?;
-        let (mut out, mut err) = (Vec::new(alloc), Vec::new(alloc));
-        let status = answer(rt, line.as_slice(), &mut out, &mut err);
-        Ok(Output { status, out, err })
-    }
-
-    /// Whether `words` are refused with that line on standard error, and print nothing.
-    pub(crate) fn is_refused<
-        R: Files<File = F> + AllocGlobal + Threads + Wait + Sync,
-        F: FileExt + OpenFile + Drop + Send,
-    >(&self, rt: &R, words: &[&str], name: &str) -> Result<bool, Fail> {
-        let output = self.run(rt, words)?;
-        Ok(output.status == 1 && output.out.is_empty() && output.err.as_slice() == name.as_bytes())
-    }
-
-    /// Does what the lines ask for, each after the one before it. A failure says what stood on standard error.
-    pub(crate) fn plays<
-        R: Files<File = F> + AllocGlobal + Threads + Wait + Sync,
-        F: FileExt + OpenFile + Drop + Send,
-    >(&self, rt: &R, lines: Lines<'_>) -> Result<(), Fail> {
-        for (words, status, out, err) in lines {
-            let output = self.run(rt, words)?;
-            if output.status != *status
-                || output.out.as_slice() != out.as_bytes()
-                || output.err.as_slice() != err.as_bytes()
-            {
-                return Err(Fail::new(String::from_utf8(output.err)?));
-            }
-        }
-        Ok(())
     }
 
     /// Removes the folder.

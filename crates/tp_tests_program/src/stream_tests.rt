@@ -1,8 +1,8 @@
 //! What `tpnet run --stream` does with files and standard streams, and what it refuses.
 
+use crate::program::tpnet;
 use crate::run_tests::{device, echo};
 use crate::scratch::{Output, Scratch};
-use crate::tests::{letter, place};
 use std::alloc::Global;
 use std::fs;
 use std::fs::{Files, OpenFile};
@@ -12,6 +12,7 @@ use std::test::Fail;
 use std::thread::Threads;
 use tp_program::{answer_stream, is_stream};
 use tp_stream_files::Plain;
+use tp_tests_fixtures::{letter, place};
 
 /// The words of a stream of the folder's device.
 const STREAM: &[&str] = &["run", "@device", "--stream", "--quantum=64"];
@@ -59,13 +60,7 @@ fn plays<R: Files<File = F> + AllocGlobal + Wait, F: FileExt + OpenFile + Drop>(
     rows: Streams<'_>,
 ) -> Result<(), Fail> {
     for (words, input, status, out, err) in rows {
-        let output = stream(rt, scratch, words, input.as_bytes())?;
-        if output.status != *status
-            || output.out.as_slice() != out.as_bytes()
-            || output.err.as_slice() != err.as_bytes()
-        {
-            return Err(Fail::new(String::from_utf8(output.err)?));
-        }
+        stream(rt, scratch, words, input.as_bytes())?.ends(*status, out, err)?;
     }
     Ok(())
 }
@@ -345,7 +340,7 @@ pub(crate) fn handed_on<
         ],
     ];
     for words in lines {
-        if scratch.run(rt, words)?.status != 0 {
+        if tpnet(rt, &scratch, words)?.status != 0 {
             return Err(Fail::new("nothing was handed on"));
         }
     }
@@ -473,14 +468,14 @@ fn a_full_port_runs_on(rt: HostRuntime) -> Result<(), Fail> {
     scratch.put(&rt, "a.img", letters.as_slice())?;
     scratch.put(&rt, "busy.img", letters.as_slice())?;
     let format: &[&str] = &["format", "@device", "@net.txt", "@", "32768"];
-    assert_eq!(rt; scratch.run(&rt, format)?.status, 0);
+    assert_eq!(rt; tpnet(&rt, &scratch, format)?.status, 0);
     for end in [["--out", "0=@out"], ["--discard", "0"]] {
         let words: &[&str] = &["--turns", "16000", end[0], end[1]];
         assert_eq!(rt; stream(&rt, &scratch, words, b"")?.status, 0);
     }
     let out = scratch.read(&rt, "out")?;
     assert!(rt; out.len() > 1000 && out.iter().all(|byte| *byte == b'A'));
-    let shown = String::from_utf8(scratch.run(&rt, &["show", "@device"])?.out)?;
+    let shown = String::from_utf8(tpnet(&rt, &scratch, &["show", "@device"])?.out)?;
     assert!(rt; shown.as_str().ends_with(" unconfirmed 0\n"));
     assert!(rt;
         !shown.as_str().contains("generation 1 ") && !shown.as_str().contains("generation 2 ")

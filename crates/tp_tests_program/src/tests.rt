@@ -1,11 +1,11 @@
 //! What `tpnet try` writes and refuses, on the image that sends one letter.
 
-use std::alloc::{AllocError, Global};
 use std::io;
 use std::io::Write;
 use std::test::Fail;
 use tp_model::{Entry, Token};
 use tp_program::{TRY_QUANTUM, try_on};
+use tp_tests_fixtures::{letter, place};
 use tp_turn::try_turns;
 
 /// Takes nothing.
@@ -20,33 +20,6 @@ impl Write for Shut {
     fn flush(&mut self) -> io::Result<()> {
         Ok(())
     }
-}
-
-/// Puts bytes at a place.
-pub(crate) fn place(image: &mut Vec<u8>, at: usize, bytes: &[u8]) {
-    for (i, byte) in bytes.iter().enumerate() {
-        if at < image.len() && i < image.len() - at {
-            image[at + i] = *byte;
-        }
-    }
-}
-
-/// The image of a node of four pages, in which a low process sends the letter A on link 0 and then goes round.
-pub(crate) fn letter(alloc: Global) -> Result<Vec<u8>, AllocError> {
-    let mut image = Vec::from_elem(alloc, 0u8, 172 + 4096)?;
-    place(&mut image, 0, &[1, 0, 4, 0]);
-    place(&mut image, 4, &[0x00, 0x01, 0x00, 0x80]);
-    place(&mut image, 8, &[0x00, 0x02, 0x00, 0x80]);
-    for queue in 0..4usize {
-        place(&mut image, 24 + 4 * queue, &[0, 0, 0, 0x80]);
-    }
-    place(&mut image, 41, &[2]);
-    place(&mut image, 172 + 0x2C, &[0, 0, 0, 0x80]);
-    let code = [
-        0x27, 0x2F, 0x2F, 0x2F, 0x2F, 0x2F, 0x6F, 0x40, 0x24, 0x41, 0xFE, 0x60, 0x0E,
-    ];
-    place(&mut image, 172 + 0x100, &code);
-    Ok(image)
 }
 
 #[test]

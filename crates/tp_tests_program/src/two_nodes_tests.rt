@@ -1,11 +1,11 @@
 //! What the program prints of a device of two nodes, wired to each other and to a port.
 
-use crate::tests::{letter, place};
 use std::alloc::Global;
 use std::test::Fail;
 use tp_disk::MemDisk;
 use tp_net::Topology;
 use tp_program::{format_on, recover_on, show_on};
+use tp_tests_fixtures::{letter, place};
 
 const TEXT: &[u8] =
     b"# both send on link 0\nnode left 4\nnode right 4\nport h\nwire left.0 right.0\nwire right.3 h\n";
