@@ -1,8 +1,6 @@
 //! What the commands do to files: what a refusal leaves, which calls they make, and what follows where one fails.
 
-use crate::faults::{Faults, FaultyFiles};
 use crate::program::{is_refused, tpnet};
-use crate::scratch::Scratch;
 use std::fs;
 use std::fs::{Files, OpenFile};
 use std::os::unix::fs::{FileExt, MetadataExt};
@@ -10,6 +8,8 @@ use std::sync::Wait;
 use std::sync::atomic::Ordering;
 use std::test::Fail;
 use std::thread::Threads;
+use tp_tests_files::faults::{Faults, FaultyFiles};
+use tp_tests_files::scratch::Scratch;
 use tp_tests_fixtures::{letter, place};
 
 const FORMAT: &[&str] = &["format", "@device", "@net.txt", "@", "16384"];

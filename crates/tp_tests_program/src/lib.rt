@@ -2,31 +2,15 @@
 #![tactic(auto)]
 
 #[cfg(test)]
-mod compact_tests;
-#[cfg(test)]
-mod faults;
-#[cfg(test)]
 mod file_tests;
 #[cfg(test)]
 mod format_tests;
-#[cfg(test)]
-mod limit_tests;
 #[cfg(test)]
 mod opening_tests;
 #[cfg(test)]
 mod program;
 #[cfg(test)]
 mod program_tests;
-#[cfg(test)]
-mod run_tests;
-#[cfg(test)]
-mod same_tests;
-#[cfg(test)]
-mod scratch;
-#[cfg(test)]
-mod standing;
-#[cfg(test)]
-mod stream_tests;
 #[cfg(test)]
 mod tests;
 #[cfg(test)]

@@ -1,12 +1,12 @@
 //! The program, called in a scratch folder.
 
-use crate::scratch::{Lines, Output, Scratch};
 use std::fs::{Files, OpenFile};
 use std::os::unix::fs::FileExt;
 use std::sync::Wait;
 use std::test::Fail;
 use std::thread::Threads;
 use tp_program::answer;
+use tp_tests_files::scratch::{Lines, Output, Scratch};
 
 /// What the program does for `words`.
 pub(crate) fn tpnet<

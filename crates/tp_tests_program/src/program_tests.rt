@@ -2,9 +2,9 @@
 
 use crate::format_tests::part;
 use crate::program::{is_refused, plays, tpnet};
-use crate::scratch::{Lines, Scratch};
 use std::test::Fail;
 use tp_program::{Asked, NewDevice, Run, read_args};
+use tp_tests_files::scratch::{Lines, Scratch};
 use tp_tests_fixtures::{letter, place};
 
 /// Command lines that ask for nothing: a word is missing, unknown, one too many, or out of its range.

@@ -1,8 +1,6 @@
 //! That no file has two parts in a command: what is refused, and that each file stays as it was.
 
 use crate::program::tpnet;
-use crate::scratch::{Output, Scratch};
-use crate::standing::Standing;
 use crate::stream_tests::{handed_on, stream, times};
 use std::alloc::Global;
 use std::fs;
@@ -11,6 +9,8 @@ use std::os::unix::fs::{FileExt, symlink};
 use std::sync::Wait;
 use std::test::Fail;
 use std::thread::Threads;
+use tp_tests_files::scratch::{Output, Scratch};
+use tp_tests_files::standing::Standing;
 use tp_tests_fixtures::letter;
 
 /// The bytes of a file, and when it was written and changed last; none where there is no such file.

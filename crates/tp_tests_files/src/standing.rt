@@ -7,13 +7,14 @@ use std::sync::Wait;
 
 /// The files below, where each of these streams, as `/dev/stdout`, is the file of a path.
 #[derive(Drop)]
-pub(crate) struct Standing<'a, R> {
+pub struct Standing<'a, R> {
     below: &'a R,
     streams: &'a [(&'a str, String)],
 }
 
 impl<'a, R> Standing<'a, R> {
-    pub(crate) fn new(below: &'a R, streams: &'a [(&'a str, String)]) -> Standing<'a, R> {
+    /// These files, with these streams and the path of each.
+    pub fn new(below: &'a R, streams: &'a [(&'a str, String)]) -> Standing<'a, R> {
         Standing { below, streams }
     }
 

@@ -1,7 +1,7 @@
 use Rattle.std.proofs.Common.{rules}
 use contract.BorrowLft.{⊑_static}
 use denote.Param.Send.{sendable}
-use Rattle.tp_tests_program.proofs.run_tests.run_by_one.Goals as goal
+use Rattle.tp_tests_sessions.proofs.run_tests.run_by_one.Goals as goal
 
 pub run_on-disk-requires : goal.run_on-disk-requires
 run_on-disk-requires g c κs within =

@@ -2,7 +2,6 @@
 
 use crate::program::tpnet;
 use crate::run_tests::{device, echo};
-use crate::scratch::{Output, Scratch};
 use std::alloc::Global;
 use std::fs;
 use std::fs::{Files, OpenFile};
@@ -12,6 +11,7 @@ use std::test::Fail;
 use std::thread::Threads;
 use tp_program::{answer_stream, is_stream};
 use tp_stream_files::Plain;
+use tp_tests_files::scratch::{Output, Scratch};
 use tp_tests_fixtures::{letter, place};
 
 /// The words of a stream of the folder's device.

@@ -1,9 +1,9 @@
 //! What the program does at every limit.
 
 use crate::program::{plays, tpnet};
-use crate::scratch::Scratch;
 use std::alloc::Global;
 use std::test::Fail;
+use tp_tests_files::scratch::Scratch;
 use tp_tests_fixtures::{letter, place};
 
 /// A network of 16 nodes, one of 256 pages, and 8 ports, in which each link has a wire.

@@ -11,24 +11,24 @@ use std::thread::Threads;
 
 /// What becomes of the calls on a file.
 #[derive(Drop)]
-pub(crate) struct Faults {
+pub struct Faults {
     /// How many calls are done before the one that fails.
-    pub(crate) left: AtomicU64,
+    left: AtomicU64,
     /// Whether the calls behind it are done.
-    pub(crate) goes_on: bool,
+    goes_on: bool,
     /// The most bytes of one read or write.
-    pub(crate) most: usize,
+    most: usize,
     /// Whether opening it for writing is refused.
     only_reads: bool,
     /// Whether that was asked for.
-    pub(crate) writable: AtomicBool,
+    pub writable: AtomicBool,
     /// How many other files and folders were synced.
-    pub(crate) synced: AtomicU64,
+    pub synced: AtomicU64,
 }
 
 impl Faults {
     /// The call of that number fails, and those behind it unless it goes on.
-    pub(crate) fn at(number: u64, goes_on: bool) -> Faults {
+    pub fn at(number: u64, goes_on: bool) -> Faults {
         Faults {
             left: AtomicU64::new(number),
             goes_on,
@@ -40,7 +40,7 @@ impl Faults {
     }
 
     /// No call fails, and none moves more than `most` bytes.
-    pub(crate) fn short(most: usize) -> Faults {
+    pub fn short(most: usize) -> Faults {
         Faults {
             left: AtomicU64::new(u64::MAX),
             goes_on: true,
@@ -52,7 +52,7 @@ impl Faults {
     }
 
     /// No call fails, but the file may only be read.
-    pub(crate) fn to_read() -> Faults {
+    pub fn to_read() -> Faults {
         Faults {
             only_reads: true,
             ..Faults::short(usize::MAX)
@@ -75,13 +75,14 @@ impl Faults {
 
 /// A file, whose calls fail where it has faults.
 #[derive(Drop)]
-pub(crate) struct FaultyFile<'a, F: Drop> {
+pub struct FaultyFile<'a, F: Drop> {
     file: F,
     faults: &'a Faults,
     is_device: bool,
 }
 
 impl<'a, F: Drop> FaultyFile<'a, F> {
+    /// Whether the next call is done, where it is a device.
     fn pass(&self) -> io::Result<()> {
         if self.is_device {
             self.faults.pass()
@@ -158,13 +159,14 @@ impl<'a, F: OpenFile + Drop> OpenFile for FaultyFile<'a, F> {
 
 /// The files below, with faults of those whose path ends with `device`.
 #[derive(Drop)]
-pub(crate) struct FaultyFiles<'a, R> {
+pub struct FaultyFiles<'a, R> {
     below: &'a R,
     faults: &'a Faults,
 }
 
 impl<'a, R> FaultyFiles<'a, R> {
-    pub(crate) fn new(below: &'a R, faults: &'a Faults) -> FaultyFiles<'a, R> {
+    /// These files, with these faults.
+    pub fn new(below: &'a R, faults: &'a Faults) -> FaultyFiles<'a, R> {
         FaultyFiles { below, faults }
     }
 }

@@ -2,9 +2,7 @@
 
 ghost use Rattle.tp_program.specs.Args.{IsRun};
 
-use crate::faults::{Faults, FaultyFiles};
 use crate::program::{plays, tpnet};
-use crate::scratch::{Lines, Output, Scratch};
 use std::alloc::Global;
 use std::fs::{Files, OpenFile};
 use std::io;
@@ -16,6 +14,8 @@ use std::test::Fail;
 use std::thread::Threads;
 use tp_disk::{Disk, MemDisk, PlannedFault};
 use tp_program::{Run, run_on};
+use tp_tests_files::faults::{Faults, FaultyFiles};
+use tp_tests_files::scratch::{Lines, Output, Scratch};
 use tp_tests_fixtures::{letter, place};
 
 /// The image of a node that sends back each byte that it gets on link 0.

@@ -1,15 +1,15 @@
 //! What `tpnet compact` makes of a device, prints and refuses.
 
-use crate::faults::{Faults, FaultyFiles};
 use crate::program::{plays, tpnet};
 use crate::run_tests::device;
-use crate::scratch::{Lines, Scratch};
 use std::alloc::Global;
 use std::fs::{Files, OpenFile};
 use std::os::unix::fs::FileExt;
 use std::sync::Wait;
 use std::test::Fail;
 use std::thread::Threads;
+use tp_tests_files::faults::{Faults, FaultyFiles};
+use tp_tests_files::scratch::{Lines, Scratch};
 use tp_tests_fixtures::{letter, place};
 
 const COMPACT: &[&str] = &["compact", "@device"];

@@ -7,31 +7,31 @@ use std::test::Fail;
 
 /// The folder. It is made empty, and `remove` removes it.
 #[derive(Drop)]
-pub(crate) struct Scratch {
+pub struct Scratch {
     folder: String,
 }
 
 /// The status that a command line ends with, and what it wrote.
 #[derive(Drop)]
-pub(crate) struct Output {
+pub struct Output {
     /// The status.
-    pub(crate) status: u8,
+    pub status: u8,
     /// What stands on standard output.
-    pub(crate) out: Vec<u8>,
+    pub out: Vec<u8>,
     /// What stands on standard error.
-    pub(crate) err: Vec<u8>,
+    pub err: Vec<u8>,
 }
 
 impl Output {
     /// Whether it has that status, and just these texts on standard output and standard error.
-    pub(crate) fn is(&self, status: u8, out: &str, err: &str) -> bool {
+    pub fn is(&self, status: u8, out: &str, err: &str) -> bool {
         self.status == status
             && self.out.as_slice() == out.as_bytes()
             && self.err.as_slice() == err.as_bytes()
     }
 
     /// Fails where it isn't that. The failure says what stands on standard error.
-    pub(crate) fn ends(self, status: u8, out: &str, err: &str) -> Result<(), Fail> {
+    pub fn ends(self, status: u8, out: &str, err: &str) -> Result<(), Fail> {
         if self.is(status, out, err) {
             return Ok(());
         }
@@ -40,11 +40,11 @@ impl Output {
 }
 
 /// Command lines one after the other, and the status, standard output and standard error of each.
-pub(crate) type Lines<'a> = &'a [(&'a [&'a str], u8, &'a str, &'a str)];
+pub type Lines<'a> = &'a [(&'a [&'a str], u8, &'a str, &'a str)];
 
 impl Scratch {
     /// The folder `scratch/NAME`. Each test has a name of its own.
-    pub(crate) fn new<R: Files + AllocGlobal>(rt: &R, name: &str) -> Result<Scratch, Fail> {
+    pub fn new<R: Files + AllocGlobal>(rt: &R, name: &str) -> Result<Scratch, Fail> {
         let folder = format!(in rt.alloc(); "scratch/{name}")?;
         let _left = fs::remove_dir_all(rt, folder.as_str());
         fs::create_dir_all(rt, folder.as_str())?;
@@ -52,13 +52,13 @@ impl Scratch {
     }
 
     /// The path of the file of that name.
-    pub(crate) fn path(&self, alloc: Global, name: &str) -> Result<String, Fail> {
+    pub fn path(&self, alloc: Global, name: &str) -> Result<String, Fail> {
         let folder = self.folder.as_str();
         Ok(format!(in alloc; "{folder}/{name}")?)
     }
 
     /// Writes a file.
-    pub(crate) fn put<R: Files + AllocGlobal>(
+    pub fn put<R: Files + AllocGlobal>(
         &self,
         rt: &R,
         name: &str,
@@ -70,13 +70,13 @@ impl Scratch {
     }
 
     /// Reads a file.
-    pub(crate) fn read<R: Files + AllocGlobal>(&self, rt: &R, name: &str) -> Result<Vec<u8>, Fail> {
+    pub fn read<R: Files + AllocGlobal>(&self, rt: &R, name: &str) -> Result<Vec<u8>, Fail> {
         let path = self.path(rt.alloc(), name)?;
         Ok(fs::read(rt, path.as_str())?)
     }
 
     /// Whether there is a file of that name.
-    pub(crate) fn has<R: Files + AllocGlobal>(&self, rt: &R, name: &str) -> Result<bool, Fail> {
+    pub fn has<R: Files + AllocGlobal>(&self, rt: &R, name: &str) -> Result<bool, Fail> {
         let path = self.path(rt.alloc(), name)?;
         Ok(fs::metadata(rt, path.as_str()).is_ok())
     }
@@ -90,7 +90,7 @@ impl Scratch {
     }
 
     /// The program's name, and `words` behind it.
-    pub(crate) fn line(&self, alloc: Global, words: &[&str]) -> Result<Vec<String>, Fail> {
+    pub fn line(&self, alloc: Global, words: &[&str]) -> Result<Vec<String>, Fail> {
         let mut line = Vec::new(alloc);
         line.push(String::from_str(alloc, "tpnet")?)?;
         for word in words {
@@ -100,7 +100,7 @@ impl Scratch {
     }
 
     /// Removes the folder.
-    pub(crate) fn remove<R: Files + AllocGlobal>(self, rt: &R) -> Result<(), Fail> {
+    pub fn remove<R: Files + AllocGlobal>(self, rt: &R) -> Result<(), Fail> {
         fs::remove_dir_all(rt, self.folder.as_str())?;
         Ok(())
     }
