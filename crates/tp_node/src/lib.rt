@@ -17,6 +17,7 @@ mod number;
 mod output;
 mod rules;
 mod run;
+mod standing;
 mod step;
 mod take;
 
@@ -25,3 +26,4 @@ pub use fault::{ImageFault, NoFrame};
 pub use idle::has_idle_links;
 pub use node::Node;
 pub use run::{Ran, Why};
+pub use standing::Standing;

@@ -11,6 +11,7 @@ ghost use Rattle.tp_node.specs.FromImage.{ReadsImage, HasFrames};
 ghost use Rattle.tp_node.specs.LinkEnds.{kept_done};
 ghost use Rattle.tp_node.specs.NodeContents.{kept_of};
 ghost use Rattle.tp_node.specs.RunEnd.{IsWhy};
+ghost use Rattle.tp_node.specs.Standing.{standing, waits_at};
 ghost use Rattle.tp_node.specs.Takes.{Takes};
 
 use crate::fault::{ImageFault, NoFrame};
@@ -18,13 +19,14 @@ use crate::head::Head;
 use crate::image::read_image;
 use crate::memory::{Memory, reserve};
 use crate::run::{Ran, run};
+use crate::standing::Standing;
 use crate::take::{take_ack, take_data};
 use arrayvec::ArrayVec;
 use std::alloc::Global;
 use std::marker::Model;
 use tp_mem::Freeze;
 use tp_model::limits::{IMAGE_HEAD_BYTES, PAGE_BYTES};
-use tp_model::{Fault, Token};
+use tp_model::{Fault, InEnd, Token};
 
 /// A node. While it is frozen, it is kept as it was then, beside what it is now.
 #[derive(Drop)]
@@ -86,6 +88,35 @@ impl Node {
         ensures { result ≡ holds self.now.live link }
     {
         self.head.inputs[link as usize].is_holding()
+    }
+
+    /// Whether a process waits at a link: for the acknowledge of its byte, or for a byte.
+    fn waits_at(&self, link: u8) -> bool
+        requires { link < 4 }
+        ensures { result ≡ waits_at self.now.live link }
+    {
+        let listens = match self.head.inputs[link as usize].end() {
+            InEnd::Idle(_) => false,
+            InEnd::Inputs(_) | InEnd::Enabled(_) => true,
+        };
+        self.waits(link) || listens
+    }
+
+    /// Where it stands between its turns.
+    pub fn standing(&self) -> Standing
+        ensures { result ≡ standing self.now.live }
+    {
+        let Some(fault) = self.head.cpu.halt else {
+            return if self.waits_at(0) || self.waits_at(1) || self.waits_at(2) || self.waits_at(3) {
+                Standing::Waits
+            } else {
+                Standing::Free
+            };
+        };
+        Standing::Halted {
+            fault,
+            at: self.head.cpu.iptr,
+        }
     }
 
     /// How many pages its memory has.

@@ -30,7 +30,7 @@ IsInRange (Help text) = Unit {0}
 IsInRange (Try image turns) = turns < 2 ^ 32
 IsInRange (Format new) = new.area ≤ MAX_AREA
 IsInRange (Runs run) = IsRun run
-IsInRange (Compact device) = Unit {0}
+IsInRange (Compact device wait_lock) = Unit {0}
 IsInRange (Recover device) = Unit {0}
 IsInRange (Show device) = Unit {0}
 IsInRange (Check topology images) = Unit {0}
@@ -54,6 +54,7 @@ IsTypedRun words run = (has_word (string_bytes run.device) words ≡ true)
     × (given (codes "every") words ≡ option_map decimal run.every)
     × IsGivenOr 0 run.port (given (codes "port") words)
     × (given (codes "in") words ≡ option_map string_bytes run.input)
+    × IsGivenOr 0 run.wait_lock (given (codes "wait-lock") words)
 
 -- each number is a decimal that was typed, and each text a word
 abbrev pub WasTyped : List (String Global) → Asked → Type 0
@@ -61,8 +62,9 @@ WasTyped words (Help text) = Unit {0}
 WasTyped words (Try image turns) = (has_word (string_bytes image) words ≡ true) × (given (codes "turns") words ≡ Some (decimal turns))
 WasTyped words (Format new) = (has_word (string_bytes new.device) words ≡ true) × (has_word (string_bytes new.topology) words ≡ true)
     × (has_word (string_bytes new.images) words ≡ true) × (was_typed words (decimal new.area) ≡ true)
+    × IsGivenOr 0 new.wait_lock (given (codes "wait-lock") words)
 WasTyped words (Runs run) = IsTypedRun words run
-WasTyped words (Compact device) = has_word (string_bytes device) words ≡ true
+WasTyped words (Compact device wait_lock) = (has_word (string_bytes device) words ≡ true) × IsGivenOr 0 wait_lock (given (codes "wait-lock") words)
 WasTyped words (Recover device) = has_word (string_bytes device) words ≡ true
 WasTyped words (Show device) = has_word (string_bytes device) words ≡ true
 WasTyped words (Check topology images) = (has_word (string_bytes topology) words ≡ true) × (has_word (string_bytes images) words ≡ true)

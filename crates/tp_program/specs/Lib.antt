@@ -4,6 +4,7 @@ pub mod Args
 pub mod Front
 pub mod Shown
 pub mod Opens
+pub mod Steady
 pub mod Attempt
 pub mod Formats
 pub mod Running

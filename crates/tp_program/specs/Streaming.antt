@@ -1,5 +1,5 @@
 -- What `run --stream` does.
-use Rattle.std.specs.Prelude.{◌≡◌, ◌≤◌, ◌<◌, ◌^◌, ℕ, Bool, true, List, Option, None, Result, Ok, Err, if◌then◌else◌, min, codes, string_bytes}
+use Rattle.std.specs.Prelude.{◌≡◌, ◌≤◌, ◌<◌, ◌^◌, ℕ, true, List, Option, Some, None, Result, Ok, Err, if◌then◌else◌, min, codes, string_bytes}
 use Rattle.std.specs.Fmt.{decimal}
 use Rattle.std.specs.Option.{option_map}
 use Rattle.std.specs.declared.alloc.Global.{Global}
@@ -11,8 +11,11 @@ use Rattle.tp_model.specs.DiskHistory.{State}
 use Rattle.tp_recover.specs.Reading.{LeavesNothingNew}
 use Rattle.tp_recover.specs.declared.unopened.Unopened.{Unopened}
 use Rattle.tp_stream.specs.Streamed.{IsUnbegun, Streamed}
+use Rattle.tp_stream.specs.declared.ending.Ended.{Ended}
+use Rattle.tp_stream.specs.declared.ending.Ending.{Ending}
+use Rattle.tp_stream.specs.declared.ending.Ending.TheVariants.{Quiet, Turns, Gone as AllGone, Halted}
 use Rattle.tp_stream.specs.declared.fault.StreamFault.{StreamFault}
-use Rattle.tp_stream.specs.declared.fault.StreamFault.TheVariants.{Opening, Spare, Port, Unnamed, Short, Long, Gone, NotShown, InputFailed, OutputFailed, FlushFailed, JournalFull, Memory}
+use Rattle.tp_stream.specs.declared.fault.StreamFault.TheVariants.{Opening, Spare, Port, Unnamed, Short, Long, Gone, NotShown, ShortInput, InputFailed, OutputFailed, FlushFailed, JournalFull, Memory}
 use Rattle.tp_stream.specs.declared.task.Task.{Task}
 use Rattle.tp_stream_files.specs.declared.ends.EndFault.{EndFault}
 use Rattle.tp_stream_files.specs.declared.ends.EndFault.TheVariants.{ReadFailed, DeviceFailed, SameFile, Twice, Memory as NoMemory}
@@ -21,32 +24,33 @@ use Rattle.tp_program.specs.declared.streaming.FilesFault.TheVariants.{End, Stre
 use Rattle.tp_program.specs.declared.stream_args.StreamAsked.{StreamAsked}
 use Rattle.tp_program.specs.declared.stream_args.StreamAsked.TheVariants.{Help, Run}
 use Rattle.tp_program.specs.declared.stream_args.StreamRun.{StreamRun}
-use Rattle.tp_program.specs.declared.args.TheConstants.{MAX_TURNS}
 use Rattle.tp_program.specs.Args.{IsEvery}
 use Rattle.tp_program.specs.Ends.{AreEnds}
 use Rattle.tp_program.specs.Given.{given, IsGivenOr}
 use Rattle.tp_program.specs.Typed.{has_word}
 
+-- turns have no bound, or one in its range
+abbrev pub IsBound : Option ℕ → Type 0
+IsBound None = Unit {0}
+IsBound (Some turns) = turns < 2 ^ 32
+
 -- each number of a stream is in its range
 unfoldable pub IsStreamRun : StreamRun → Type 0
-IsStreamRun run = (run.turns < 2 ^ 32) × (0 < run.quantum) × (run.quantum ≤ MAX_STEPS) × IsEvery run.every
+IsStreamRun run = IsBound run.turns × (0 < run.quantum) × (run.quantum ≤ MAX_STEPS) × IsEvery run.every
 
 -- and each port
 abbrev pub IsStreamInRange : StreamAsked → Type 0
 IsStreamInRange (Help text) = Unit {0}
 IsStreamInRange (Run run) = IsStreamRun run × AreEnds run.ends
 
--- Its turns are as many as there may be where none were typed, and then it ends where nothing is left to do.
-abbrev pub AreTurns : Bool → ℕ → Option (List ℕ) → Type 0
-AreTurns until_quiet turns typed = IsGivenOr MAX_TURNS turns typed × (typed ≡ None → until_quiet ≡ true)
-
--- each number of a stream is what was typed for it, and else what docs/PROGRAM.md says
+-- Each number of a stream is what was typed for it, and else what docs/PROGRAM.md says; its turns have a bound just where one was typed.
 abbrev pub IsTypedStream : List (String Global) → StreamRun → Type 0
 IsTypedStream words run = (has_word (string_bytes run.device) words ≡ true)
-    × AreTurns run.until_quiet run.turns (given (codes "turns") words)
+    × (given (codes "turns") words ≡ option_map decimal run.turns)
     × IsGivenOr 1024 run.quantum (given (codes "quantum") words)
     × IsGivenOr 4 run.spare (given (codes "spare") words)
     × (given (codes "every") words ≡ option_map decimal run.every)
+    × IsGivenOr 0 run.wait_lock (given (codes "wait-lock") words)
 
 abbrev pub WasStreamTyped : List (String Global) → StreamAsked → Type 0
 WasStreamTyped words (Help text) = Unit {0}
@@ -57,6 +61,7 @@ abbrev pub task_of : StreamRun → Task
 task_of run = record {
   turns = run.turns;
   until_quiet = run.until_quiet;
+  stop_on_halt = run.stop_on_halt;
   quantum = run.quantum;
   spare = min run.spare 65535;
   every = run.every;
@@ -81,32 +86,40 @@ fault_status (Short port has from) = 1
 fault_status (Long port has upto) = 1
 fault_status (Gone port have confirmed) = 1
 fault_status (NotShown port have shown) = 1
+fault_status (ShortInput port has accepted) = 1
 fault_status (InputFailed port) = 1
 fault_status (OutputFailed port) = 1
 fault_status FlushFailed = 1
 fault_status JournalFull = 1
 fault_status Memory = 1
 
+-- the status that a stream ends with that was done
+abbrev pub ending_status : Ending → ℕ
+ending_status Quiet = 0
+ending_status Turns = 0
+ending_status AllGone = 0
+ending_status Halted = 3
+
 -- the status that a stream ends with
-abbrev pub stream_status : Result ℕ FilesFault → ℕ
-stream_status (Ok next) = 0
+abbrev pub stream_status : Result Ended FilesFault → ℕ
+stream_status (Ok ended) = ending_status ended.why
 stream_status (Err (End fault)) = end_status fault
 stream_status (Err (Stream fault)) = fault_status fault
 
 -- What a stream leaves; or the device is as it was.
-abbrev pub StreamedOn : Network NodeState → Result ℕ FilesFault → State → State → Type 0
-StreamedOn start (Ok next) old new = Streamed start (Ok next) old new
+abbrev pub StreamedOn : Network NodeState → Result Ended FilesFault → State → State → Type 0
+StreamedOn start (Ok ended) old new = Streamed start (Ok ended) old new
 StreamedOn start (Err (End fault)) old new = new ≡ old
 StreamedOn start (Err (Stream fault)) old new = Streamed start (Err fault) old new
 
 -- A stream that was not begun finds nothing on the device that it made.
-abbrev pub IsUnwritten : Result ℕ FilesFault → State → State → Type 0
-IsUnwritten (Ok next) old new = Unit {0}
+abbrev pub IsUnwritten : Result Ended FilesFault → State → State → Type 0
+IsUnwritten (Ok ended) old new = Unit {0}
 IsUnwritten (Err (End fault)) old new = new ≡ old
-IsUnwritten (Err (Stream fault)) old new = IsUnbegun {A = ℕ} (Err fault) → LeavesNothingNew old new
+IsUnwritten (Err (Stream fault)) old new = IsUnbegun {A = Ended} (Err fault) → LeavesNothingNew old new
 
 -- A device that doesn't open is refused so, where all ends are opened.
-abbrev pub IsUnopened : Result ℕ FilesFault → Type 0
-IsUnopened (Ok next) = ⊥
+abbrev pub IsUnopened : Result Ended FilesFault → Type 0
+IsUnopened (Ok ended) = ⊥
 IsUnopened (Err (End fault)) = Unit {0}
 IsUnopened (Err (Stream fault)) = (unopened : Unopened) × (fault ≡ Opening unopened)

@@ -1,12 +1,13 @@
 //! What the command line asks for.
 
-ghost use Rattle.std.specs.Prelude.{◌≡◌, IfOk, codes};
+ghost use Rattle.std.specs.Prelude.{◌≡◌, ◌≤◌, IfOk, codes};
 ghost use Rattle.std.specs.Fmt.{decimal};
 ghost use Rattle.std.specs.Option.{option_map};
 ghost use Rattle.tp_program.specs.Args.{HasTyped, IsEvery, IsInRange, WasTyped};
-ghost use Rattle.tp_program.specs.Given.{given};
+ghost use Rattle.tp_program.specs.Given.{given, IsGivenOr};
 
 use crate::found::{area_of, option_number, option_or, option_string, place_of, text_of, turns_of};
+use crate::stream_words::stream_option;
 use crate::view::View;
 use crate::words::command;
 use clap::ArgMatches;
@@ -27,7 +28,8 @@ pub enum Asked {
     /// A run of a device's network.
     Run(Run),
     /// Makes a device's network, as it is, its cut, behind which the journal is empty.
-    Compact { device: String },
+    /// `wait_lock`: how many seconds another process is waited for that holds it.
+    Compact { device: String, wait_lock: u32 },
     /// Opens a device and says what the next entry's number is.
     Recover { device: String },
     /// Opens a device and says what it holds.
@@ -47,6 +49,8 @@ pub struct NewDevice {
     pub area: u64,
     /// Whether a file that is there is refused.
     pub only_new: bool,
+    /// How many seconds another process is waited for that holds it.
+    pub wait_lock: u32,
 }
 
 /// A run of a device's network: its file, how many turns are made and how, the port that input goes to and output comes from, and the
@@ -64,6 +68,8 @@ pub struct Run {
     pub every: Option<u32>,
     pub port: u64,
     pub input: Option<String>,
+    /// How many seconds another process is waited for that holds it.
+    pub wait_lock: u32,
 }
 
 /// The most bytes that an area is made with.
@@ -71,6 +77,12 @@ pub const MAX_AREA: u64 = 1 << 40;
 
 /// The most turns of a trial or a run.
 pub const MAX_TURNS: u64 = 4_294_967_295;
+
+/// The most seconds that another process is waited for.
+pub const MAX_WAIT: u64 = 4_294_967;
+
+/// The most words of a command line. Each port has four options at most, each of two words.
+pub const MAX_WORDS: usize = 256;
 
 /// Why the words ask for nothing. Each ends the program with status 2.
 #[derive(Drop)]
@@ -87,6 +99,10 @@ pub enum ArgFault {
     Area,
     /// The number of a node, a port or an entry is no decimal.
     Number,
+    /// There are more words than any command has.
+    Many,
+    /// This option goes with `--stream`.
+    Stream(&'static str),
     /// A word is missing. `clap` says so itself, so this doesn't come.
     Missing,
     Memory,
@@ -113,6 +129,11 @@ impl fmt::Display for ArgFault {
             ArgFault::Number => write!(
                 f,
                 "tpnet: a number of a node or a port is a decimal below 2^64, without a sign or leading zeros\n"
+            ),
+            ArgFault::Many => write!(f, "tpnet: there are more than {MAX_WORDS} words\n"),
+            ArgFault::Stream(id) => write!(
+                f,
+                "tpnet: --{id} goes with --stream; see tpnet run --stream --help\n"
             ),
             ArgFault::Missing => write!(f, "tpnet: a word is missing; see tpnet --help\n"),
             ArgFault::Memory => write!(f, "tpnet: Memory\n"),
@@ -158,6 +179,7 @@ fn asked_format(alloc: Global, words: &[String], found: &ArgMatches) -> Result<A
         images: text_of(alloc, words, found, "DIR")?,
         area: area_of(alloc, words, found)?,
         only_new: found.get_flag("new"),
+        wait_lock: wait_of(alloc, words, found)?,
     }))
 }
 
@@ -176,6 +198,14 @@ pub fn every_of(
     }
 }
 
+/// How many seconds another process is waited for that holds the device.
+pub fn wait_of(alloc: Global, words: &[String], found: &ArgMatches) -> Result<u32, ArgFault>
+    ensures range { IfOk result (λ seconds. seconds ≤ MAX_WAIT) }
+    ensures typed { IfOk result (λ seconds. IsGivenOr 0 seconds (given (codes "wait-lock") words.now)) }
+{
+    Ok(option_or(alloc, words, found, "wait-lock", 0, MAX_WAIT, 0)? as u32)
+}
+
 #[tactic(auto, unfolding(crate::specs::Args::IsRun))]
 fn asked_run(alloc: Global, words: &[String], found: &ArgMatches) -> Result<Asked, ArgFault>
     ensures range { IfOk result IsInRange }
@@ -191,6 +221,7 @@ fn asked_run(alloc: Global, words: &[String], found: &ArgMatches) -> Result<Aske
         every: every_of(alloc, words, found)?,
         port: option_or(alloc, words, found, "port", 0, u64::MAX, 0)?,
         input: option_string(alloc, words, found, "in")?,
+        wait_lock: wait_of(alloc, words, found)?,
     }))
 }
 
@@ -246,6 +277,7 @@ fn asked_in(alloc: Global, words: &[String], matches: &ArgMatches) -> Result<Ask
         }),
         Some(("compact", found)) => Ok(Asked::Compact {
             device: text_of(alloc, words, found, "DEVICE")?,
+            wait_lock: wait_of(alloc, words, found)?,
         }),
         Some(("recover", found)) => Ok(Asked::Recover {
             device: text_of(alloc, words, found, "DEVICE")?,
@@ -267,10 +299,16 @@ pub fn read_args(alloc: Global, words: &[String]) -> Result<Asked, ArgFault>
     ensures range { IfOk result IsInRange }
     ensures typed { IfOk result (WasTyped words.now) }
 {
+    if words.len() > MAX_WORDS {
+        return Err(ArgFault::Many);
+    }
     let command = command(alloc)?;
     match command.try_get_matches_from(words) {
         Ok(matches) => asked_in(alloc, words, &matches),
         Err(error) if !error.use_stderr() => Ok(Asked::Help(format!(in alloc; "{error}")?)),
-        Err(error) => Err(ArgFault::Words(error)),
+        Err(error) => match stream_option(words) {
+            Some(id) => Err(ArgFault::Stream(id)),
+            None => Err(ArgFault::Words(error)),
+        },
     }
 }

@@ -2,8 +2,10 @@
 
 use crate::args::{Asked, NewDevice, Run};
 use crate::damage::push_fault;
+use crate::device_file::is_device_file;
 use crate::image_rules::broken_rule;
 use crate::looking::{is_regular, is_special, is_writable, push_file, read_again};
+use crate::steady::{Tried, open_steady};
 use std::alloc::{AllocError, Global};
 use std::fmt::Write as Push;
 use std::fs::{Files, OpenFile};
@@ -15,7 +17,7 @@ use tp_layout::area_for;
 use tp_model::NetFault;
 use tp_model::limits::MAX_HELD;
 use tp_net::{Named, Topology};
-use tp_recover::{Opened, Unopened, open};
+use tp_recover::{Opened, Unopened};
 
 /// The bytes that an entry may take in the journal.
 const ENTRY_ROOM: u64 = 32;
@@ -31,22 +33,45 @@ fn push_rest(text: &mut String) -> Result<(), AllocError> {
     )
 }
 
-/// Where a text says `fault` first, as the number of a line from 1 on.
-fn line_of_fault(alloc: Global, text: &[u8], fault: NetFault) -> usize {
-    let mut count = 0usize;
+/// The first lines of a text, as many as `count`, without the end of the last one.
+fn first_lines(text: &[u8], count: usize) -> &[u8] {
+    let mut seen = 0usize;
     for (at, byte) in text.iter().enumerate() {
         if *byte == b'\n' {
-            count = count.saturating_add(1);
-            if let Some(front) = text.get(..at) {
-                if let Err(found) = Topology::read(alloc, front) {
-                    if found == fault {
-                        return count;
-                    }
-                }
-            }
+            seen = seen.saturating_add(1);
+        }
+        if seen == count {
+            return text.get(..at).unwrap_or(text);
         }
     }
-    count.saturating_add(1)
+    text
+}
+
+/// Whether the first lines of a text say `fault`, as many as `count`.
+fn says_fault(alloc: Global, text: &[u8], count: usize, fault: NetFault) -> bool {
+    match Topology::read(alloc, first_lines(text, count)) {
+        Err(found) => found == fault,
+        Ok(_) => false,
+    }
+}
+
+/// Where a text says `fault` first, as the number of a line from 1 on. Lines behind it change nothing, so it is looked for by halves.
+fn line_of_fault(alloc: Global, text: &[u8], fault: NetFault) -> usize {
+    let lines = text.iter().filter(|byte| **byte == b'\n').count();
+    let (mut without, mut with) = (0usize, lines.saturating_add(1));
+    for _ in 0..usize::BITS {
+        let half = with.saturating_sub(without) / 2;
+        let middle = without.saturating_add(half);
+        if half == 0 {
+            break;
+        }
+        if says_fault(alloc, text, middle, fault) {
+            with = middle;
+        } else {
+            without = middle;
+        }
+    }
+    with
 }
 
 /// The line of a text with a number from 1 on.
@@ -226,6 +251,9 @@ fn push_format<R: Files + AllocGlobal>(
             if push_network(rt, text, topology, images, new.area)? {
                 return Ok(());
             }
+            if !is_device_file(rt, device) {
+                return push_there(rt, text, device);
+            }
             push_rest(text)
         }
     }
@@ -246,7 +274,28 @@ fn push_try<R: Files + AllocGlobal>(
     push_rest(text)
 }
 
-/// Opens a device's file again, and says why it wasn't opened, where it doesn't open now either.
+/// Says why a device's file wasn't opened, which was looked at again.
+fn push_unopened<F: FileExt + OpenFile + Drop>(
+    alloc: Global,
+    text: &mut String,
+    disk: &mut Counted<RawFile<NotedFile<F>>>,
+    device: &str,
+    unopened: Unopened,
+) -> Result<(), AllocError> {
+    match unopened {
+        Unopened::Fault(fault) => {
+            write!(text, "  {device}:\n")?;
+            push_fault(alloc, text, disk, fault)
+        }
+        Unopened::ReadFailed => match disk.raw().failure() {
+            Some(error) => push_file(text, device, error),
+            None => write!(text, "  {device}: a read or a sync failed\n"),
+        },
+        Unopened::Memory => write!(text, "  memory is wanting\n"),
+    }
+}
+
+/// Opens a device's file again, and says why it wasn't opened, where it doesn't open now either. Another process may be running it.
 pub fn push_opening<R: Files<File = F> + AllocGlobal, F: FileExt + OpenFile + Drop>(
     rt: &R,
     text: &mut String,
@@ -266,17 +315,15 @@ pub fn push_opening<R: Files<File = F> + AllocGlobal, F: FileExt + OpenFile + Dr
             return Ok(None);
         }
     };
-    match open(rt.alloc(), &mut disk) {
-        Ok(opened) => return Ok(Some(opened)),
-        Err(Unopened::Fault(fault)) => {
-            write!(text, "  {device}:\n")?;
-            push_fault(rt.alloc(), text, &mut disk, fault)?;
+    match open_steady(rt.alloc(), &mut disk) {
+        Tried::Steady(Ok(opened)) => return Ok(Some(opened)),
+        Tried::Steady(Err(unopened)) => {
+            push_unopened(rt.alloc(), text, &mut disk, device, unopened)?;
         }
-        Err(Unopened::ReadFailed) => match disk.raw().failure() {
-            Some(error) => push_file(text, device, error)?,
-            None => write!(text, "  {device}: a read or a sync failed\n")?,
-        },
-        Err(Unopened::Memory) => write!(text, "  memory is wanting\n")?,
+        Tried::Changed => write!(
+            text,
+            "  {device}: another process writes it so fast that no moment of it could be read\n  Try again, or stop that process.\n"
+        )?,
     }
     Ok(None)
 }
@@ -411,6 +458,21 @@ fn push_compact<R: Files<File = F> + AllocGlobal, F: FileExt + OpenFile + Drop>(
     Ok(())
 }
 
+/// Says why a device wasn't read.
+fn push_reading<R: Files<File = F> + AllocGlobal, F: FileExt + OpenFile + Drop>(
+    rt: &R,
+    text: &mut String,
+    device: &str,
+) -> Result<(), AllocError> {
+    if push_opening(rt, text, device)?.is_none() {
+        return Ok(());
+    }
+    write!(
+        text,
+        "  {device} opens now. Of Busy: another process writes it so fast that no moment of it could be read; try again, or stop that process.\n  Else standard output can't be written, or memory is wanting.\n"
+    )
+}
+
 fn explanation<R: Files<File = F> + AllocGlobal, F: FileExt + OpenFile + Drop>(
     rt: &R,
     asked: &Asked,
@@ -427,11 +489,9 @@ fn explanation<R: Files<File = F> + AllocGlobal, F: FileExt + OpenFile + Drop>(
                 push_rest(&mut text)?;
             }
         }
-        Asked::Compact { device } => push_compact(rt, &mut text, device.as_str(), system)?,
+        Asked::Compact { device, .. } => push_compact(rt, &mut text, device.as_str(), system)?,
         Asked::Recover { device } | Asked::Show { device } | Asked::View { device, .. } => {
-            if push_opening(rt, &mut text, device.as_str())?.is_some() {
-                push_rest(&mut text)?;
-            }
+            push_reading(rt, &mut text, device.as_str())?;
         }
     }
     Ok(text)

@@ -9,6 +9,7 @@ use crate::args::{NewDevice, Run};
 use crate::checking::check_on;
 use crate::commands::{refuse, try_on};
 use crate::compacting::compact_on;
+use crate::device_file::is_device_file;
 use crate::formatting::format_on;
 use crate::opening::{recover_on, show_on};
 use crate::refusal::Refusal;
@@ -178,6 +179,9 @@ fn format_network<
     requires valid { is_topology topology.now ≡ true }
     ensures { result ≤ 1 }
 {
+    if !new.only_new && !is_device_file(rt, new.device.as_str()) {
+        return refuse(err, Refusal::DeviceFailed);
+    }
     match new_disk(rt, new) {
         Ok(mut disk) => {
             let status = format_on(rt.alloc(), &mut disk, topology, images, new.area, out, err);
@@ -263,11 +267,14 @@ pub fn view_file<
     }
 }
 
-/// The device in a file that is there, to be read alone.
+/// The device in a file that is there, to be read alone. What is no device's file isn't opened.
 fn disk_to_read<R: Files<File = F>, F: FileExt + OpenFile + Drop>(
     rt: &R,
     device: &str,
 ) -> Result<Counted<RawFile<NotedFile<F>>>, Refusal> {
+    if !is_device_file(rt, device) {
+        return Err(Refusal::ReadFailed);
+    }
     Counted::open_to_read(rt, device).map_err(|_| Refusal::ReadFailed)
 }
 
@@ -281,6 +288,9 @@ pub fn compact_file<
 >(rt: &R, device: &str, system: &mut Option<io::Error>, out: &mut O, err: &mut E) -> u8
     ensures { result ≤ 1 }
 {
+    if !is_device_file(rt, device) {
+        return refuse(err, Refusal::ReadFailed);
+    }
     let disk = match Counted::open(rt, device) {
         Ok(disk) => disk,
         Err(error) => {
@@ -355,6 +365,9 @@ pub fn run_file<
         Ok(input) => input,
         Err(refusal) => return refuse(err, refusal),
     };
+    if !is_device_file(rt, run.device.as_str()) {
+        return refuse(err, Refusal::ReadFailed);
+    }
     let disk = match Counted::open(rt, run.device.as_str()) {
         Ok(disk) => disk,
         Err(error) => {

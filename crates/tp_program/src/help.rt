@@ -20,7 +20,10 @@ pub const CHECK_REFUSALS: &str = "Refusals (status 1):
 
 /// What `tpnet format` refuses.
 pub const FORMAT_REFUSALS: &str =
-    "Refusals (status 1); all but DeviceFailed leave a file that is there as it was:
+    "formatted doesn't mean that the disk has room for all of DEVICE: its file is sparse, and takes room as it is written. Where that runs
+out, a later command says DeviceFailed, and nothing that was acknowledged is lost: make room, and give it again.
+Refusals (status 1); all but DeviceFailed leave a file that is there as it was:
+  InUse         another tpnet runs, formats or compacts DEVICE: wait for it (--wait-lock), or end it
   ReadFailed    TOPOLOGY or an image can't be read: look at its path and its rights
   Syntax L      line L of TOPOLOGY is malformed; at 0 a node or a port is missing
   TwoWires      a link or port has two wires, or a wire leads from a link to itself
@@ -34,13 +37,16 @@ pub const FORMAT_REFUSALS: &str =
   Memory        there is no memory left
 A DEVICE that is the file of TOPOLOGY or of an image, under whatever name, ends with status 2, and stays as it was.";
 
-/// What a command refuses that opens a device.
-pub const OPENING_REFUSALS: &str = "Refusals (status 1); nothing is written to DEVICE:
-  ReadFailed    DEVICE can't be opened or read: look at its path and its rights
+/// What a command refuses that opens a device to read it.
+pub const OPENING_REFUSALS: &str =
+    "DEVICE may be run meanwhile: what is printed is so at one moment of the call.
+Refusals (status 1); nothing is written to DEVICE:
+  ReadFailed    DEVICE can't be opened or read, or is no regular file: look at its path and its rights
   NotFormatted  DEVICE is none: make one with tpnet format
   BadVersion    DEVICE is of another version of tpnet
   NoOpenArea    neither area is open: format was stopped, or the device was written over
   Damaged AT    what stands at offset AT breaks its rule: restore a copy
+  Busy          another tpnet writes DEVICE so fast that no moment of it could be read: try again, or stop that one
   DeviceFailed  standard output can't be written
   Memory        there is no memory left";
 
@@ -48,6 +54,7 @@ pub const OPENING_REFUSALS: &str = "Refusals (status 1); nothing is written to D
 pub const COMPACT_REFUSALS: &str =
     "Nothing runs, and nothing is lost: all output that isn't confirmed stays.
 Refusals (status 1):
+  InUse         another tpnet runs, formats or compacts DEVICE: wait for it (--wait-lock), or end it
   ReadFailed    DEVICE can't be opened to read and write, or be read: look at its path and its rights
   NotFormatted  DEVICE is none: make one with tpnet format
   BadVersion    DEVICE is of another version of tpnet
@@ -61,6 +68,7 @@ Refusals (status 1):
 pub const RUN_REFUSALS: &str =
     "Where FILE can't be read, or DEVICE isn't opened, nothing is written to DEVICE.
 Refusals (status 1):
+  InUse         another tpnet runs, formats or compacts DEVICE: wait for it (--wait-lock), or end it
   ReadFailed    FILE can't be read, or DEVICE can't be opened to read and write, or be read: look at paths and rights
   NotFormatted  DEVICE is none: make one with tpnet format
   BadVersion    DEVICE is of another version of tpnet

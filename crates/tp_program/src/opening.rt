@@ -9,10 +9,11 @@ ghost use Rattle.tp_program.specs.Opens.{IsUnwritten, Prints, front_of, recovere
 use crate::commands::{put, refuse};
 use crate::refusal::Refusal;
 use crate::shown::{Front, next_line, shown_text};
+use crate::steady::{Tried, open_steady};
 use std::alloc::Global;
 use std::io::Write;
 use tp_disk::Disk;
-use tp_recover::{Opened, open};
+use tp_recover::Opened;
 
 /// What is said of an opened device beside its network.
 fn front_of(opened: &Opened) -> Front
@@ -35,7 +36,10 @@ fn recover<D: Disk, O: Write>(alloc: Global, disk: &mut D, out: &mut O) -> Resul
     ensures kept { D.keeps → IsUnwritten (D.failures_of disk.old) (D.failures_of disk.new) (D.state disk.old).now (D.state disk.new).now }
     ensures refused { D.keeps → IsErr (verdict (D.state disk.old).now.bytes) → (IsErr result) × (O.contents out.new ≡ O.contents out.old) }
 {
-    let opened = open(alloc, disk)?;
+    let Tried::Steady(answer) = open_steady(alloc, disk) else {
+        return Err(Refusal::Busy);
+    };
+    let opened = answer?;
     let Ok(text) = next_line(alloc, opened.next()) else {
         return Err(Refusal::Memory);
     };
@@ -49,7 +53,10 @@ fn show<D: Disk, O: Write>(alloc: Global, disk: &mut D, out: &mut O) -> Result<(
     ensures kept { D.keeps → IsUnwritten (D.failures_of disk.old) (D.failures_of disk.new) (D.state disk.old).now (D.state disk.new).now }
     ensures refused { D.keeps → IsErr (verdict (D.state disk.old).now.bytes) → (IsErr result) × (O.contents out.new ≡ O.contents out.old) }
 {
-    let opened = open(alloc, disk)?;
+    let Tried::Steady(answer) = open_steady(alloc, disk) else {
+        return Err(Refusal::Busy);
+    };
+    let opened = answer?;
     let Ok(text) = shown_text(alloc, front_of(&opened), opened.network()) else {
         return Err(Refusal::Memory);
     };

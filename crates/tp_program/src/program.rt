@@ -10,12 +10,14 @@ use crate::files::{
     check_file, compact_file, format_file, recover_file, run_file, show_file, try_file, view_file,
 };
 use crate::numbers::has_word;
+use crate::stopped::tell_halted;
 use std::fs::{Files, OpenFile};
 use std::io;
 use std::io::Write;
 use std::os::unix::fs::FileExt;
 use std::sync::Wait;
 use std::thread::Threads;
+use tp_stream_files::is_one_file;
 
 /// Does what was asked for. Answers the program's status: 0 where it was done, 1 where it was refused, 2 where a node or port
 /// isn't there. What the system said of a call on a device that failed is put into `system`.
@@ -33,7 +35,7 @@ fn carry_out<
         Asked::Try { image, turns } => try_file(rt, image.as_str(), *turns, out, err),
         Asked::Format(new) => format_file(rt, new, system, out, err),
         Asked::Run(run) => run_file(rt, run, system, out, err),
-        Asked::Compact { device } => compact_file(rt, device.as_str(), system, out, err),
+        Asked::Compact { device, .. } => compact_file(rt, device.as_str(), system, out, err),
         Asked::Recover { device } => recover_file(rt, device.as_str(), out, err),
         Asked::Show { device } => show_file(rt, device.as_str(), out, err),
         Asked::Check { topology, images } => {
@@ -41,6 +43,41 @@ fn carry_out<
         }
         Asked::View { device, view } => view_file(rt, device.as_str(), *view, out, err),
     }
+}
+
+/// What the system calls standard output.
+const STANDARD_OUT: &str = "/dev/stdout";
+
+/// The device that is asked for, where one is.
+fn device_of(asked: &Asked) -> Option<&str> {
+    match asked {
+        Asked::Format(new) => Some(new.device.as_str()),
+        Asked::Run(run) => Some(run.device.as_str()),
+        Asked::Compact { device, .. }
+        | Asked::Recover { device }
+        | Asked::Show { device }
+        | Asked::View { device, .. } => Some(device.as_str()),
+        Asked::Help(_) | Asked::Try { .. } | Asked::Check { .. } => None,
+    }
+}
+
+/// Whether what is printed would be written over the device.
+fn prints_into_device<R: Files>(rt: &R, asked: &Asked) -> bool {
+    match device_of(asked) {
+        Some(device) => is_one_file(rt, device, STANDARD_OUT),
+        None => false,
+    }
+}
+
+/// Says that what is printed would be written over the device. Answers the status. A failed write is let go.
+fn refuse_output<E: Write>(err: &mut E) -> u8
+    ensures { result ≡ 2 }
+{
+    let _ = write!(
+        err,
+        "tpnet: standard output goes into the file of the device: let it go elsewhere; nothing was changed\n"
+    );
+    2
 }
 
 /// Does what the words of a command line ask for, the program's name first. Answers the program's status: that of the
@@ -54,11 +91,16 @@ pub fn answer<
     ensures { result ≤ 2 }
 {
     match read_args(rt.alloc(), words) {
+        Ok(asked) if prints_into_device(rt, &asked) => refuse_output(err),
         Ok(asked) => {
             let mut system = None;
             let status = carry_out(rt, &asked, &mut system, out, err);
-            if status == 1 && has_word(words, "--explain") {
-                explain(rt, &asked, system.as_ref(), err);
+            if has_word(words, "--explain") {
+                match status {
+                    0 => tell_halted(rt, &asked, err),
+                    1 => explain(rt, &asked, system.as_ref(), err),
+                    _ => {}
+                }
             }
             status
         }

@@ -37,9 +37,15 @@ pub enum Refusal {
     /// What was to be written couldn't be.
     #[error("DeviceFailed")]
     DeviceFailed,
+    /// Another process holds the device.
+    #[error("InUse")]
+    InUse,
     /// Memory was refused.
     #[error("Memory")]
     Memory,
+    /// Another process writes the device so fast that no moment of it could be read.
+    #[error("Busy")]
+    Busy,
 }
 
 impl From<NetFault> for Refusal {

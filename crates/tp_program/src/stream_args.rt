@@ -1,10 +1,12 @@
 //! What a command line with `--stream` asks for.
 
-ghost use Rattle.std.specs.Prelude.{IfOk, codes};
+ghost use Rattle.std.specs.Prelude.{◌≡◌, IfOk, codes};
+ghost use Rattle.std.specs.Fmt.{decimal};
+ghost use Rattle.std.specs.Option.{option_map};
 ghost use Rattle.tp_program.specs.Given.{given};
-ghost use Rattle.tp_program.specs.Streaming.{AreTurns, IsStreamInRange, WasStreamTyped};
+ghost use Rattle.tp_program.specs.Streaming.{IsBound, IsStreamInRange, WasStreamTyped};
 
-use crate::args::{ArgFault, MAX_TURNS, every_of};
+use crate::args::{ArgFault, MAX_TURNS, MAX_WORDS, every_of, wait_of};
 use crate::found::{option_number, option_or, text_of};
 use crate::numbers::has_word;
 use crate::stream_ends::{EndsFault, ends_of};
@@ -24,13 +26,16 @@ pub enum StreamAsked {
     Run(StreamRun),
 }
 
-/// A stream of a device's network: its file, how many turns are made and how, and the ends of its ports.
+/// A stream of a device's network: its file, how many turns are made and how, when it ends, and the ends of its ports.
 #[derive(Drop)]
 pub struct StreamRun {
     pub device: String,
-    pub turns: u32,
+    /// How many turns are made at most; `None`: there is no bound.
+    pub turns: Option<u32>,
     /// Whether it ends once nothing is left to do.
     pub until_quiet: bool,
+    /// Whether it ends once a node halts.
+    pub stop_on_halt: bool,
     /// Whether it says how far it has come.
     pub has_progress: bool,
     /// The most steps of a turn.
@@ -40,6 +45,8 @@ pub struct StreamRun {
     /// The entries since the kept cut after which a snapshot begins; `None`: where the journal is half full.
     pub every: Option<u32>,
     pub ends: Ends,
+    /// How many seconds another process is waited for that holds the device.
+    pub wait_lock: u32,
 }
 
 /// Why the words ask for no stream. Each ends the program with status 2.
@@ -47,8 +54,6 @@ pub struct StreamRun {
 pub enum StreamArgFault {
     Arg(ArgFault),
     Ends(EndsFault),
-    /// Nothing says when it ends.
-    Unending,
 }
 
 impl fmt::Display for StreamArgFault {
@@ -56,10 +61,6 @@ impl fmt::Display for StreamArgFault {
         match self {
             StreamArgFault::Arg(fault) => write!(f, "{fault}"),
             StreamArgFault::Ends(fault) => write!(f, "{fault}"),
-            StreamArgFault::Unending => write!(
-                f,
-                "tpnet: say when the stream ends: --turns N, --until-quiet, or both\n"
-            ),
         }
     }
 }
@@ -99,19 +100,18 @@ pub fn wants_input(words: &[String]) -> bool {
     false
 }
 
-/// How many turns are made; as many as there may be where it ends by itself.
+/// How many turns are made at most: there is a bound just where one was typed.
 fn turns_of(
     alloc: Global,
     words: &[String],
     found: &ArgMatches,
-    until_quiet: bool,
-) -> Result<u32, StreamArgFault>
-    ensures { IfOk result (λ turns. AreTurns until_quiet turns (given (codes "turns") words.now)) }
+) -> Result<Option<u32>, StreamArgFault>
+    ensures range { IfOk result IsBound }
+    ensures typed { IfOk result (λ turns. given (codes "turns") words.now ≡ option_map decimal turns) }
 {
     match option_number(alloc, words, found, "turns", 0, MAX_TURNS)? {
-        Some(turns) => Ok(turns as u32),
-        None if until_quiet => Ok(u32::MAX),
-        None => Err(StreamArgFault::Unending),
+        Some(turns) => Ok(Some(turns as u32)),
+        None => Ok(None),
     }
 }
 
@@ -125,17 +125,18 @@ fn run_of(
     ensures range { IfOk result IsStreamInRange }
     ensures typed { IfOk result (WasStreamTyped words.now) }
 {
-    let until_quiet = found.get_flag("until-quiet");
     let quantum = MAX_STEPS as u64;
     Ok(StreamAsked::Run(StreamRun {
         device: text_of(alloc, words, found, "DEVICE")?,
-        turns: turns_of(alloc, words, found, until_quiet)?,
-        until_quiet,
+        turns: turns_of(alloc, words, found)?,
+        until_quiet: found.get_flag("until-quiet"),
+        stop_on_halt: found.get_flag("stop-on-halt"),
         has_progress: found.get_flag("progress"),
         quantum: option_or(alloc, words, found, "quantum", 1, quantum, 1024)? as u16,
         spare: option_or(alloc, words, found, "spare", 0, u64::MAX, 4)?,
         every: every_of(alloc, words, found)?,
         ends: ends_of(alloc, found)?,
+        wait_lock: wait_of(alloc, words, found)?,
     }))
 }
 
@@ -145,6 +146,9 @@ pub fn read_stream_args(alloc: Global, words: &[String]) -> Result<StreamAsked, 
     ensures range { IfOk result IsStreamInRange }
     ensures typed { IfOk result (WasStreamTyped words.now) }
 {
+    if words.len() > MAX_WORDS {
+        return Err(StreamArgFault::Arg(ArgFault::Many));
+    }
     let command = match stream_command(alloc) {
         Ok(command) => command,
         Err(_) => return Err(StreamArgFault::Arg(ArgFault::Memory)),

@@ -182,6 +182,18 @@ fn push_numbers(
             text,
             "  The reader says that it has {have} bytes of port {port}, and {shown} were shown: are they of another device, or of another port?\n"
         ),
+        StreamFault::ShortInput {
+            port,
+            has,
+            accepted,
+        } => {
+            let path = path_of(&asked.ends.ins, port);
+            let device = asked.device.as_str();
+            write!(
+                text,
+                "  {path} has {has} bytes, and port {port} has accepted {accepted}: it was cut short, or isn't the port's input.\n  Name the file that is all of the port's input, from its first byte on: what was accepted is passed over.\n  tpnet show {device} says what was accepted: in and pending together.\n"
+            )
+        }
         _ => Ok(()),
     }
 }
@@ -235,6 +247,9 @@ fn explanation<R: Files<File = F> + AllocGlobal, F: FileExt + OpenFile + Drop>(
     match fault {
         Some(FilesFault::End(fault)) => push_end_fault(rt, &mut text, asked, fault)?,
         Some(FilesFault::Stream(fault)) => push_stream_fault(rt, &mut text, asked, fault)?,
+        None if system.is_none() => {
+            push_opening(rt, &mut text, asked.device.as_str())?;
+        }
         None => {}
     }
     Ok(text)

@@ -4,6 +4,7 @@ ghost use Rattle.std.specs.Prelude.{◌≡◌, ◌≤◌};
 ghost use Rattle.tp_program.specs.Streaming.{IsStreamRun};
 
 use crate::commands::{print_help, refuse};
+use crate::device_file::is_device_file;
 use crate::files::said_again;
 use crate::numbers::has_word;
 use crate::refusal::Refusal;
@@ -20,19 +21,30 @@ use tp_stream_files::Feed;
 
 /// What came of a command: its status, why a stream ended early, and what the system said of a call on the device that failed.
 #[derive(Drop)]
-struct Ended {
+struct Outcome {
     status: u8,
     fault: Option<FilesFault>,
     system: Option<io::Error>,
 }
 
 /// What came of a stream.
-fn outcome(streamed: Streamed, system: Option<io::Error>) -> Ended
+fn outcome_of(streamed: Streamed, system: Option<io::Error>) -> Outcome
     ensures { result.status ≡ streamed.status }
 {
-    Ended {
+    Outcome {
         status: streamed.status,
         fault: streamed.done.err(),
+        system,
+    }
+}
+
+/// The device's file isn't opened.
+fn unopened<E: Write>(err: &mut E, system: Option<io::Error>) -> Outcome
+    ensures { result.status ≡ 1 }
+{
+    Outcome {
+        status: refuse(err, Refusal::ReadFailed),
+        fault: None,
         system,
     }
 }
@@ -44,26 +56,24 @@ fn stream_file<
     I: Feed,
     O: Write,
     E: Write,
->(rt: &R, asked: &StreamRun, feed: &mut I, out: &mut O, err: &mut E) -> Ended
+>(rt: &R, asked: &StreamRun, feed: &mut I, out: &mut O, err: &mut E) -> Outcome
     requires { IsStreamRun asked.now }
-    ensures { result.status ≤ 2 }
+    ensures { result.status ≤ 3 }
 {
+    if !is_device_file(rt, asked.device.as_str()) {
+        return unopened(err, None);
+    }
     let disk = match Counted::open(rt, asked.device.as_str()) {
         Ok(disk) => disk,
-        Err(error) => {
-            return Ended {
-                status: refuse(err, Refusal::ReadFailed),
-                fault: None,
-                system: Some(error),
-            };
-        }
+        Err(error) => return unopened(err, Some(error)),
     };
     let (disk, streamed) = stream_on(rt, asked, disk, feed, out, err);
-    outcome(streamed, disk.raw().failure().map(said_again))
+    outcome_of(streamed, disk.raw().failure().map(said_again))
 }
 
 /// Does what the words of a command line with `--stream` ask for, the program's name first; `feed` is standard input. Answers the
-/// program's status: that of the stream, or 2 where the words ask for nothing; no file is opened then. Asking for help is no fault.
+/// program's status: that of the stream, 3 where it ended since a node halted, or 2 where the words ask for nothing; no file is opened then.
+/// Asking for help is no fault.
 pub fn answer_stream<
     R: Files<File = F> + AllocGlobal + Wait,
     F: FileExt + OpenFile + Drop,
@@ -71,7 +81,7 @@ pub fn answer_stream<
     O: Write,
     E: Write,
 >(rt: &R, words: &[String], feed: &mut I, out: &mut O, err: &mut E) -> u8
-    ensures { result ≤ 2 }
+    ensures { result ≤ 3 }
 {
     match read_stream_args(rt.alloc(), words) {
         Ok(StreamAsked::Help(text)) => print_help(text.as_str(), out, err),

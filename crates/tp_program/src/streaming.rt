@@ -8,7 +8,7 @@ ghost use Rattle.tp_recover.specs.Reading.{LeavesNothingNew};
 ghost use Rattle.tp_recover.specs.declared.unopened.Unopened.{Unopened};
 ghost use Rattle.tp_run.specs.Ran.{History};
 ghost use Rattle.tp_stream.specs.Streamed.{IsUnbegun, Streamed as StreamLeft};
-ghost use Rattle.tp_program.specs.Streaming.{IsStreamRun, IsUnopened, IsUnwritten, StreamedOn, end_status, fault_status, stream_status, task_of};
+ghost use Rattle.tp_program.specs.Streaming.{IsStreamRun, IsUnopened, IsUnwritten, StreamedOn, end_status, ending_status, fault_status, stream_status, task_of};
 
 use crate::stream_args::StreamRun;
 use std::fs::{Files, OpenFile};
@@ -17,7 +17,7 @@ use std::os::unix::fs::FileExt;
 use std::sync::Wait;
 use thiserror::Error;
 use tp_disk::Disk;
-use tp_stream::{Sink, Source, StreamFault, Streams, Task, stream};
+use tp_stream::{Ended, Ending, Sink, Source, StreamFault, Streams, Task, stream};
 use tp_stream_files::{EndFault, Ends, Feed, Teller, open_ends, say_end};
 
 /// After how many turns it is said again how far a stream has come.
@@ -38,7 +38,7 @@ pub enum FilesFault {
 #[derive(Clone, Copy)]
 pub struct Streamed {
     pub status: u8,
-    pub done: Result<u64, FilesFault>,
+    pub done: Result<Ended, FilesFault>,
 }
 
 /// What the network is asked. A number of frames that no node has is the greatest of its kind.
@@ -52,6 +52,7 @@ fn task_of(asked: &StreamRun) -> Task
     Task {
         turns: asked.turns,
         until_quiet: asked.until_quiet,
+        stop_on_halt: asked.stop_on_halt,
         quantum: asked.quantum,
         spare: asked.spare.min(u16::MAX as u64) as u16,
         every: asked.every,
@@ -120,20 +121,32 @@ fn report_fault<E: Write>(err: &mut E, fault: StreamFault) -> u8
     }
 }
 
+/// The status of a stream that was done.
+fn ending_status(why: Ending) -> u8
+    ensures value { result ≡ ending_status why }
+    ensures few { result ≤ 3 }
+{
+    match why {
+        Ending::Quiet | Ending::Turns | Ending::Gone => 0,
+        Ending::Halted => 3,
+    }
+}
+
 /// Says why a stream ended early. A stream that was done has said so itself. Answers the status. A failed write is let go.
-fn report<E: Write>(err: &mut E, done: Result<u64, FilesFault>) -> u8
+fn report<E: Write>(err: &mut E, done: Result<Ended, FilesFault>) -> u8
     ensures value { result ≡ stream_status done }
-    ensures few { result ≤ 2 }
+    ensures few { result ≤ 3 }
 {
     match done {
-        Ok(_) => 0,
+        Ok(ended) => ending_status(ended.why),
         Err(FilesFault::End(fault)) => report_end(err, fault),
         Err(FilesFault::Stream(fault)) => report_fault(err, fault),
     }
 }
 
 /// Streams a device's network on ends that are open. What is said of it goes to `err`: where standard output and standard input begin,
-/// how far it has come, and at the end `next M`, with how much standard output was given and how much of that is confirmed.
+/// how far it has come, at the end each node that has stopped, and `next M`, with how much standard output was given and how much of
+/// that is confirmed, and why it ended.
 fn stream_opened<R: AllocGlobal + Wait, D: Disk + Drop, S: Sink, I: Source, E: Write>(
     rt: &R,
     task: Task,
@@ -141,7 +154,7 @@ fn stream_opened<R: AllocGlobal + Wait, D: Disk + Drop, S: Sink, I: Source, E: W
     ends: &Ends,
     streams: &mut Streams<S, I>,
     err: &mut E,
-) -> (D, Result<u64, StreamFault>)
+) -> (D, Result<Ended, StreamFault>)
     ghost history: { History }
     requires { task.quantum ≤ MAX_STEPS }
     ensures size { D.size_of result.0 ≡ D.size_of disk }
@@ -153,8 +166,8 @@ fn stream_opened<R: AllocGlobal + Wait, D: Disk + Drop, S: Sink, I: Source, E: W
     let standard_out = ends.standard_out();
     let mut teller = Teller::new(err, standard_out, ends.standard_in());
     let (disk, done) = stream(rt, rt.alloc(), task, disk, streams, &mut teller);
-    if let Ok(next) = done {
-        say_end(err, next, standard_out, &streams.outputs);
+    if let Ok(ended) = done {
+        say_end(err, ended, standard_out, &streams.outputs);
     }
     (disk, done)
 }
@@ -174,7 +187,7 @@ fn stream_files<
     feed: &mut I,
     out: &mut O,
     err: &mut E,
-) -> (D, Result<u64, FilesFault>)
+) -> (D, Result<Ended, FilesFault>)
     ghost history: { History }
     requires { IsStreamRun asked.now }
     ensures size { D.size_of result.0 ≡ D.size_of disk }
@@ -190,7 +203,7 @@ fn stream_files<
     let task = task_of(asked);
     let (disk, done) = stream_opened(rt, task, disk, &asked.ends, &mut streams, err);
     match done {
-        Ok(next) => (disk, Ok(next)),
+        Ok(ended) => (disk, Ok(ended)),
         Err(fault) => (disk, Err(FilesFault::Stream(fault))),
     }
 }
@@ -208,7 +221,7 @@ pub fn stream_on<
     ghost history: { History }
     requires { IsStreamRun asked.now }
     ensures status { result.1.status ≡ stream_status result.1.done }
-    ensures few { result.1.status ≤ 2 }
+    ensures few { result.1.status ≤ 3 }
     ensures size { D.size_of result.0 ≡ D.size_of disk }
     ensures streamed { D.keeps → Began history.formatted history.before (D.state disk).now.bytes
         → StreamedOn history.formatted result.1.done (D.state disk) (D.state result.0) }

@@ -7,7 +7,7 @@ use clap::{Arg, ArgAction, Command};
 use std::alloc::{AllocError, Global};
 
 /// The program's version, and what it was proved with.
-const VERSION: &str = "0.1.0\nproved with rattle-kit-13b, logic dac8208d650f15bf";
+const VERSION: &str = "0.1.0\nproved with rattle-kit-13f, logic dac8208d650f15bf";
 
 /// A word that has to be there.
 pub fn word<'a>(alloc: Global, id: &'a str, help: &'a str) -> Arg<'a> {
@@ -32,6 +32,13 @@ pub fn option<'a>(alloc: Global, id: &'a str, value: &'a str, help: &'a str) -> 
         .action(ArgAction::Set)
         .value_name(value)
         .help(help)
+}
+
+/// How long another process is waited for that holds the device.
+pub fn wait_lock<'a>(alloc: Global) -> Arg<'a> {
+    let help =
+        "seconds to wait for another tpnet that holds DEVICE, 0 to 4294967 (0: refused at once)";
+    option(alloc, "wait-lock", "SECONDS", help)
 }
 
 /// A command that says more of a refusal where it is asked to.
@@ -76,6 +83,7 @@ fn format_command<'a>(alloc: Global) -> Result<Command<'a>, AllocError> {
         FORMAT_REFUSALS,
     )?
     .arg(flag(alloc, "new", "refuse a file that is there already"))?
+    .arg(wait_lock(alloc))?
     .arg(word(
         alloc,
         "DEVICE",
@@ -168,6 +176,7 @@ fn with_run_options<'a>(alloc: Global, command: Command<'a>) -> Result<Command<'
         .arg(option(alloc, "every", "E", every))?
         .arg(option(alloc, "port", "P", port))?
         .arg(option(alloc, "in", "FILE", input))?
+        .arg(wait_lock(alloc))?
         .arg(flag(
             alloc,
             "stream",
@@ -193,7 +202,8 @@ fn compact_command<'a>(alloc: Global) -> Result<Command<'a>, AllocError> {
         "Writes all of a device's network into its other area, which empties the journal, and prints the generation, the number of the next entry and how many entries the journal takes",
         COMPACT_REFUSALS,
     )?
-    .arg(word(alloc, "DEVICE", "the device's file, which is written"))
+    .arg(word(alloc, "DEVICE", "the device's file, which is written"))?
+    .arg(wait_lock(alloc))
 }
 
 /// A command that opens a device and says something of a node.
@@ -235,6 +245,7 @@ fn with_views<'a>(alloc: Global, command: Command<'a>) -> Result<Command<'a>, Al
 /// The words that the program takes.
 pub fn command<'a>(alloc: Global) -> Result<Command<'a>, AllocError> {
     let command = Command::new(alloc, "tpnet")
+        .bin_name("tpnet")?
         .version(VERSION)
         .about("A network of transputers whose computations survive any crash")
         .subcommand_required(true)

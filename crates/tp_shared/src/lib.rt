@@ -28,6 +28,7 @@ mod shared_pieces;
 mod shown;
 mod snapshot;
 mod soon;
+mod standing;
 mod tail;
 mod tell;
 mod told;

@@ -1,4 +1,5 @@
 pub mod Kept
+pub mod Quiets
 pub mod Runs
 pub mod Shown
 pub mod Sinks

@@ -16,8 +16,9 @@ use Rattle.tp_flush.specs.Known.{Reached}
 use Rattle.tp_flush.specs.Flushing.{Flushing, Walked}
 use Rattle.tp_flush.proofs.Kept.{reached_then}
 use Rattle.tp_flush.proofs.Turns.{walked_nowhere, walked_recovers}
+use Rattle.tp_stream.specs.declared.ending.Ended.{Ended}
 use Rattle.tp_stream.specs.declared.fault.StreamFault.{StreamFault}
-use Rattle.tp_stream.specs.declared.fault.StreamFault.TheVariants.{Opening, Spare, Port, Unnamed, Short, Long, Gone, NotShown, InputFailed, OutputFailed, FlushFailed, JournalFull, Memory}
+use Rattle.tp_stream.specs.declared.fault.StreamFault.TheVariants.{Opening, Spare, Port, Unnamed, Short, Long, Gone, NotShown, ShortInput, InputFailed, OutputFailed, FlushFailed, JournalFull, Memory}
 use Rattle.tp_stream.specs.Streamed.{IsBegun, IsUnbegun, Streamed}
 use Rattle.std.specs.Prelude.{IfErr}
 
@@ -39,8 +40,8 @@ recovers_less start journal mark next left low r = record {
 }
 
 -- a device that was opened, and whose flusher walked on from there
-pub served : (start : Network NodeState) (old new : Flushing) (result : Result ℕ StreamFault) → Reached start old.world → Walked old new
-    → IfOk result (λ next. next ≤ new.world.mark) → Streamed start result old.state new.state
+pub served : (start : Network NodeState) (old new : Flushing) (result : Result Ended StreamFault) → Reached start old.world → Walked old new
+    → IfOk result (λ ended. ended.next ≤ new.world.mark) → Streamed start result old.state new.state
 served start old new result R W stored =
     let there : Reached start new.world = reached_then start old.world new.world R (chain_leads t414 device_areas old.world new.world W.worlds W.chain) in
     let last : LeavesOnly new.state new.state (RecoversTo t414 device_areas start new.world.journal new.world.mark) = walked_recovers start new new there (walked_nowhere new W.now) in
@@ -48,7 +49,7 @@ served start old new result R W stored =
       journal = new.world.journal;
       first = old.world.mark;
       leaves = weaker old.state new.state (RecoversTo t414 device_areas start new.world.journal old.world.mark) _ (λ left r. inr r) (walked_recovers start old new R W);
-      stored = if_ok result (λ next. next ≤ new.world.mark) _ (λ next low left may. recovers_less start new.world.journal new.world.mark next left low (last.each left (inr may))) stored;
+      stored = if_ok result (λ ended. ended.next ≤ new.world.mark) _ (λ ended low left may. recovers_less start new.world.journal new.world.mark ended.next left low (last.each left (inr may))) stored;
     }
 
 -- a device that was only read
@@ -56,7 +57,7 @@ pub unwritten : (start : Network NodeState) (fault : StreamFault) (old new : Sta
 unwritten start fault old new L = record { journal = []; first = 0; leaves = weaker old new (MayBe old.now) _ (λ left may. inl may) L; stored = tt }
 
 -- a device that was read, and then more
-pub opened : (start : Network NodeState) (result : Result ℕ StreamFault) (old read new : State) → LeavesNothingNew old read → Streamed start result read new → Streamed start result old new
+pub opened : (start : Network NodeState) (result : Result Ended StreamFault) (old read new : State) → LeavesNothingNew old read → Streamed start result read new → Streamed start result old new
 opened start result old read new L R = record {
   journal = R.journal;
   first = R.first;
@@ -68,7 +69,7 @@ opened start result old read new L R = record {
 }
 
 -- a stream that was begun isn't answered as one that wasn't
-pub begun_written : (r : Result ℕ StreamFault) → IfErr r IsBegun → IsUnbegun r → ⊥
+pub begun_written : (r : Result Ended StreamFault) → IfErr r IsBegun → IsUnbegun r → ⊥
 begun_written (Ok next) begun unbegun = unbegun
 begun_written (Err (Opening unopened)) begun unbegun = begun
 begun_written (Err Spare) begun unbegun = begun
@@ -78,6 +79,7 @@ begun_written (Err (Short port has from)) begun unbegun = begun
 begun_written (Err (Long port has upto)) begun unbegun = begun
 begun_written (Err (Gone port have confirmed)) begun unbegun = begun
 begun_written (Err (NotShown port have shown)) begun unbegun = begun
+begun_written (Err (ShortInput port has accepted)) begun unbegun = begun
 begun_written (Err (InputFailed port)) begun unbegun = unbegun
 begun_written (Err (OutputFailed port)) begun unbegun = unbegun
 begun_written (Err FlushFailed) begun unbegun = unbegun

@@ -13,14 +13,16 @@ use Rattle.tp_port.specs.Counted.{AreCounted}
 use Rattle.tp_port.specs.Ports.{fresh_port, opened_port}
 use Rattle.tp_book.specs.declared.state.NetState.{NetState}
 use Rattle.tp_book.specs.Book.{BookValue, outputs_of}
-use Rattle.tp_book.specs.Host.{port_in}
+use Rattle.tp_book.specs.Host.{accepted_of, port_in}
 use Rattle.tp_book.specs.Opened.{now_of, opened_book}
+use Rattle.tp_stream.specs.declared.ending.Ended.{Ended}
 use Rattle.tp_stream.specs.declared.fault.StreamFault.{StreamFault}
-use Rattle.tp_stream.specs.declared.fault.StreamFault.TheVariants.{Opening, Spare, Port as Absent, Unnamed, Short, Long, Gone, NotShown, InputFailed, OutputFailed, FlushFailed, JournalFull, Memory}
+use Rattle.tp_stream.specs.declared.fault.StreamFault.TheVariants.{Opening, Spare, Port as Absent, Unnamed, Short, Long, Gone, NotShown, ShortInput, InputFailed, OutputFailed, FlushFailed, JournalFull, Memory}
 use Rattle.tp_stream.specs.declared.standing.Standing.{Standing}
 use Rattle.tp_stream.specs.Held.{Held, HasAtMost, HasLength}
 use Rattle.tp_stream.specs.Outputs.{Given, OutputValue, given_of}
-use Rattle.tp_stream.specs.Standing.{AllMayBegin, IsFirstRefused, IsNotBegun, MayBegin, MayBeginBelow, OfOutput, put_out, standing, stands_opened}
+use Rattle.tp_stream.specs.Offered.{GivenInput, HasAtLeast}
+use Rattle.tp_stream.specs.Standing.{AllHaveAccepted, AllMayBegin, HaveAcceptedBelow, IsFirstRefused, IsFirstShort, IsNotBegun, MayBegin, MayBeginBelow, OfInput, OfOutput, Refuses, RefusesInput, accepted, accepted_opened, put_out, standing, stands_opened}
 use Rattle.tp_stream.specs.Streamed.{IsBegun}
 
 -- ## What a port has put out
@@ -98,6 +100,7 @@ said (Short port has from) P p = p
 said (Long port has upto) P p = p
 said (Gone port have confirmed) P p = p
 said (NotShown port have shown) P p = p
+said (ShortInput port has accepted) P p = tt
 said (InputFailed port) P p = tt
 said (OutputFailed port) P p = tt
 said FlushFailed P p = tt
@@ -114,6 +117,7 @@ no_output (Short port has from) P none = absurd none
 no_output (Long port has upto) P none = absurd none
 no_output (Gone port have confirmed) P none = absurd none
 no_output (NotShown port have shown) P none = absurd none
+no_output (ShortInput port has accepted) P none = tt
 no_output (InputFailed port) P none = tt
 no_output (OutputFailed port) P none = tt
 no_output FlushFailed P none = tt
@@ -130,17 +134,18 @@ begun_says (Short port has from) begun = begun
 begun_says (Long port has upto) begun = begun
 begun_says (Gone port have confirmed) begun = begun
 begun_says (NotShown port have shown) begun = begun
+begun_says (ShortInput port has accepted) begun = absurd begun
 begun_says (InputFailed port) begun = tt
 begun_says (OutputFailed port) begun = tt
 begun_says FlushFailed begun = tt
 begun_says JournalFull begun = tt
 begun_says Memory begun = tt
 
-pub begun_refused : (r : Result ℕ StreamFault) (P : StreamFault → Type 0) → IfErr r IsBegun → IfErr r (λ fault. OfOutput fault (P fault))
+pub begun_refused : (r : Result Ended StreamFault) (P : StreamFault → Type 0) → IfErr r IsBegun → IfErr r (λ fault. OfOutput fault (P fault))
 begun_refused (Ok next) P begun = tt
 begun_refused (Err fault) P begun = no_output fault (P fault) (begun_says fault begun)
 
-pub on_ok : (r : Result ℕ StreamFault) (P : Type 0) → P → OnOk r P
+pub on_ok : (r : Result Ended StreamFault) (P : Type 0) → P → OnOk r P
 on_ok (Ok next) P p = p
 on_ok (Err fault) P p = tt
 
@@ -148,12 +153,153 @@ on_ok (Err fault) P p = tt
 pub same_opened : (bytes : List ℕ) (a b : Opened) → verdict bytes ≡ Ok a → verdict bytes ≡ Ok b → a ≡ b
 same_opened bytes a b first second = cc
 
-pub says_first : (ports : ℕ) (stands : ℕ → Standing) (gs : List Given) (fault : StreamFault) → (fault ≡ Memory) ⊎ IsNotBegun ports stands gs fault
-    → OfOutput fault (IsFirstRefused ports stands gs fault)
-says_first ports stands gs fault either =
+-- ## Faults of inputs
+
+said_input : (fault : StreamFault) (P : Type 0) → P → OfInput fault P
+said_input (Opening unopened) P p = tt
+said_input Spare P p = tt
+said_input (Absent port) P p = tt
+said_input (Unnamed port) P p = tt
+said_input (Short port has from) P p = tt
+said_input (Long port has upto) P p = tt
+said_input (Gone port have confirmed) P p = tt
+said_input (NotShown port have shown) P p = tt
+said_input (ShortInput port has accepted) P p = p
+said_input (InputFailed port) P p = tt
+said_input (OutputFailed port) P p = tt
+said_input FlushFailed P p = tt
+said_input JournalFull P p = tt
+said_input Memory P p = tt
+
+-- one that is of no input says nothing
+pub no_input : (fault : StreamFault) (P : Type 0) → OfInput fault ⊥ → OfInput fault P
+no_input (Opening unopened) P none = tt
+no_input Spare P none = tt
+no_input (Absent port) P none = tt
+no_input (Unnamed port) P none = tt
+no_input (Short port has from) P none = tt
+no_input (Long port has upto) P none = tt
+no_input (Gone port have confirmed) P none = tt
+no_input (NotShown port have shown) P none = tt
+no_input (ShortInput port has accepted) P none = absurd none
+no_input (InputFailed port) P none = tt
+no_input (OutputFailed port) P none = tt
+no_input FlushFailed P none = tt
+no_input JournalFull P none = tt
+no_input Memory P none = tt
+
+-- as one of a stream that was begun
+begun_input : (fault : StreamFault) → IsBegun fault → OfInput fault ⊥
+begun_input (Opening unopened) begun = absurd begun
+begun_input Spare begun = absurd begun
+begun_input (Absent port) begun = absurd begun
+begun_input (Unnamed port) begun = absurd begun
+begun_input (Short port has from) begun = absurd begun
+begun_input (Long port has upto) begun = absurd begun
+begun_input (Gone port have confirmed) begun = absurd begun
+begun_input (NotShown port have shown) begun = absurd begun
+begun_input (ShortInput port has accepted) begun = absurd begun
+begun_input (InputFailed port) begun = tt
+begun_input (OutputFailed port) begun = tt
+begun_input FlushFailed begun = tt
+begun_input JournalFull begun = tt
+begun_input Memory begun = tt
+
+pub begun_short : (r : Result Ended StreamFault) (P : StreamFault → Type 0) → IfErr r IsBegun → IfErr r (λ fault. OfInput fault (P fault))
+begun_short (Ok ended) P begun = tt
+begun_short (Err fault) P begun = no_input fault (P fault) (begun_input fault begun)
+
+-- one that refuses an output is of no input
+output_refused : (s : Standing) (g : Given) (fault : StreamFault) (P : Type 0) → Refuses s g fault → OfInput fault P
+output_refused s g (Opening unopened) P why = tt
+output_refused s g Spare P why = tt
+output_refused s g (Absent port) P why = tt
+output_refused s g (Unnamed port) P why = tt
+output_refused s g (Short port has from) P why = tt
+output_refused s g (Long port has upto) P why = tt
+output_refused s g (Gone port have confirmed) P why = tt
+output_refused s g (NotShown port have shown) P why = tt
+output_refused s g (ShortInput port has accepted) P why = absurd why
+output_refused s g (InputFailed port) P why = tt
+output_refused s g (OutputFailed port) P why = tt
+output_refused s g FlushFailed P why = tt
+output_refused s g JournalFull P why = tt
+output_refused s g Memory P why = tt
+
+-- one that refuses an input is of no output
+input_refused : (n : ℕ) (g : GivenInput) (fault : StreamFault) (P : Type 0) → RefusesInput n g fault → OfOutput fault P
+input_refused n g (Opening unopened) P why = tt
+input_refused n g Spare P why = tt
+input_refused n g (Absent port) P why = tt
+input_refused n g (Unnamed port) P why = tt
+input_refused n g (Short port has from) P why = absurd why
+input_refused n g (Long port has upto) P why = absurd why
+input_refused n g (Gone port have confirmed) P why = absurd why
+input_refused n g (NotShown port have shown) P why = absurd why
+input_refused n g (ShortInput port has accepted) P why = tt
+input_refused n g (InputFailed port) P why = tt
+input_refused n g (OutputFailed port) P why = tt
+input_refused n g FlushFailed P why = tt
+input_refused n g JournalFull P why = tt
+input_refused n g Memory P why = tt
+
+first_refused : (ports : ℕ) (stands : ℕ → Standing) (gs : List Given) (fault : StreamFault) (P : Type 0) → IsFirstRefused ports stands gs fault → OfInput fault P
+first_refused ports stands gs fault P first =
+    elim first.why [
+      | inl why ↦ output_refused (stands first.given.port) first.given fault P why
+      | inr absent ↦ subst (λ f. OfInput f P) (sym absent.0) tt
+    ]
+
+first_short : (ports : ℕ) (accepted : ℕ → ℕ) (gs : List GivenInput) (fault : StreamFault) (P : Type 0) → IsFirstShort ports accepted gs fault → OfOutput fault P
+first_short ports accepted gs fault P first =
+    elim first.why [
+      | inl why ↦ input_refused (accepted first.given.port) first.given fault P why
+      | inr absent ↦ subst (λ f. OfOutput f P) (sym absent.0) tt
+    ]
+
+pub says_first : (ports : ℕ) (stands : ℕ → Standing) (accepted : ℕ → ℕ) (gs : List Given) (inputs : List GivenInput) (fault : StreamFault)
+    → (fault ≡ Memory) ⊎ IsNotBegun ports stands accepted gs inputs fault → OfOutput fault (IsFirstRefused ports stands gs fault)
+says_first ports stands accepted gs inputs fault either =
     let First : Type 0 = IsFirstRefused ports stands gs fault in
     elim either [
       | inl memory ↦ subst (λ f. OfOutput f First) (sym memory) tt
       | inr (inl first) ↦ said fault First first
-      | inr (inr input) ↦ subst (λ f. OfOutput f First) (sym input.2) tt
+      | inr (inr input) ↦ first_short ports accepted inputs fault First input.1
     ]
+
+pub says_short : (ports : ℕ) (stands : ℕ → Standing) (accepted : ℕ → ℕ) (gs : List Given) (inputs : List GivenInput) (fault : StreamFault)
+    → (fault ≡ Memory) ⊎ IsNotBegun ports stands accepted gs inputs fault → OfInput fault (AllMayBegin stands gs × IsFirstShort ports accepted inputs fault)
+says_short ports stands accepted gs inputs fault either =
+    let First : Type 0 = AllMayBegin stands gs × IsFirstShort ports accepted inputs fault in
+    elim either [
+      | inl memory ↦ subst (λ f. OfInput f First) (sym memory) tt
+      | inr (inl first) ↦ first_refused ports stands gs fault First first
+      | inr (inr input) ↦ said_input fault First input
+    ]
+
+-- ## Inputs one behind the other
+
+pub input_at : {A : Type 0} (f : A → GivenInput) (xs : List A) (i : ℕ) (x : A) → i < length xs → x ≡ get_or xs i x → slice_get (map f xs) i ≡ Some (f x)
+input_at f xs i x there is = slice_get-map f xs i ∙ ap (option_map f) (slice_get-get_or xs i x there) ∙ ap (λ y. Some (f y)) (sym is)
+
+pub all_have_accepted : (accepted : ℕ → ℕ) (gs : List GivenInput) (n : ℕ) → length gs ≤ n → HaveAcceptedBelow n accepted gs → AllHaveAccepted accepted gs
+all_have_accepted accepted gs n all below k g is = below k (let within = slice_get_within gs k g is in omega (arith, within, all)) g is
+
+same_input : (x y : GivenInput) → Some x ≡ Some y → x ≡ y
+same_input x y e = cc
+
+pub have_accepted_more : (accepted : ℕ → ℕ) (gs : List GivenInput) (i : ℕ) (h : GivenInput) → HaveAcceptedBelow i accepted gs → slice_get gs i ≡ Some h
+    → HasAtLeast (accepted h.port) h.all → HaveAcceptedBelow (i + 1) accepted gs
+have_accepted_more accepted gs i h below at here =
+    below_more _ i below (λ g is. subst (λ (x : GivenInput). HasAtLeast (accepted x.port) x.all) (same_input h g (sym at ∙ is)) here)
+
+-- ports of what was opened have accepted as many
+pub opened_accepted : (s : NetState) (room : Option ℕ) (o : Opened) → now_of s ≡ o.now → accepted (opened_book s room) ≡ accepted_opened o
+opened_accepted s room o now = fun_ext (λ p. ap (λ net. accepted_of (get_or net.ports p fresh_port.port)) now)
+
+-- why nothing is begun, of ports that stand so
+pub not_begun_as : (many few : ℕ) (stands at : ℕ → Standing) (taken had : ℕ → ℕ) (gs : List Given) (inputs : List GivenInput) (fault : StreamFault)
+    → many ≡ few → stands ≡ at → taken ≡ had → IsNotBegun many stands taken gs inputs fault → IsNotBegun few at had gs inputs fault
+not_begun_as many few stands at taken had gs inputs fault ports where_ accept is =
+    subst (λ n. IsNotBegun n at had gs inputs fault) ports
+    (subst (λ s. IsNotBegun many s had gs inputs fault) where_ (subst (λ t. IsNotBegun many stands t gs inputs fault) accept is))

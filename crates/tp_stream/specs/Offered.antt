@@ -1,5 +1,5 @@
 -- A port's input, and what is handed in of it.
-use Rattle.std.specs.Prelude.{◌≡◌, ℕ, List, length, take, drop, Option, Some, None}
+use Rattle.std.specs.Prelude.{◌≡◌, ◌≤◌, ℕ, List, length, take, drop, Option, Some, None}
 use Rattle.tp_book.specs.Book.{BookValue}
 use Rattle.tp_book.specs.Host.{accepted_of, after_input, port_in}
 
@@ -7,6 +7,24 @@ use Rattle.tp_book.specs.Host.{accepted_of, after_input, port_in}
 abbrev pub AreFrom : Option (List ℕ) → ℕ → List ℕ → Type 0
 AreFrom None at bytes = Unit {0}
 AreFrom (Some all) at bytes = bytes ≡ take (length bytes) (drop at all)
+
+-- Where the whole input is known, it has that many bytes.
+abbrev pub IsLength : Option ℕ → Option (List ℕ) → Type 0
+IsLength n None = Unit {0}
+IsLength n (Some all) = n ≡ Some (length all)
+
+-- Where the whole input is known, it has `n` bytes at least.
+abbrev pub HasAtLeast : ℕ → Option (List ℕ) → Type 0
+HasAtLeast n None = Unit {0}
+HasAtLeast n (Some all) = n ≤ length all
+
+-- An input as it is given: its port, and all of its bytes, where they are known.
+pub record GivenInput : Type 0 where
+  pub port : ℕ
+  pub all : Option (List ℕ)
+
+abbrev pub given_input : ℕ → Option (List ℕ) → GivenInput
+given_input port all = record { port = port; all = all }
 
 -- A port was handed the bytes of its input from what it has accepted on.
 pub record Offered (input : Option (List ℕ)) (port : ℕ) (old new : BookValue) : Type 0 where

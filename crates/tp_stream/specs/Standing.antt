@@ -5,11 +5,12 @@ use Rattle.tp_model.specs.Network.{Port}
 use Rattle.tp_model.specs.Opening.{Opened}
 use Rattle.tp_port.specs.Ports.{fresh_port}
 use Rattle.tp_book.specs.Book.{BookValue}
-use Rattle.tp_book.specs.Host.{port_in, shown_upto_of}
+use Rattle.tp_book.specs.Host.{accepted_of, port_in, shown_upto_of}
 use Rattle.tp_stream.specs.declared.fault.StreamFault.{StreamFault}
-use Rattle.tp_stream.specs.declared.fault.StreamFault.TheVariants.{Opening, Spare, Port as Absent, Unnamed, Short, Long, Gone, NotShown, InputFailed, OutputFailed, FlushFailed, JournalFull, Memory}
+use Rattle.tp_stream.specs.declared.fault.StreamFault.TheVariants.{Opening, Spare, Port as Absent, Unnamed, Short, Long, Gone, NotShown, ShortInput, InputFailed, OutputFailed, FlushFailed, JournalFull, Memory}
 use Rattle.tp_stream.specs.declared.standing.Standing.{Standing}
 use Rattle.tp_stream.specs.Held.{HasAtMost, HasLength, HasReach, Reaches}
+use Rattle.tp_stream.specs.Offered.{GivenInput, HasAtLeast, IsLength}
 use Rattle.tp_stream.specs.Outputs.{Given}
 
 -- how many outputs a port has put out in all, those that were confirmed among them
@@ -49,6 +50,7 @@ Refuses s g (Absent port) = ⊥
 Refuses s g (Unnamed port) = ⊥
 Refuses s g (Gone port have confirmed) = (port ≡ g.port) × (have ≡ from_of s g) × (confirmed ≡ s.confirmed) × (have < confirmed)
 Refuses s g (NotShown port have shown) = (port ≡ g.port) × (have ≡ from_of s g) × (shown ≡ s.shown) × (s.confirmed ≤ have) × (shown < have)
+Refuses s g (ShortInput port has accepted) = ⊥
 Refuses s g (Short port has from) = (port ≡ g.port) × (from ≡ from_of s g) × IsRead s from × HasReach has g.held × (has < from)
 Refuses s g (Long port has upto) = (port ≡ g.port) × (upto ≡ s.upto) × IsRead s (from_of s g) × Reaches (from_of s g) g.held × HasLength (Some has) g.held × (upto < has)
 Refuses s g (InputFailed port) = ⊥
@@ -73,9 +75,68 @@ pub record IsFirstRefused (ports : ℕ) (stands : ℕ → Standing) (gs : List G
   pub before : MayBeginBelow at stands gs
   pub why : Refuses (stands given.port) given fault ⊎ ((fault ≡ Absent given.port) × (ports ≤ given.port))
 
--- Why nothing is begun: an output that may not; or an input for a port that isn't there, where each output may.
-abbrev pub IsNotBegun : ℕ → (ℕ → Standing) → List Given → StreamFault → Type 0
-IsNotBegun ports stands gs fault = IsFirstRefused ports stands gs fault ⊎ (AllMayBegin stands gs × (port : ℕ) × (fault ≡ Absent port) × (ports ≤ port))
+-- ## Inputs
+
+-- how many bytes a port of a book has accepted, and how many one of a device that opens
+abbrev pub accepted : BookValue → ℕ → ℕ
+accepted b p = accepted_of (port_in b p)
+
+abbrev pub accepted_opened : Opened → ℕ → ℕ
+accepted_opened o p = accepted_of (get_or o.now.ports p fresh_port.port)
+
+-- Why an input may not begin: it has fewer bytes than its port has accepted.
+abbrev pub RefusesInput : ℕ → GivenInput → StreamFault → Type 0
+RefusesInput n g (Opening unopened) = ⊥
+RefusesInput n g Spare = ⊥
+RefusesInput n g (Absent port) = ⊥
+RefusesInput n g (Unnamed port) = ⊥
+RefusesInput n g (Short port has from) = ⊥
+RefusesInput n g (Long port has upto) = ⊥
+RefusesInput n g (Gone port have confirmed) = ⊥
+RefusesInput n g (NotShown port have shown) = ⊥
+RefusesInput n g (ShortInput port has accepted) = (port ≡ g.port) × (accepted ≡ n) × IsLength (Some has) g.all × (has < accepted)
+RefusesInput n g (InputFailed port) = ⊥
+RefusesInput n g (OutputFailed port) = ⊥
+RefusesInput n g FlushFailed = ⊥
+RefusesInput n g JournalFull = ⊥
+RefusesInput n g Memory = ⊥
+
+-- Each of the first `n` inputs has all that its port has accepted.
+abbrev pub HaveAcceptedBelow : ℕ → (ℕ → ℕ) → List GivenInput → Type 0
+HaveAcceptedBelow n accepted gs = (k : ℕ) → k < n → (g : GivenInput) → slice_get gs k ≡ Some g → HasAtLeast (accepted g.port) g.all
+
+-- Each input has all that its port has accepted.
+abbrev pub AllHaveAccepted : (ℕ → ℕ) → List GivenInput → Type 0
+AllHaveAccepted accepted gs = (k : ℕ) (g : GivenInput) → slice_get gs k ≡ Some g → HasAtLeast (accepted g.port) g.all
+
+-- The first input that may not begin, and why: as its port stands; or it is none of `ports` ports.
+pub record IsFirstShort (ports : ℕ) (accepted : ℕ → ℕ) (gs : List GivenInput) (fault : StreamFault) : Type 0 where
+  pub at : ℕ
+  pub given : GivenInput
+  pub there : slice_get gs at ≡ Some given
+  pub before : HaveAcceptedBelow at accepted gs
+  pub why : RefusesInput (accepted given.port) given fault ⊎ ((fault ≡ Absent given.port) × (ports ≤ given.port))
+
+-- Why nothing is begun: an output that may not; or, where each output may, an input that may not.
+abbrev pub IsNotBegun : ℕ → (ℕ → Standing) → (ℕ → ℕ) → List Given → List GivenInput → StreamFault → Type 0
+IsNotBegun ports stands accepted gs inputs fault = IsFirstRefused ports stands gs fault ⊎ (AllMayBegin stands gs × IsFirstShort ports accepted inputs fault)
+
+-- A fault of an input says so.
+abbrev pub OfInput : StreamFault → Type 0 → Type 0
+OfInput (Opening unopened) P = Unit {0}
+OfInput Spare P = Unit {0}
+OfInput (Absent port) P = Unit {0}
+OfInput (Unnamed port) P = Unit {0}
+OfInput (Short port has from) P = Unit {0}
+OfInput (Long port has upto) P = Unit {0}
+OfInput (Gone port have confirmed) P = Unit {0}
+OfInput (NotShown port have shown) P = Unit {0}
+OfInput (ShortInput port has accepted) P = P
+OfInput (InputFailed port) P = Unit {0}
+OfInput (OutputFailed port) P = Unit {0}
+OfInput FlushFailed P = Unit {0}
+OfInput JournalFull P = Unit {0}
+OfInput Memory P = Unit {0}
 
 -- A fault of an output says so.
 abbrev pub OfOutput : StreamFault → Type 0 → Type 0
@@ -87,6 +148,7 @@ OfOutput (Short port has from) P = P
 OfOutput (Long port has upto) P = P
 OfOutput (Gone port have confirmed) P = P
 OfOutput (NotShown port have shown) P = P
+OfOutput (ShortInput port has accepted) P = Unit {0}
 OfOutput (InputFailed port) P = Unit {0}
 OfOutput (OutputFailed port) P = Unit {0}
 OfOutput FlushFailed P = Unit {0}

@@ -8,16 +8,17 @@ use Rattle.tp_model.specs.Disk.{MayBe}
 use Rattle.tp_model.specs.DiskHistory.{State, LeavesOnly}
 use Rattle.tp_model.specs.DeviceAreas.{device_areas}
 use Rattle.tp_model.specs.Walks.{RecoversTo}
+use Rattle.tp_stream.specs.declared.ending.Ended.{Ended}
 use Rattle.tp_stream.specs.declared.fault.StreamFault.{StreamFault}
-use Rattle.tp_stream.specs.declared.fault.StreamFault.TheVariants.{Opening, Spare, Port, Unnamed, Short, Long, Gone, NotShown, InputFailed, OutputFailed, FlushFailed, JournalFull, Memory}
+use Rattle.tp_stream.specs.declared.fault.StreamFault.TheVariants.{Opening, Spare, Port, Unnamed, Short, Long, Gone, NotShown, ShortInput, InputFailed, OutputFailed, FlushFailed, JournalFull, Memory}
 
 -- A crash at any moment of the stream leaves what one just before might have left, or what opens to where a prefix of the journal leads,
 -- with all that the device had as it was opened. After a stream that was done, the prefix has each entry below the answered number.
-pub record Streamed (start : Network NodeState) (result : Result ℕ StreamFault) (old new : State) : Type 0 where
+pub record Streamed (start : Network NodeState) (result : Result Ended StreamFault) (old new : State) : Type 0 where
   pub journal : List Entry
   pub first : ℕ
   pub leaves : LeavesOnly old new (λ left. MayBe old.now left ⊎ RecoversTo t414 device_areas start journal first left)
-  pub stored : IfOk result (λ next. (left : List ℕ) → MayBe new.now left → RecoversTo t414 device_areas start journal next left)
+  pub stored : IfOk result (λ ended. (left : List ℕ) → MayBe new.now left → RecoversTo t414 device_areas start journal ended.next left)
 
 -- the device isn't written
 abbrev pub IsUnbegun : {A : Type 0} → Result A StreamFault → Type 0
@@ -30,6 +31,7 @@ IsUnbegun (Err (Short port has from)) = Unit {0}
 IsUnbegun (Err (Long port has upto)) = Unit {0}
 IsUnbegun (Err (Gone port have confirmed)) = Unit {0}
 IsUnbegun (Err (NotShown port have shown)) = Unit {0}
+IsUnbegun (Err (ShortInput port has accepted)) = Unit {0}
 IsUnbegun (Err (InputFailed port)) = ⊥
 IsUnbegun (Err (OutputFailed port)) = ⊥
 IsUnbegun (Err FlushFailed) = ⊥
@@ -46,6 +48,7 @@ IsBegun (Short port has from) = ⊥
 IsBegun (Long port has upto) = ⊥
 IsBegun (Gone port have confirmed) = ⊥
 IsBegun (NotShown port have shown) = ⊥
+IsBegun (ShortInput port has accepted) = ⊥
 IsBegun (InputFailed port) = Unit {0}
 IsBegun (OutputFailed port) = Unit {0}
 IsBegun FlushFailed = Unit {0}

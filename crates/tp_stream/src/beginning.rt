@@ -1,12 +1,13 @@
 //! What is tested before a stream begins.
 
-ghost use Rattle.std.specs.Prelude.{◌≡◌, ◌≤◌, ◌⊎◌, ℕ, length, map, IfSome, OnOk, IfErr};
+ghost use Rattle.std.specs.Prelude.{◌≡◌, length, map, IfSome, OnOk, IfErr};
 ghost use Rattle.tp_port.specs.Counted.{AreCounted};
-ghost use Rattle.tp_stream.specs.declared.fault.StreamFault.TheVariants.{Port as Absent};
+ghost use Rattle.tp_stream.specs.Offered.{given_input};
 ghost use Rattle.tp_stream.specs.Outputs.{given_of};
-ghost use Rattle.tp_stream.specs.Standing.{AllMayBegin, IsFirstRefused, IsNotBegun, OfOutput, standing};
+ghost use Rattle.tp_stream.specs.Standing.{AllHaveAccepted, AllMayBegin, IsFirstRefused, IsFirstShort, IsNotBegun, OfInput, OfOutput, accepted, standing};
 
 use crate::fault::StreamFault;
+use crate::input::Input;
 use crate::listener::Listener;
 use crate::output::Output;
 use crate::sink::Sink;
@@ -59,7 +60,8 @@ pub(crate) fn task_fault<S: Sink, I: Source>(
     topology: &Topology,
     streams: &Streams<S, I>,
 ) -> Option<StreamFault>
-    ensures { IfSome result (λ fault. OfOutput fault ⊥) }
+    ensures output { IfSome result (λ fault. OfOutput fault ⊥) }
+    ensures input { IfSome result (λ fault. OfInput fault ⊥) }
 {
     if topology.pages().iter().any(|pages| *pages < task.spare) {
         return Some(StreamFault::Spare);
@@ -99,19 +101,29 @@ fn begin_outputs<S: Sink, L: Listener>(
     Ok(())
 }
 
-/// Tells how much of its input each source's port has accepted.
-fn tell_inputs<S: Sink, I: Source, L: Listener>(
+/// Tells how much of its input each source's port has accepted. The first one that has fewer bytes ends that.
+fn begin_inputs<I: Source, L: Listener>(
     book: &Book,
-    streams: &Streams<S, I>,
+    inputs: &[Input<I>],
     listener: &mut L,
 ) -> Result<(), StreamFault>
-    ensures { IfErr result (λ fault. (port : ℕ) × (fault ≡ Absent port) × (length book.now.state.ports ≤ port)) }
+    ensures begun { OnOk result (AllHaveAccepted (accepted book.now) (map (λ i. given_input i.port (I.input i.source)) inputs.now)) }
+    ensures refused { IfErr result (IsFirstShort (length book.now.state.ports) (accepted book.now) (map (λ i. given_input i.port (I.input i.source)) inputs.now)) }
 {
-    for input in &streams.inputs {
-        if usize::from(input.port()) >= book.ports() {
-            return Err(StreamFault::Port(input.port()));
+    for input in inputs {
+        let port = input.port();
+        if usize::from(port) >= book.ports() {
+            return Err(StreamFault::Port(port));
         }
-        listener.input(input.port(), book.accepted(input.port()));
+        let accepted = book.accepted(port);
+        if let Some(has) = input.shortage(accepted) {
+            return Err(StreamFault::ShortInput {
+                port,
+                has,
+                accepted,
+            });
+        }
+        listener.input(port, accepted);
     }
     Ok(())
 }
@@ -125,9 +137,10 @@ pub(crate) fn begin_all<S: Sink, I: Source, L: Listener>(
 ) -> Result<(), StreamFault>
     requires { AreCounted mark book.now.state.ports }
     ensures begun { OnOk result (AllMayBegin (standing book.now mark) (map given_of streams.old.outputs.items)) }
-    ensures refused { IfErr result (IsNotBegun (length book.now.state.ports) (standing book.now mark) (map given_of streams.old.outputs.items)) }
+    ensures inputs { OnOk result (AllHaveAccepted (accepted book.now) (map (λ i. given_input i.port (I.input i.source)) streams.old.inputs.items)) }
+    ensures refused { IfErr result (IsNotBegun (length book.now.state.ports) (standing book.now mark) (accepted book.now) (map given_of streams.old.outputs.items) (map (λ i. given_input i.port (I.input i.source)) streams.old.inputs.items)) }
     ensures same { map given_of streams.new.outputs.items ≡ map given_of streams.old.outputs.items }
 {
     begin_outputs(book, mark, &mut streams.outputs, listener)?;
-    tell_inputs(book, streams, listener)
+    begin_inputs(book, &streams.inputs, listener)
 }

@@ -3,7 +3,7 @@
 use thiserror::Error;
 use tp_recover::Unopened;
 
-/// Each of the first eight leaves the device as it is, and nothing was put.
+/// Each of the first nine leaves the device as it is, and nothing was put.
 #[derive(Clone, Copy, Debug, PartialEq, Eq, Error)]
 pub enum StreamFault {
     /// The device isn't opened.
@@ -30,6 +30,9 @@ pub enum StreamFault {
     /// A reader says that it has more outputs than are shown.
     #[error("NotShown {port} {have} {shown}")]
     NotShown { port: u8, have: u64, shown: u64 },
+    /// An input has fewer bytes than its port has accepted: it isn't the port's.
+    #[error("ShortInput {port} {has} {accepted}")]
+    ShortInput { port: u8, has: u64, accepted: u64 },
     /// The input of a port can't be read.
     #[error("ReadFailed")]
     InputFailed(u8),

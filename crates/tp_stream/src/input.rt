@@ -1,8 +1,8 @@
 //! A port's input: handed in piece by piece.
 
-ghost use Rattle.std.specs.Prelude.{◌≡◌, ◌<◌, length, true, false, Ok, IfErr, OnErr};
+ghost use Rattle.std.specs.Prelude.{◌≡◌, ◌<◌, length, true, false, Some, Ok, IfSome, IfNone, IfErr, OnErr};
 ghost use Rattle.tp_book.specs.Host.{accepted_of, after_input, port_in};
-ghost use Rattle.tp_stream.specs.Offered.{Offered};
+ghost use Rattle.tp_stream.specs.Offered.{HasAtLeast, IsLength, Offered};
 ghost use Rattle.tp_stream.specs.Streamed.{IsBegun};
 
 use crate::fault::StreamFault;
@@ -66,6 +66,17 @@ impl<I: Source> Input<I> {
         self.port
     }
 
+    /// How many bytes the input has, where those are fewer than the `accepted` that its port has accepted.
+    pub(crate) fn shortage(&self, accepted: u64) -> Option<u64>
+        ensures some { IfSome result (λ has. IsLength (Some has) (I.input self.now.source) × (has < accepted)) }
+        ensures none { IfNone result (HasAtLeast accepted (I.input self.now.source)) }
+    {
+        match self.source.length() {
+            Some(has) if has < accepted => Some(has),
+            _ => None,
+        }
+    }
+
     /// Whether nothing is left that its port may take.
     pub(crate) fn is_over(&self) -> bool {
         self.has_ended || self.is_blocked
@@ -79,7 +90,7 @@ impl<I: Source> Input<I> {
     }
 
     /// Hands the port the next bytes of its input, under the book's lock: at most `most`, as many as `piece` has, and as the port has
-    /// room for. Whether it took some.
+    /// room for. Whether it took some. Where `most` is 0 it is only looked whether the input has come to its end.
     pub(crate) fn step<J: Naming>(
         &mut self,
         held: &mut Locked<J>,
@@ -97,7 +108,7 @@ impl<I: Source> Input<I> {
         let at = held.book().accepted(port);
         let place = held.book().room(port);
         self.is_blocked = place == 0;
-        let room = (place.min(piece.len()) as u64).min(most) as usize;
+        let room = (place.min(piece.len()) as u64).min(most.max(1)) as usize;
         if room == 0 || self.has_ended {
             return Ok(false);
         }
@@ -106,7 +117,8 @@ impl<I: Source> Input<I> {
                 self.has_ended = true;
                 Ok(false)
             }
-            Ok(count) => offer_bytes(held, port, at, &piece[..count]),
+            Ok(count) if most > 0 => offer_bytes(held, port, at, &piece[..count]),
+            Ok(_) => Ok(false),
             Err(_) => Err(StreamFault::InputFailed(port)),
         }
     }

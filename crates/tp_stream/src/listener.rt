@@ -1,5 +1,6 @@
 //! What is told of a stream as it goes.
 
+use crate::ending::Stopped;
 use tp_model::limits::MAX_PORTS;
 
 /// How far a stream has come.
@@ -25,4 +26,8 @@ pub trait Listener {
 
     /// How far it has come.
     fn progress(&mut self, progress: Progress);
+
+    /// How a node stands at the end, where it has halted or waits though a port has input that no node has taken. Nodes are told in
+    /// order.
+    fn stopped(&mut self, node: u8, how: Stopped);
 }

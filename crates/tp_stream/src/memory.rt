@@ -3,7 +3,7 @@
 ghost use Rattle.std.specs.Prelude.{◌≡◌, ◌≤◌, ◌++◌, length, take, Some, OnOk, OnErr};
 ghost use Rattle.tp_stream.specs.Held.{HasLength, HasPut, HasReach, IsSafe, KeepsBytes, KeepsFront, Reaches};
 
-use crate::sink::{Sink, SinkFailed};
+use crate::sink::{Sink, SinkFault};
 use std::alloc::Global;
 
 /// Bytes in memory. What is put lets those behind go.
@@ -67,7 +67,7 @@ impl MemSink {
     }
 
     // Puts bytes behind the first `at`. Those behind go.
-    fn put_behind(&mut self, at: u64, bytes: &[u8]) -> Result<(), SinkFailed>
+    fn put_behind(&mut self, at: u64, bytes: &[u8]) -> Result<(), SinkFault>
         requires safe { at ≤ self.old.safe }
         requires there { at ≤ length self.old.bytes.items }
         ensures put { OnOk result (self.new.bytes.items ≡ take at self.old.bytes.items ++ bytes.now) }
@@ -78,7 +78,7 @@ impl MemSink {
         self.bytes.truncate(at as usize);
         match self.bytes.extend_from_slice(bytes) {
             Ok(()) => Ok(()),
-            Err(_) => Err(SinkFailed),
+            Err(_) => Err(SinkFault::Failed),
         }
     }
 }
@@ -94,17 +94,17 @@ impl Sink for MemSink {
         Some(self.bytes.len() as u64)
     }
 
-    fn put(&mut self, at: u64, bytes: &[u8]) -> Result<(), SinkFailed> {
+    fn put(&mut self, at: u64, bytes: &[u8]) -> Result<(), SinkFault> {
         if self.goes() {
             return self.put_behind(at, bytes);
         }
         let _part = self.put_behind(at, &bytes[..bytes.len() / 2]);
-        Err(SinkFailed)
+        Err(SinkFault::Failed)
     }
 
-    fn settle(&mut self) -> Result<(), SinkFailed> {
+    fn settle(&mut self) -> Result<(), SinkFault> {
         if !self.goes() {
-            return Err(SinkFailed);
+            return Err(SinkFault::Failed);
         }
         self.safe = self.safe.max(self.bytes.len() as u64);
         Ok(())

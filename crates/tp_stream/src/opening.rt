@@ -6,8 +6,9 @@ ghost use Rattle.tp_book.specs.Book.{next_number};
 ghost use Rattle.tp_book.specs.Opened.{IsOpened, opened_book};
 ghost use Rattle.tp_run.specs.Made.{StandsFor};
 ghost use Rattle.tp_stream.specs.declared.fault.StreamFault.TheVariants.{Memory};
+ghost use Rattle.tp_stream.specs.Offered.{given_input};
 ghost use Rattle.tp_stream.specs.Outputs.{given_of};
-ghost use Rattle.tp_stream.specs.Standing.{AllMayBegin, IsNotBegun, stands_opened};
+ghost use Rattle.tp_stream.specs.Standing.{AllHaveAccepted, AllMayBegin, IsNotBegun, accepted_opened, stands_opened};
 
 use crate::beginning::begin_all;
 use crate::fault::StreamFault;
@@ -52,7 +53,8 @@ pub(crate) fn parts_of<S: Sink, I: Source, L: Listener>(
     ensures parts { IfOk result (λ made. StandsFor opened made.0 made.1) }
     ensures bound { IfOk result (λ made. made.0.book.room ≡ Some (room opened.head.topology opened.head.area)) }
     ensures begun { OnOk result (AllMayBegin (stands_opened opened) (map given_of streams.old.outputs.items)) }
-    ensures refused { IfErr result (λ fault. (fault ≡ Memory) ⊎ IsNotBegun (length opened.now.ports) (stands_opened opened) (map given_of streams.old.outputs.items) fault) }
+    ensures inputs { OnOk result (AllHaveAccepted (accepted_opened opened) (map (λ i. given_input i.port (I.input i.source)) streams.old.inputs.items)) }
+    ensures refused { IfErr result (λ fault. (fault ≡ Memory) ⊎ IsNotBegun (length opened.now.ports) (stands_opened opened) (accepted_opened opened) (map given_of streams.old.outputs.items) (map (λ i. given_input i.port (I.input i.source)) streams.old.inputs.items) fault) }
     ensures untouched { map given_of streams.new.outputs.items ≡ map given_of streams.old.outputs.items }
 {
     opened_books_begin();

@@ -8,9 +8,10 @@ ghost use Rattle.tp_stream.specs.Held.{HasAtMost, HasLength, HasPut, KeepsFront,
 ghost use Rattle.tp_stream.specs.Outputs.{Grew, given_of};
 ghost use Rattle.tp_stream.specs.Standing.{MayBegin, Refuses, from_of, put_out, standing};
 ghost use Rattle.tp_stream.specs.Streamed.{IsBegun};
+ghost use Rattle.tp_stream.specs.Outcomes.{IsStepFault, step_fault_of};
 
 use crate::fault::StreamFault;
-use crate::sink::{Sink, SinkFailed};
+use crate::sink::{Sink, SinkFault};
 use crate::standing::Standing;
 use std::marker::Model;
 use tp_book::Book;
@@ -41,7 +42,7 @@ impl<S: Sink> Model for Output<S> {
 
 /// Puts bytes and makes them safe. Where there are none, no call is made.
 #[tactic(auto, using(crate::proofs::Sinks::none_put, crate::proofs::Sinks::none_reaches, crate::proofs::Sinks::front_stays))]
-fn put_safe<S: Sink>(sink: &mut S, at: u64, bytes: &[u8]) -> Result<(), SinkFailed>
+fn put_safe<S: Sink>(sink: &mut S, at: u64, bytes: &[u8]) -> Result<(), SinkFault>
     requires { Reaches at (S.held sink.old) }
     ensures put { OnOk result (HasPut at bytes.now (S.held sink.old) (S.held sink.new)) }
     ensures reach { OnOk result (Reaches (at + length bytes.now) (S.held sink.new)) }
@@ -65,6 +66,23 @@ fn excess<S: Sink>(sink: &S, upto: u64) -> Option<u64>
     match sink.length() {
         Some(has) if upto < has => Some(has),
         _ => None,
+    }
+}
+
+/// Why a step of an output isn't done: whoever takes it has gone, or the stream ends with a fault.
+#[derive(Clone, Copy, Debug, PartialEq, Eq)]
+pub(crate) enum StepFault {
+    Gone,
+    Fault(StreamFault),
+}
+
+/// Why the step of the output of `port` isn't done, where its sink answered `fault`.
+fn step_fault(fault: SinkFault, port: u8) -> StepFault
+    ensures { result ≡ step_fault_of port fault }
+{
+    match fault {
+        SinkFault::Failed => StepFault::Fault(StreamFault::OutputFailed(port)),
+        SinkFault::Gone => StepFault::Gone,
     }
 }
 
@@ -189,18 +207,18 @@ impl<S: Sink> Output<S> {
     }
 
     /// Puts, at their positions, all outputs that `mark` shows behind those that were put, and makes them safe.
-    fn put_shown(&mut self, book: &Book, mark: u64) -> Result<(), StreamFault>
+    fn put_shown(&mut self, book: &Book, mark: u64) -> Result<(), StepFault>
         requires there { self.old.port < length book.now.state.ports }
         ensures put { OnOk result (Grew (shown_from book.now self.old.port mark self.old.next) self.old self.new) }
         ensures shown { OnOk result (self.new.next ≡ shown_upto_of book.now self.old.port mark) }
         ensures front { KeepsFront self.old.next self.old.held self.new.held }
         ensures failed { OnErr result (self.new ≡ record self.old { held = self.new.held }) }
-        ensures begun { IfErr result IsBegun }
+        ensures begun { IfErr result IsStepFault }
     {
         let (port, from) = (self.port, self.next);
         let upto = book.shown_upto(port, mark);
         if from < book.out_base(port) || upto < from {
-            return Err(StreamFault::OutputFailed(port));
+            return Err(step_fault(SinkFault::Failed, port));
         }
         let bytes = book.shown(port, mark, from);
         match put_safe(&mut self.sink, from, bytes) {
@@ -208,7 +226,7 @@ impl<S: Sink> Output<S> {
                 self.next = upto;
                 Ok(())
             }
-            Err(_) => Err(StreamFault::OutputFailed(port)),
+            Err(fault) => Err(step_fault(fault, port)),
         }
     }
 
@@ -235,12 +253,12 @@ impl<S: Sink> Output<S> {
     }
 
     /// A step, under the book's lock: puts what `mark` shows and wasn't put, at its positions, makes it safe, and confirms up to there.
-    /// Where putting it or making it safe fails, nothing is confirmed.
+    /// Where putting it or making it safe fails, or whoever takes it has gone, nothing is confirmed.
     pub(crate) fn step<J: Naming>(
         &mut self,
         held: &mut Locked<J>,
         mark: u64,
-    ) -> Result<Receipt<J>, StreamFault>
+    ) -> Result<Receipt<J>, StepFault>
         requires there { self.old.port < length held.old.book.state.ports }
         ensures put { OnOk result (self.new.next ≡ self.old.next + length (shown_from held.old.book self.old.port mark self.old.next)) }
         ensures bytes { OnOk result (HasPut self.old.next (shown_from held.old.book self.old.port mark self.old.next) self.old.held self.new.held) }
@@ -250,10 +268,13 @@ impl<S: Sink> Output<S> {
         ensures confirmed { OnOk result (self.new.confirmed ≡ self.new.next) }
         ensures failed { OnErr result (held.new ≡ held.old) }
         ensures front { KeepsFront self.old.next self.old.held self.new.held }
-        ensures begun { IfErr result IsBegun }
+        ensures begun { IfErr result IsStepFault }
     {
         match self.put_shown(held.book(), mark) {
-            Ok(()) => self.confirm_put(held, mark),
+            Ok(()) => match self.confirm_put(held, mark) {
+                Ok(receipt) => Ok(receipt),
+                Err(fault) => Err(StepFault::Fault(fault)),
+            },
             Err(fault) => Err(fault),
         }
     }

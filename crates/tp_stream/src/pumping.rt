@@ -5,22 +5,60 @@ ghost use Rattle.tp_stream.specs.Streamed.{IsBegun};
 
 use crate::fault::StreamFault;
 use crate::input::Input;
-use crate::output::Output;
+use crate::output::{Output, StepFault};
+use crate::pace::Pace;
 use crate::sink::Sink;
 use crate::source::Source;
 use crate::streams::Streams;
-use crate::turns::Pace;
 use std::sync::Wait;
 use tp_model::limits::MAX_HELD;
 use tp_shared::{Naming, Shared};
 
-/// A step of a port's output, which takes the book's lock. Whether more was put.
+/// What steps of streams came to.
+#[derive(Clone, Copy, Debug, PartialEq, Eq)]
+pub(crate) enum Pumped {
+    /// None has moved.
+    Nothing,
+    /// More was put, or a port took more.
+    Moved,
+    /// Whoever takes an output has gone.
+    Gone,
+}
+
+impl Pumped {
+    /// What these come to, and those behind them.
+    fn then(self, more: Pumped) -> Pumped {
+        match (self, more) {
+            (Pumped::Gone, _) | (_, Pumped::Gone) => Pumped::Gone,
+            (Pumped::Nothing, Pumped::Nothing) => Pumped::Nothing,
+            _ => Pumped::Moved,
+        }
+    }
+
+    /// Whether one has moved.
+    fn of(has_moved: bool) -> Pumped {
+        if has_moved {
+            Pumped::Moved
+        } else {
+            Pumped::Nothing
+        }
+    }
+}
+
+/// Whether the journal has room for a confirm a port.
+pub(crate) fn can_confirm<J: Naming, R: Wait>(rt: &R, shared: &Shared<J>, pace: Pace) -> bool {
+    let held = shared.book().lock(rt);
+    held.known();
+    pace.rooms.has_room(held.book(), pace.confirms)
+}
+
+/// A step of a port's output, which takes the book's lock.
 fn step_output<J: Naming, S: Sink, R: Wait>(
     rt: &R,
     shared: &Shared<J>,
     mark: u64,
     output: &mut Output<S>,
-) -> Result<bool, StreamFault>
+) -> Result<Pumped, StreamFault>
     ensures { IfErr result IsBegun }
 {
     let before = output.put();
@@ -30,27 +68,26 @@ fn step_output<J: Naming, S: Sink, R: Wait>(
         return Err(StreamFault::OutputFailed(output.port()));
     }
     match output.step(&mut held, mark) {
-        Ok(_) => Ok(output.put() > before),
-        Err(fault) => Err(fault),
+        Ok(_) => Ok(Pumped::of(output.put() > before)),
+        Err(StepFault::Gone) => Ok(Pumped::Gone),
+        Err(StepFault::Fault(fault)) => Err(fault),
     }
 }
 
-/// A step of each output. Whether more was put of one.
+/// A step of each output, also behind one whose taker has gone.
 fn step_outputs<J: Naming, S: Sink, R: Wait>(
     rt: &R,
     shared: &Shared<J>,
     mark: u64,
     outputs: &mut [Output<S>],
-) -> Result<bool, StreamFault>
+) -> Result<Pumped, StreamFault>
     ensures { IfErr result IsBegun }
 {
-    let mut has_moved = false;
+    let mut pumped = Pumped::Nothing;
     for output in outputs.iter_mut() {
-        if step_output(rt, shared, mark, output)? {
-            has_moved = true;
-        }
+        pumped = pumped.then(step_output(rt, shared, mark, output)?);
     }
-    Ok(has_moved)
+    Ok(pumped)
 }
 
 /// A step of a port's input, which takes the book's lock. Whether the port took more. Room for the confirms is kept. Where it may not
@@ -78,14 +115,14 @@ fn step_input<J: Naming, I: Source, R: Wait>(
     input.step(&mut held, piece, free.saturating_sub(u64::from(pace.need)))
 }
 
-/// A step of each input. Whether a port took more of one.
+/// A step of each input.
 fn step_inputs<J: Naming, I: Source, R: Wait>(
     rt: &R,
     shared: &Shared<J>,
     pace: Pace,
     may_wait: bool,
     inputs: &mut [Input<I>],
-) -> Result<bool, StreamFault>
+) -> Result<Pumped, StreamFault>
     ensures { IfErr result IsBegun }
 {
     let mut piece = [0u8; MAX_HELD];
@@ -95,11 +132,11 @@ fn step_inputs<J: Naming, I: Source, R: Wait>(
             has_moved = true;
         }
     }
-    Ok(has_moved)
+    Ok(Pumped::of(has_moved))
 }
 
-/// A step of each stream, where the mark is `mark`. Whether one has moved. Where none has, and it may wait, it waits for input that
-/// hasn't come yet.
+/// A step of each stream, where the mark is `mark`. Where none has moved, and it may wait, it waits for input that hasn't come yet.
+/// Where whoever takes an output has gone, no port takes more.
 pub(crate) fn pump<J: Naming, S: Sink, I: Source, R: Wait>(
     rt: &R,
     shared: &Shared<J>,
@@ -107,13 +144,16 @@ pub(crate) fn pump<J: Naming, S: Sink, I: Source, R: Wait>(
     mark: u64,
     may_wait: bool,
     streams: &mut Streams<S, I>,
-) -> Result<bool, StreamFault>
+) -> Result<Pumped, StreamFault>
     ensures { IfErr result IsBegun }
 {
-    let has_put = step_outputs(rt, shared, mark, &mut streams.outputs)?;
-    let has_taken = step_inputs(rt, shared, pace, false, &mut streams.inputs)?;
-    if has_put || has_taken || !may_wait {
-        return Ok(has_put || has_taken);
+    let put = step_outputs(rt, shared, mark, &mut streams.outputs)?;
+    if put == Pumped::Gone {
+        return Ok(Pumped::Gone);
+    }
+    let pumped = put.then(step_inputs(rt, shared, pace, false, &mut streams.inputs)?);
+    if pumped != Pumped::Nothing || !may_wait {
+        return Ok(pumped);
     }
     step_inputs(rt, shared, pace, true, &mut streams.inputs)
 }

@@ -52,11 +52,14 @@ impl Rooms {
         (self.most.saturating_sub(self.kept) / ENTRY_ROOM as u64).saturating_sub(made)
     }
 
-    /// How many entries since the kept cut begin a snapshot, where `asked` were asked for: at most those that fill half of it.
-    pub(crate) fn every(self, asked: Option<u32>) -> u64 {
+    /// How many entries since the kept cut begin a snapshot, where `asked` were asked for: at most those that fill half of it, and at
+    /// least one, so that none begins where nothing has happened.
+    pub(crate) fn every(self, asked: Option<u32>) -> u64
+        ensures { 0 < result }
+    {
         let half = (self.most.saturating_sub(self.kept) / (2 * ENTRY_ROOM as u64)).max(1);
         match asked {
-            Some(entries) => half.min(entries.into()),
+            Some(entries) => half.min(u64::from(entries).max(1)),
             None => half,
         }
     }

@@ -1,22 +1,26 @@
 //! What a stream does with a network, and its flusher.
 
-ghost use Rattle.std.specs.Prelude.{◌≡◌, ◌≤◌, IfOk, IfErr};
+ghost use Rattle.std.specs.Prelude.{◌≡◌, ◌≤◌, IfOk, IfSome, IfErr, OnOk};
 ghost use Rattle.tp_flush.specs.Known.{Began};
 ghost use Rattle.tp_flush.specs.Flushing.{IsSameProcess, Walked};
+ghost use Rattle.tp_stream.specs.Quiet.{HaveRested, IsWhyEnded};
 ghost use Rattle.tp_stream.specs.Streamed.{IsBegun};
 
+use crate::ending::{Ended, Ending};
+use crate::endings::{are_over, ending, may_wait};
 use crate::fault::StreamFault;
 use crate::flushing::{finish, flush};
-use crate::input::Input;
 use crate::listener::{Listener, Progress};
 use crate::output::Output;
-use crate::pumping::pump;
+use crate::pace::Pace;
+use crate::pumping::{Pumped, can_confirm, pump};
+use crate::rounds::round;
 use crate::settling::settle;
 use crate::sink::Sink;
 use crate::source::Source;
+use crate::stopping::{find_halted, tell_stopped};
 use crate::streams::Streams;
-use crate::task::Task;
-use crate::turns::{Pace, Turns, round};
+use crate::turns::Turns;
 use std::alloc::Global;
 use std::sync::Wait;
 use tp_disk::Disk;
@@ -24,12 +28,12 @@ use tp_flush::Flusher;
 use tp_model::limits::MAX_PORTS;
 use tp_shared::{Naming, Seat, Shared};
 
-/// How a stream goes on: its turns, the slips of what they journalled, and at how many turns left it is told again how far it has come.
+/// How a stream goes on: its turns, the slips of what they journalled, and at how many turns it is told again how far it has come.
 #[derive(Drop)]
 struct Going<J: Naming> {
     turns: Turns,
     seat: Seat<J>,
-    tells_at: u32,
+    tells_at: u64,
 }
 
 /// Up to where each port's outputs were put.
@@ -47,17 +51,19 @@ fn put_of<S: Sink>(outputs: &[Output<S>]) -> [Option<u64>; MAX_PORTS] {
 fn tell<J: Naming, S: Sink, L: Listener, R: Wait>(
     rt: &R,
     shared: &Shared<J>,
-    task: Task,
     pace: Pace,
     going: &mut Going<J>,
     mark: u64,
     outputs: &[Output<S>],
     listener: &mut L,
-) {
-    if task.tells == 0 || going.turns.left > going.tells_at {
+)
+    ensures { going.new.turns ≡ going.old.turns }
+{
+    let tells = pace.task.tells;
+    if tells == 0 || going.turns.made < going.tells_at {
         return;
     }
-    going.tells_at = going.turns.left.saturating_sub(task.tells);
+    going.tells_at = going.turns.made.saturating_add(u64::from(tells));
     let put = put_of(outputs);
     let held = shared.book().lock(rt);
     let (next, used) = (held.book().next(), pace.rooms.used(held.book()));
@@ -70,59 +76,63 @@ fn tell<J: Naming, S: Sink, L: Listener, R: Wait>(
     });
 }
 
-/// Whether no input is left that its port may take.
-fn are_over<I: Source>(inputs: &[Input<I>]) -> bool {
-    inputs.iter().all(|input| input.is_over())
+/// Turns; or, where the journal has no room for one, or nothing is left to do but an input for which it has no room, a snapshot is
+/// brought to its end.
+fn make_turns<J: Naming, R: Wait>(
+    rt: &R,
+    alloc: Global,
+    shared: &Shared<J>,
+    pace: Pace,
+    going: &mut Going<J>,
+    pumped: Pumped,
+    over: bool,
+) -> Result<(), StreamFault>
+    requires { HaveRested J.start going.old.turns.whose going.old.turns.idle }
+    ensures rested { OnOk result (HaveRested J.start going.new.turns.whose going.new.turns.idle) }
+    ensures begun { IfErr result IsBegun }
+{
+    let Going { turns, seat, .. } = going;
+    let lacks_room = pumped == Pumped::Nothing && turns.is_quiet(shared.nodes()) && !over;
+    if pumped == Pumped::Moved {
+        turns.moved();
+    }
+    if turns.is_full || lacks_room {
+        settle(rt, alloc, shared, seat, turns)?;
+        return Ok(());
+    }
+    round(rt, alloc, shared, pace, seat, turns)
 }
 
-/// Whether nothing more is to be done: no turn is left, or it was asked to end where nothing is left to do.
-fn is_over<S: Sink, I: Source>(
-    task: Task,
-    turns: &Turns,
-    nodes: u8,
-    has_moved: bool,
-    streams: &Streams<S, I>,
-) -> bool {
-    let is_quiet = turns.is_quiet(nodes) && !has_moved && are_over(&streams.inputs);
-    turns.left == 0 || (task.until_quiet && is_quiet)
-}
-
-/// A step of each stream, which waits for input where nothing else is left to do, and then turns; where the journal has no room for one, a snapshot is brought to its end. Whether it goes on.
+/// A step of each stream, which waits for input where nothing else is left to do, and then turns. Where the journal has no room for the
+/// confirms, a snapshot is brought to its end before one is made. Answers why it is over, where it is.
 fn go_on<J: Naming, S: Sink, I: Source, L: Listener, R: Wait>(
     rt: &R,
     alloc: Global,
     shared: &Shared<J>,
-    task: Task,
     pace: Pace,
     going: &mut Going<J>,
     mark: u64,
     streams: &mut Streams<S, I>,
     listener: &mut L,
-) -> Result<bool, StreamFault>
-    ensures { IfErr result IsBegun }
+) -> Result<Option<Ending>, StreamFault>
+    requires { HaveRested J.start going.old.turns.whose going.old.turns.idle }
+    ensures why { IfOk result (λ ended. IfSome ended (IsWhyEnded J.start pace.task)) }
+    ensures rested { OnOk result (HaveRested J.start going.new.turns.whose going.new.turns.idle) }
+    ensures begun { IfErr result IsBegun }
 {
-    let may_wait = going.turns.left > 0 && going.turns.is_quiet(shared.nodes());
-    let has_moved = pump(rt, shared, pace, mark, may_wait, streams)?;
-    if is_over(task, &going.turns, shared.nodes(), has_moved, streams) {
-        return Ok(false);
+    if !can_confirm(rt, shared, pace) && going.turns.may_settle() {
+        settle(rt, alloc, shared, &mut going.seat, &mut going.turns)?;
+        return Ok(None);
     }
-    tell(
-        rt,
-        shared,
-        task,
-        pace,
-        going,
-        mark,
-        &streams.outputs,
-        listener,
-    );
-    let Going { turns, seat, .. } = going;
-    if turns.is_full {
-        settle(rt, alloc, shared, seat, turns)?;
-    } else {
-        round(rt, alloc, shared, pace, seat, turns)?;
+    let may_wait = may_wait(pace.task, &going.turns, shared.nodes());
+    let pumped = pump(rt, shared, pace, mark, may_wait, streams)?;
+    let over = are_over(&streams.inputs);
+    if let Some(why) = ending(pace.task, &going.turns, shared.nodes(), pumped, over) {
+        return Ok(Some(why));
     }
-    Ok(true)
+    tell(rt, shared, pace, going, mark, &streams.outputs, listener);
+    make_turns(rt, alloc, shared, pace, going, pumped, over)?;
+    Ok(None)
 }
 
 /// A flush, and all that comes behind it before the next one.
@@ -130,21 +140,21 @@ fn cycle<J: Naming, D: Disk, S: Sink, I: Source, L: Listener, R: Wait>(
     rt: &R,
     alloc: Global,
     shared: &Shared<J>,
-    task: Task,
     pace: Pace,
     going: &mut Going<J>,
     flusher: &mut Flusher<J, D>,
     streams: &mut Streams<S, I>,
     listener: &mut L,
-) -> Result<bool, StreamFault>
+) -> Result<Option<Ending>, StreamFault>
+    requires { HaveRested J.start going.old.turns.whose going.old.turns.idle }
     ensures walks { D.keeps → Began J.formatted J.before flusher.old.opened → Walked flusher.old flusher.new }
     ensures process { IsSameProcess flusher.old flusher.new }
+    ensures why { IfOk result (λ ended. IfSome ended (IsWhyEnded J.start pace.task)) }
+    ensures rested { OnOk result (HaveRested J.start going.new.turns.whose going.new.turns.idle) }
     ensures begun { IfErr result IsBegun }
 {
     let mark = flush(rt, alloc, shared, flusher)?;
-    go_on(
-        rt, alloc, shared, task, pace, going, mark, streams, listener,
-    )
+    go_on(rt, alloc, shared, pace, going, mark, streams, listener)
 }
 
 /// All cycles, until nothing more is to be done or one is refused.
@@ -152,33 +162,33 @@ fn cycles<J: Naming, D: Disk, S: Sink, I: Source, L: Listener, R: Wait>(
     rt: &R,
     alloc: Global,
     shared: &Shared<J>,
-    task: Task,
     pace: Pace,
     first: Flusher<J, D>,
     streams: &mut Streams<S, I>,
     listener: &mut L,
-) -> (Flusher<J, D>, Result<bool, StreamFault>)
+) -> (Flusher<J, D>, Result<Option<Ending>, StreamFault>)
     ensures walks { D.keeps → Began J.formatted J.before first.opened → Walked first result.0 }
     ensures process { IsSameProcess first result.0 }
+    ensures why { IfOk result.1 (λ ended. IfSome ended (IsWhyEnded J.start pace.task)) }
     ensures begun { IfErr result.1 IsBegun }
 {
     first.known();
     let mut flusher = first;
+    let has_halted = pace.task.stop_on_halt && find_halted(rt, shared);
     let mut going = Going {
-        turns: Turns::new(task.turns),
+        turns: Turns::new(has_halted),
         seat: Seat::new(),
-        tells_at: task.turns.saturating_sub(task.tells),
+        tells_at: u64::from(pace.task.tells),
     };
-    let mut last = Ok(true);
+    let mut last = Ok(None);
     for _ in rt.forever() {
-        let Ok(true) = last else {
+        let Ok(None) = last else {
             break;
         };
         last = cycle(
             rt,
             alloc,
             shared,
-            task,
             pace,
             &mut going,
             &mut flusher,
@@ -189,27 +199,35 @@ fn cycles<J: Naming, D: Disk, S: Sink, I: Source, L: Listener, R: Wait>(
     (flusher, last)
 }
 
-/// Makes turns, and lets each stream make its steps, until that ends. Answers the number that the next entry gets: all below is
-/// stored.
+/// Makes turns, and lets each stream make its steps, until that ends. Answers the number that the next entry gets, all below
+/// being stored, and why it is over; which nodes have stopped is told before.
 pub(crate) fn serve<J: Naming, D: Disk, S: Sink, I: Source, L: Listener, R: Wait>(
     rt: &R,
     alloc: Global,
     shared: &Shared<J>,
-    task: Task,
     pace: Pace,
     flusher: Flusher<J, D>,
     streams: &mut Streams<S, I>,
     listener: &mut L,
-) -> (Flusher<J, D>, Result<u64, StreamFault>)
+) -> (Flusher<J, D>, Result<Ended, StreamFault>)
     ensures walks { D.keeps → Began J.formatted J.before flusher.opened → Walked flusher result.0 }
     ensures process { IsSameProcess flusher result.0 }
-    ensures stored { IfOk result.1 (λ next. next ≤ result.0.world.mark) }
+    ensures why { IfOk result.1 (λ ended. IsWhyEnded J.start pace.task ended.why) }
+    ensures stored { IfOk result.1 (λ ended. ended.next ≤ result.0.world.mark) }
     ensures begun { IfErr result.1 IsBegun }
 {
-    let (mut there, last) = cycles(rt, alloc, shared, task, pace, flusher, streams, listener);
-    if let Err(fault) = last {
-        return (there, Err(fault));
+    let (mut there, last) = cycles(rt, alloc, shared, pace, flusher, streams, listener);
+    let why = match last {
+        Ok(Some(why)) => why,
+        // The loop goes on as long as nothing is answered.
+        Ok(None) => return (there, Err(StreamFault::FlushFailed)),
+        Err(fault) => return (there, Err(fault)),
+    };
+    match finish(rt, alloc, shared, &mut there) {
+        Ok(next) => {
+            tell_stopped(rt, shared, why, listener);
+            (there, Ok(Ended { next, why }))
+        }
+        Err(fault) => (there, Err(fault)),
     }
-    let done = finish(rt, alloc, shared, &mut there);
-    (there, done)
 }

@@ -1,10 +1,11 @@
 //! Turns that bring a snapshot to its end where the journal has no room for others.
 
-ghost use Rattle.std.specs.Prelude.{IfErr};
+ghost use Rattle.std.specs.Prelude.{◌≡◌, OnOk, IfErr};
 ghost use Rattle.tp_stream.specs.Streamed.{IsBegun};
 
 use crate::fault::StreamFault;
-use crate::turns::{Turns, begin_where_due, make_turn};
+use crate::rounds::{begin_where_due, make_turn};
+use crate::turns::Turns;
 use std::alloc::Global;
 use std::sync::Wait;
 use tp_book::Refusal;
@@ -12,9 +13,6 @@ use tp_shared::{Naming, Seat, Shared};
 
 /// How many times each process settles: nothing runs, so a line has at most one Data and one Ack in front of its Marker.
 const SETTLES: u8 = 4;
-
-/// How often the journal is settled in a row before it counts as full for ever.
-const MOST_SETTLED: u32 = 64;
 
 /// Begins a snapshot where none runs, under the book's lock.
 fn begin_now<J: Naming, R: Wait>(rt: &R, alloc: Global, shared: &Shared<J>) {
@@ -48,16 +46,17 @@ pub(crate) fn settle<J: Naming, R: Wait>(
     seat: &mut Seat<J>,
     turns: &mut Turns,
 ) -> Result<(), StreamFault>
-    ensures { IfErr result IsBegun }
+    ensures whose { turns.new.whose ≡ turns.old.whose }
+    ensures idle { OnOk result (turns.new.idle ≡ 0) }
+    ensures begun { IfErr result IsBegun }
 {
-    if turns.settled >= MOST_SETTLED {
+    if !turns.may_settle() {
         return Err(StreamFault::JournalFull);
     }
-    turns.settled += 1;
+    turns.settle();
     begin_now(rt, alloc, shared);
     for _ in 0..SETTLES {
         settle_once(rt, shared, seat)?;
     }
-    turns.is_full = false;
     Ok(())
 }

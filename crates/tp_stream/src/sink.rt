@@ -3,9 +3,14 @@
 ghost use Rattle.std.specs.Prelude.{Option, None, OnOk};
 ghost use Rattle.tp_stream.specs.Held.{Held, HasLength, HasPut, HasReach, IsSafe, KeepsBytes, KeepsFront, Reaches};
 
-/// Bytes couldn't be put, or not be made safe.
+/// Why bytes couldn't be put, or not be made safe.
 #[derive(Clone, Copy, Debug, PartialEq, Eq)]
-pub struct SinkFailed;
+pub enum SinkFault {
+    /// It failed.
+    Failed,
+    /// Whoever takes the bytes has gone, as a pipe's reader.
+    Gone,
+}
 
 /// What takes a port's output: byte number q of the port at position q.
 pub trait Sink {
@@ -22,13 +27,13 @@ pub trait Sink {
         ensures { HasLength result (held self.now) };
 
     /// Puts bytes at a position, over what stands there. Whatever is answered, those before them are as they were.
-    fn put(&mut self, at: u64, bytes: &[u8]) -> Result<(), SinkFailed>
+    fn put(&mut self, at: u64, bytes: &[u8]) -> Result<(), SinkFault>
         requires { Reaches at (held self.old) }
         ensures put { OnOk result (HasPut at bytes.now (held self.old) (held self.new)) }
         ensures front { KeepsFront at (held self.old) (held self.new) };
 
     /// Makes all that was put safe: a crash leaves it.
-    fn settle(&mut self) -> Result<(), SinkFailed>
+    fn settle(&mut self) -> Result<(), SinkFault>
         ensures safe { OnOk result (IsSafe (held self.new)) }
         ensures bytes { KeepsBytes (held self.old) (held self.new) };
 }

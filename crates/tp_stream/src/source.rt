@@ -1,7 +1,7 @@
 //! Where a port's input comes from.
 
 ghost use Rattle.std.specs.Prelude.{◌≡◌, ◌≤◌, ℕ, List, length, take, Option, None, IfOk};
-ghost use Rattle.tp_stream.specs.Offered.{AreFrom};
+ghost use Rattle.tp_stream.specs.Offered.{AreFrom, IsLength};
 
 /// Bytes couldn't be read.
 #[derive(Clone, Copy, Debug, PartialEq, Eq)]
@@ -11,6 +11,10 @@ pub struct SourceFailed;
 pub trait Source {
     /// All of its bytes, where they are known.
     ghost input: { Self → Option (List ℕ) } = { λ _. None };
+
+    /// How many bytes the whole input has, where that is known, as of a regular file; none: it isn't known.
+    fn length(&self) -> Option<u64>
+        ensures { IsLength result (input self.now) };
 
     /// Whether a read from this position would wait for bytes that haven't come yet.
     fn would_wait(&mut self, at: u64) -> bool

@@ -1,7 +1,7 @@
 //! A stream, from a device to a device.
 
 ghost use Rattle.std.specs.List.{AllByRecursion};
-ghost use Rattle.std.specs.Prelude.{◌≡◌, ◌⊎◌, ◌<◌, ◌≤◌, false, true, Ok, Err, Some, length, map, OnOk, IfErr, IsErr};
+ghost use Rattle.std.specs.Prelude.{◌≡◌, ◌⊎◌, ◌<◌, ◌≤◌, false, true, Ok, Err, Some, length, map, OnOk, IfOk, IfErr, IsErr};
 ghost use Rattle.tp_area.specs.Places.{place_at};
 ghost use Rattle.tp_flush.specs.Known.{Began};
 ghost use Rattle.tp_model.specs.DiskHistory.{IsSynced};
@@ -15,22 +15,25 @@ ghost use Rattle.tp_recover.specs.Reading.{LeavesNothingNew};
 ghost use Rattle.tp_run.specs.Made.{StandsFor};
 ghost use Rattle.tp_run.specs.Ran.{History};
 ghost use Rattle.tp_shared.specs.Named.{Names};
+ghost use Rattle.tp_stream.specs.Offered.{given_input};
 ghost use Rattle.tp_stream.specs.Outputs.{given_of};
-ghost use Rattle.tp_stream.specs.Standing.{AllMayBegin, IsFirstRefused, OfOutput, stands_opened};
+ghost use Rattle.tp_stream.specs.Quiet.{IsAsked};
+ghost use Rattle.tp_stream.specs.Standing.{AllHaveAccepted, AllMayBegin, IsFirstRefused, IsFirstShort, OfInput, OfOutput, accepted_opened, stands_opened};
 ghost use Rattle.tp_stream.specs.Streamed.{IsBegun, IsUnbegun, Streamed};
 ghost use Rattle.tp_recover.specs.declared.unopened.Unopened.{Unopened};
 
 use crate::beginning::task_fault;
+use crate::ending::Ended;
 use crate::fault::StreamFault;
 use crate::listener::Listener;
 use crate::opening::parts_of;
+use crate::pace::Pace;
 use crate::rooms::Rooms;
 use crate::serving::serve;
 use crate::sink::Sink;
 use crate::source::Source;
 use crate::streams::Streams;
 use crate::task::Task;
-use crate::turns::Pace;
 use std::alloc::Global;
 use std::marker::Brand;
 use std::snapshot::Snapshot;
@@ -52,14 +55,16 @@ const PORT_ENTRIES: u32 = 3;
 /// How turns are made on a device of this topology.
 fn pace_of(task: Task, topology: &Topology, area: u64) -> Pace
     requires { task.quantum ≤ MAX_STEPS }
+    ensures { result.task ≡ task }
 {
     let ports = topology.port_count() as u32;
     let rooms = Rooms::of(topology, area);
     Pace {
-        quantum: task.quantum,
+        task,
         every: rooms.every(task.every),
         rooms,
         need: NODE_ENTRIES.max(PORT_ENTRIES * ports) + ports,
+        confirms: ports,
     }
 }
 
@@ -75,7 +80,7 @@ fn stream_parts<J: Naming, D: Disk + Drop, S: Sink, I: Source, L: Listener, R: W
     store: Store<D>,
     streams: &mut Streams<S, I>,
     listener: &mut L,
-) -> (D, Result<u64, StreamFault>)
+) -> (D, Result<Ended, StreamFault>)
     requires quantum { task.quantum ≤ MAX_STEPS }
     requires names { Names J.roll J.first J.start J.node J.mark J.flusher J.room parts }
     requires stands { StandsFor opened.value parts raiser }
@@ -91,13 +96,14 @@ fn stream_parts<J: Naming, D: Disk + Drop, S: Sink, I: Source, L: Listener, R: W
     ensures size { D.size_of result.0 ≡ D.size_of store.disk }
     ensures streamed { D.keeps → Began J.formatted J.before (D.state store.disk).now.bytes
         → Streamed J.formatted result.1 (D.state store.disk) (D.state result.0) }
+    ensures why { IfOk result.1 (λ ended. IsAsked task ended.why) }
     ensures begun { IfErr result.1 IsBegun }
 {
     let (shared, key) = Shared::<J>::start(parts);
     let pace = pace_of(task, &topology, store.place.area);
     let flusher = Flusher::over(opened, topology, store, key, raiser);
     flusher.known();
-    let (flusher, done) = serve(rt, alloc, &shared, task, pace, flusher, streams, listener);
+    let (flusher, done) = serve(rt, alloc, &shared, pace, flusher, streams, listener);
     (flusher.into_disk(), done)
 }
 
@@ -114,7 +120,7 @@ pub fn stream<D: Disk + Drop, S: Sink, I: Source, L: Listener, R: Wait>(
     disk: D,
     streams: &mut Streams<S, I>,
     listener: &mut L,
-) -> (D, Result<u64, StreamFault>)
+) -> (D, Result<Ended, StreamFault>)
     ghost history: { History }
     requires { task.quantum ≤ MAX_STEPS }
     ensures size { D.size_of result.0 ≡ D.size_of disk }
@@ -126,8 +132,13 @@ pub fn stream<D: Disk + Drop, S: Sink, I: Source, L: Listener, R: Wait>(
         → OnOk result.1 (AllMayBegin (stands_opened opened) (map given_of streams.old.outputs.items)) }
     ensures refused { D.keeps → (opened : OpenedValue) → verdict (D.state disk).now.bytes ≡ Ok opened
         → IfErr result.1 (λ fault. OfOutput fault (IsFirstRefused (length opened.now.ports) (stands_opened opened) (map given_of streams.old.outputs.items) fault)) }
+    ensures inputs { D.keeps → (opened : OpenedValue) → verdict (D.state disk).now.bytes ≡ Ok opened
+        → OnOk result.1 (AllHaveAccepted (accepted_opened opened) (map (λ i. given_input i.port (I.input i.source)) streams.old.inputs.items)) }
+    ensures short { D.keeps → (opened : OpenedValue) → verdict (D.state disk).now.bytes ≡ Ok opened
+        → IfErr result.1 (λ fault. OfInput fault (AllMayBegin (stands_opened opened) (map given_of streams.old.outputs.items) × IsFirstShort (length opened.now.ports) (accepted_opened opened) (map (λ i. given_input i.port (I.input i.source)) streams.old.inputs.items) fault)) }
     ensures kept { D.keeps → (opened : OpenedValue) → verdict (D.state disk).now.bytes ≡ Ok opened
         → (map given_of streams.new.outputs.items ≡ map given_of streams.old.outputs.items) ⊎ AllMayBegin (stands_opened opened) (map given_of streams.old.outputs.items) }
+    ensures why { IfOk result.1 (λ ended. IsAsked task ended.why) }
     ensures untouched { IsUnbegun result.1 → map given_of streams.new.outputs.items ≡ map given_of streams.old.outputs.items }
 {
     let mut disk = disk;

@@ -3,11 +3,13 @@
 /// How a device's network is run, and when that ends.
 #[derive(Clone, Copy, Debug, PartialEq, Eq)]
 pub struct Task {
-    /// How many turns are made at most. A refused turn counts; one that only settles doesn't.
-    pub turns: u32,
+    /// How many turns are made at most; none: there is no bound. A refused turn counts; one that only settles doesn't.
+    pub turns: Option<u32>,
     /// Whether it ends once nothing is left to do: no node has a step, no line a token that can be taken, and no input is left for which
     /// its port has room.
     pub until_quiet: bool,
+    /// Whether it ends once a node has halted.
+    pub stop_on_halt: bool,
     /// How many steps a turn may run, 1 to 4,096.
     pub quantum: u16,
     /// How many spare frames each node has, at most its pages, for pages that it writes while it is frozen.

@@ -1,160 +1,164 @@
-//! Turns of the network's processes, one behind the other.
+//! How far turns have come.
 
-ghost use Rattle.std.specs.Prelude.{◌≡◌, ◌≤◌, true, false, IfErr, OnErr};
-ghost use Rattle.tp_model.specs.declared.limits.TheConstants.{MAX_STEPS};
-ghost use Rattle.tp_book.specs.Marked.{after_begin};
-ghost use Rattle.tp_run.specs.Every.{is_due};
-ghost use Rattle.tp_stream.specs.Rooms.{HavePlace};
-ghost use Rattle.tp_stream.specs.Streamed.{IsBegun};
+ghost use Rattle.std.specs.Prelude.{◌≡◌, ◌<◌, ◌≤◌, ◌+◌, ◌&&◌, true, false, nat_lt, if◌then◌else◌};
+ghost use Rattle.tp_stream.specs.Endings.{IsBoundReached};
 
-use crate::fault::StreamFault;
-use crate::rooms::{Rooms, have_place};
-use std::alloc::Global;
-use std::sync::Wait;
-use tp_book::Refusal;
-use tp_shared::{Locked, Naming, NoGate, Seat, Shared};
+use crate::task::Task;
 
-/// How many turns are made at most between two flushes.
-const ROUND: u32 = 1024;
+/// How often the journal is settled in a row before it counts as full for ever.
+const MOST_SETTLED: u32 = 64;
 
-/// How a device's turns are made: how many steps each may run, after how many entries a snapshot begins, and how much room a turn and
-/// the confirms behind it need.
+/// What a process did in its turn: whether there was nothing that it could do, and whether it is a node that has halted.
 #[derive(Clone, Copy)]
-pub(crate) struct Pace {
-    pub(crate) quantum: u16,
-    pub(crate) every: u64,
-    pub(crate) rooms: Rooms,
-    pub(crate) need: u32,
-    pub ghost few: { quantum ≤ MAX_STEPS },
+pub(crate) struct Did {
+    pub(crate) nothing: bool,
+    pub(crate) halted: bool,
 }
 
-/// How far turns have come: how many are left, whose turn is next, how many of the last ones in a row did nothing, whether the journal
-/// had no room for one more, and how often it was settled since one was made.
+impl Did {
+    /// A turn that was refused.
+    pub(crate) fn refused() -> Did
+        ensures { result.nothing ≡ false }
+    {
+        Did {
+            nothing: false,
+            halted: false,
+        }
+    }
+}
+
+/// How far turns have come: how many were made, whose turn is next, how many of the last ones in a row had nothing to do while no
+/// snapshot ran, how many of this round were made while one ran, whether a node has halted, whether the journal had no room for one more,
+/// and how often it was settled since one did something.
 #[derive(Drop)]
 pub(crate) struct Turns {
-    pub(crate) left: u32,
+    pub(crate) made: u64,
     pub(crate) whose: u8,
     pub(crate) idle: u32,
+    beside: u32,
+    pub(crate) has_halted: bool,
     pub(crate) is_full: bool,
-    pub(crate) settled: u32,
+    settled: u32,
+}
+
+/// Whose turn comes behind that of `whose`: the nodes in order, and then the host.
+fn next_of(whose: u8, nodes: u8) -> u8
+    ensures { result ≡ (if nat_lt whose nodes then whose + 1 else 0) }
+{
+    if whose < nodes { whose + 1 } else { 0 }
 }
 
 impl Turns {
-    /// `left` turns are left, and none was made.
-    pub(crate) fn new(left: u32) -> Turns {
+    /// None was made. `has_halted` says whether a node has halted before.
+    pub(crate) fn new(has_halted: bool) -> Turns
+        ensures whose { result.whose ≡ 0 }
+        ensures idle { result.idle ≡ 0 }
+    {
         Turns {
-            left,
+            made: 0,
             whose: 0,
             idle: 0,
+            beside: 0,
+            has_halted,
             is_full: false,
             settled: 0,
         }
     }
 
-    /// A turn of `whose` was made, in a network of `nodes` nodes. `is_busy` says whether it did something.
-    fn count(&mut self, is_busy: bool, nodes: u8) {
-        self.left = self.left.saturating_sub(1);
-        self.whose = if self.whose >= nodes {
-            0
-        } else {
-            self.whose.saturating_add(1)
-        };
-        self.idle = if is_busy {
-            0
-        } else {
+    /// A round begins.
+    pub(crate) fn begin(&mut self)
+        ensures whose { self.new.whose ≡ self.old.whose }
+        ensures idle { self.new.idle ≡ 0 }
+    {
+        self.idle = 0;
+        self.beside = 0;
+        self.is_full = false;
+    }
+
+    /// The journal has no room for one more.
+    pub(crate) fn fill(&mut self)
+        ensures whose { self.new.whose ≡ self.old.whose }
+        ensures idle { self.new.idle ≡ self.old.idle }
+    {
+        self.is_full = true;
+    }
+
+    /// The journal is settled once more. The turns for that don't count, and are none of those that had nothing to do.
+    pub(crate) fn settle(&mut self)
+        ensures whose { self.new.whose ≡ self.old.whose }
+        ensures idle { self.new.idle ≡ 0 }
+    {
+        self.idle = 0;
+        self.is_full = false;
+        self.settled = self.settled.saturating_add(1);
+    }
+
+    /// A turn of `whose` was made, in a network of `nodes` nodes. It is one of those that had nothing to do only where there was
+    /// nothing that the process could do, and no snapshot ran. One that had nothing to do shows of no settling that it wasn't in vain.
+    pub(crate) fn count(&mut self, did: Did, is_running: bool, nodes: u8)
+        ensures whose { self.new.whose ≡ (if nat_lt self.old.whose nodes then self.old.whose + 1 else 0) }
+        ensures rests { 0 < self.new.idle → (did.nothing ≡ true) × (is_running ≡ false) }
+        ensures one { self.new.idle ≤ self.old.idle + 1 }
+    {
+        self.made = self.made.saturating_add(1);
+        self.whose = next_of(self.whose, nodes);
+        self.idle = if did.nothing && !is_running {
             self.idle.saturating_add(1)
+        } else {
+            0
         };
+        if is_running {
+            self.beside = self.beside.saturating_add(1);
+        }
+        self.has_halted = self.has_halted || did.halted;
+        if !did.nothing {
+            self.settled = 0;
+        }
+    }
+
+    /// A stream has moved, so that settling isn't in vain.
+    pub(crate) fn moved(&mut self)
+        ensures whose { self.new.whose ≡ self.old.whose }
+        ensures idle { self.new.idle ≡ self.old.idle }
+    {
         self.settled = 0;
     }
 
-    /// Whether each process, of `nodes` nodes and the host, did nothing in its last turn.
-    pub(crate) fn is_quiet(&self, nodes: u8) -> bool {
+    /// Whether the journal may still be settled: it was done in vain fewer times than make it full for ever.
+    pub(crate) fn may_settle(&self) -> bool {
+        self.settled < MOST_SETTLED
+    }
+
+    /// Whether each process, of `nodes` nodes and the host, had nothing to do in its last turn, while no snapshot ran.
+    pub(crate) fn is_quiet(&self, nodes: u8) -> bool
+        ensures { result ≡ nat_lt nodes self.now.idle }
+    {
         self.idle > u32::from(nodes)
     }
-}
 
-/// A turn of a process, of at most `quantum` steps; the host's where there is no such node. Whether it made an entry.
-pub(crate) fn make_turn<J: Naming, R: Wait>(
-    rt: &R,
-    shared: &Shared<J>,
-    seat: &mut Seat<J>,
-    whose: u8,
-    quantum: u16,
-) -> Result<bool, Refusal>
-    requires { quantum ≤ MAX_STEPS }
-{
-    if whose >= shared.nodes() {
-        let takes = shared.host_turn(rt, &NoGate, seat)?;
-        return Ok(takes > 0);
-    }
-    let turn = shared.turn(rt, &NoGate, seat, whose, quantum)?;
-    Ok(turn.taken > 0 || turn.ran.count() > 0)
-}
-
-/// Begins a snapshot, under the book's lock, where `every` entries have been made since the kept cut and each port has room for one
-/// more byte. That it is refused is passed over. Whether one was begun.
-pub(crate) fn begin_where_due<J: Naming>(held: &mut Locked<J>, alloc: Global, every: u64) -> bool
-    ensures due { result ≡ true → is_due every held.old.book ≡ true }
-    ensures place { result ≡ true → HavePlace held.old.book }
-    ensures begun { result ≡ true → held.new ≡ record held.old { book = after_begin held.old.book } }
-    ensures same { result ≡ false → held.new ≡ held.old }
-{
-    let made = held.book().next().saturating_sub(held.book().base());
-    if made < every || !have_place(held.book()) {
-        return false;
-    }
-    held.begin_snapshot(alloc).is_ok()
-}
-
-/// Whether the journal has room for a turn and the confirms behind it. Before that a snapshot is begun where it is due.
-fn is_ready<J: Naming, R: Wait>(rt: &R, alloc: Global, shared: &Shared<J>, pace: Pace) -> bool {
-    let mut held = shared.book().lock(rt);
-    held.known();
-    let _begun = begin_where_due(&mut held, alloc, pace.every);
-    pace.rooms.has_room(held.book(), pace.need)
-}
-
-/// Whether a snapshot runs.
-fn is_running<J: Naming, R: Wait>(rt: &R, shared: &Shared<J>) -> bool {
-    let held = shared.book().lock(rt);
-    held.known();
-    held.look().running
-}
-
-/// A round of turns, of all processes in order, until the journal has no room for one more or each process did nothing. While a
-/// snapshot runs each process has one.
-pub(crate) fn round<J: Naming, R: Wait>(
-    rt: &R,
-    alloc: Global,
-    shared: &Shared<J>,
-    pace: Pace,
-    seat: &mut Seat<J>,
-    turns: &mut Turns,
-) -> Result<(), StreamFault>
-    ensures { IfErr result IsBegun }
-{
-    let nodes = shared.nodes();
-    let most = if is_running(rt, shared) {
-        u32::from(nodes) + 1
-    } else {
-        ROUND
-    };
-    turns.idle = 0;
-    turns.is_full = false;
-    for _ in 0..most {
-        if turns.left == 0 || turns.is_quiet(nodes) {
-            return Ok(());
-        }
-        if !is_ready(rt, alloc, shared, pace) {
-            turns.is_full = true;
-            return Ok(());
-        }
-        match make_turn(rt, shared, seat, turns.whose, pace.quantum) {
-            Ok(is_busy) => turns.count(is_busy, nodes),
-            Err(Refusal::JournalFull) => turns.count(true, nodes),
-            Err(Refusal::StoreBroken) => return Err(StreamFault::FlushFailed),
-            Err(_) => return Err(StreamFault::Memory),
+    /// Whether all turns were made that may be. Where there is no bound, never.
+    pub(crate) fn are_out(&self, task: Task) -> bool
+        ensures out { result ≡ true → IsBoundReached task self.now }
+    {
+        match task.turns {
+            Some(most) => self.made >= u64::from(most),
+            None => false,
         }
     }
-    Ok(())
+
+    /// Whether it is to end since a node has halted.
+    pub(crate) fn is_stopped(&self, task: Task) -> bool
+        ensures { result ≡ (task.stop_on_halt && self.now.has_halted) }
+    {
+        task.stop_on_halt && self.has_halted
+    }
+
+    /// Whether the round is over: no turn may be made, nothing is left to do, or each process has had its turn beside a snapshot, which
+    /// goes on in the flusher's next turn.
+    pub(crate) fn is_round_over(&self, task: Task, nodes: u8) -> bool {
+        self.are_out(task)
+            || self.is_stopped(task)
+            || self.is_quiet(nodes)
+            || self.beside > u32::from(nodes)
+    }
 }

@@ -18,5 +18,5 @@ pub use pipes::Pipe;
 pub use same::is_one_file;
 pub use sinks::{AnySink, FileSink};
 pub use sources::AnySource;
-pub use telling::{Teller, say_end};
+pub use telling::{Teller, say_end, say_stopped};
 pub use threads::Threaded;

@@ -1,14 +1,14 @@
 //! What takes a port's output in the program: a file, standard output, or nothing.
 
-ghost use Rattle.std.specs.Prelude.{None};
+ghost use Rattle.std.specs.Prelude.{◌≡◌, ◌↔◌, None, is_ok};
 ghost use Rattle.tp_stream.specs.Held.{HasLength, HasPut, HasReach, IsSafe, KeepsBytes, KeepsFront, Reaches};
 
 use std::fs::{Files, OpenFile, OpenOptions};
 use std::io;
-use std::io::Write;
+use std::io::{ErrorKind, Write};
 use std::os::unix::fs::FileExt;
 use tp_disk::{NotedFile, SystemFile};
-use tp_stream::{Sink, SinkFailed};
+use tp_stream::{Sink, SinkFault};
 
 /// A file whose byte number q is byte number q of the port.
 #[derive(Drop)]
@@ -46,11 +46,24 @@ pub(crate) fn file_at<R: Files>(rt: &R, path: &str) -> io::Result<R::File> {
         .open(rt, path)
 }
 
+/// Why a call of the system wasn't done: whoever takes the bytes has gone just where nobody reads a pipe any more.
+fn fault_of(kind: ErrorKind) -> SinkFault
+    ensures { (result ≡ SinkFault.Gone) ↔ (kind ≡ ErrorKind.BrokenPipe) }
+{
+    if kind == ErrorKind::BrokenPipe {
+        SinkFault::Gone
+    } else {
+        SinkFault::Failed
+    }
+}
+
 /// The answer to a call of the system.
-fn answer(done: io::Result<()>) -> Result<(), SinkFailed> {
+fn answer(done: io::Result<()>) -> Result<(), SinkFault>
+    ensures { is_ok result ≡ is_ok done }
+{
     match done {
         Ok(()) => Ok(()),
-        Err(_) => Err(SinkFailed),
+        Err(error) => Err(fault_of(error.kind())),
     }
 }
 
@@ -74,7 +87,7 @@ impl<F: FileExt + OpenFile + Drop> FileSink<F> {
     }
 
     /// Writes over what stands at a position.
-    fn put(&mut self, at: u64, bytes: &[u8]) -> Result<(), SinkFailed> {
+    fn put(&mut self, at: u64, bytes: &[u8]) -> Result<(), SinkFault> {
         answer(self.file.write_all(at, bytes))?;
         self.length = self.length.max(at.saturating_add(bytes.len() as u64));
         Ok(())
@@ -98,7 +111,7 @@ impl<'a, F: FileExt + OpenFile + Drop, O: Write> Sink for AnySink<'a, F, O> {
         }
     }
 
-    fn put(&mut self, at: u64, bytes: &[u8]) -> Result<(), SinkFailed> {
+    fn put(&mut self, at: u64, bytes: &[u8]) -> Result<(), SinkFault> {
         match self {
             AnySink::File(sink) => sink.put(at, bytes),
             AnySink::Out(out) => answer(out.write_all(bytes)),
@@ -106,7 +119,7 @@ impl<'a, F: FileExt + OpenFile + Drop, O: Write> Sink for AnySink<'a, F, O> {
         }
     }
 
-    fn settle(&mut self) -> Result<(), SinkFailed> {
+    fn settle(&mut self) -> Result<(), SinkFault> {
         match self {
             AnySink::File(sink) => answer(sink.file.sync()),
             AnySink::Out(out) => answer(out.flush()),

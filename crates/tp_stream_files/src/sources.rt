@@ -1,9 +1,11 @@
 //! Where a port's input comes from in the program: a file, or standard input.
 
 ghost use Rattle.std.specs.Prelude.{◌≤◌, None, length, IfOk};
+ghost use Rattle.tp_stream.specs.Offered.{AreFrom, IsLength};
 
 use crate::feeds::Feed;
 use crate::pipes::Pipe;
+use std::fs::OpenFile;
 use std::os::unix::fs::FileExt;
 use tp_stream::{Source, SourceFailed};
 
@@ -14,8 +16,23 @@ pub enum AnySource<'a, F: Drop, I> {
     In(Pipe<'a, I>),
 }
 
-impl<'a, F: FileExt + Drop, I: Feed> Source for AnySource<'a, F, I> {
+/// How many bytes a file has. None where it is no regular file, or the system doesn't say.
+fn length_of<F: OpenFile>(file: &F) -> Option<u64> {
+    match file.metadata() {
+        Ok(kept) if kept.is_file() => Some(kept.len()),
+        _ => None,
+    }
+}
+
+impl<'a, F: FileExt + OpenFile + Drop, I: Feed> Source for AnySource<'a, F, I> {
     ghost input = { λ _. None };
+
+    fn length(&self) -> Option<u64> {
+        match self {
+            AnySource::File(file) => length_of(file),
+            AnySource::In(_) => None,
+        }
+    }
 
     fn would_wait(&mut self, at: u64) -> bool {
         match self {

@@ -1,7 +1,7 @@
 //! What is said of a stream on standard error.
 
 use std::io::Write;
-use tp_stream::{Listener, Output, Progress, Sink};
+use tp_stream::{Ended, Listener, Output, Progress, Sink, Stopped};
 
 /// Who says it, and which ports live on standard output and standard input. A failed write is let go.
 #[derive(Drop)]
@@ -46,10 +46,28 @@ impl<'a, E: Write> Listener for Teller<'a, E> {
         }
         let _ = write!(self.err, "\n");
     }
+
+    fn stopped(&mut self, node: u8, how: Stopped) {
+        say_stopped(self.err, node, how);
+    }
 }
 
-/// Says how a stream ended, and up to where standard output was given a port's output, and that is confirmed.
-pub fn say_end<S: Sink, E: Write>(err: &mut E, next: u64, out: Option<u8>, outputs: &[Output<S>]) {
+/// Says how a node stands that does nothing any more. A failed write is let go.
+pub fn say_stopped<E: Write>(err: &mut E, node: u8, how: Stopped) {
+    let _ = match how {
+        Stopped::Halted { fault, at } => write!(err, "halted {node} {fault} at {at:08X}\n"),
+        Stopped::Waits => write!(err, "waits {node}\n"),
+    };
+}
+
+/// Says at which number a stream ended, up to where standard output was given a port's output and that is confirmed, and why it ended.
+pub fn say_end<S: Sink, E: Write>(
+    err: &mut E,
+    ended: Ended,
+    out: Option<u8>,
+    outputs: &[Output<S>],
+) {
+    let Ended { next, why } = ended;
     let _ = write!(err, "next {next}");
     for output in outputs {
         let (written, confirmed) = (output.put(), output.confirmed());
@@ -57,5 +75,6 @@ pub fn say_end<S: Sink, E: Write>(err: &mut E, next: u64, out: Option<u8>, outpu
             let _ = write!(err, " written {written} confirmed {confirmed}");
         }
     }
-    let _ = write!(err, "\n");
+    let why = why.word();
+    let _ = write!(err, " {why}\n");
 }

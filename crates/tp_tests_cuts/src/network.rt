@@ -59,32 +59,36 @@ impl Model for Net {
 fn pair_parts(alloc: Global, first: &[u8], second: &[u8]) -> Result<NetParts, AllocError>
     ensures { IfOk result (λ net. network_of net ≡ pair_network (node_at first.now) (node_at second.now)) }
 {
+    let lines = Vec::from_array(
+        alloc,
+        [
+            Vec::new(alloc),
+            Vec::new(alloc),
+            Vec::new(alloc),
+            Vec::new(alloc),
+            Vec::new(alloc),
+            Vec::new(alloc),
+            Vec::new(alloc),
+            Vec::new(alloc),
+            Vec::new(alloc),
+        ],
+    )?;
+    let first = Vec::from_slice(alloc, first)?;
+    let second = Vec::from_slice(alloc, second)?;
+    let images = Vec::from_array(alloc, [first, second])?;
+    let wires = Vec::from_slice(alloc, &WIRES)?;
     let port = PortParts {
         pending: Vec::new(alloc),
         in_base: 0,
         outputs: Vec::new(alloc),
         out_base: 0,
     };
-    let lines = [
-        Vec::new(alloc),
-        Vec::new(alloc),
-        Vec::new(alloc),
-        Vec::new(alloc),
-        Vec::new(alloc),
-        Vec::new(alloc),
-        Vec::new(alloc),
-        Vec::new(alloc),
-        Vec::new(alloc),
-    ];
-    let images = [
-        Vec::from_slice(alloc, first)?,
-        Vec::from_slice(alloc, second)?,
-    ];
+    let ports = Vec::from_array(alloc, [port])?;
     Ok(NetParts {
-        wires: Vec::from_slice(alloc, &WIRES)?,
-        images: Vec::from_array(alloc, images)?,
-        lines: Vec::from_array(alloc, lines)?,
-        ports: Vec::from_array(alloc, [port])?,
+        wires,
+        images,
+        lines,
+        ports,
     })
 }
 

@@ -44,6 +44,13 @@ const ANSWERED: Case = Case {
     orders: 3_466,
 };
 
+/// The images of a case's nodes.
+#[derive(Drop)]
+struct Images {
+    first: Vec<u8>,
+    second: Vec<u8>,
+}
+
 /// The acts that may come next. Where one can't be done nothing changes, and it is in no order there.
 const CHOICES: [Act; 13] = [
     Begin,
@@ -105,35 +112,68 @@ fn is_right(alloc: Global, play: &mut Play, first: &[u8], second: &[u8]) -> Resu
     Ok(replayed && gathered && trimmed)
 }
 
-/// Makes the acts of an order, by the choices so far and the first that can be done behind them.
-fn play_order(
+/// Whether the whole cut, where there is one, is right.
+fn whole_end(alloc: Global, play: &mut Play, images: &Images) -> Result<Option<End>, Fail> {
+    if play.net.book().whole().is_none() {
+        return Ok(None);
+    }
+    let is_right = is_right(alloc, play, &images.first, &images.second)?;
+    Ok(Some(if is_right { End::Whole } else { End::Wrong }))
+}
+
+/// Makes the act at a place, by the choice there or the first that can be done. Answers how the order ends, where none can.
+fn next_act(
     alloc: Global,
+    play: &mut Play,
+    runs: [usize; 2],
+    choices: &mut Vec<usize>,
+    at: usize,
+) -> Result<Option<End>, Fail> {
+    let before = choices.get(at).copied();
+    let Some(choice) = choose(alloc, play, runs, before.unwrap_or(0))? else {
+        choices.truncate(at);
+        return Ok(Some(if before.is_some() {
+            End::Spent
+        } else {
+            End::Wrong
+        }));
+    };
+    put(choices, at, choice)?;
+    Ok(None)
+}
+
+/// Makes the acts of an order on a network, by the choices so far and the first that can be done behind them.
+fn make_acts(
+    alloc: Global,
+    play: &mut Play,
     case: &Case,
-    images: &[Vec<u8>; 2],
+    images: &Images,
     choices: &mut Vec<usize>,
 ) -> Result<End, Fail> {
-    let [first, second] = images;
-    let mut play = start(alloc, first, second)?;
-    if !do_all(alloc, &mut play, case.acts)? {
+    if !do_all(alloc, play, case.acts)? {
         return Ok(End::Wrong);
     }
     for at in 0..MOST_ACTS {
-        if play.net.book().whole().is_some() {
-            let right = is_right(alloc, &mut play, first, second)?;
-            return Ok(if right { End::Whole } else { End::Wrong });
+        if let Some(end) = whole_end(alloc, play, images)? {
+            return Ok(end);
         }
-        let before = choices.get(at).copied();
-        let Some(choice) = choose(alloc, &mut play, case.runs, before.unwrap_or(0))? else {
-            choices.truncate(at);
-            return Ok(if before.is_some() {
-                End::Spent
-            } else {
-                End::Wrong
-            });
-        };
-        put(choices, at, choice)?;
+        if let Some(end) = next_act(alloc, play, case.runs, choices, at)? {
+            return Ok(end);
+        }
     }
     Ok(End::Wrong)
+}
+
+/// Plays an order from the beginning. The network is lent to what may end early, so it is let go in one place.
+fn play_order(
+    alloc: Global,
+    case: &Case,
+    images: &Images,
+    choices: &mut Vec<usize>,
+) -> Result<End, Fail> {
+    let mut play = start(alloc, &images.first, &images.second)?;
+    let end = make_acts(alloc, &mut play, case, images, choices);
+    end
 }
 
 /// Puts a choice at its place, or behind the others.
@@ -157,21 +197,34 @@ fn go_on(choices: &mut Vec<usize>) -> bool {
 }
 
 /// Plays each order of a case. Answers how many there are; none where one isn't right.
-fn play_all(alloc: Global, case: &Case) -> Result<Option<u32>, Fail> {
-    let images = [image(alloc, case.first)?, image(alloc, case.second)?];
-    let mut choices = Vec::new(alloc);
+fn play_each(
+    alloc: Global,
+    case: &Case,
+    images: &Images,
+    choices: &mut Vec<usize>,
+) -> Result<Option<u32>, Fail> {
     let mut orders = 0u32;
     for _order in 0..MOST_ORDERS {
-        match play_order(alloc, case, &images, &mut choices)? {
+        match play_order(alloc, case, images, choices)? {
             End::Whole => orders = orders.saturating_add(1),
             End::Spent => {}
             End::Wrong => return Ok(None),
         }
-        if !go_on(&mut choices) {
+        if !go_on(choices) {
             return Ok(Some(orders));
         }
     }
     Ok(None)
+}
+
+/// The same from the images of the case's nodes on.
+fn play_all(alloc: Global, case: &Case) -> Result<Option<u32>, Fail> {
+    let first = image(alloc, case.first)?;
+    let second = image(alloc, case.second)?;
+    let images = Images { first, second };
+    let mut choices = Vec::new(alloc);
+    let orders = play_each(alloc, case, &images, &mut choices);
+    orders
 }
 
 #[test]

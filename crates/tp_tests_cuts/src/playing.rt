@@ -1,6 +1,6 @@
 //! Acts one after another on a network, and the plain lists beside it.
 
-use crate::network::{Net, PROCESSES};
+use crate::network::Net;
 use crate::plain::{HOST, Plain};
 use std::alloc::Global;
 use std::test::Fail;
@@ -30,15 +30,17 @@ const QUANTUM: u16 = 64;
 pub(crate) struct Play {
     pub(crate) net: Net,
     pub(crate) plain: Plain,
-    pub(crate) images: [Vec<u8>; PROCESSES - 1],
+    pub(crate) images: Vec<Vec<u8>>,
 }
 
 /// The network of two images, before its first entry.
 pub(crate) fn start(alloc: Global, first: &[u8], second: &[u8]) -> Result<Play, Fail> {
+    let images = Vec::from_array(alloc, [Vec::new(alloc), Vec::new(alloc)])?;
+    let net = Net::start(alloc, first, second)?;
     Ok(Play {
-        net: Net::start(alloc, first, second)?,
+        net,
         plain: Plain::new(alloc),
-        images: [Vec::new(alloc), Vec::new(alloc)],
+        images,
     })
 }
 

@@ -3,7 +3,7 @@
 ghost use Rattle.std.specs.Prelude.{◌≡◌, true};
 ghost use Rattle.tp_replay.specs.Flat.{CanCount};
 
-use crate::network::{LINES, flat_of};
+use crate::network::{LINES, PROCESSES, flat_of};
 use crate::plain::Plain;
 use crate::playing::Play;
 use std::alloc::Global;
@@ -91,26 +91,97 @@ fn are_same(one: &NetParts, other: &NetParts) -> bool {
         && are_images(&one.images, &other.images)
 }
 
-/// Whether the entries in the whole cut come first: they lead to the network that was recorded, and with those outside behind them
-/// all lead to where they led in their own order, to the nodes as they are.
+/// The network that the entries lead to which are in the cut or outside, as `wanted` says. None where one isn't possible.
+fn led_to(
+    alloc: Global,
+    plain: &Plain,
+    wanted: &[bool],
+    flat: &mut FlatNetwork,
+) -> Result<Option<NetParts>, Fail> {
+    if !replay(plain, wanted, flat) {
+        return Ok(None);
+    }
+    Ok(Some(flat.parts(alloc)?))
+}
+
+/// The network that all entries lead to, in their own order.
+fn ordered(
+    alloc: Global,
+    plain: &Plain,
+    first: &[u8],
+    second: &[u8],
+) -> Result<Option<NetParts>, Fail> {
+    let mut flat = flat_of(alloc, first, second)?;
+    let led = led_to(alloc, plain, &[true, false], &mut flat);
+    led
+}
+
+/// Whether the entries in the whole cut lead to the network that was recorded.
+fn is_recorded(alloc: Global, play: &Play, flat: &mut FlatNetwork) -> Result<bool, Fail> {
+    let Some(between) = led_to(alloc, &play.plain, &[true], flat)? else {
+        return Ok(false);
+    };
+    let is_recorded = match play.net.book().whole() {
+        Some(cut) => is_network(cut, &play.images, &between),
+        None => false,
+    };
+    Ok(is_recorded)
+}
+
+/// Whether the nodes as they are have `images`.
+fn are_now(alloc: Global, play: &mut Play, images: &[Vec<u8>]) -> Result<bool, Fail> {
+    for (number, image) in images.iter().enumerate() {
+        let now = play.net.image(alloc, number)?;
+        if now.as_slice() != image.as_slice() {
+            return Ok(false);
+        }
+    }
+    Ok(images.len() + 1 == PROCESSES)
+}
+
+/// Whether all entries lead, in their own order, to a network, and that has the nodes as they are.
+fn is_led(
+    alloc: Global,
+    play: &mut Play,
+    swapped: &NetParts,
+    first: &[u8],
+    second: &[u8],
+) -> Result<bool, Fail> {
+    let are_now = are_now(alloc, play, &swapped.images)?;
+    let Some(all) = ordered(alloc, &play.plain, first, second)? else {
+        return Ok(false);
+    };
+    let are_same = are_same(swapped, &all);
+    Ok(are_now && are_same)
+}
+
+/// Whether the entries in the whole cut come first, over a network without entries: they lead to the network that was recorded, and with
+/// those outside behind them all lead to where they led in their own order, to the nodes as they are.
+fn leads(
+    alloc: Global,
+    play: &mut Play,
+    flat: &mut FlatNetwork,
+    first: &[u8],
+    second: &[u8],
+) -> Result<bool, Fail> {
+    if !is_recorded(alloc, play, flat)? {
+        return Ok(false);
+    }
+    let Some(swapped) = led_to(alloc, &play.plain, &[false], flat)? else {
+        return Ok(false);
+    };
+    let is_led = is_led(alloc, play, &swapped, first, second);
+    is_led
+}
+
+/// The same from the network of two images on.
 pub(crate) fn comes_first(
     alloc: Global,
     play: &mut Play,
     first: &[u8],
     second: &[u8],
 ) -> Result<bool, Fail> {
-    let mut swapped = flat_of(alloc, first, second)?;
-    let mut ordered = flat_of(alloc, first, second)?;
-    let now = [play.net.image(alloc, 0)?, play.net.image(alloc, 1)?];
-    let all = replay(&play.plain, &[true, false], &mut ordered);
-    let inside = replay(&play.plain, &[true], &mut swapped);
-    let between = swapped.parts(alloc)?;
-    let outside = replay(&play.plain, &[false], &mut swapped);
-    let (one, other) = (swapped.parts(alloc)?, ordered.parts(alloc)?);
-    let Some(cut) = play.net.book().whole() else {
-        return Ok(false);
-    };
-    let recorded = is_network(cut, &play.images, &between);
-    let led = are_same(&one, &other) && are_images(&now, &one.images);
-    Ok(all && inside && outside && recorded && led)
+    let mut flat = flat_of(alloc, first, second)?;
+    let leads = leads(alloc, play, &mut flat, first, second);
+    leads
 }

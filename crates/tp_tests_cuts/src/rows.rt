@@ -178,19 +178,42 @@ fn goes_on(alloc: Global, play: &mut Play, next: u64) -> Result<bool, Fail> {
     Ok(done && number == Some(next))
 }
 
-/// Plays a story. Answers how far it is as it was told: its acts, the cut and the tail, the plain lists, the replays, the trim, and
-/// the entry behind it.
+/// Plays a story on a network. Answers how far it is as it was told: its acts, the cut and the tail, the plain lists, the replays, the
+/// trim, and the entry behind it.
+fn tell(
+    alloc: Global,
+    play: &mut Play,
+    story: &Story,
+    first: &[u8],
+    second: &[u8],
+) -> Result<[bool; 6], Fail> {
+    let acts = do_all(alloc, play, story.acts)?;
+    let cut = is_cut(alloc, play.net.book(), story)?;
+    let plain = play.plain.is_gathered(alloc, play.net.book())?;
+    let replayed = comes_first(alloc, play, first, second)?;
+    let trimmed = play.net.take_in() && is_trimmed(play.net.book(), story);
+    let more = goes_on(alloc, play, story.next)?;
+    Ok([acts, cut, plain, replayed, trimmed, more])
+}
+
+/// The same from two images on.
+fn play_images(
+    alloc: Global,
+    story: &Story,
+    first: &[u8],
+    second: &[u8],
+) -> Result<[bool; 6], Fail> {
+    let mut play = start(alloc, first, second)?;
+    let told = tell(alloc, &mut play, story, first, second);
+    told
+}
+
+/// The same from the images of the story's nodes on.
 fn play(alloc: Global, story: &Story) -> Result<[bool; 6], Fail> {
     let first = image(alloc, story.first)?;
     let second = image(alloc, story.second)?;
-    let mut play = start(alloc, &first, &second)?;
-    let acts = do_all(alloc, &mut play, story.acts)?;
-    let cut = is_cut(alloc, play.net.book(), story)?;
-    let plain = play.plain.is_gathered(alloc, play.net.book())?;
-    let replayed = comes_first(alloc, &mut play, &first, &second)?;
-    let trimmed = play.net.take_in() && is_trimmed(play.net.book(), story);
-    let more = goes_on(alloc, &mut play, story.next)?;
-    Ok([acts, cut, plain, replayed, trimmed, more])
+    let told = play_images(alloc, story, &first, &second);
+    told
 }
 
 #[test]

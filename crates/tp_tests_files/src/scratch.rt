@@ -29,18 +29,7 @@ impl Output {
             && self.out.as_slice() == out.as_bytes()
             && self.err.as_slice() == err.as_bytes()
     }
-
-    /// Fails where it isn't that. The failure says what stands on standard error.
-    pub fn ends(self, status: u8, out: &str, err: &str) -> Result<(), Fail> {
-        if self.is(status, out, err) {
-            return Ok(());
-        }
-        Err(Fail::new(String::from_utf8(self.err)?))
-    }
 }
-
-/// Command lines one after the other, and the status, standard output and standard error of each.
-pub type Lines<'a> = &'a [(&'a [&'a str], u8, &'a str, &'a str)];
 
 impl Scratch {
     /// The folder `scratch/NAME`. Each test has a name of its own.
@@ -73,12 +62,6 @@ impl Scratch {
     pub fn read<R: Files + AllocGlobal>(&self, rt: &R, name: &str) -> Result<Vec<u8>, Fail> {
         let path = self.path(rt.alloc(), name)?;
         Ok(fs::read(rt, path.as_str())?)
-    }
-
-    /// Whether there is a file of that name.
-    pub fn has<R: Files + AllocGlobal>(&self, rt: &R, name: &str) -> Result<bool, Fail> {
-        let path = self.path(rt.alloc(), name)?;
-        Ok(fs::metadata(rt, path.as_str()).is_ok())
     }
 
     /// The word of a command line: where it begins with `@`, the rest is a name in the folder.

@@ -1,3 +1,1 @@
 pub mod Made
-pub mod Spelt
-pub mod Unkind

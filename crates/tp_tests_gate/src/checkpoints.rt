@@ -2,12 +2,11 @@
 
 ghost use Rattle.std.specs.Prelude.{◌≡◌};
 ghost use Rattle.tp_shared.specs.Named.{Names};
-ghost use Rattle.tp_tests_gate.specs.Spelt.{IsSpelt};
+ghost use Rattle.tp_tests_begun.specs.Spelt.{IsSpelt};
 
 use crate::device::formatted;
 use crate::left::is_journal;
 use crate::marked::marked;
-use crate::opening::{Opening, begin, opening_of};
 use std::alloc::Global;
 use std::marker::Brand;
 use std::sync::Wait;
@@ -17,6 +16,7 @@ use tp_disk::MemDisk;
 use tp_flush::Flusher;
 use tp_recover::{Opened, open};
 use tp_shared::{Naming, NoGate, Seat, Shared};
+use tp_tests_begun::opening::{Opening, begin, opening_of};
 
 /// How many steps a node's turn has.
 const QUANTUM: u16 = 9;
@@ -146,15 +146,16 @@ fn left<J: Naming, R: Wait>(
     rt: &R,
     alloc: Global,
     shared: &Shared<J>,
-    flusher: Flusher<J, MemDisk>,
+    disk: MemDisk,
     switches: u8,
 ) -> Result<Option<Vec<Vec<u8>>>, Fail> {
-    let mut disk = MemDisk::of_bytes(flusher.into_disk().crash());
+    let mut disk = MemDisk::of_bytes(disk.crash());
     let opened = open(alloc, &mut disk)?;
     if !is_left_behind(rt, shared, &opened, switches) {
         return Ok(None);
     }
-    Ok(Some(images_of(alloc, opened)?))
+    let images = images_of(alloc, opened)?;
+    Ok(Some(images))
 }
 
 /// The image of each node after all rounds, with `snapshots` begun, and a crash. None where something didn't go as it should.
@@ -168,10 +169,9 @@ fn play<J: Naming, R: Wait>(
     requires spelt { IsSpelt opening.opened.value }
 {
     let (net, _, mut flusher, _) = begin::<J, MemDisk, NoGate, R>(rt, alloc, opening, 1, NoGate)?;
-    if !goes_over(rt, alloc, net.shared(), &mut flusher, snapshots) {
-        return Ok(None);
-    }
-    left(rt, alloc, net.shared(), flusher, snapshots)
+    let goes_over = goes_over(rt, alloc, net.shared(), &mut flusher, snapshots);
+    let images = left(rt, alloc, net.shared(), flusher.into_disk(), snapshots)?;
+    Ok(if goes_over { images } else { None })
 }
 
 /// The same with new names.
@@ -192,10 +192,19 @@ fn goes<R: Wait>(rt: &R, alloc: Global, disk: MemDisk, snapshots: u8) -> Result<
     Ok(play_in(rt, alloc, opening, snapshots)?.is_some())
 }
 
+/// The image of each node of a marked device after all rounds, with `snapshots` begun.
+fn images_after<R: Wait>(
+    rt: &R,
+    alloc: Global,
+    snapshots: u8,
+) -> Result<Option<Vec<Vec<u8>>>, Fail> {
+    play_in(rt, alloc, opening_of(alloc, marked(alloc)?)?, snapshots)
+}
+
 /// Whether the nodes have the same after `snapshots` as after none.
 fn is_same<R: Wait>(rt: &R, alloc: Global, snapshots: u8) -> Result<bool, Fail> {
-    let without = play_in(rt, alloc, opening_of(alloc, marked(alloc)?)?, 0)?;
-    let with = play_in(rt, alloc, opening_of(alloc, marked(alloc)?)?, snapshots)?;
+    let without = images_after(rt, alloc, 0)?;
+    let with = images_after(rt, alloc, snapshots)?;
     Ok(with.is_some() && with == without)
 }
 

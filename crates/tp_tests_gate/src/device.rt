@@ -7,9 +7,9 @@ use tp_disk::MemDisk;
 use tp_net::Topology;
 
 /// Bytes of an area, and of the device.
-pub(crate) const AREA: u64 = 131_072;
+const AREA: u64 = 131_072;
 
-pub(crate) const SIZE: usize = 262_656;
+const SIZE: usize = 262_656;
 
 /// How many nodes there are.
 pub(crate) const NODES: u8 = 16;
@@ -67,12 +67,23 @@ fn images(alloc: Global) -> Result<Vec<Vec<u8>>, AllocError> {
     Ok(images)
 }
 
+/// A device of a topology and images, freshly formatted.
+pub(crate) fn formatted_with(
+    alloc: Global,
+    topology: &Topology,
+    images: &[Vec<u8>],
+) -> Result<MemDisk, Fail> {
+    let mut disk = MemDisk::zeroed(alloc, SIZE)?;
+    // A topology keeps its rules: its page counts say so, which `format` asks.
+    let _rules = topology.pages();
+    format(alloc, &mut disk, topology, images, AREA)?;
+    Ok(disk)
+}
+
 /// The device, freshly formatted.
 pub(crate) fn formatted(alloc: Global) -> Result<MemDisk, Fail> {
-    let topology = Topology::read(alloc, TEXT)?;
-    let _rules = topology.pages();
     let images = images(alloc)?;
-    let mut disk = MemDisk::zeroed(alloc, SIZE)?;
-    format(alloc, &mut disk, &topology, &images, AREA)?;
-    Ok(disk)
+    let topology = Topology::read(alloc, TEXT)?;
+    let disk = formatted_with(alloc, &topology, &images);
+    disk
 }

@@ -17,6 +17,19 @@ pub(crate) fn is_journal(book: &Book, opened: &Opened) -> bool {
         && kept.iter().zip(entries).all(|(one, other)| one == other)
 }
 
+/// Whether what a device opens to is the journal of the book under its lock.
+fn is_journalled<J: Naming, R: Wait>(
+    rt: &R,
+    alloc: Global,
+    shared: &Shared<J>,
+    disk: MemDisk,
+) -> Result<bool, Fail> {
+    let mut disk = disk;
+    let opened = open(alloc, &mut disk)?;
+    let held = shared.book().lock(rt);
+    Ok(is_journal(held.book(), &opened))
+}
+
 /// Whether a last turn of the flusher leaves a device that opens to the book's journal.
 pub(crate) fn is_left<J: Naming, R: Wait>(
     rt: &R,
@@ -25,11 +38,7 @@ pub(crate) fn is_left<J: Naming, R: Wait>(
     flusher: Flusher<J, MemDisk>,
 ) -> Result<bool, Fail> {
     let mut flusher = flusher;
-    if flusher.turn(rt, alloc, shared).is_err() {
-        return Ok(false);
-    }
-    let mut disk = flusher.into_disk();
-    let opened = open(alloc, &mut disk)?;
-    let held = shared.book().lock(rt);
-    Ok(is_journal(held.book(), &opened))
+    let is_done = flusher.turn(rt, alloc, shared).is_ok();
+    let is_journalled = is_journalled(rt, alloc, shared, flusher.into_disk())?;
+    Ok(is_done && is_journalled)
 }

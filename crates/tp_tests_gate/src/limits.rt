@@ -6,13 +6,13 @@ ghost use Rattle.tp_shared.specs.Named.{Names};
 ghost use Rattle.tp_work.specs.declared.start.TheConstants.{MAX_SEATS};
 
 use crate::device::{NODES, formatted};
-use crate::opening::{Opening, opening_of};
 use std::alloc::Global;
 use std::marker::Brand;
 use std::sync::Wait;
 use std::test::Fail;
 use tp_mark::Mark;
 use tp_shared::{Naming, NoGate, Parts};
+use tp_tests_begun::opening::{Opening, opening_of};
 use tp_work::{Net, Seat, Turn};
 
 /// How many steps a turn has, and how many seats there are.

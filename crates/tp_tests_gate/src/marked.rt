@@ -1,9 +1,8 @@
 //! A device of four nodes, in memory, where each page of a node has a mark of its own.
 
-use crate::device::{AREA, BYTES, ROUND, SIZE, place};
+use crate::device::{BYTES, ROUND, formatted_with, place};
 use std::alloc::{AllocError, Global};
 use std::test::Fail;
-use tp_area::format;
 use tp_disk::MemDisk;
 use tp_model::limits::{IMAGE_HEAD_BYTES, PAGE_BYTES};
 use tp_net::Topology;
@@ -54,10 +53,8 @@ fn images(alloc: Global) -> Result<Vec<Vec<u8>>, AllocError> {
 
 /// The device, freshly formatted.
 pub(crate) fn marked(alloc: Global) -> Result<MemDisk, Fail> {
-    let topology = Topology::read(alloc, TEXT)?;
-    let _rules = topology.pages();
     let images = images(alloc)?;
-    let mut disk = MemDisk::zeroed(alloc, SIZE)?;
-    format(alloc, &mut disk, &topology, &images, AREA)?;
-    Ok(disk)
+    let topology = Topology::read(alloc, TEXT)?;
+    let disk = formatted_with(alloc, &topology, &images);
+    disk
 }

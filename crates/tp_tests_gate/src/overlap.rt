@@ -5,7 +5,6 @@ ghost use Rattle.tp_shared.specs.Named.{Names};
 
 use crate::device::formatted;
 use crate::hold::Hold;
-use crate::opening::{Opening, opening_of};
 use std::alloc::{AllocError, Global};
 use std::marker::Brand;
 use std::sync::Wait;
@@ -14,6 +13,7 @@ use std::thread::{Threads, join, map_vec};
 use tp_model::Entry;
 use tp_shared::gate::RUN_DONE;
 use tp_shared::{Naming, NoGate, Parts, Seat, Shared};
+use tp_tests_begun::opening::{Opening, opening_of};
 
 /// The node that is held. None of `OTHERS` is under its lock.
 const HELD: u8 = 1;

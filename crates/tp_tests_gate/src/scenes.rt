@@ -2,7 +2,7 @@
 
 ghost use Rattle.std.specs.Prelude.{◌≡◌, ◌<◌, ◌≤◌, [], All, Some};
 ghost use Rattle.tp_shared.specs.Named.{Names};
-ghost use Rattle.tp_tests_gate.specs.Spelt.{IsSpelt};
+ghost use Rattle.tp_tests_begun.specs.Spelt.{IsSpelt};
 ghost use Rattle.tp_work.specs.declared.start.TheConstants.{MAX_SEATS};
 
 use crate::beside::{is_flushed_beside_a_run, is_run_beside_a_copy, is_stored_by_the_next_turn};
@@ -11,10 +11,7 @@ use crate::device::formatted;
 use crate::hold::Hold;
 use crate::left::is_left;
 use crate::meanwhile::stays_stored;
-use crate::opening::{Opening, begin, opening_of};
 use crate::pace::{EVERY, Pace, Paced};
-use crate::plain::{is_network, replayed};
-use crate::script::look_at_book;
 use crate::team::work_as_team;
 use crate::teams::{are_all_beside, parted};
 use std::alloc::Global;
@@ -26,9 +23,12 @@ use tp_disk::{Disk, MemDisk};
 use tp_flush::{FLUSHER, Flusher};
 use tp_mark::Pass;
 use tp_model::Entry;
-use tp_recover::open;
+use tp_recover::{Unopened, open};
+use tp_replay::FlatNetwork;
 use tp_shared::gate::{BACKLOG_COPIED, PAGE_COPIED, RUN_DONE};
 use tp_shared::{Naming, Shared};
+use tp_tests_begun::opening::{Opening, begin, opening_of};
+use tp_tests_begun::plain::{is_network, look_at_book, replayed};
 use tp_work::{Net, Seat};
 
 /// The node that is held, or that runs while the flusher is held.
@@ -191,15 +191,44 @@ fn act<J: Naming + Send + Sync, D: Disk + Drop, R: Threads + Wait + Sync>(
     }
 }
 
-/// Whether a device holds the areas of one switch, and what a plain replay of a journal gives.
-fn is_replay(alloc: Global, disk: MemDisk, journal: &[Entry]) -> Result<bool, Fail> {
+/// The network of what a crash leaves, where it has the areas of one switch and the next number of a journal.
+fn network_left(alloc: Global, disk: MemDisk, next: u64) -> Result<Option<FlatNetwork>, Unopened> {
     let mut disk = MemDisk::of_bytes(disk.crash());
     let opened = open(alloc, &mut disk)?;
     let is_second = opened.second() && opened.generation() == 2 && opened.base() > 0;
-    let is_all = opened.next() == journal.len() as u64;
-    let (_, mut network, _) = opened.into_parts();
-    let wanted = replayed(alloc, formatted(alloc)?.bytes(), journal)?;
-    Ok(is_second && is_all && is_network(&network.parts(alloc)?, &wanted))
+    let is_so = is_second && opened.next() == next;
+    let (_, network, _) = opened.into_parts();
+    Ok(if is_so { Some(network) } else { None })
+}
+
+/// Whether a network is what a plain replay of a journal gives.
+fn is_replay_of(alloc: Global, network: &mut FlatNetwork, journal: &[Entry]) -> Result<bool, Fail> {
+    let device = formatted(alloc)?;
+    let wanted = replayed(alloc, device.bytes(), journal)?;
+    let parts = network.parts(alloc)?;
+    Ok(is_network(&parts, &wanted))
+}
+
+/// Whether a device holds the areas of one switch, and what a plain replay of a journal gives.
+fn is_replay(alloc: Global, disk: MemDisk, journal: &[Entry]) -> Result<bool, Fail> {
+    let Some(mut network) = network_left(alloc, disk, journal.len() as u64)? else {
+        return Ok(false);
+    };
+    let is_replay = is_replay_of(alloc, &mut network, journal);
+    is_replay
+}
+
+/// Whether a turn of the flusher switches the areas.
+fn switches<J: Naming, R: Wait>(
+    rt: &R,
+    alloc: Global,
+    shared: &Shared<J>,
+    flusher: &mut Flusher<J, MemDisk>,
+) -> bool {
+    match flusher.turn(rt, alloc, shared) {
+        Ok(flushed) => flushed.switched,
+        Err(_) => false,
+    }
 }
 
 /// Whether a snapshot that runs ends once all made a turn, and the device then holds a plain replay of the journal.
@@ -209,17 +238,13 @@ fn is_switched<J: Naming, R: Wait>(
     shared: &Shared<J>,
     flusher: Flusher<J, MemDisk>,
 ) -> Result<bool, Fail> {
-    let mut flusher = flusher;
-    if !turn_all(rt, shared) {
-        return Err(Fail::new("a turn is refused"));
-    }
     let mut journal = Vec::new(alloc);
-    look_at_book(rt, shared, &mut journal)?;
-    match flusher.turn(rt, alloc, shared) {
-        Ok(flushed) if flushed.switched => { is_replay(alloc, flusher.into_disk(), &journal) }
-        Ok(_) => Err(Fail::new("the areas aren't switched")),
-        Err(_) => Err(Fail::new("the flusher's turn isn't done")),
-    }
+    let mut flusher = flusher;
+    let is_turned = turn_all(rt, shared);
+    let looked = look_at_book(rt, shared, &mut journal);
+    let is_switched = switches(rt, alloc, shared, &mut flusher);
+    let is_replay = is_replay(alloc, flusher.into_disk(), &journal);
+    Ok(is_replay? && is_turned && is_switched && looked.is_ok())
 }
 
 /// Whether it goes as it should, and what the flusher leaves then is the book's journal. Where an image was copied meanwhile, the area with
@@ -243,10 +268,10 @@ fn play<J: Naming + Send + Sync, R: Threads + Wait + Sync>(
     )?;
     let (flusher, is_so) = act(rt, alloc, scene, &net, seats, first, flusher, pass, &pace);
     let is_left = match scene {
-        Scene::Held(Held::Page) => is_switched(rt, alloc, net.shared(), flusher)?,
-        _ => is_left(rt, alloc, net.shared(), flusher)?,
+        Scene::Held(Held::Page) => is_switched(rt, alloc, net.shared(), flusher),
+        _ => is_left(rt, alloc, net.shared(), flusher),
     };
-    Ok(is_so && is_left)
+    Ok(is_left? && is_so)
 }
 
 /// The same with new names.

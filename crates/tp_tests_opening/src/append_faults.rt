@@ -1,7 +1,7 @@
 //! Groups appended to a device whose calls fail, or on which the run stops: what the device then opens as.
 
 use crate::devices::{
-    CALLS_OF_OPEN, Held, LETTER, MORE, append, disk_of, fresh, is_same, outputs, replayed,
+    CALLS_OF_OPEN, Held, LETTER, MORE, append, disk_of, fresh, holds, outputs, replayed, store_of,
     what_is_held,
 };
 use crate::faults::{Case, ENDINGS, Ending, Torn};
@@ -9,6 +9,7 @@ use std::alloc::{AllocError, Global};
 use std::test::Fail;
 use tp_area::{Store, StoreFault};
 use tp_disk::{Disk, MemDisk};
+use tp_model::Entry;
 use tp_recover::open_store;
 use tp_tests_fixtures::{AREA, GROUPS, place};
 
@@ -45,18 +46,43 @@ struct Known {
 
 impl Known {
     fn new(alloc: Global) -> Result<Known, Fail> {
+        let mut known = Known {
+            bytes: Vec::new(alloc),
+            held: Vec::new(alloc),
+        };
+        known.learn(alloc)?;
+        Ok(known)
+    }
+
+    /// Learns both of a device that was just formatted.
+    fn learn(&mut self, alloc: Global) -> Result<(), Fail> {
         let first = fresh(alloc, AREA)?;
-        let (mut bytes, mut held) = (Vec::new(alloc), Vec::new(alloc));
-        held.push(replayed(alloc, &first, &[])?)?;
-        held.push(replayed(alloc, &first, &[&LETTER])?)?;
-        held.push(replayed(alloc, &first, &[&LETTER, &MORE])?)?;
-        let (_, mut store) = open_store(alloc, disk_of(alloc, &first)?)?;
-        bytes.push(first)?;
-        append(&mut store, &LETTER)?;
-        bytes.push(Vec::from_slice(alloc, store.disk.bytes())?)?;
-        append(&mut store, &MORE)?;
-        bytes.push(store.into_disk().crash())?;
-        Ok(Known { bytes, held })
+        let learnt = self.learn_of(alloc, &first);
+        learnt
+    }
+
+    fn learn_of(&mut self, alloc: Global, first: &[u8]) -> Result<(), Fail> {
+        let groups: [&[&[Entry]]; 3] = [&[], &[&LETTER], &[&LETTER, &MORE]];
+        for entries in groups {
+            self.held.push(replayed(alloc, first, entries)?)?;
+        }
+        let mut store = store_of(alloc, first)?;
+        let grown = self.grow(alloc, &mut store);
+        let last = store.into_disk().crash();
+        grown?;
+        self.bytes.push(last)?;
+        Ok(())
+    }
+
+    /// Appends both groups, and copies the device in front of each.
+    fn grow(&mut self, alloc: Global, store: &mut Store<MemDisk>) -> Result<(), Fail> {
+        self.bytes
+            .push(Vec::from_slice(alloc, store.disk.bytes())?)?;
+        append(store, &LETTER)?;
+        self.bytes
+            .push(Vec::from_slice(alloc, store.disk.bytes())?)?;
+        append(store, &MORE)?;
+        Ok(())
     }
 
     /// The bytes of a range, once `groups` groups are there.
@@ -82,8 +108,8 @@ impl Known {
 
     /// Whether a device of `bytes` holds what `groups` groups give.
     fn holds(&self, alloc: Global, bytes: &[u8], groups: usize) -> Result<bool, Fail> {
-        let want = self.held.get(groups).ok_or("no such device")?;
-        Ok(is_same(&what_is_held(alloc, bytes)?, want))
+        let wanted = self.held.get(groups).ok_or("no such device")?;
+        holds(alloc, bytes, wanted)
     }
 
     /// A store on the device without a group, with the fault of a case behind the calls of opening.
@@ -111,17 +137,33 @@ fn append_both(store: &mut Store<MemDisk>) -> Option<usize> {
     Some(2)
 }
 
-/// Whether the groups that were answered as stored are there, and the next one is, whole, exactly where its gate is open.
-fn is_whole(alloc: Global, known: &Known, case: Case) -> Result<bool, Fail> {
+/// Appends both groups with the fault of a case. Answers how many the store took, and what a crash leaves.
+fn appended(alloc: Global, known: &Known, case: Case) -> Result<(Option<usize>, Vec<u8>), Fail> {
     let mut store = known.store(alloc, case)?;
     let took = append_both(&mut store);
-    let mut bytes = store.into_disk().crash();
+    Ok((took, store.into_disk().crash()))
+}
+
+/// Tears what a crash leaves where the call is a sync. Answers whether the groups in front of the call's are there, and that is, whole,
+/// exactly where its gate is open.
+fn is_there(alloc: Global, known: &Known, case: Case, bytes: &mut [u8]) -> Result<bool, Fail> {
     if case.is_sync() {
-        place(&mut bytes, case.range().0, &known.torn(alloc, case)?);
+        place(bytes, case.range().0, &known.torn(alloc, case)?);
     }
     let gate = case.group().saturating_mul(4).saturating_add(2);
     let groups = case.group().saturating_add(usize::from(case.opens(gate)));
-    Ok(took == Some(case.group()) && known.holds(alloc, &bytes, groups)?)
+    known.holds(alloc, bytes, groups)
+}
+
+/// Whether the groups that were answered as stored are there, and the next one is, whole, exactly where its gate is open.
+fn is_whole(alloc: Global, known: &Known, case: Case) -> Result<bool, Fail> {
+    let (took, mut bytes) = appended(alloc, known, case)?;
+    let told = if took == Some(case.group()) {
+        is_there(alloc, known, case, &mut bytes)
+    } else {
+        Ok(false)
+    };
+    told
 }
 
 /// Whether they are however a call ends.
@@ -153,9 +195,10 @@ const REPLAYED: [(u64, &[u8]); 3] = [(0, b""), (4, b"A"), (6, b"A")];
 fn is_stored(alloc: Global, known: &Known, groups: usize) -> Result<bool, Fail> {
     let bytes = known.bytes.get(groups).ok_or("no such device")?;
     let (next, output) = REPLAYED.get(groups).copied().unwrap_or((9, b""));
+    let is_replayed = known.holds(alloc, bytes, groups)?;
     let held = what_is_held(alloc, bytes)?;
-    let told = held.next == next && outputs(&held) == output;
-    Ok(told && known.holds(alloc, bytes, groups)?)
+    let is_told = held.next == next && outputs(&held) == output;
+    Ok(is_replayed && is_told)
 }
 
 #[test]
@@ -179,29 +222,51 @@ fn stays_broken(alloc: Global, store: &mut Store<MemDisk>) -> Result<bool, Alloc
     Ok(told && store.disk.bytes() == bytes.as_slice() && store.place == place && store.broken)
 }
 
-/// A store on what a broken one leaves, once both groups are appended as far as they aren't there.
-fn go_on(alloc: Global, store: Store<MemDisk>) -> Result<Store<MemDisk>, Fail> {
-    let (opened, mut store) = open_store(alloc, store.into_disk())?;
-    if opened.next() == 0 {
-        append(&mut store, &LETTER)?;
+/// Whether a store whose first call fails takes no group, and stays broken.
+fn breaks(alloc: Global, store: &mut Store<MemDisk>) -> Result<bool, AllocError> {
+    if append_both(store) != Some(0) {
+        return Ok(false);
     }
-    append(&mut store, &MORE)?;
-    Ok(store)
+    stays_broken(alloc, store)
+}
+
+/// The next number of what a broken store leaves, and a store on it.
+fn reopened(alloc: Global, store: Store<MemDisk>) -> Result<(u64, Store<MemDisk>), Fail> {
+    let (opened, store) = open_store(alloc, store.into_disk())?;
+    Ok((opened.next(), store))
+}
+
+/// Appends both groups, as far as they aren't there. Answers whether no other call failed, and both are there then.
+fn goes_on(
+    alloc: Global,
+    known: &Known,
+    next: u64,
+    store: &mut Store<MemDisk>,
+) -> Result<bool, Fail> {
+    if next == 0 {
+        append(store, &LETTER)?;
+    }
+    append(store, &MORE)?;
+    Ok(store.disk.failures() == 1 && known.holds(alloc, store.disk.bytes(), 2)?)
+}
+
+/// The same on what a broken store leaves.
+fn goes_on_behind(alloc: Global, known: &Known, store: Store<MemDisk>) -> Result<bool, Fail> {
+    let (next, mut store) = reopened(alloc, store)?;
+    let told = goes_on(alloc, known, next, &mut store);
+    told
 }
 
 /// Whether a store stays broken after a call has failed, though the device works again, until the device is opened again.
 /// Where the run has stopped, each later call fails.
 fn is_broken(alloc: Global, known: &Known, case: Case) -> Result<bool, Fail> {
     let mut store = known.store(alloc, case)?;
-    let took = append_both(&mut store);
-    if took != Some(0) || !stays_broken(alloc, &mut store)? {
-        return Ok(false);
-    }
-    if !matches!(case.ending, Ending::Fails) {
-        return Ok(true);
-    }
-    let store = go_on(alloc, store)?;
-    Ok(store.disk.failures() == 1 && known.holds(alloc, store.disk.bytes(), 2)?)
+    let told = match breaks(alloc, &mut store) {
+        Ok(true) if matches!(case.ending, Ending::Fails) => goes_on_behind(alloc, known, store),
+        Ok(is_broken) => Ok(is_broken),
+        Err(fault) => Err(Fail::from(fault)),
+    };
+    told
 }
 
 /// Whether it does however a call ends.

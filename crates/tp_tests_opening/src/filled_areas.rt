@@ -1,7 +1,7 @@
 //! Groups appended until an area is full.
 
-use crate::devices::{append, disk_of, fresh, is_same, replayed, what_is_held};
-use std::alloc::Global;
+use crate::devices::{append, disk_of, fresh, holds, replayed, store_of};
+use std::alloc::{AllocError, Global};
 use std::test::Fail;
 use tp_area::{Store, StoreFault};
 use tp_disk::{Disk, MemDisk};
@@ -97,38 +97,87 @@ fn fill(store: &mut Store<MemDisk>, groups: &[(usize, u64)]) -> Result<bool, Sto
     Ok(true)
 }
 
-/// Whether a device holds what a plain replay of the groups gives.
+/// The entries of groups.
+fn add_groups(
+    entries: &mut Vec<&'static [Entry]>,
+    groups: &[(usize, u64)],
+) -> Result<(), AllocError> {
+    for (count, _) in groups {
+        entries.push(inputs(&INPUTS, *count))?;
+    }
+    Ok(())
+}
+
+/// Whether a device holds what a plain replay of entries gives.
+fn is_replay(
+    alloc: Global,
+    first: &[u8],
+    bytes: &[u8],
+    entries: &[&[Entry]],
+) -> Result<bool, Fail> {
+    let wanted = replayed(alloc, first, entries)?;
+    let told = holds(alloc, bytes, &wanted);
+    told
+}
+
+/// The same of the entries of groups.
 fn is_replayed(
     alloc: Global,
     first: &[u8],
     bytes: &[u8],
     groups: &[(usize, u64)],
 ) -> Result<bool, Fail> {
-    let all = INPUTS;
     let mut entries = Vec::new(alloc);
-    for (count, _) in groups {
-        entries.push(inputs(&all, *count))?;
-    }
-    let held = what_is_held(alloc, bytes)?;
-    Ok(is_same(&held, &replayed(alloc, first, &entries)?))
+    add_groups(&mut entries, groups)?;
+    let told = is_replay(alloc, first, bytes, &entries);
+    told
 }
 
 /// Whether a device of `bytes` is as full once it is opened.
 fn stays_full(alloc: Global, bytes: &[u8], filling: &Filling<'_>) -> Result<bool, Fail> {
     let (opened, mut store) = open_store(alloc, disk_of(alloc, bytes)?)?;
-    let is_kept = opened.next() == filling.next && opened.end() == filling.end;
-    Ok(is_kept && refuses_all(alloc, &mut store, filling.refused)?)
+    let told = if opened.next() == filling.next && opened.end() == filling.end {
+        refuses_all(alloc, &mut store, filling.refused)
+    } else {
+        Ok(false)
+    };
+    told
 }
 
-/// Whether a store is full once it has the groups of `filling`, and the device stays so.
+/// Whether a store is full once it has the groups.
+fn is_full(alloc: Global, store: &mut Store<MemDisk>, filling: &Filling<'_>) -> Result<bool, Fail> {
+    Ok(fill(store, filling.groups)? && refuses_all(alloc, store, filling.refused)?)
+}
+
+/// Whether a store is full once it has the groups, and what a crash leaves then.
+fn filled(alloc: Global, first: &[u8], filling: &Filling<'_>) -> Result<(bool, Vec<u8>), Fail> {
+    let mut store = store_of(alloc, first)?;
+    let is_full = is_full(alloc, &mut store, filling);
+    let bytes = store.into_disk().crash();
+    Ok((is_full?, bytes))
+}
+
+/// Whether what a crash leaves is as full, and holds the groups.
+fn stays(alloc: Global, first: &[u8], bytes: &[u8], filling: &Filling<'_>) -> Result<bool, Fail> {
+    Ok(stays_full(alloc, bytes, filling)? && is_replayed(alloc, first, bytes, filling.groups)?)
+}
+
+/// Whether the groups fill a device that was just formatted with `first`, and it stays so.
+fn fills_over(alloc: Global, first: &[u8], filling: &Filling<'_>) -> Result<bool, Fail> {
+    let (is_full, bytes) = filled(alloc, first, filling)?;
+    let told = if is_full {
+        stays(alloc, first, &bytes, filling)
+    } else {
+        Ok(false)
+    };
+    told
+}
+
+/// The same from the formatting on.
 fn fills(alloc: Global, filling: &Filling<'_>) -> Result<bool, Fail> {
     let first = fresh(alloc, filling.area)?;
-    let (_, mut store) = open_store(alloc, disk_of(alloc, &first)?)?;
-    let is_filled = fill(&mut store, filling.groups)?;
-    let is_full = refuses_all(alloc, &mut store, filling.refused)?;
-    let bytes = store.into_disk().crash();
-    let stays = stays_full(alloc, &bytes, filling)?;
-    Ok(is_filled && is_full && stays && is_replayed(alloc, &first, &bytes, filling.groups)?)
+    let told = fills_over(alloc, &first, filling);
+    told
 }
 
 #[test]

@@ -1,7 +1,7 @@
 //! Formatting a device whose calls fail, or on which the run stops: what the device then opens as.
 
 use crate::devices::{
-    CALLS_OF_FORMAT, Held, LETTER, Letter, append, disk_of, fresh, is_same, what_is_held,
+    CALLS_OF_FORMAT, Held, LETTER, Letter, append, disk_of, fresh, holds, what_is_held,
 };
 use std::alloc::{AllocError, Global};
 use std::test::Fail;
@@ -27,22 +27,33 @@ fn opens_as(alloc: Global, bytes: &[u8]) -> Result<Result<u64, Unopened>, AllocE
 
 /// What a format leaves whose call number `call` has a fault: whether it was done, and the bytes.
 fn formatted(alloc: Global, call: u64, fault: PlannedFault) -> Result<(bool, Vec<u8>), Fail> {
+    let letter = Letter::new(alloc)?;
     let mut disk = MemDisk::zeroed(alloc, SIZE)?.with_fault(call, fault);
-    let done = Letter::new(alloc)?.format(alloc, &mut disk, AREA).is_ok();
+    let done = letter.format(alloc, &mut disk, AREA).is_ok();
     Ok((done, disk.crash()))
 }
 
 /// What such a device says.
 const NONE: Result<u64, Unopened> = Err(Unopened::Fault(OpenFault::NotFormatted));
 
+/// Whether a device isn't formatted, also where the front of each area is `byte`.
+fn says_none(alloc: Global, bytes: &mut [u8], byte: u8) -> Result<bool, Fail> {
+    let is_none = opens_as(alloc, bytes)? == NONE;
+    for at in [512, SECOND] {
+        place(bytes, at, &[byte; 64]);
+    }
+    Ok(is_none && opens_as(alloc, bytes)? == NONE)
+}
+
 /// Whether a format that a fault stops isn't done, and the device isn't formatted, also where the front of each area is `byte`.
 fn is_none(alloc: Global, call: u64, fault: PlannedFault, byte: u8) -> Result<bool, Fail> {
     let (done, mut bytes) = formatted(alloc, call, fault)?;
-    let is_none = opens_as(alloc, &bytes)? == NONE;
-    for at in [512, SECOND] {
-        place(&mut bytes, at, &[byte; 64]);
-    }
-    Ok(!done && is_none && opens_as(alloc, &bytes)? == NONE)
+    let told = if done {
+        Ok(false)
+    } else {
+        says_none(alloc, &mut bytes, byte)
+    };
+    told
 }
 
 /// Whatever stands in the areas, the device isn't formatted before its head is written.
@@ -82,16 +93,21 @@ fn says_so(alloc: Global, whole: &[u8], count: usize) -> Result<bool, Fail> {
     Ok(!done && is_whole == (count >= WIRE) && opens_as(alloc, &bytes)? == says(count))
 }
 
+/// The first count of bytes of the head that may be written, where the device doesn't say what they do.
+fn says_otherwise(alloc: Global, whole: &[u8]) -> Result<Option<usize>, Fail> {
+    for count in 0..100 {
+        if !says_so(alloc, whole, count)? {
+            return Ok(Some(count));
+        }
+    }
+    Ok(None)
+}
+
 /// Where the run stops within the head's write, what of it is written says what the device is. Written whole, it is formatted;
 /// the format isn't done either way.
 #[test]
 fn a_format_that_stops_in_its_head(rt: HostRuntime) -> Result<(), Fail> {
     let alloc = rt.alloc();
-    let whole = fresh(alloc, AREA)?;
-    for count in 0..100 {
-        let told = says_so(alloc, &whole, count)?;
-        assert!(rt; told, "{count} bytes");
-    }
     for byte in [0x00, 0xA5, 0xFF] {
         let torn = Vec::from_elem(alloc, byte, 512)?;
         let told = is_none(
@@ -102,7 +118,21 @@ fn a_format_that_stops_in_its_head(rt: HostRuntime) -> Result<(), Fail> {
         )?;
         assert!(rt; told, "{byte}");
     }
+    let whole = fresh(alloc, AREA)?;
+    let otherwise = says_otherwise(alloc, &whole)?;
+    assert_eq!(rt; otherwise, None);
     Ok(())
+}
+
+/// Whether the device isn't formatted where its head is torn to one byte.
+fn are_none(alloc: Global, bytes: &mut [u8]) -> Result<bool, Fail> {
+    for byte in [0x00, 0xA5, 0xFF] {
+        place(bytes, 0, &[byte; 512]);
+        if opens_as(alloc, bytes)? != NONE {
+            return Ok(false);
+        }
+    }
+    Ok(true)
 }
 
 /// Whether a format that a fault stops behind its head's write isn't done, and leaves the whole device, or none where the head is
@@ -110,12 +140,22 @@ fn a_format_that_stops_in_its_head(rt: HostRuntime) -> Result<(), Fail> {
 fn is_torn(alloc: Global, whole: &[u8], fault: PlannedFault) -> Result<bool, Fail> {
     let last = CALLS_OF_FORMAT.saturating_sub(1);
     let (done, mut bytes) = formatted(alloc, last, fault)?;
-    let mut told = !done && bytes.as_slice() == whole;
-    for byte in [0x00, 0xA5, 0xFF] {
-        place(&mut bytes, 0, &[byte; 512]);
-        told = told && opens_as(alloc, &bytes)? == NONE;
-    }
-    Ok(told)
+    let told = if done || bytes.as_slice() != whole {
+        Ok(false)
+    } else {
+        are_none(alloc, &mut bytes)
+    };
+    told
+}
+
+/// Whether it is so where the last sync isn't reached, where it fails, and where the run stops within it.
+fn are_torn(alloc: Global, whole: &[u8]) -> Result<bool, Fail> {
+    let before = is_torn(alloc, whole, PlannedFault::StopsBefore)?;
+    let torn = Vec::new(alloc);
+    let fails = is_torn(alloc, whole, PlannedFault::Fails { torn })?;
+    let torn = Vec::new(alloc);
+    let within = is_torn(alloc, whole, PlannedFault::StopsWithin { torn })?;
+    Ok(before && fails && within)
 }
 
 /// Where the last sync fails or isn't reached the format isn't done, and the head may be torn.
@@ -123,12 +163,8 @@ fn is_torn(alloc: Global, whole: &[u8], fault: PlannedFault) -> Result<bool, Fai
 fn a_format_that_stops_behind_its_head(rt: HostRuntime) -> Result<(), Fail> {
     let alloc = rt.alloc();
     let whole = fresh(alloc, AREA)?;
-    let before = is_torn(alloc, &whole, PlannedFault::StopsBefore)?;
-    let torn = Vec::new(alloc);
-    let fails = is_torn(alloc, &whole, PlannedFault::Fails { torn })?;
-    let torn = Vec::new(alloc);
-    let within = is_torn(alloc, &whole, PlannedFault::StopsWithin { torn })?;
-    assert!(rt; before && fails && within);
+    let told = are_torn(alloc, &whole)?;
+    assert!(rt; told);
     Ok(())
 }
 
@@ -139,26 +175,64 @@ fn grow(alloc: Global, disk: MemDisk) -> Result<MemDisk, Fail> {
     Ok(store.into_disk())
 }
 
+/// Formats a device over what stood on it.
+fn format_over(alloc: Global, disk: &mut MemDisk) -> Result<(), Fail> {
+    Letter::new(alloc)?.format(alloc, disk, AREA)?;
+    Ok(())
+}
+
+/// A device that is formatted over `before`.
+fn formatted_over(alloc: Global, before: Vec<u8>) -> Result<MemDisk, Fail> {
+    let mut disk = MemDisk::of_bytes(before);
+    format_over(alloc, &mut disk)?;
+    Ok(disk)
+}
+
+/// Whether a device holds what is wanted once the letter's group is appended.
+fn grows(alloc: Global, disk: MemDisk, grown: &Held) -> Result<bool, Fail> {
+    let disk = grow(alloc, disk)?;
+    let told = holds(alloc, disk.bytes(), grown);
+    told
+}
+
 /// Whether a format over `before` holds what one over zeros does, and so does it with a group.
 fn is_like(alloc: Global, before: Vec<u8>, fresh: &Held, grown: &Held) -> Result<bool, Fail> {
-    let mut disk = MemDisk::of_bytes(before);
-    Letter::new(alloc)?.format(alloc, &mut disk, AREA)?;
-    let is_fresh = is_same(&what_is_held(alloc, disk.bytes())?, fresh);
-    let disk = grow(alloc, disk)?;
-    Ok(is_fresh && is_same(&what_is_held(alloc, disk.bytes())?, grown))
+    let disk = formatted_over(alloc, before)?;
+    let told = match holds(alloc, disk.bytes(), fresh) {
+        Ok(true) => grows(alloc, disk, grown),
+        other => other,
+    };
+    told
+}
+
+/// Whether it is so over `used`, which has a group, over opened gates, and over ones.
+fn are_like(alloc: Global, used: Vec<u8>, fresh: &Held, grown: &Held) -> Result<bool, Fail> {
+    let is_used = is_like(alloc, used, fresh, grown)?;
+    let gates = is_like(alloc, Vec::from_elem(alloc, 0xA5, SIZE)?, fresh, grown)?;
+    let ones = is_like(alloc, Vec::from_elem(alloc, 0xFF, SIZE)?, fresh, grown)?;
+    Ok(is_used && gates && ones)
+}
+
+/// The same for a device with a group, and what one without holds.
+fn are_like_over(alloc: Global, disk: MemDisk, fresh: &Held) -> Result<bool, Fail> {
+    let grown = what_is_held(alloc, disk.bytes())?;
+    let told = are_like(alloc, disk.crash(), fresh, &grown);
+    told
+}
+
+/// The same from the bytes of a device that was just formatted on.
+fn is_like_others(alloc: Global, whole: Vec<u8>) -> Result<bool, Fail> {
+    let fresh = what_is_held(alloc, &whole)?;
+    let disk = grow(alloc, MemDisk::of_bytes(whole))?;
+    let told = are_like_over(alloc, disk, &fresh);
+    Ok(told? && fresh.next == 0)
 }
 
 /// What stood on the device before makes no difference to what it then holds, nor to a group that is appended.
 #[test]
 fn a_format_over_other_bytes(rt: HostRuntime) -> Result<(), Fail> {
     let alloc = rt.alloc();
-    let whole = fresh(alloc, AREA)?;
-    let want = what_is_held(alloc, &whole)?;
-    let disk = grow(alloc, MemDisk::of_bytes(whole))?;
-    let grown = what_is_held(alloc, disk.bytes())?;
-    let used = is_like(alloc, disk.crash(), &want, &grown)?;
-    let gates = is_like(alloc, Vec::from_elem(alloc, 0xA5, SIZE)?, &want, &grown)?;
-    let ones = is_like(alloc, Vec::from_elem(alloc, 0xFF, SIZE)?, &want, &grown)?;
-    assert!(rt; used && gates && ones && want.next == 0);
+    let told = is_like_others(alloc, fresh(alloc, AREA)?)?;
+    assert!(rt; told);
     Ok(())
 }

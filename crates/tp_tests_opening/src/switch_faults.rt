@@ -4,7 +4,7 @@ use crate::checkpoints::{
     AFTER_A_GROUP, BEYOND_THE_GROUPS, Calls, Look, OVER_OLD_GROUPS, Step, Story,
 };
 use crate::copies::{Pieces, switch};
-use crate::devices::{Held, Letter, append, disk_of, fresh, is_same, replayed};
+use crate::devices::{Held, Letter, append, disk_of, fresh, holds, replayed, store_of};
 use crate::faults::{Case, ENDINGS, Torn};
 use std::alloc::{AllocError, Global};
 use std::process::Abort;
@@ -25,7 +25,8 @@ struct Known {
     pieces: Pieces,
     start: Vec<u8>,
     end: Vec<u8>,
-    held: [Held; 2],
+    before: Held,
+    after: Held,
 }
 
 /// Appends a group for each entry.
@@ -74,24 +75,54 @@ fn has_bytes(device: &[u8], bytes: &[(usize, u8)]) -> bool {
     bytes.iter().all(|(at, byte)| device.get(*at) == Some(byte))
 }
 
+/// What plain replays of the entries before and after a checkpoint give, over the device with `first`.
+fn held_of(alloc: Global, first: &[u8], story: &Story<'_>) -> Result<(Held, Held), Fail> {
+    let [before, after] = story.made;
+    let before = replayed(alloc, first, before)?;
+    let after = replayed(alloc, first, after)?;
+    Ok((before, after))
+}
+
+/// Takes the steps, and makes the checkpoint. Answers what the device has in front of it.
+fn switched(
+    alloc: Global,
+    store: &mut Store<MemDisk>,
+    topology: &Topology,
+    pieces: &Pieces,
+    first: &[u8],
+    steps: &[Step<'_>],
+) -> Result<Vec<u8>, Fail> {
+    grow(alloc, store, topology, first, steps)?;
+    let start = Vec::from_slice(alloc, store.disk.bytes())?;
+    switch(store, topology, pieces)?;
+    Ok(start)
+}
+
+/// What the device has in front of the checkpoint and behind it.
+fn ends_of(
+    alloc: Global,
+    topology: &Topology,
+    pieces: &Pieces,
+    first: &[u8],
+    story: &Story<'_>,
+) -> Result<(Vec<u8>, Vec<u8>), Fail> {
+    let mut store = store_of(alloc, first)?;
+    let start = switched(alloc, &mut store, topology, pieces, first, story.steps);
+    let end = store.into_disk().crash();
+    let start = start?;
+    if !has_bytes(&end, story.bytes) {
+        return Err(Fail::new("other bytes"));
+    }
+    Ok((start, end))
+}
+
 impl Known {
-    fn of(alloc: Global, story: &Story<'_>) -> Result<Known, Fail> {
-        let first = fresh(alloc, AREA)?;
+    /// What is known of a story over the device with `first`, which was just formatted.
+    fn over(alloc: Global, first: &[u8], story: &Story<'_>) -> Result<Known, Fail> {
         let topology = Letter::new(alloc)?.topology;
-        let pieces = Pieces::of(alloc, &first, &story.last)?;
-        let [before, after] = story.made;
-        let held = [
-            replayed(alloc, &first, before)?,
-            replayed(alloc, &first, after)?,
-        ];
-        let (_, mut store) = open_store(alloc, disk_of(alloc, &first)?)?;
-        grow(alloc, &mut store, &topology, &first, story.steps)?;
-        let start = Vec::from_slice(alloc, store.disk.bytes())?;
-        switch(&mut store, &topology, &pieces)?;
-        let end = store.into_disk().crash();
-        if !has_bytes(&end, story.bytes) {
-            return Err(Fail::new("other bytes"));
-        }
+        let pieces = Pieces::of(alloc, first, &story.last)?;
+        let (start, end) = ends_of(alloc, &topology, &pieces, first, story)?;
+        let (before, after) = held_of(alloc, first, story)?;
         Ok(Known {
             calls: story.calls,
             looks: story.looks,
@@ -99,8 +130,24 @@ impl Known {
             pieces,
             start,
             end,
-            held,
+            before,
+            after,
         })
+    }
+
+    fn of(alloc: Global, story: &Story<'_>) -> Result<Known, Fail> {
+        let first = fresh(alloc, AREA)?;
+        let known = Known::over(alloc, &first, story);
+        known
+    }
+
+    /// A store in front of the checkpoint, with the fault of a case behind the calls of opening.
+    fn store(&self, alloc: Global, case: Case) -> Result<Store<MemDisk>, Fail> {
+        let range = self.calls.range(case.call);
+        let fault = case.fault(self.torn(alloc, case.torn, range)?);
+        let call = self.calls.opening.saturating_add(case.call as u64);
+        let (_, store) = open_store(alloc, disk_of(alloc, &self.start)?.with_fault(call, fault))?;
+        Ok(store)
     }
 
     /// What stands in a range. The gate was closed before it is opened.
@@ -121,20 +168,22 @@ impl Known {
     }
 }
 
-/// Whether a device of `bytes` opens as it ought to.
-fn is_as(alloc: Global, bytes: &[u8], look: Look, held: &Held) -> Result<bool, Fail> {
-    let opened = open(alloc, &mut disk_of(alloc, bytes)?)?;
-    let next = opened.next();
-    let seen = (
+/// What opening says of a device with `bytes`.
+fn look_at(alloc: Global, bytes: &[u8]) -> Result<Look, Fail> {
+    let mut disk = disk_of(alloc, bytes)?;
+    let opened = open(alloc, &mut disk)?;
+    Ok((
         opened.second(),
         opened.generation(),
         opened.base(),
         opened.kept().len(),
-        next,
-    );
-    let (_, mut network, _) = opened.into_parts();
-    let net = network.parts(alloc)?;
-    Ok(seen == look && is_same(&Held { next, net }, held))
+        opened.next(),
+    ))
+}
+
+/// Whether a device of `bytes` opens as it ought to.
+fn is_as(alloc: Global, bytes: &[u8], look: Look, held: &Held) -> Result<bool, Fail> {
+    Ok(look_at(alloc, bytes)? == look && holds(alloc, bytes, held)?)
 }
 
 /// Whether a store is broken, and makes no call of its device.
@@ -145,26 +194,44 @@ fn is_broken(store: &mut Store<MemDisk>) -> bool {
         && store.disk.failures() == 1
 }
 
-/// Whether a checkpoint with a fault is told as failed, and the device then opens as it was, or as the checkpoint leaves it.
-fn is_whole(alloc: Global, known: &Known, case: Case) -> Result<bool, Fail> {
-    let range = known.calls.range(case.call);
-    let torn = known.torn(alloc, case.torn, range)?;
-    let call = known.calls.opening.saturating_add(case.call as u64);
-    let fault = case.fault(known.torn(alloc, case.torn, range)?);
-    let disk = disk_of(alloc, &known.start)?.with_fault(call, fault);
-    let (_, mut store) = open_store(alloc, disk)?;
-    let told = switch(&mut store, &known.topology, &known.pieces);
-    let is_told = match told {
+/// Whether a checkpoint with a fault is told as failed.
+fn is_told(known: &Known, store: &mut Store<MemDisk>, case: Case) -> bool {
+    match switch(store, &known.topology, &known.pieces) {
         Ok(()) => case.call == known.calls.count(),
-        Err(fault) => fault == StoreFault::DeviceFailed && is_broken(&mut store),
-    };
-    let mut bytes = store.into_disk().crash();
+        Err(fault) => fault == StoreFault::DeviceFailed && is_broken(store),
+    }
+}
+
+/// The same, and what a crash leaves behind it.
+fn told(alloc: Global, known: &Known, case: Case) -> Result<(bool, Vec<u8>), Fail> {
+    let mut store = known.store(alloc, case)?;
+    let is_told = is_told(known, &mut store, case);
+    Ok((is_told, store.into_disk().crash()))
+}
+
+/// Tears what a crash leaves where the call is a sync. Answers whether the device opens as it was, or as the checkpoint leaves it.
+fn opens(alloc: Global, known: &Known, case: Case, bytes: &mut [u8]) -> Result<bool, Fail> {
     if known.calls.is_sync(case.call) {
-        place(&mut bytes, range.0, &torn);
+        let range = known.calls.range(case.call);
+        place(bytes, range.0, &known.torn(alloc, case.torn, range)?);
     }
     let calls = known.calls.count();
-    let after = usize::from(case.call >= calls || case.opens(calls.saturating_sub(2)));
-    Ok(is_told && is_as(alloc, &bytes, known.looks[after], &known.held[after])?)
+    if case.call >= calls || case.opens(calls.saturating_sub(2)) {
+        is_as(alloc, bytes, known.looks[1], &known.after)
+    } else {
+        is_as(alloc, bytes, known.looks[0], &known.before)
+    }
+}
+
+/// Whether a checkpoint with a fault is told as failed, and the device then opens as it was, or as the checkpoint leaves it.
+fn is_whole(alloc: Global, known: &Known, case: Case) -> Result<bool, Fail> {
+    let (is_told, mut bytes) = told(alloc, known, case)?;
+    let is_whole = if is_told {
+        opens(alloc, known, case, &mut bytes)
+    } else {
+        Ok(false)
+    };
+    is_whole
 }
 
 /// Whether it does so however a call ends. Behind the last call none is reached.

@@ -1,9 +1,9 @@
-//! What the commands do to files: what a refusal leaves, which calls they make, and what follows where one fails.
+//! What the commands do to files: which calls they make, and what follows where one fails.
 
-use crate::program::{is_refused, tpnet};
+use crate::program::tpnet;
 use std::fs;
 use std::fs::{Files, OpenFile};
-use std::os::unix::fs::{FileExt, MetadataExt};
+use std::os::unix::fs::FileExt;
 use std::sync::Wait;
 use std::sync::atomic::Ordering;
 use std::test::Fail;
@@ -27,59 +27,6 @@ fn network<
     }
     let device = scratch.read(rt, "device")?;
     Ok((scratch, device))
-}
-
-/// What else a topology, an image or an area may be, and how that is refused.
-const REFUSED: &[(&str, &[u8], &str, &str)] = &[
-    ("net.txt", b"node a 4\n", "16384", "tpnet: Syntax 0\n"),
-    (
-        "net.txt",
-        b"node a 4\nnode b 4\nport h\n",
-        "16384",
-        "tpnet: ReadFailed\n",
-    ),
-    ("a.img", b"no image", "16384", "tpnet: BadImage\n"),
-    (
-        "net.txt",
-        b"node a 5\nport h\n",
-        "16384",
-        "tpnet: BadImage\n",
-    ),
-    ("other", b"", "13033", "tpnet: AreaFull\n"),
-    ("other", b"", "100", "tpnet: AreaFull\n"),
-    ("other", b"", "0", "tpnet: AreaFull\n"),
-];
-
-#[test]
-fn a_refused_format_keeps_the_file(rt: HostRuntime) -> Result<(), Fail> {
-    let (scratch, device) = network(&rt, "keeps")?;
-    for row in REFUSED {
-        let (name, bytes, area, line) = *row;
-        let _kept = network(&rt, "keeps")?;
-        scratch.put(&rt, name, bytes)?;
-        let words = ["format", "@device", "@net.txt", "@", area];
-        assert!(rt; is_refused(&rt, &scratch, &words, line)?);
-        assert_eq!(rt; scratch.read(&rt, "device")?.as_slice(), device.as_slice());
-    }
-    let _kept = network(&rt, "keeps")?;
-    let new = ["format", "--new", "@device", "@net.txt", "@", "16384"];
-    assert!(rt; is_refused(&rt, &scratch, &new, "tpnet: DeviceExists\n")?);
-    assert_eq!(rt; scratch.read(&rt, "device")?.as_slice(), device.as_slice());
-    let other = ["format", "--new", "@other", "@net.txt", "@", "16384"];
-    assert_eq!(rt; tpnet(&rt, &scratch, &other)?.status, 0);
-    assert_eq!(rt; scratch.read(&rt, "other")?.as_slice(), device.as_slice());
-    scratch.remove(&rt)
-}
-
-#[test]
-fn a_file_that_was_made_stays(rt: HostRuntime) -> Result<(), Fail> {
-    let (scratch, _device) = network(&rt, "made")?;
-    let words = ["format", "@made", "@net.txt", "@", "100"];
-    assert!(rt; is_refused(&rt, &scratch, &words, "tpnet: AreaFull\n")?);
-    let made = scratch.read(&rt, "made")?;
-    assert_eq!(rt; made.len(), 712);
-    assert!(rt; made.iter().all(|byte| *byte == 0));
-    scratch.remove(&rt)
 }
 
 /// The other network's device opens after no stop before the last write: all behind the head is written and synced before
@@ -163,55 +110,38 @@ fn short_reads_and_writes_go_on(rt: HostRuntime) -> Result<(), Fail> {
     scratch.remove(&rt)
 }
 
-/// `recover` and `show` ask for no right to write, and leave bytes and times as they were; `format` syncs the folder of a file
-/// that it made.
+/// Whether a command is done and asks for no right to write the device.
+fn only_reads<
+    R: Files<File = F> + AllocGlobal + Threads + Wait + Sync,
+    F: FileExt + OpenFile + Drop + Send,
+>(rt: &R, scratch: &Scratch, words: &[&str]) -> Result<bool, Fail> {
+    let faults = Faults::short(usize::MAX);
+    let output = tpnet(&FaultyFiles::new(rt, &faults), scratch, words)?;
+    Ok(output.status == 0 && !faults.writable.load(Ordering::SeqCst))
+}
+
+/// How many other files and folders a format that is done has synced.
+fn synced_by_format<
+    R: Files<File = F> + AllocGlobal + Threads + Wait + Sync,
+    F: FileExt + OpenFile + Drop + Send,
+>(rt: &R, scratch: &Scratch) -> Result<u64, Fail> {
+    let faults = Faults::short(usize::MAX);
+    match tpnet(&FaultyFiles::new(rt, &faults), scratch, FORMAT)?.status {
+        0 => Ok(faults.synced.load(Ordering::SeqCst)),
+        _ => Err(Fail::new("not formatted")),
+    }
+}
+
+/// `recover` and `show` ask for no right to write; `format` syncs the folder of a file that it made.
 #[test]
 fn how_files_are_opened(rt: HostRuntime) -> Result<(), Fail> {
     let (scratch, device) = network(&rt, "opened")?;
-    let path = scratch.path(rt.alloc(), "device")?;
-    let before = fs::metadata(&rt, path.as_str())?;
-    for words in [["recover", "@device"], ["show", "@device"]] {
-        let faults = Faults::short(usize::MAX);
-        assert_eq!(rt;
-            tpnet(&FaultyFiles::new(&rt, &faults), &scratch, &words)?.status,
-            0
-        );
-        assert!(rt; !faults.writable.load(Ordering::SeqCst));
-    }
-    let after = fs::metadata(&rt, path.as_str())?;
-    assert_eq!(rt; after.mtime(), before.mtime());
-    assert_eq!(rt; after.mtime_nsec(), before.mtime_nsec());
-    assert_eq!(rt; after.ctime_nsec(), before.ctime_nsec());
+    let is_read = only_reads(&rt, &scratch, &["recover", "@device"])?;
+    let is_shown = only_reads(&rt, &scratch, &["show", "@device"])?;
+    let synced_old = synced_by_format(&rt, &scratch)?;
+    fs::remove_file(&rt, scratch.path(rt.alloc(), "device")?.as_str())?;
+    let synced_new = synced_by_format(&rt, &scratch)?;
+    assert!(rt; is_read && is_shown && synced_old == 0 && synced_new == 1);
     assert_eq!(rt; scratch.read(&rt, "device")?.as_slice(), device.as_slice());
-    let faults = Faults::short(usize::MAX);
-    assert_eq!(rt;
-        tpnet(&FaultyFiles::new(&rt, &faults), &scratch, FORMAT)?.status,
-        0
-    );
-    assert_eq!(rt; faults.synced.load(Ordering::SeqCst), 0);
-    fs::remove_file(&rt, path.as_str())?;
-    assert_eq!(rt;
-        tpnet(&FaultyFiles::new(&rt, &faults), &scratch, FORMAT)?.status,
-        0
-    );
-    assert_eq!(rt; faults.synced.load(Ordering::SeqCst), 1);
-    assert_eq!(rt; scratch.read(&rt, "device")?.as_slice(), device.as_slice());
-    scratch.remove(&rt)
-}
-
-/// Above 4 GiB the second area's gate stands where an offset that wraps would hit the first image, or read it.
-#[test]
-fn a_device_above_four_gigabytes(rt: HostRuntime) -> Result<(), Fail> {
-    let (scratch, _device) = network(&rt, "large")?;
-    let words = ["format", "@large", "@net.txt", "@", "4294967317"];
-    assert_eq!(rt; tpnet(&rt, &scratch, &words)?.status, 0);
-    let path = scratch.path(rt.alloc(), "large")?;
-    assert_eq!(rt; fs::metadata(&rt, path.as_str())?.len(), 8_589_935_146);
-    let recovered = tpnet(&rt, &scratch, &["recover", "@large"])?;
-    assert_eq!(rt; recovered.out.as_slice(), b"next 0\n".as_slice());
-    let file = fs::OpenOptions::new().write(true).open(&rt, path.as_str())?;
-    file.write_all_at(&[0xA5, 1], 4_294_967_829)?;
-    let line = "tpnet: Damaged 4294967829\n";
-    assert!(rt; is_refused(&rt, &scratch, &["show", "@large"], line)?);
     scratch.remove(&rt)
 }

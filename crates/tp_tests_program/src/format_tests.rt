@@ -1,11 +1,11 @@
-//! What `tpnet format` writes and refuses.
+//! What formatting a device in memory refuses that no command line asks for, and calls of it that fail.
 
 use std::alloc::Global;
 use std::test::Fail;
 use tp_disk::{MemDisk, PlannedFault};
 use tp_net::Topology;
 use tp_program::format_on;
-use tp_tests_fixtures::{letter, place};
+use tp_tests_fixtures::letter;
 
 pub(crate) const AREA: u64 = 16_384;
 
@@ -47,53 +47,11 @@ pub(crate) fn format_in_memory(
     })
 }
 
-/// The bytes from a place on.
-pub(crate) fn part(bytes: &[u8], at: usize, count: usize) -> &[u8] {
-    match bytes.get(at..) {
-        Some(rest) => match rest.get(..count) {
-            Some(part) => part,
-            None => &[],
-        },
-        None => &[],
-    }
-}
-
 /// One image, in a list.
 pub(crate) fn images_of(alloc: Global, image: Vec<u8>) -> Result<Vec<Vec<u8>>, Fail> {
     let mut images = Vec::new(alloc);
     images.push(image)?;
     Ok(images)
-}
-
-/// What stands on the device of one node beside its image.
-const DEVICE: &[(usize, &[u8])] = &[
-    (0, b"TPNET\0\0\x01\x01\x01\0\0\0\0\0\0"),
-    (16, &[0, 0x40, 0, 0, 0, 0, 0, 0, 4, 0]),
-    (56, &[0x80, 0, 0, 0]),
-    (
-        512,
-        &[
-            0xA5, 1, 0, 0, 0, 0, 0, 0, 0, 0xDC, 0x30, 0, 0, 0, 0, 0, 0, 0, 0, 0, 0,
-        ],
-    ),
-    (13_033, &[0]),
-    (16_896, &[0]),
-];
-
-#[test]
-fn the_device_of_one_node(rt: HostRuntime) -> Result<(), Fail> {
-    let alloc = rt.alloc();
-    let image = letter(alloc)?;
-    let images = images_of(alloc, letter(alloc)?)?;
-    let disk = MemDisk::zeroed(alloc, 33_280)?;
-    let made = format_in_memory(alloc, disk, images.as_slice(), AREA)?;
-    let bytes = made.bytes.as_slice();
-    let is_said = made.out.as_slice() == b"formatted\n".as_slice() && made.err.is_empty();
-    assert!(rt; made.status == 0 && is_said && part(bytes, 533, 4268) == image.as_slice());
-    for (at, wanted) in DEVICE {
-        assert_eq!(rt; part(bytes, *at, wanted.len()), *wanted);
-    }
-    Ok(())
 }
 
 /// What is answered where nothing is formatted.
@@ -105,43 +63,26 @@ fn refused(alloc: Global, images: &[Vec<u8>], size: usize, area: u64) -> Result<
     Ok(made.err)
 }
 
+/// A device that is smaller than its areas say, or has no room for its head.
 #[test]
-fn areas_that_are_too_small(rt: HostRuntime) -> Result<(), Fail> {
+fn devices_that_are_too_small(rt: HostRuntime) -> Result<(), Fail> {
     let alloc = rt.alloc();
     let images = images_of(alloc, letter(alloc)?)?;
     let full = b"tpnet: AreaFull\n".as_slice();
-    assert_eq!(rt;
-        refused(alloc, images.as_slice(), 40_000, LEAST - 1)?.as_slice(),
-        full
-    );
-    assert_eq!(rt;
-        refused(alloc, images.as_slice(), 26_579, LEAST)?.as_slice(),
-        full
-    );
-    assert_eq!(rt; refused(alloc, images.as_slice(), 511, 0)?.as_slice(), full);
-    let disk = MemDisk::zeroed(alloc, 26_580)?;
-    assert_eq!(rt;
-        format_in_memory(alloc, disk, images.as_slice(), LEAST)?.status,
-        0
-    );
+    for (size, area) in [(26_579, LEAST), (511, 0)] {
+        assert_eq!(rt;
+            refused(alloc, images.as_slice(), size, area)?.as_slice(),
+            full
+        );
+    }
     Ok(())
 }
 
+/// More images than nodes, or fewer.
 #[test]
-fn images_that_do_not_fit(rt: HostRuntime) -> Result<(), Fail> {
+fn images_that_are_too_many(rt: HostRuntime) -> Result<(), Fail> {
     let alloc = rt.alloc();
     let bad = b"tpnet: BadImage\n".as_slice();
-    let mut busy = letter(alloc)?;
-    place(&mut busy, 109, &[1]);
-    let mut larger = letter(alloc)?;
-    place(&mut larger, 2, &[5]);
-    for image in [busy, larger, Vec::new(alloc)] {
-        let images = images_of(alloc, image)?;
-        assert_eq!(rt;
-            refused(alloc, images.as_slice(), 33_280, AREA)?.as_slice(),
-            bad
-        );
-    }
     let mut two = images_of(alloc, letter(alloc)?)?;
     two.push(letter(alloc)?)?;
     assert_eq!(rt;

@@ -1,6 +1,8 @@
-//! What the program's commands print, write and refuse, on devices in memory and on files.
+//! What the program's commands answer, on devices in memory and on files, where a call fails or no command line asks for it.
 #![tactic(auto)]
 
+#[cfg(test)]
+mod changing;
 #[cfg(test)]
 mod file_tests;
 #[cfg(test)]
@@ -12,8 +14,6 @@ mod program;
 #[cfg(test)]
 mod program_tests;
 #[cfg(test)]
+mod steady_tests;
+#[cfg(test)]
 mod tests;
-#[cfg(test)]
-mod two_nodes_tests;
-#[cfg(test)]
-mod view_tests;

@@ -1,4 +1,4 @@
-//! What `tpnet try` writes and refuses, on the image that sends one letter.
+//! The turns of `tpnet try` on the image that sends one letter, and an output that fails.
 
 use std::io;
 use std::io::Write;
@@ -47,17 +47,6 @@ fn the_entries_of_four_turns(rt: HostRuntime) -> Result<(), Fail> {
 }
 
 #[test]
-fn the_output_alone_is_written(rt: HostRuntime) -> Result<(), Fail> {
-    let image = letter(rt.alloc())?;
-    let (mut out, mut err) = (Vec::new(rt.alloc()), Vec::new(rt.alloc()));
-    let status = try_on(rt.alloc(), image.as_slice(), 4, &mut out, &mut err);
-    assert_eq!(rt; status, 0);
-    assert_eq!(rt; out.as_slice(), b"A".as_slice());
-    assert_eq!(rt; err.as_slice(), b"".as_slice());
-    Ok(())
-}
-
-#[test]
 fn no_turns_make_no_entries(rt: HostRuntime) -> Result<(), Fail> {
     let image = letter(rt.alloc())?;
     match try_turns(rt.alloc(), image.as_slice(), 0, TRY_QUANTUM) {
@@ -67,12 +56,6 @@ fn no_turns_make_no_entries(rt: HostRuntime) -> Result<(), Fail> {
         }
         Err(fault) => panic!(rt; "{fault:?}"),
     }
-    let (mut out, mut err) = (Vec::new(rt.alloc()), Vec::new(rt.alloc()));
-    assert_eq!(rt;
-        try_on(rt.alloc(), image.as_slice(), 0, &mut out, &mut err),
-        0
-    );
-    assert!(rt; out.is_empty());
     Ok(())
 }
 
@@ -88,11 +71,6 @@ fn other_bytes_are_no_image(rt: HostRuntime) -> Result<(), Fail> {
     place(&mut later, 0, &[2]);
     images.push(later)?;
     for image in &images {
-        let (mut out, mut err) = (Vec::new(rt.alloc()), Vec::new(rt.alloc()));
-        let status = try_on(rt.alloc(), image.as_slice(), 4, &mut out, &mut err);
-        assert_eq!(rt; status, 1);
-        assert!(rt; out.is_empty());
-        assert_eq!(rt; err.as_slice(), b"tpnet: BadImage\n".as_slice());
         assert!(rt; try_turns(rt.alloc(), image.as_slice(), 4, TRY_QUANTUM).is_err());
     }
     Ok(())

@@ -7,36 +7,52 @@ ghost use Rattle.tp_tests_refused.specs.Usable.{IsLone, IsUsable};
 
 use crate::books::{hand_in, lone_net, make_ready, reserve, start};
 use crate::devices::{grown, image};
-use std::alloc::Global;
+use std::alloc::{AllocError, Global};
 use std::test::Fail;
 use tp_book::{Book, NetParts, NetState, Refusal};
 use tp_disk::MemDisk;
 use tp_model::Token;
 use tp_recover::open;
 
-/// The network, though memory may be refused once.
-fn net(alloc: Global) -> Result<NetParts, Fail>
+/// The network of an image, though memory may be refused once.
+fn net_of(alloc: Global, image: &[u8]) -> Result<NetParts, Fail>
     ensures { IfOk result (λ net. IsLone (network_of net)) }
 {
-    let image = image(alloc)?;
-    match lone_net(alloc, &image) {
+    match lone_net(alloc, image) {
         Some(net) => Ok(net),
-        None => match lone_net(alloc, &image) {
+        None => match lone_net(alloc, image) {
             Some(net) => Ok(net),
             None => Err(Fail::new("no network")),
         },
     }
 }
 
-/// Its book, though memory may be refused once.
+/// The network.
+fn net(alloc: Global) -> Result<NetParts, Fail>
+    ensures { IfOk result (λ net. IsLone (network_of net)) }
+{
+    let image = image(alloc)?;
+    let net = net_of(alloc, &image);
+    net
+}
+
+/// The book of the network, though memory may be refused once.
+fn started(alloc: Global, net: &NetParts) -> Result<Book, AllocError>
+    requires { IsLone (network_of net.now) }
+    ensures { IfOk result (λ book. IsUsable book) }
+{
+    match start(alloc, net) {
+        Ok(book) => Ok(book),
+        Err(_) => start(alloc, net),
+    }
+}
+
+/// The book.
 fn book(alloc: Global) -> Result<Book, Fail>
     ensures { IfOk result (λ book. IsUsable book) }
 {
     let net = net(alloc)?;
-    match start(alloc, &net) {
-        Ok(book) => Ok(book),
-        Err(_) => Ok(start(alloc, &net)?),
-    }
+    Ok(started(alloc, &net)?)
 }
 
 /// Whether a book of one node has `count` entries, each a byte that its port accepted.
@@ -45,13 +61,6 @@ fn has(book: &Book, count: u64) -> bool {
         return false;
     }
     book.next() == count && book.entries().len() as u64 == count && book.accepted(0) == count
-}
-
-#[test]
-fn a_book_is_begun_again(rt: HostRuntime) -> Result<(), Fail> {
-    let book = book(rt.alloc())?;
-    assert!(rt; has(&book, 0));
-    Ok(())
 }
 
 /// Whether bytes are accepted by a book of `before` entries, and the receipt's number is `after`.
@@ -66,6 +75,39 @@ fn accepts(book: &mut Book, bytes: &[u8], before: u64, after: u64) -> bool
     receipt == Ok(after) && has(book, after)
 }
 
+/// Whether a run can be reserved in a book without entries.
+fn reserves(book: &mut Book) -> bool
+    requires { IsUsable book.old }
+{
+    match reserve(book) {
+        Ok(()) => has(book, 0),
+        Err(refusal) => {
+            refusal == Refusal::Memory && has(book, 0) && reserve(book).is_ok() && has(book, 0)
+        }
+    }
+}
+
+/// Whether the first of eight bytes can be made ready to be taken. Eight entries fill what is kept for them, so that a ninth wants more.
+fn makes_ready(book: &mut Book) -> bool
+    requires { IsUsable book.old }
+{
+    if !accepts(book, b"abcdefgh", 0, 8) {
+        return false;
+    }
+    let mut token = make_ready(book);
+    if token == Err(Refusal::Memory) && has(book, 8) {
+        token = make_ready(book);
+    }
+    token == Ok(Token::Data(b'a')) && has(book, 8)
+}
+
+#[test]
+fn a_book_is_begun_again(rt: HostRuntime) -> Result<(), Fail> {
+    let book = book(rt.alloc())?;
+    assert!(rt; has(&book, 0));
+    Ok(())
+}
+
 #[test]
 fn bytes_are_handed_in_again(rt: HostRuntime) -> Result<(), Fail> {
     let mut book = book(rt.alloc())?;
@@ -77,26 +119,16 @@ fn bytes_are_handed_in_again(rt: HostRuntime) -> Result<(), Fail> {
 #[test]
 fn a_run_is_reserved_again(rt: HostRuntime) -> Result<(), Fail> {
     let mut book = book(rt.alloc())?;
-    if let Err(refusal) = reserve(&mut book) {
-        assert!(rt; refusal == Refusal::Memory && has(&book, 0));
-        reserve(&mut book)?;
-    }
-    assert!(rt; has(&book, 0));
+    let told = reserves(&mut book);
+    assert!(rt; told);
     Ok(())
 }
 
-/// Eight entries fill what is kept for them, so that a ninth wants more.
 #[test]
 fn a_token_is_made_ready_again(rt: HostRuntime) -> Result<(), Fail> {
     let mut book = book(rt.alloc())?;
-    let told = accepts(&mut book, b"abcdefgh", 0, 8);
+    let told = makes_ready(&mut book);
     assert!(rt; told);
-    let mut token = make_ready(&mut book);
-    if let Err(refusal) = token {
-        assert!(rt; refusal == Refusal::Memory && has(&book, 8));
-        token = make_ready(&mut book);
-    }
-    assert!(rt; token == Ok(Token::Data(b'a')) && has(&book, 8));
     Ok(())
 }
 
@@ -113,26 +145,33 @@ fn state(alloc: Global, disk: &mut MemDisk) -> Option<NetState>
     Some(state)
 }
 
+/// The same, though memory may be refused once.
+fn state_again(alloc: Global, disk: &mut MemDisk) -> Option<NetState>
+    ensures { IfSome result IsOpened }
+{
+    match state(alloc, disk) {
+        Some(state) => Some(state),
+        None => state(alloc, disk),
+    }
+}
+
 /// The book of what it leaves, though memory may be refused once.
-fn book_of(alloc: Global, state: &NetState) -> Result<Book, Fail>
+fn book_of(alloc: Global, state: &NetState) -> Result<Book, AllocError>
     requires { IsOpened state.now }
 {
     match Book::open(alloc, state, Some(3_862)) {
         Ok(book) => Ok(book),
-        Err(_) => Ok(Book::open(alloc, state, Some(3_862))?),
+        Err(_) => Book::open(alloc, state, Some(3_862)),
     }
 }
 
-/// The book of a device with two entries, though memory may be refused once.
+/// The book of a device with two entries.
 fn opened_book(alloc: Global) -> Result<Book, Fail> {
     let mut disk = MemDisk::of_bytes(grown(alloc)?);
-    match state(alloc, &mut disk) {
-        Some(state) => book_of(alloc, &state),
-        None => match state(alloc, &mut disk) {
-            Some(state) => book_of(alloc, &state),
-            None => Err(Fail::new("not opened")),
-        },
-    }
+    let Some(state) = state_again(alloc, &mut disk) else {
+        return Err(Fail::new("not opened"));
+    };
+    Ok(book_of(alloc, &state)?)
 }
 
 #[test]

@@ -25,24 +25,30 @@ const ONE_WIRE: [Option<WireEnd>; 5] = [
 fn parts(alloc: Global, image: &[u8]) -> Result<NetParts, AllocError>
     ensures { IfOk result (λ net. network_of net ≡ lone_network (node_at image.now)) }
 {
+    let lines = Vec::from_array(
+        alloc,
+        [
+            Vec::new(alloc),
+            Vec::new(alloc),
+            Vec::new(alloc),
+            Vec::new(alloc),
+            Vec::new(alloc),
+        ],
+    )?;
+    let images = Vec::from_array(alloc, [Vec::from_slice(alloc, image)?])?;
+    let wires = Vec::from_slice(alloc, &ONE_WIRE)?;
     let port = PortParts {
         pending: Vec::new(alloc),
         in_base: 0,
         outputs: Vec::new(alloc),
         out_base: 0,
     };
-    let lines = [
-        Vec::new(alloc),
-        Vec::new(alloc),
-        Vec::new(alloc),
-        Vec::new(alloc),
-        Vec::new(alloc),
-    ];
+    let ports = Vec::from_array(alloc, [port])?;
     Ok(NetParts {
-        wires: Vec::from_slice(alloc, &ONE_WIRE)?,
-        images: Vec::from_array(alloc, [Vec::from_slice(alloc, image)?])?,
-        lines: Vec::from_array(alloc, lines)?,
-        ports: Vec::from_array(alloc, [port])?,
+        wires,
+        images,
+        lines,
+        ports,
     })
 }
 

@@ -81,10 +81,13 @@ fn images(alloc: Global) -> Result<Vec<Vec<u8>>, AllocError> {
 impl Given {
     /// A device of zeros, though memory may be refused once.
     fn new(alloc: Global) -> Result<Given, Fail> {
+        let images = images(alloc)?;
+        let disk = MemDisk::of_bytes(zeroed(alloc)?);
+        let topology = read(alloc, ONE_NODE)?;
         Ok(Given {
-            topology: read(alloc, ONE_NODE)?,
-            images: images(alloc)?,
-            disk: MemDisk::of_bytes(zeroed(alloc)?),
+            topology,
+            images,
+            disk,
         })
     }
 
@@ -100,26 +103,24 @@ impl Given {
     }
 }
 
-/// Nothing is written where memory is refused, and the next format is as the first would have been.
-#[test]
-fn a_device_is_formatted_again(rt: HostRuntime) -> Result<(), Fail> {
-    let alloc = rt.alloc();
-    let (mut given, zeros) = (Given::new(alloc)?, zeroed(alloc)?);
-    if let Err(fault) = given.format(alloc) {
-        assert!(rt; fault == FormatFault::Memory && given.has(&zeros));
-        given.format(alloc)?;
-    }
-    let mut want = grown(alloc)?;
-    place(&mut want, GROUPS, &[0; 49]);
-    assert!(rt; given.has(&want));
-    Ok(())
+/// The bytes of the device that was just formatted.
+fn formatted(alloc: Global) -> Result<Vec<u8>, AllocError> {
+    let mut bytes = grown(alloc)?;
+    place(&mut bytes, GROUPS, &[0; 49]);
+    Ok(bytes)
 }
 
-/// Bad images are refused as such, also where memory was refused first.
-#[test]
-fn a_bad_image_stays_bad(rt: HostRuntime) -> Result<(), Fail> {
-    let alloc = rt.alloc();
-    let (mut given, zeros) = (Given::new(alloc)?, zeroed(alloc)?);
+/// Whether a format is done, or writes nothing where memory is refused, and is done then.
+fn formats(alloc: Global, given: &mut Given, zeros: &[u8], wanted: &[u8]) -> bool {
+    let mut answer = given.format(alloc);
+    if answer == Err(FormatFault::Memory) && given.has(zeros) {
+        answer = given.format(alloc);
+    }
+    answer.is_ok() && given.has(wanted)
+}
+
+/// Whether a format is refused, and nothing is written, also where memory was refused first.
+fn is_bad(alloc: Global, given: &mut Given, zeros: &[u8]) -> bool {
     for image in given.images.iter_mut() {
         place(image, 109, &[1]);
     }
@@ -127,6 +128,27 @@ fn a_bad_image_stays_bad(rt: HostRuntime) -> Result<(), Fail> {
     if answer == Err(FormatFault::Memory) {
         answer = given.format(alloc);
     }
-    assert!(rt; answer == Err(FormatFault::BadImage) && given.has(&zeros));
+    answer == Err(FormatFault::BadImage) && given.has(zeros)
+}
+
+/// Nothing is written where memory is refused, and the next format is as the first would have been.
+#[test]
+fn a_device_is_formatted_again(rt: HostRuntime) -> Result<(), Fail> {
+    let alloc = rt.alloc();
+    let (zeros, wanted) = (zeroed(alloc)?, formatted(alloc)?);
+    let mut given = Given::new(alloc)?;
+    let told = formats(alloc, &mut given, &zeros, &wanted);
+    assert!(rt; told);
+    Ok(())
+}
+
+/// Bad images are refused as such, also where memory was refused first.
+#[test]
+fn a_bad_image_stays_bad(rt: HostRuntime) -> Result<(), Fail> {
+    let alloc = rt.alloc();
+    let zeros = zeroed(alloc)?;
+    let mut given = Given::new(alloc)?;
+    let told = is_bad(alloc, &mut given, &zeros);
+    assert!(rt; told);
     Ok(())
 }

@@ -1,7 +1,7 @@
 //! Reading a network out.
 
 use crate::devices::{grown, image};
-use std::alloc::Global;
+use std::alloc::{AllocError, Global};
 use std::test::Fail;
 use tp_book::NetParts;
 use tp_disk::MemDisk;
@@ -59,16 +59,26 @@ fn is_read_out(net: &NetParts, image: &[u8]) -> bool {
     is_node && is_host && net.wires.as_slice() == WIRES.as_slice() && are_lines(&net.lines)
 }
 
+/// The parts of a network, though memory may be refused once.
+fn parts(alloc: Global, network: &mut FlatNetwork) -> Result<NetParts, AllocError> {
+    match network.parts(alloc) {
+        Ok(net) => Ok(net),
+        Err(_) => network.parts(alloc),
+    }
+}
+
+/// The same of the network of the device.
+fn parts_of_device(alloc: Global) -> Result<NetParts, Fail> {
+    let mut network = network(alloc)?;
+    Ok(parts(alloc, &mut network)?)
+}
+
 /// The network stays as it is, also where memory is refused, and its parts can be had again.
 #[test]
 fn a_network_is_read_out_again(rt: HostRuntime) -> Result<(), Fail> {
     let alloc = rt.alloc();
     let image = image(alloc)?;
-    let mut network = network(alloc)?;
-    let net = match network.parts(alloc) {
-        Ok(net) => net,
-        Err(_) => network.parts(alloc)?,
-    };
+    let net = parts_of_device(alloc)?;
     assert!(rt; is_read_out(&net, &image));
     Ok(())
 }

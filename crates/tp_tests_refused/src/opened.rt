@@ -54,9 +54,27 @@ fn opens_store(alloc: Global, disk: &mut MemDisk) -> Result<bool, Unopened> {
     Ok(is_grown(&opened) && store.place == opened.place())
 }
 
+/// Either of them.
+fn opens_by(alloc: Global, disk: &mut MemDisk, with_store: bool) -> Result<bool, Unopened> {
+    if with_store {
+        opens_store(alloc, disk)
+    } else {
+        opens(alloc, disk)
+    }
+}
+
 /// Whether it has `bytes`, and no call of it failed.
 fn has(disk: &MemDisk, bytes: &[u8]) -> bool {
     disk.failures() == 0 && disk.bytes() == bytes
+}
+
+/// Whether a device of `bytes` opens, with a store where that is asked for, as what it holds, and nothing is written; where memory was refused, it opens so then.
+fn opens_again(alloc: Global, disk: &mut MemDisk, bytes: &[u8], with_store: bool) -> bool {
+    let mut told = opens_by(alloc, disk, with_store);
+    if told == Err(Unopened::Memory) && has(disk, bytes) {
+        told = opens_by(alloc, disk, with_store);
+    }
+    told == Ok(true) && has(disk, bytes)
 }
 
 /// Opening writes nothing, and what it answers doesn't depend on what was refused before.
@@ -65,11 +83,8 @@ fn a_device_is_opened_again(rt: HostRuntime) -> Result<(), Fail> {
     let alloc = rt.alloc();
     let bytes = grown(alloc)?;
     let mut disk = MemDisk::of_bytes(grown(alloc)?);
-    let mut told = opens(alloc, &mut disk);
-    if told == Err(Unopened::Memory) && has(&disk, &bytes) {
-        told = opens(alloc, &mut disk);
-    }
-    assert!(rt; told == Ok(true) && has(&disk, &bytes));
+    let told = opens_again(alloc, &mut disk, &bytes, false);
+    assert!(rt; told);
     Ok(())
 }
 
@@ -78,10 +93,7 @@ fn a_store_is_opened_again(rt: HostRuntime) -> Result<(), Fail> {
     let alloc = rt.alloc();
     let bytes = grown(alloc)?;
     let mut disk = MemDisk::of_bytes(grown(alloc)?);
-    let mut told = opens_store(alloc, &mut disk);
-    if told == Err(Unopened::Memory) && has(&disk, &bytes) {
-        told = opens_store(alloc, &mut disk);
-    }
-    assert!(rt; told == Ok(true) && has(&disk, &bytes));
+    let told = opens_again(alloc, &mut disk, &bytes, true);
+    assert!(rt; told);
     Ok(())
 }

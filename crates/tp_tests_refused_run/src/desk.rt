@@ -2,9 +2,8 @@
 
 ghost use Rattle.std.specs.Prelude.{◌≡◌, [], All, IfSome, Some};
 ghost use Rattle.tp_shared.specs.Named.{Names};
-ghost use Rattle.tp_tests_refused_run.specs.Spelt.{IsSpelt};
+ghost use Rattle.tp_tests_begun.specs.Spelt.{IsSpelt};
 
-use crate::opening::Opening;
 use std::alloc::{AllocError, Global};
 use std::process::Abort;
 use std::sync::Wait;
@@ -14,6 +13,7 @@ use tp_flush::{FlushFault, Flusher};
 use tp_host::{ConfirmFault, OfferFault, Session, ShownFault};
 use tp_mark::Pass;
 use tp_shared::{Naming, NoGate};
+use tp_tests_begun::opening::{Opening, begin_with};
 use tp_work::{Net, Seat, TurnFault};
 
 /// How many steps a node's turn has.
@@ -57,17 +57,7 @@ pub(crate) fn begin<J: Naming, R: Wait + Abort>(
     requires names { Names J.roll J.first J.start J.node J.mark J.flusher J.room opening.parts }
     requires spelt { IsSpelt opening.opened.value }
 {
-    let Opening {
-        opened,
-        topology,
-        parts,
-        mut raiser,
-        store,
-        ..
-    } = opening;
-    let (net, seats, key) = Net::<J, NoGate>::start(rt, alloc, parts, QUANTUM, 1, NoGate)?;
-    let pass = net.shared().mark().pass(&mut raiser);
-    let flusher = Flusher::over(opened, topology, store, key, raiser);
+    let (net, seats, flusher, pass) = begin_with(rt, alloc, opening, QUANTUM, 1, NoGate)?;
     let Some(seat) = seat_of(&net, seats) else {
         panic!(rt; "a seat is there")
     };

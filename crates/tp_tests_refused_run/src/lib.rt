@@ -9,8 +9,6 @@ mod desk;
 #[cfg(test)]
 mod device;
 #[cfg(test)]
-mod opening;
-#[cfg(test)]
 mod playing;
 #[cfg(test)]
 mod stories;

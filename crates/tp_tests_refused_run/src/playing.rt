@@ -1,13 +1,12 @@
 //! Stories are played, on a device of their own each.
 
 ghost use Rattle.tp_shared.specs.Named.{Names};
-ghost use Rattle.tp_tests_refused_run.specs.Spelt.{IsSpelt};
+ghost use Rattle.tp_tests_begun.specs.Spelt.{IsSpelt};
 
 use crate::calls::{begin, confirm, flush, is_whole, offer, shows, turn};
 use crate::desk;
 use crate::desk::Desk;
 use crate::device::formatted;
-use crate::opening::{Opening, opening_of};
 use crate::stories::{FULL, NO_FRAME, NOTHING_WRITTEN, ONE_FRAME, Step, Story, calls};
 use std::alloc::Global;
 use std::marker::Brand;
@@ -19,6 +18,7 @@ use tp_host::OfferFault;
 use tp_model::Entry;
 use tp_recover::{Opened, open};
 use tp_shared::{Naming, NoGate};
+use tp_tests_begun::opening::{Opening, opening_with};
 use tp_work::{Net, TurnFault};
 
 /// Whether a step goes as it should, where `offered` bytes were offered first, and the next entry gets the number `next` then.
@@ -139,7 +139,9 @@ fn play_in<R: Wait + Abort>(
 
 /// The same of a device that is freshly formatted.
 fn play_once<R: Wait + Abort>(rt: &R, alloc: Global, story: &Story) -> Option<bool> {
-    let opening = opening_of(alloc, formatted(alloc)?, story.spare)?;
+    let Ok(opening) = opening_with(alloc, formatted(alloc)?, story.spare) else {
+        return None;
+    };
     play_in(rt, alloc, opening, story)
 }
 

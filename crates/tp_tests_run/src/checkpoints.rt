@@ -1,10 +1,14 @@
 //! Runs with checkpoints.
 
 use crate::devices::{LETTER, ONE, PASSES, RING, formatted, letter};
-use crate::players::{FOUR, left, play};
+use crate::players::{FOUR, left, play, play_and_look, play_twice};
+use std::alloc::Global;
+use std::process::Abort;
+use std::sync::Wait;
 use std::test::Fail;
-use tp_recover::Opened;
-use tp_run::Job;
+use std::thread::Threads;
+use tp_disk::MemDisk;
+use tp_run::{Job, RunFault};
 
 /// Two hundred turns of a worker. Each twentieth entry since the kept cut begins a snapshot.
 const OFTEN: Job = Job {
@@ -16,9 +20,41 @@ const OFTEN: Job = Job {
 /// How many workers make how many turns. With more workers than nodes and ports, turns are used up by those that find no process.
 const TEAMS: &[(u8, u32)] = &[(1, 2000), (2, 2000), (16, 100_000)];
 
-/// Whether entries are in the cut, and the areas were switched at least `times` times.
-fn is_switched(opened: &Opened, times: u64) -> bool {
-    opened.base() > 0 && opened.generation() > times
+/// The number that a run reached, where it is above the one before.
+fn further(before: Option<u64>, done: Result<u64, RunFault>) -> Option<u64> {
+    match done {
+        Ok(reached) if before.is_some_and(|before| reached > before) => Some(reached),
+        _ => None,
+    }
+}
+
+/// Eight runs one behind the other. Answers the number that the last one reached, where each reached more than the one before.
+fn reach<R: Threads + Wait + Abort + Sync>(
+    rt: &R,
+    alloc: Global,
+    disk: MemDisk,
+    out: &mut Vec<u8>,
+) -> (MemDisk, Option<u64>) {
+    let (mut disk, mut next) = (disk, Some(0));
+    for _ in 0..8 {
+        let (again, done) = play(rt, alloc, disk, OFTEN, b"", out);
+        disk = again;
+        next = further(next, done);
+    }
+    (disk, next)
+}
+
+/// Whether the number that was reached is the next one, and above 210, and the areas were switched four times.
+fn is_reached<R: Threads + Wait + Abort + Sync>(
+    rt: &R,
+    alloc: Global,
+    disk: MemDisk,
+    out: &mut Vec<u8>,
+) -> Result<[bool; 2], Fail> {
+    let (disk, next) = reach(rt, alloc, disk, out);
+    let (_, opened) = left(alloc, disk)?;
+    let is_reached = next == Some(opened.next()) && opened.next() > 210;
+    Ok([is_reached, opened.base() > 0 && opened.generation() > 4])
 }
 
 /// The journal has room for 105 entries. With checkpoints a network that never ends goes on all the same, and its letter is printed
@@ -26,50 +62,54 @@ fn is_switched(opened: &Opened, times: u64) -> bool {
 #[test]
 fn a_short_journal_never_stays_full(rt: HostRuntime) -> Result<(), Fail> {
     let alloc = rt.alloc();
-    let mut disk = letter(alloc)?;
+    let disk = letter(alloc)?;
     let mut out = Vec::new(alloc);
-    let mut next = 0;
-    for _ in 0..8 {
-        let (again, done) = play(&rt, alloc, disk, OFTEN, b"", &mut out);
-        disk = again;
-        let reached = done?;
-        assert!(rt; reached > next);
-        next = reached;
-    }
-    let (_, opened) = left(alloc, disk)?;
+    let told = is_reached(&rt, alloc, disk, &mut out)?;
+    assert_eq!(rt; told, [true; 2]);
     assert!(rt; out.as_slice() == b"A".as_slice());
-    assert!(rt; opened.next() == next && next > 210);
-    assert!(rt; is_switched(&opened, 4));
     Ok(())
 }
 
 /// As many bytes of input as the journal has room for entries.
 const ALL: &[u8] = &[7; 105];
 
+/// Four turns, in which no snapshot begins; and forty, in which one begins soon.
+const NEVER: Job = Job {
+    every: Some(1000),
+    ..FOUR
+};
+
+const SOON: Job = Job {
+    turns: 40,
+    every: Some(20),
+    ..FOUR
+};
+
+/// Whether the journal is full behind the first run, which prints nothing; it isn't behind the second; and a third one prints the letter.
+fn is_ended<R: Threads + Wait + Abort + Sync>(
+    rt: &R,
+    alloc: Global,
+    disk: MemDisk,
+    out: &mut Vec<u8>,
+) -> Result<[bool; 4], Fail> {
+    let (disk, full) = play_and_look(rt, alloc, disk, NEVER, ALL, out)?;
+    let is_full = full.done == Ok(105) && full.next == 105 && full.base == 0;
+    let (disk, freed) = play_and_look(rt, alloc, disk, SOON, ALL, out)?;
+    let is_freed = freed.is_done() && freed.base >= 105 && freed.is_switched(1);
+    let (_, done) = play(rt, alloc, disk, SOON, ALL, out);
+    let is_printed = done.is_ok() && out.as_slice() == b"A".as_slice();
+    Ok([is_full, full.printed == 0, is_freed, is_printed])
+}
+
 /// A run of 105 bytes of input leaves a full journal, which stays full as long as no snapshot begins. One that begins then takes what it
 /// needs from what is kept for it, so that it ends, at the latest with the run's last flush; and the network goes on.
 #[test]
 fn a_full_journal_is_ended_by_a_snapshot(rt: HostRuntime) -> Result<(), Fail> {
     let alloc = rt.alloc();
+    let disk = letter(alloc)?;
     let mut out = Vec::new(alloc);
-    let never = Job {
-        every: Some(1000),
-        ..FOUR
-    };
-    let soon = Job {
-        turns: 40,
-        every: Some(20),
-        ..FOUR
-    };
-    let (disk, done) = play(&rt, alloc, letter(alloc)?, never, ALL, &mut out);
-    let (disk, full) = left(alloc, disk)?;
-    assert!(rt; done == Ok(105) && full.next() == 105 && full.base() == 0);
-    assert!(rt; out.is_empty());
-    let (disk, done) = play(&rt, alloc, disk, soon, ALL, &mut out);
-    let (disk, freed) = left(alloc, disk)?;
-    assert!(rt; done == Ok(freed.next()) && freed.base() >= 105 && is_switched(&freed, 1));
-    let (_, done) = play(&rt, alloc, disk, soon, ALL, &mut out);
-    assert!(rt; done.is_ok() && out.as_slice() == b"A".as_slice());
+    let told = is_ended(&rt, alloc, disk, &mut out)?;
+    assert_eq!(rt; told, [true; 4]);
     Ok(())
 }
 
@@ -77,45 +117,43 @@ fn a_full_journal_is_ended_by_a_snapshot(rt: HostRuntime) -> Result<(), Fail> {
 #[test]
 fn half_of_the_journal_begins_a_snapshot(rt: HostRuntime) -> Result<(), Fail> {
     let alloc = rt.alloc();
-    let mut out = Vec::new(alloc);
     let few = Job { turns: 40, ..FOUR };
-    let (disk, done) = play(
-        &rt,
-        alloc,
-        formatted(alloc, ONE, LETTER, 0, 16_384)?,
-        few,
-        b"",
-        &mut out,
-    );
-    let (disk, early) = left(alloc, disk)?;
-    assert!(rt; done.is_ok() && early.base() == 0);
     let more = Job { turns: 200, ..FOUR };
-    let (disk, done) = play(&rt, alloc, disk, more, b"", &mut out);
-    let (_, opened) = left(alloc, disk)?;
-    assert!(rt; done.is_ok() && is_switched(&opened, 1));
+    let disk = formatted(alloc, ONE, LETTER, 0, 16_384)?;
+    let [early, late] = play_twice(&rt, alloc, disk, [few, more])?;
+    assert!(rt; early.done.is_ok() && early.base == 0);
+    assert!(rt; late.done.is_ok() && late.is_switched(1));
     Ok(())
+}
+
+/// Whether both runs of a team switch the areas, and the second one goes on from where the first ended.
+fn goes_on<R: Threads + Wait + Abort + Sync>(
+    rt: &R,
+    alloc: Global,
+    workers: u8,
+    turns: u32,
+) -> Result<[bool; 3], Fail> {
+    let job = Job {
+        turns,
+        workers,
+        every: Some(20),
+        ..FOUR
+    };
+    let disk = formatted(alloc, RING, PASSES, 6, 1_048_576)?;
+    let [first, second] = play_twice(rt, alloc, disk, [job, job])?;
+    Ok([
+        first.is_done() && first.is_switched(1),
+        second.is_done() && second.next > first.next,
+        second.is_switched(first.generation),
+    ])
 }
 
 /// Eight nodes in a ring, whose areas are switched while they run.
 #[test]
 fn a_ring_goes_on_over_its_checkpoints(rt: HostRuntime) -> Result<(), Fail> {
-    let alloc = rt.alloc();
     for (workers, turns) in TEAMS {
-        let mut out = Vec::new(alloc);
-        let job = Job {
-            turns: *turns,
-            workers: *workers,
-            every: Some(20),
-            ..FOUR
-        };
-        let disk = formatted(alloc, RING, PASSES, 6, 1_048_576)?;
-        let (disk, done) = play(&rt, alloc, disk, job, b"", &mut out);
-        let (disk, opened) = left(alloc, disk)?;
-        assert!(rt; done == Ok(opened.next()) && is_switched(&opened, 1));
-        let (disk, done) = play(&rt, alloc, disk, job, b"", &mut out);
-        let (_, later) = left(alloc, disk)?;
-        assert!(rt; done == Ok(later.next()) && later.next() > opened.next());
-        assert!(rt; is_switched(&later, opened.generation()));
+        let told = goes_on(&rt, rt.alloc(), *workers, *turns)?;
+        assert_eq!(rt; told, [true; 3]);
     }
     Ok(())
 }

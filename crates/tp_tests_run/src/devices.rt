@@ -51,6 +51,29 @@ fn image(alloc: Global, code: &[u8], begin: u8) -> Result<Vec<u8>, AllocError> {
     Ok(image)
 }
 
+/// The images of `nodes` nodes with the same code, where the first begins `begin` bytes behind the others.
+fn images(alloc: Global, nodes: usize, code: &[u8], begin: u8) -> Result<Vec<Vec<u8>>, AllocError> {
+    let mut images = Vec::new(alloc);
+    for node in 0..nodes {
+        images.push(image(alloc, code, if node == 0 { begin } else { 0 })?)?;
+    }
+    Ok(images)
+}
+
+/// A device of a topology and images, with areas of `area` bytes.
+fn formatted_with(
+    alloc: Global,
+    topology: &Topology,
+    images: &[Vec<u8>],
+    area: u32,
+) -> Result<MemDisk, Fail> {
+    let mut disk = MemDisk::zeroed(alloc, 512 + 2 * area as usize)?;
+    // A topology keeps its rules: its page counts say so, which `format` asks.
+    let _rules = topology.pages();
+    format(alloc, &mut disk, topology, images, u64::from(area))?;
+    Ok(disk)
+}
+
 /// A device of a topology, with areas of `area` bytes. All nodes have the same code, where the first begins `begin` bytes behind the
 /// others.
 pub(crate) fn formatted(
@@ -61,13 +84,9 @@ pub(crate) fn formatted(
     area: u32,
 ) -> Result<MemDisk, Fail> {
     let topology = Topology::read(alloc, text)?;
-    let mut images = Vec::new(alloc);
-    for node in 0..topology.pages().len() {
-        images.push(image(alloc, code, if node == 0 { begin } else { 0 })?)?;
-    }
-    let mut disk = MemDisk::zeroed(alloc, 512 + 2 * area as usize)?;
-    format(alloc, &mut disk, &topology, &images, u64::from(area))?;
-    Ok(disk)
+    let images = images(alloc, topology.pages().len(), code, begin)?;
+    let disk = formatted_with(alloc, &topology, &images, area);
+    disk
 }
 
 /// The device of one node that sends a letter, with areas of 16,384 bytes.

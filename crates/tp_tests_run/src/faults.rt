@@ -33,58 +33,84 @@ fn fault_of(alloc: Global, kind: u8) -> Result<PlannedFault, AllocError> {
     })
 }
 
-/// A run in which one call of the device fails, and one behind it. What was printed is there: it is printed again, or was confirmed.
+/// Whether a run that answers so printed its letter; none where it printed something else, or answers another fault.
+fn was_printed(done: Result<u64, RunFault>, out: &[u8]) -> Option<bool> {
+    let (is_letter, wanted) = match done {
+        Ok(next) => (true, next == 7),
+        Err(RunFault::LastFlushFailed) => (true, true),
+        Err(RunFault::FlushFailed | RunFault::Opening(_)) => (false, true),
+        Err(_) => (false, false),
+    };
+    let printed = if is_letter { b"A".as_slice() } else { b"" };
+    if wanted && out == printed {
+        Some(is_letter)
+    } else {
+        None
+    }
+}
+
+/// The number of the next entry on what a crash leaves of a device.
+fn next_left(alloc: Global, disk: MemDisk) -> Result<(MemDisk, u64), Fail> {
+    let (disk, opened) = left(alloc, disk)?;
+    Ok((disk, opened.next()))
+}
+
+/// Whether a run behind one that ended so is done: the letter is printed again, or was confirmed.
+fn goes_on<R: Threads + Wait + Abort + Sync>(
+    rt: &R,
+    alloc: Global,
+    disk: MemDisk,
+    done: Result<u64, RunFault>,
+    was_printed: bool,
+) -> Result<bool, Fail> {
+    let (disk, next) = next_left(alloc, disk)?;
+    let is_kept = !was_printed || next >= 6;
+    let is_told = done != Ok(next) || next == 7;
+    let again = Job { turns: 64, ..FOUR };
+    let mut then = Vec::new(alloc);
+    let (_, later) = play(rt, alloc, disk, again, b"x", &mut then);
+    let printed = if next == 7 { b"" } else { b"A".as_slice() };
+    Ok(is_kept && is_told && later.is_ok() && then.as_slice() == printed)
+}
+
+/// A run over a device one call of which fails, and one behind it. Answers whether the first one failed; none where what was printed
+/// isn't there: it is printed again, or was confirmed.
 fn play_fault<R: Threads + Wait + Abort + Sync>(
+    rt: &R,
+    alloc: Global,
+    disk: MemDisk,
+    out: &mut Vec<u8>,
+) -> Result<Option<bool>, Fail> {
+    let (disk, done) = play(rt, alloc, disk, FOUR, b"x", out);
+    let Some(was_printed) = was_printed(done, out) else {
+        return Ok(None);
+    };
+    let goes_on = goes_on(rt, alloc, disk, done, was_printed)?;
+    Ok(if goes_on { Some(done.is_err()) } else { None })
+}
+
+/// The same for a call and a way in which it fails.
+fn play_call<R: Threads + Wait + Abort + Sync>(
     rt: &R,
     alloc: Global,
     call: u64,
     kind: u8,
-) -> Result<bool, Fail> {
+) -> Result<Option<bool>, Fail> {
     let disk = letter(alloc)?.with_fault(call, fault_of(alloc, kind)?);
     let mut out = Vec::new(alloc);
-    let (disk, done) = play(rt, alloc, disk, FOUR, b"x", &mut out);
-    let was_printed = match done {
-        Ok(next) => {
-            assert!(rt; next == 7 && out.as_slice() == b"A".as_slice());
-            true
-        }
-        Err(RunFault::LastFlushFailed) => {
-            assert!(rt; out.as_slice() == b"A".as_slice());
-            true
-        }
-        Err(RunFault::FlushFailed | RunFault::Opening(_)) => {
-            assert!(rt; out.is_empty());
-            false
-        }
-        Err(_) => panic!(rt; "another fault"),
-    };
-    let (disk, opened) = left(alloc, disk)?;
-    let next = opened.next();
-    assert!(rt; !was_printed || next >= 6);
-    assert!(rt; done != Ok(next) || next == 7);
-    let again = Job { turns: 64, ..FOUR };
-    let mut then = Vec::new(alloc);
-    let (_, later) = play(rt, alloc, disk, again, b"x", &mut then);
-    assert!(rt; later.is_ok());
-    assert!(rt;
-        then.as_slice()
-            == if next == 7 {
-                b"".as_slice()
-            } else {
-                b"A".as_slice()
-            }
-    );
-    Ok(done.is_err())
+    let failed = play_fault(rt, alloc, disk, &mut out);
+    failed
 }
 
 #[test]
 fn any_call_of_the_device_may_fail(rt: HostRuntime) -> Result<(), Fail> {
-    let alloc = rt.alloc();
     for kind in 0..KINDS {
         let mut failed = 0u64;
         for call in 0..CALLS {
-            if play_fault(&rt, alloc, call, kind)? {
-                failed = failed.saturating_add(1);
+            match play_call(&rt, rt.alloc(), call, kind)? {
+                Some(true) => failed = failed.saturating_add(1),
+                Some(false) => {}
+                None => panic!(rt; "call {call}, kind {kind}"),
             }
         }
         assert!(rt; 16 < failed && failed < CALLS);
@@ -114,16 +140,26 @@ impl Write for Narrow {
     }
 }
 
+/// Whether an output fails, and a run behind that prints the letter.
+fn is_not_confirmed<R: Threads + Wait + Abort + Sync>(
+    rt: &R,
+    alloc: Global,
+    disk: MemDisk,
+    fails: bool,
+) -> bool {
+    let mut narrow = Narrow { room: 0, fails };
+    let (disk, failed) = play(rt, alloc, disk, FOUR, b"", &mut narrow);
+    let mut out = Vec::new(alloc);
+    let (_, done) = play(rt, alloc, disk, FOUR, b"", &mut out);
+    failed == Err(RunFault::OutputFailed) && done.is_ok() && out.as_slice() == b"A".as_slice()
+}
+
 #[test]
 fn an_output_that_fails_confirms_nothing(rt: HostRuntime) -> Result<(), Fail> {
     let alloc = rt.alloc();
     for fails in [false, true] {
-        let mut narrow = Narrow { room: 0, fails };
-        let (disk, done) = play(&rt, alloc, letter(alloc)?, FOUR, b"", &mut narrow);
-        assert!(rt; done == Err(RunFault::OutputFailed));
-        let mut out = Vec::new(alloc);
-        let (_, done) = play(&rt, alloc, disk, FOUR, b"", &mut out);
-        assert!(rt; done.is_ok() && out.as_slice() == b"A".as_slice());
+        let told = is_not_confirmed(&rt, alloc, letter(alloc)?, fails);
+        assert!(rt; told);
     }
     Ok(())
 }

@@ -3,6 +3,7 @@
 
 #[cfg(test)]
 mod checkpoints;
+#[cfg(test)]
 mod devices;
 #[cfg(test)]
 mod faults;

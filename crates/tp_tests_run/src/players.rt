@@ -63,6 +63,75 @@ pub(crate) fn left(alloc: Global, disk: MemDisk) -> Result<(MemDisk, Opened), Fa
     Ok((disk, opened))
 }
 
+/// What a run answers, how many bytes were printed up to its end, and what opening says of what a crash leaves behind it.
+#[derive(Clone, Copy)]
+pub(crate) struct Look {
+    pub(crate) done: Result<u64, RunFault>,
+    pub(crate) printed: usize,
+    pub(crate) next: u64,
+    pub(crate) base: u64,
+    pub(crate) generation: u64,
+}
+
+impl Look {
+    /// Whether the run answers the number of the next entry.
+    pub(crate) fn is_done(&self) -> bool {
+        self.done == Ok(self.next)
+    }
+
+    /// Whether entries are in the cut, and the areas were switched at least `times` times.
+    pub(crate) fn is_switched(&self, times: u64) -> bool {
+        self.base > 0 && self.generation > times
+    }
+}
+
+/// A run, and what a crash leaves of its device.
+pub(crate) fn play_and_look<R: Threads + Wait + Abort + Sync>(
+    rt: &R,
+    alloc: Global,
+    disk: MemDisk,
+    job: Job,
+    input: &[u8],
+    out: &mut Vec<u8>,
+) -> Result<(MemDisk, Look), Fail> {
+    let (disk, done) = play(rt, alloc, disk, job, input, out);
+    let printed = out.len();
+    let (disk, opened) = left(alloc, disk)?;
+    let look = Look {
+        done,
+        printed,
+        next: opened.next(),
+        base: opened.base(),
+        generation: opened.generation(),
+    };
+    Ok((disk, look))
+}
+
+/// Two runs one behind the other, with a crash between them, over an output that is lent.
+fn play_both<R: Threads + Wait + Abort + Sync>(
+    rt: &R,
+    alloc: Global,
+    disk: MemDisk,
+    jobs: [Job; 2],
+    out: &mut Vec<u8>,
+) -> Result<[Look; 2], Fail> {
+    let (disk, first) = play_and_look(rt, alloc, disk, jobs[0], b"", out)?;
+    let (_, second) = play_and_look(rt, alloc, disk, jobs[1], b"", out)?;
+    Ok([first, second])
+}
+
+/// The same.
+pub(crate) fn play_twice<R: Threads + Wait + Abort + Sync>(
+    rt: &R,
+    alloc: Global,
+    disk: MemDisk,
+    jobs: [Job; 2],
+) -> Result<[Look; 2], Fail> {
+    let mut out = Vec::new(alloc);
+    let looks = play_both(rt, alloc, disk, jobs, &mut out);
+    looks
+}
+
 /// Whether just `entries` are kept behind the cut.
 pub(crate) fn is_kept(opened: &Opened, entries: &[Entry]) -> bool {
     opened.kept().len() == entries.len()

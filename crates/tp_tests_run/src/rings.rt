@@ -1,32 +1,41 @@
 //! Eight nodes in a ring, with workers in threads.
 
 use crate::devices::{PASSES, RING, formatted};
-use crate::players::{FOUR, left, play};
+use crate::players::{FOUR, play_twice};
+use std::alloc::Global;
+use std::process::Abort;
+use std::sync::Wait;
 use std::test::Fail;
+use std::thread::Threads;
 use tp_run::Job;
 
 /// How many workers make how many turns.
 const TEAMS: &[(u8, u32)] = &[(1, 4000), (2, 4000), (4, 1000), (16, 4000)];
 
+/// Whether a run of a team leaves entries and prints nothing, and another goes on from there.
+fn goes_on<R: Threads + Wait + Abort + Sync>(
+    rt: &R,
+    alloc: Global,
+    workers: u8,
+    turns: u32,
+) -> Result<bool, Fail> {
+    let job = Job {
+        turns,
+        workers,
+        ..FOUR
+    };
+    let more = Job { turns: 4000, ..job };
+    let disk = formatted(alloc, RING, PASSES, 6, 1_048_576)?;
+    let [first, second] = play_twice(rt, alloc, disk, [job, more])?;
+    let is_left = first.is_done() && first.next > 0 && first.printed == 0;
+    Ok(is_left && second.is_done() && second.next > first.next)
+}
+
 #[test]
 fn workers_leave_a_device_that_opens(rt: HostRuntime) -> Result<(), Fail> {
-    let alloc = rt.alloc();
     for (workers, turns) in TEAMS {
-        let disk = formatted(alloc, RING, PASSES, 6, 1_048_576)?;
-        let job = Job {
-            turns: *turns,
-            workers: *workers,
-            ..FOUR
-        };
-        let mut out = Vec::new(alloc);
-        let (disk, done) = play(&rt, alloc, disk, job, b"", &mut out);
-        let (disk, opened) = left(alloc, disk)?;
-        assert!(rt; done == Ok(opened.next()) && opened.next() > 0 && out.is_empty());
-        // It goes on from there.
-        let more = Job { turns: 4000, ..job };
-        let (disk, done) = play(&rt, alloc, disk, more, b"", &mut out);
-        let (_, later) = left(alloc, disk)?;
-        assert!(rt; done == Ok(later.next()) && later.next() > opened.next());
+        let told = goes_on(&rt, rt.alloc(), *workers, *turns)?;
+        assert!(rt; told, "{workers} workers");
     }
     Ok(())
 }

@@ -49,6 +49,14 @@ const REFUSED: &[Row] = &[
     (FOUR, b"", b"A", Ok(5)),
 ];
 
+/// A device that isn't formatted.
+const BLANK: &[Row] = &[(
+    FOUR,
+    b"",
+    b"",
+    Err(RunFault::Opening(Unopened::Fault(OpenFault::NotFormatted))),
+)];
+
 /// The journal has room for 105 entries: input of more is refused, whole. What is printed can't be confirmed where it is full.
 const FULL: &[Row] = &[
     (NONE, &[7; 106], b"", Err(RunFault::OfferRefused)),
@@ -76,77 +84,90 @@ fn play_rows<R: Threads + Wait + Abort + Sync>(
     disk
 }
 
-#[test]
-fn a_letter_is_printed_and_confirmed(rt: HostRuntime) -> Result<(), Fail> {
-    let alloc = rt.alloc();
-    let disk = play_rows(&rt, alloc, letter(alloc)?, PRINTS);
+/// The entries that are kept then.
+const PRINTED: &[Entry] = &[
+    Entry::Run { node: 0, count: 3 },
+    Entry::Take {
+        line: 0,
+        token: Token::Data(0x41),
+    },
+    Entry::Take {
+        line: 4,
+        token: Token::Ack,
+    },
+    Entry::Run { node: 0, count: 16 },
+    Entry::Confirm { port: 0, upto: 1 },
+];
+
+/// Input is handed in once.
+const OFFERED: &[Entry] = &[
+    Entry::HostIn {
+        port: 0,
+        byte: b'a',
+    },
+    Entry::HostIn {
+        port: 0,
+        byte: b'b',
+    },
+    Entry::HostIn {
+        port: 0,
+        byte: b'c',
+    },
+];
+
+/// Input stands before what is done with it.
+const TAKEN: &[Entry] = &[
+    Entry::HostIn {
+        port: 0,
+        byte: b'a',
+    },
+    Entry::HostIn {
+        port: 0,
+        byte: b'b',
+    },
+    Entry::Take {
+        line: 4,
+        token: Token::Data(b'a'),
+    },
+    Entry::Run { node: 0, count: 3 },
+    Entry::Take {
+        line: 0,
+        token: Token::Data(0x41),
+    },
+    Entry::Take {
+        line: 4,
+        token: Token::Ack,
+    },
+    Entry::Run { node: 0, count: 16 },
+    Entry::Confirm { port: 0, upto: 1 },
+    Entry::HostIn {
+        port: 0,
+        byte: b'c',
+    },
+];
+
+/// Whether just `entries` are kept on what a crash leaves of a device.
+fn leaves(alloc: Global, disk: MemDisk, entries: &[Entry]) -> Result<bool, Fail> {
     let (_, opened) = left(alloc, disk)?;
-    let entries = [
-        Entry::Run { node: 0, count: 3 },
-        Entry::Take {
-            line: 0,
-            token: Token::Data(0x41),
-        },
-        Entry::Take {
-            line: 4,
-            token: Token::Ack,
-        },
-        Entry::Run { node: 0, count: 16 },
-        Entry::Confirm { port: 0, upto: 1 },
-    ];
-    assert!(rt; is_kept(&opened, &entries));
+    Ok(is_kept(&opened, entries))
+}
+
+#[test]
+fn runs_keep_what_was_worked_out(rt: HostRuntime) -> Result<(), Fail> {
+    let alloc = rt.alloc();
+    for (rows, entries) in [(PRINTS, PRINTED), (OFFERS, OFFERED), (TAKES, TAKEN)] {
+        let disk = play_rows(&rt, alloc, letter(alloc)?, rows);
+        let told = leaves(alloc, disk, entries)?;
+        assert!(rt; told);
+    }
     Ok(())
 }
 
 #[test]
-fn input_is_handed_in_once(rt: HostRuntime) -> Result<(), Fail> {
-    let alloc = rt.alloc();
-    let disk = play_rows(&rt, alloc, letter(alloc)?, OFFERS);
-    let (_, opened) = left(alloc, disk)?;
-    let byte = |byte: u8| Entry::HostIn { port: 0, byte };
-    assert!(rt; is_kept(&opened, &[byte(b'a'), byte(b'b'), byte(b'c')]));
-    Ok(())
-}
-
-#[test]
-fn input_stands_before_what_is_done_with_it(rt: HostRuntime) -> Result<(), Fail> {
-    let alloc = rt.alloc();
-    let disk = play_rows(&rt, alloc, letter(alloc)?, TAKES);
-    let (_, opened) = left(alloc, disk)?;
-    let byte = |byte: u8| Entry::HostIn { port: 0, byte };
-    let take = |line: u16, token: Token| Entry::Take { line, token };
-    let entries = [
-        byte(b'a'),
-        byte(b'b'),
-        take(4, Token::Data(b'a')),
-        Entry::Run { node: 0, count: 3 },
-        take(0, Token::Data(0x41)),
-        take(4, Token::Ack),
-        Entry::Run { node: 0, count: 16 },
-        Entry::Confirm { port: 0, upto: 1 },
-        byte(b'c'),
-    ];
-    assert!(rt; is_kept(&opened, &entries));
-    Ok(())
-}
-
-#[test]
-fn what_is_not_there_is_refused(rt: HostRuntime) -> Result<(), Fail> {
+fn what_may_not_be_is_refused(rt: HostRuntime) -> Result<(), Fail> {
     let alloc = rt.alloc();
     play_rows(&rt, alloc, letter(alloc)?, REFUSED);
-    let blank = Err(RunFault::Opening(Unopened::Fault(OpenFault::NotFormatted)));
-    play_rows(
-        &rt,
-        alloc,
-        MemDisk::zeroed(alloc, 600)?,
-        &[(FOUR, b"", b"", blank)],
-    );
-    Ok(())
-}
-
-#[test]
-fn a_full_journal_refuses(rt: HostRuntime) -> Result<(), Fail> {
-    let alloc = rt.alloc();
     play_rows(&rt, alloc, letter(alloc)?, FULL);
+    play_rows(&rt, alloc, MemDisk::zeroed(alloc, 600)?, BLANK);
     Ok(())
 }

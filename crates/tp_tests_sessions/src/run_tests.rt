@@ -1,8 +1,8 @@
-//! What `tpnet run` makes of a device, prints and refuses.
+//! What `tpnet run` makes of a device by many workers, and where a call or an output fails.
 
 ghost use Rattle.tp_program.specs.Args.{IsRun};
 
-use crate::program::{plays, tpnet};
+use crate::program::tpnet;
 use std::alloc::Global;
 use std::fs::{Files, OpenFile};
 use std::io;
@@ -15,7 +15,7 @@ use std::thread::Threads;
 use tp_disk::{Disk, MemDisk, PlannedFault};
 use tp_program::{Run, run_on};
 use tp_tests_files::faults::{Faults, FaultyFiles};
-use tp_tests_files::scratch::{Lines, Output, Scratch};
+use tp_tests_files::scratch::{Output, Scratch};
 use tp_tests_fixtures::{letter, place};
 
 /// The image of a node that sends back each byte that it gets on link 0.
@@ -56,48 +56,23 @@ const FOUR: &[&str] = &[
 
 const NONE: &[&str] = &["run", "@device", "--turns=0"];
 
-/// Four turns that begin no snapshot.
-const ALONE: &[&str] = &[
-    "run",
-    "@device",
-    "--turns",
-    "4",
-    "--workers",
-    "1",
-    "--quantum",
-    "16",
-    "--every",
-    "4294967295",
-];
-
-const SHOW: &[&str] = &["show", "@device"];
-
-/// The letter is printed once, and confirmed; no turn more makes no entry.
-const LETTER: Lines<'static> = &[
-    (FOUR, 0, "A", "next 5\n"),
-    (
-        SHOW,
-        0,
-        "nodes 1 ports 1 area 16384\nopen 0 generation 1 base 0 entries 5 next 5\nnode 0 halt 0\nport 0 in 0 pending 0 out 1 unconfirmed 0\n",
-        "",
-    ),
-    (NONE, 0, "", "next 5\n"),
-    (
-        &["journal", "@device"],
-        0,
-        "0 Run node 0 steps 3\n1 Take line 0 Data 41\n2 Take line 4 Ack\n3 Run node 0 steps 16\n4 Confirm port 0 upto 1\n",
-        "",
-    ),
-    (FOUR, 0, "", "next 7\n"),
-];
-
-#[test]
-fn a_letter_is_printed_and_confirmed(rt: HostRuntime) -> Result<(), Fail> {
-    let scratch = device(&rt, "run_letter", letter(rt.alloc())?.as_slice(), "16384")?;
-    let length = scratch.read(&rt, "device")?.len();
-    plays(&rt, &scratch, LETTER)?;
-    assert_eq!(rt; scratch.read(&rt, "device")?.len(), length);
-    scratch.remove(&rt)
+/// Whether a run, made again until it prints something, prints the letter, and confirms it; and whether each says what `recover` says.
+fn prints_once<
+    R: Files<File = F> + AllocGlobal + Threads + Wait + Sync,
+    F: FileExt + OpenFile + Drop + Send,
+>(rt: &R, scratch: &Scratch, words: &[&str]) -> Result<bool, Fail> {
+    for _ in 0..40 {
+        let ran = tpnet(rt, scratch, words)?;
+        let next = tpnet(rt, scratch, &["recover", "@device"])?.out;
+        if ran.status != 0 || ran.err.as_slice() != next.as_slice() {
+            return Ok(false);
+        }
+        if !ran.out.is_empty() {
+            let port = tpnet(rt, scratch, &["port", "@device", "0"])?;
+            return Ok(ran.out.as_slice() == b"A".as_slice() && port.is(0, "", ""));
+        }
+    }
+    Ok(false)
 }
 
 /// By many workers the same letter is printed once, whatever the order of the turns.
@@ -115,169 +90,7 @@ fn many_workers_print_it_once(rt: HostRuntime) -> Result<(), Fail> {
             "--workers",
             workers,
         ];
-        let mut printed = Vec::new(alloc);
-        for _ in 0..40 {
-            let ran = tpnet(&rt, &scratch, &words)?;
-            assert_eq!(rt; ran.status, 0);
-            printed.extend_from_slice(ran.out.as_slice())?;
-            let next = tpnet(&rt, &scratch, &["recover", "@device"])?.out;
-            assert_eq!(rt; ran.err.as_slice(), next.as_slice());
-            if !printed.is_empty() {
-                break;
-            }
-        }
-        assert_eq!(rt; printed.as_slice(), b"A".as_slice());
-        plays(&rt, &scratch, &[(&["port", "@device", "0"], 0, "", "")])?;
-        scratch.remove(&rt)?;
-    }
-    Ok(())
-}
-
-const ECHO: &[&str] = &[
-    "run",
-    "@device",
-    "--turns",
-    "40",
-    "--workers",
-    "1",
-    "--in",
-    "@input",
-];
-
-/// What a port has accepted is passed over, also where the file is shorter.
-#[test]
-fn a_port_takes_its_input_once(rt: HostRuntime) -> Result<(), Fail> {
-    let scratch = device(&rt, "run_echo", echo(rt.alloc())?.as_slice(), "65536")?;
-    for (input, printed) in [
-        ("", ""),
-        ("ab", "ab"),
-        ("ab", ""),
-        ("abcd", "cd"),
-        ("a", ""),
-    ] {
-        scratch.put(&rt, "input", input.as_bytes())?;
-        let ran = tpnet(&rt, &scratch, ECHO)?;
-        assert_eq!(rt; ran.status, 0);
-        assert_eq!(rt; ran.out.as_slice(), printed.as_bytes());
-    }
-    let shown = String::from_utf8(tpnet(&rt, &scratch, SHOW)?.out)?;
-    assert!(rt;
-        shown
-            .as_str()
-            .ends_with("port 0 in 4 pending 0 out 4 unconfirmed 0\n")
-    );
-    scratch.remove(&rt)
-}
-
-/// More input than a port has room for is handed in by further runs.
-#[test]
-fn as_much_input_as_there_is_room_for(rt: HostRuntime) -> Result<(), Fail> {
-    let alloc = rt.alloc();
-    let scratch = device(&rt, "run_room", letter(alloc)?.as_slice(), "262144")?;
-    scratch.put(&rt, "input", Vec::from_elem(alloc, b'x', 5000)?.as_slice())?;
-    let words: &[&str] = &["run", "@device", "--turns", "0", "--in", "@input"];
-    let end = "port 0 in 0 pending 4096 out 0 unconfirmed 0\n";
-    for _ in 0..2 {
-        plays(&rt, &scratch, &[(words, 0, "", "next 4096\n")])?;
-        let shown = String::from_utf8(tpnet(&rt, &scratch, SHOW)?.out)?;
-        assert!(rt; shown.as_str().ends_with(end));
-    }
-    scratch.remove(&rt)
-}
-
-const HERE: &[&str] = &["run", "@device", "--turns", "4"];
-
-const NOWHERE: &[&str] = &["run", "@device", "--turns", "4", "--in", "@nowhere"];
-
-const SPARE: &[&str] = &["run", "@device", "--turns", "4", "--spare", "5"];
-
-const WIDE: &[&str] = &["run", "@device", "--turns", "4", "--spare", "65536"];
-
-const PORT: &[&str] = &["run", "@device", "--turns", "4", "--port", "1"];
-
-const FAR: &[&str] = &["run", "@device", "--turns", "4", "--port", "256"];
-
-/// A byte over a place of the device, a command line, and how it is refused: what comes first is said.
-const REFUSED: &[(usize, u8, &[&str], u8, &str)] = &[
-    (0, b'T', NOWHERE, 1, "tpnet: ReadFailed\n"),
-    (0, b'U', NOWHERE, 1, "tpnet: ReadFailed\n"),
-    (0, b'U', PORT, 1, "tpnet: NotFormatted\n"),
-    (7, 9, HERE, 1, "tpnet: BadVersion\n"),
-    (512, 0, SPARE, 1, "tpnet: NoOpenArea\n"),
-    (13_033, 0xA5, FAR, 1, "tpnet: Damaged 13033\n"),
-    (
-        0,
-        b'T',
-        SPARE,
-        2,
-        "tpnet: --spare is above the pages of a node; see tpnet node\n",
-    ),
-    (
-        0,
-        b'T',
-        WIDE,
-        2,
-        "tpnet: --spare is above the pages of a node; see tpnet node\n",
-    ),
-    (
-        0,
-        b'T',
-        PORT,
-        2,
-        "tpnet: the device has no such port; see tpnet show\n",
-    ),
-    (
-        0,
-        b'T',
-        FAR,
-        2,
-        "tpnet: the device has no such port; see tpnet show\n",
-    ),
-];
-
-#[test]
-fn a_refused_run_leaves_the_device(rt: HostRuntime) -> Result<(), Fail> {
-    let scratch = device(&rt, "run_refused", letter(rt.alloc())?.as_slice(), "16384")?;
-    let fresh = scratch.read(&rt, "device")?;
-    for (at, byte, words, status, err) in REFUSED {
-        let mut bytes = Vec::from_slice(rt.alloc(), fresh.as_slice())?;
-        place(&mut bytes, *at, &[*byte]);
-        scratch.put(&rt, "device", bytes.as_slice())?;
-        plays(&rt, &scratch, &[(*words, *status, "", *err)])?;
-        assert_eq!(rt; scratch.read(&rt, "device")?.as_slice(), bytes.as_slice());
-    }
-    let nowhere: &[&str] = &["run", "@nowhere", "--turns", "4"];
-    plays(&rt, &scratch, &[(nowhere, 1, "", "tpnet: ReadFailed\n")])?;
-    assert!(rt; !scratch.has(&rt, "nowhere")?);
-    scratch.remove(&rt)
-}
-
-/// An area with room for one entry, and one with room for four, where no checkpoint frees it.
-const FULL: &[(&str, Lines<'static>)] = &[
-    (
-        "13034",
-        &[
-            (ECHO, 1, "", "tpnet: JournalFull\n"),
-            (NONE, 0, "", "next 0\n"),
-        ],
-    ),
-    (
-        "13130",
-        &[
-            (ALONE, 1, "A", "tpnet: JournalFull\n"),
-            (NONE, 1, "A", "tpnet: JournalFull\n"),
-            (&["recover", "@device"], 0, "next 4\n", ""),
-        ],
-    ),
-    ("13162", &[(FOUR, 0, "A", "next 5\n")]),
-];
-
-#[test]
-fn a_full_journal(rt: HostRuntime) -> Result<(), Fail> {
-    for (area, lines) in FULL {
-        let scratch = device(&rt, "run_full", letter(rt.alloc())?.as_slice(), area)?;
-        scratch.put(&rt, "input", b"ab")?;
-        plays(&rt, &scratch, lines)?;
+        assert!(rt; prints_once(&rt, &scratch, &words)?);
         scratch.remove(&rt)?;
     }
     Ok(())
@@ -332,7 +145,7 @@ fn a_file_to_read_alone(rt: HostRuntime) -> Result<(), Fail> {
     let before = scratch.read(&rt, "device")?;
     let faults = Faults::to_read();
     let files = FaultyFiles::new(&rt, &faults);
-    plays(&files, &scratch, &[(FOUR, 1, "", "tpnet: ReadFailed\n")])?;
+    assert!(rt; tpnet(&files, &scratch, FOUR)?.is(1, "", "tpnet: ReadFailed\n"));
     assert!(rt; faults.writable.load(Ordering::SeqCst));
     assert_eq!(rt; scratch.read(&rt, "device")?.as_slice(), before.as_slice());
     scratch.remove(&rt)
@@ -390,6 +203,7 @@ fn asked_of(alloc: Global, turns: u32) -> Run
         every: None,
         port: 0,
         input: None,
+        wait_lock: 0,
     }
 }
 

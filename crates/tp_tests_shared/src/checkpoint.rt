@@ -10,13 +10,11 @@ use tp_model::limits::{IMAGE_HEAD_BYTES, PAGE_BYTES};
 use tp_shared::{Naming, NoGate, Parts, Seat, Shared, TailCopy, Told};
 use tp_token::Key;
 
-/// What came of a snapshot: both nodes' images as they recorded; whether it ran, whether there was a copy before the pages were let
-/// go, whether there were pages afterwards, and whether no snapshot ran behind the trim; how many entries the cut holds, how many stand
-/// outside it and up to which number, and how many tokens are on line 0 in the cut; and whether a snapshot could begin again.
-#[derive(Drop)]
-pub struct Checkpointed {
-    pub first: Vec<u8>,
-    pub second: Vec<u8>,
+/// What came of a snapshot: whether it ran, whether there was a copy before the pages were let go, whether there were pages afterwards, and
+/// whether no snapshot ran behind the trim; how many entries the cut holds, how many stand outside it and up to which number, and how many
+/// tokens are on line 0 in the cut; and whether a snapshot could begin again.
+#[derive(Clone, Copy)]
+pub struct Ended {
     pub running: bool,
     pub early: bool,
     pub kept: bool,
@@ -26,6 +24,14 @@ pub struct Checkpointed {
     pub upto: u64,
     pub on_line: usize,
     pub again: bool,
+}
+
+/// The same, and both nodes' images as they recorded.
+#[derive(Drop)]
+pub struct Checkpointed {
+    pub first: Vec<u8>,
+    pub second: Vec<u8>,
+    pub end: Ended,
 }
 
 fn begin<J: Naming, R: Wait>(rt: &R, alloc: Global, shared: &Shared<J>) -> bool {
@@ -87,7 +93,30 @@ fn add_page<J: Naming, R: Wait>(
     Ok(())
 }
 
-// The image of a node of at most four pages, as it recorded. It is empty where no pages are kept.
+// Adds the image of a node of at most four pages, as it recorded. Nothing where no pages are kept.
+fn add_image<J: Naming, R: Wait>(
+    rt: &R,
+    shared: &Shared<J>,
+    key: &mut Key<Told>,
+    number: u8,
+    bytes: &mut Vec<u8>,
+) -> Result<(), AllocError>
+    requires name { key.old.name ≡ J.flusher }
+    requires there { number < length J.start.nodes }
+    ensures { key.new.name ≡ key.old.name }
+{
+    let mut head = [0; IMAGE_HEAD_BYTES];
+    if shared.frozen_head(rt, key, number, &mut head) {
+        bytes.extend_from_slice(&head)?;
+    }
+    add_page(rt, shared, key, number, 0, bytes)?;
+    add_page(rt, shared, key, number, 1, bytes)?;
+    add_page(rt, shared, key, number, 2, bytes)?;
+    add_page(rt, shared, key, number, 3, bytes)?;
+    add_page(rt, shared, key, number, 4, bytes)
+}
+
+// That image.
 fn image_of<J: Naming, R: Wait>(
     rt: &R,
     alloc: Global,
@@ -100,15 +129,7 @@ fn image_of<J: Naming, R: Wait>(
     ensures { key.new.name ≡ key.old.name }
 {
     let mut bytes = Vec::new(alloc);
-    let mut head = [0; IMAGE_HEAD_BYTES];
-    if shared.frozen_head(rt, key, number, &mut head) {
-        bytes.extend_from_slice(&head)?;
-    }
-    add_page(rt, shared, key, number, 0, &mut bytes)?;
-    add_page(rt, shared, key, number, 1, &mut bytes)?;
-    add_page(rt, shared, key, number, 2, &mut bytes)?;
-    add_page(rt, shared, key, number, 3, &mut bytes)?;
-    add_page(rt, shared, key, number, 4, &mut bytes)?;
+    add_image(rt, shared, key, number, &mut bytes)?;
     Ok(bytes)
 }
 
@@ -120,25 +141,38 @@ fn first_line(copy: &TailCopy) -> usize {
     copy.lines.len(0)
 }
 
-/// Node 0 makes a turn, and a snapshot begins. Each node records, and makes turns until the cut is whole. None where there is no copy
-/// then.
-fn checkpoint<J: Naming, R: Wait>(
+/// Node 0 makes a turn, and a snapshot begins. Each node records, and makes turns until the cut is whole. Answers their images.
+fn record_both<J: Naming, R: Wait>(
     rt: &R,
     alloc: Global,
     shared: &Shared<J>,
     key: &mut Key<Told>,
-) -> Result<Option<Checkpointed>, AllocError>
+    seat: &mut Seat<J>,
+) -> Result<(Vec<u8>, Vec<u8>), AllocError>
+    requires name { key.old.name ≡ J.flusher }
+    requires there { 1 < length J.start.nodes }
+    ensures { key.new.name ≡ key.old.name }
+{
+    make_turn(rt, shared, seat, 0);
+    begin(rt, alloc, shared);
+    make_turn(rt, shared, seat, 0);
+    make_turn(rt, shared, seat, 1);
+    let first = image_of(rt, alloc, shared, key, 0)?;
+    make_turn(rt, shared, seat, 0);
+    let second = image_of(rt, alloc, shared, key, 1)?;
+    Ok((first, second))
+}
+
+/// What comes of the snapshot then. None where there is no copy.
+fn end<J: Naming, R: Wait>(
+    rt: &R,
+    alloc: Global,
+    shared: &Shared<J>,
+    key: &mut Key<Told>,
+) -> Result<Option<Ended>, AllocError>
     requires name { key.old.name ≡ J.flusher }
     requires there { 1 < length J.start.nodes }
 {
-    let mut seat = Seat::new();
-    make_turn(rt, shared, &mut seat, 0);
-    begin(rt, alloc, shared);
-    make_turn(rt, shared, &mut seat, 0);
-    make_turn(rt, shared, &mut seat, 1);
-    let first = image_of(rt, alloc, shared, key, 0)?;
-    make_turn(rt, shared, &mut seat, 0);
-    let second = image_of(rt, alloc, shared, key, 1)?;
     let running = is_running(rt, shared);
     let early = copy(rt, alloc, shared, key)?.is_some();
     shared.drop_frozen(rt, 0);
@@ -148,9 +182,7 @@ fn checkpoint<J: Naming, R: Wait>(
         return Ok(None);
     };
     trim(rt, shared, key);
-    Ok(Some(Checkpointed {
-        first,
-        second,
+    Ok(Some(Ended {
         running,
         early,
         kept,
@@ -161,6 +193,24 @@ fn checkpoint<J: Naming, R: Wait>(
         on_line: first_line(&copy),
         again: begin(rt, alloc, shared),
     }))
+}
+
+/// A snapshot to its end.
+fn checkpoint<J: Naming, R: Wait>(
+    rt: &R,
+    alloc: Global,
+    shared: &Shared<J>,
+    key: &mut Key<Told>,
+) -> Result<Option<Checkpointed>, AllocError>
+    requires name { key.old.name ≡ J.flusher }
+    requires there { 1 < length J.start.nodes }
+{
+    let mut seat = Seat::new();
+    let (first, second) = record_both(rt, alloc, shared, key, &mut seat)?;
+    let Some(end) = end(rt, alloc, shared, key)? else {
+        return Ok(None);
+    };
+    Ok(Some(Checkpointed { first, second, end }))
 }
 
 fn checkpoint_of_parts<J: Naming, R: Wait>(

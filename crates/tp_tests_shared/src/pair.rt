@@ -29,24 +29,27 @@ const WIRES: [Option<WireEnd>; 8] = [
 fn network(alloc: Global, image: &[u8]) -> Result<NetParts, AllocError>
     ensures { IfOk result (λ net. network_of net ≡ pair_network (node_at image.now)) }
 {
-    let lines = [
-        Vec::new(alloc),
-        Vec::new(alloc),
-        Vec::new(alloc),
-        Vec::new(alloc),
-        Vec::new(alloc),
-        Vec::new(alloc),
-        Vec::new(alloc),
-        Vec::new(alloc),
-    ];
-    let images = [
-        Vec::from_slice(alloc, image)?,
-        Vec::from_slice(alloc, image)?,
-    ];
+    let lines = Vec::from_array(
+        alloc,
+        [
+            Vec::new(alloc),
+            Vec::new(alloc),
+            Vec::new(alloc),
+            Vec::new(alloc),
+            Vec::new(alloc),
+            Vec::new(alloc),
+            Vec::new(alloc),
+            Vec::new(alloc),
+        ],
+    )?;
+    let first = Vec::from_slice(alloc, image)?;
+    let second = Vec::from_slice(alloc, image)?;
+    let images = Vec::from_array(alloc, [first, second])?;
+    let wires = Vec::from_slice(alloc, &WIRES)?;
     Ok(NetParts {
-        wires: Vec::from_slice(alloc, &WIRES)?,
-        images: Vec::from_array(alloc, images)?,
-        lines: Vec::from_array(alloc, lines)?,
+        wires,
+        images,
+        lines,
         ports: Vec::new(alloc),
     })
 }

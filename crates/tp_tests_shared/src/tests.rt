@@ -32,8 +32,9 @@ fn a_snapshot_is_copied_and_the_book_is_trimmed(rt: HostRuntime) -> Result<(), F
     let done = checkpoint_of_pair(&rt, alloc, parts)?.ok_or("no copy")?;
     assert!(rt; done.first.len() == image.len() && done.first != image);
     assert!(rt; done.second == image);
-    assert!(rt; (done.running, done.early, done.kept, done.ended) == (true, false, false, true));
-    assert!(rt; (done.base, done.outside, done.upto, done.on_line) == (1, 3, 4, 1));
-    assert!(rt; done.again);
+    let end = done.end;
+    assert!(rt; (end.running, end.early, end.kept, end.ended) == (true, false, false, true));
+    assert!(rt; (end.base, end.outside, end.upto, end.on_line) == (1, 3, 4, 1));
+    assert!(rt; end.again);
     Ok(())
 }

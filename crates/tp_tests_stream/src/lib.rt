@@ -3,10 +3,20 @@
 
 mod devices;
 #[cfg(test)]
+mod endings;
+#[cfg(test)]
+mod ends;
+#[cfg(test)]
 mod faults;
+#[cfg(test)]
+mod frames;
+#[cfg(test)]
+mod full;
 #[cfg(test)]
 mod long;
 #[cfg(test)]
 mod players;
 #[cfg(test)]
 mod rows;
+#[cfg(test)]
+mod waiting;

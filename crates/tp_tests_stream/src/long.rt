@@ -12,7 +12,7 @@ fn a_port_never_fills_up_for_ever(rt: HostRuntime) -> Result<(), Fail> {
     let disk = formatted(alloc, BESIDE, LETTERS, 32_768)?;
     let mut streams = streams(alloc, None, MemSink::empty(alloc), Vec::new(alloc), 1)?;
     let task = Task {
-        turns: 30_000,
+        turns: Some(30_000),
         until_quiet: false,
         ..QUIET
     };
@@ -21,6 +21,6 @@ fn a_port_never_fills_up_for_ever(rt: HostRuntime) -> Result<(), Fail> {
     let sink = sink_of(streams)?;
     assert!(rt; sink.bytes().len() > 4096);
     let (_, opened) = left(alloc, disk)?;
-    assert!(rt; opened.generation() > 2 && done == Ok(opened.next()));
+    assert!(rt; opened.generation() > 2 && done.is_ok_and(|ended| ended.next == opened.next()));
     Ok(())
 }

@@ -10,26 +10,29 @@ use std::test::Fail;
 use tp_disk::{Disk, MemDisk};
 use tp_recover::{Opened, open};
 use tp_stream::{
-    Input, Listener, MemSink, Output, Progress, Source, SourceFailed, StreamFault, Streams, Task,
-    stream,
+    Ended, Input, Listener, MemSink, Output, Progress, Sink, Source, SourceFailed, Stopped,
+    StreamFault, Streams, Task, stream,
 };
 
 /// A task that ends once nothing is left to do.
 pub(crate) const QUIET: Task = Task {
-    turns: 1_000_000,
+    turns: Some(1_000_000),
     until_quiet: true,
+    stop_on_halt: false,
     quantum: 64,
     spare: 4,
     every: None,
     tells: 0,
 };
 
-/// A source whose bytes come a few at a time. Before each of the first `late` reads nothing has come yet.
+/// A source whose bytes come a few at a time, and which may say how many they are. Before each of the first `late` reads nothing has
+/// come yet.
 #[derive(Drop)]
 pub(crate) struct Pieces {
     pub(crate) bytes: Vec<u8>,
     pub(crate) most: usize,
     pub(crate) late: u32,
+    pub(crate) length: Option<u64>,
 }
 
 /// What stands from a position on.
@@ -44,6 +47,10 @@ fn rest_from(bytes: &[u8], at: u64) -> &[u8] {
 impl Source for Pieces {
     ghost input = { λ _. None };
 
+    fn length(&self) -> Option<u64> {
+        self.length
+    }
+
     fn would_wait(&mut self, _at: u64) -> bool {
         self.late > 0
     }
@@ -57,12 +64,13 @@ impl Source for Pieces {
     }
 }
 
-/// Who is told: it counts.
+/// Who is told: it counts, and keeps how the first nodes have stopped.
 #[derive(Drop)]
 pub(crate) struct Told {
     pub(crate) output: Option<u64>,
     pub(crate) input: Option<u64>,
     pub(crate) progress: u32,
+    pub(crate) stopped: [Option<Stopped>; 2],
 }
 
 impl Listener for Told {
@@ -77,6 +85,12 @@ impl Listener for Told {
     fn progress(&mut self, _progress: Progress) {
         self.progress = self.progress.saturating_add(1);
     }
+
+    fn stopped(&mut self, node: u8, how: Stopped) {
+        if usize::from(node) < 2 {
+            self.stopped[usize::from(node)] = Some(how);
+        }
+    }
 }
 
 pub(crate) fn nobody() -> Told {
@@ -84,6 +98,7 @@ pub(crate) fn nobody() -> Told {
         output: None,
         input: None,
         progress: 0,
+        stopped: [None, None],
     }
 }
 
@@ -94,6 +109,16 @@ pub(crate) fn numbered(alloc: Global, count: usize) -> Result<Vec<u8>, AllocErro
         bytes.push((number % 251) as u8)?;
     }
     Ok(bytes)
+}
+
+/// These bytes, as many at a time as `most` says.
+pub(crate) fn source_of(bytes: Vec<u8>, most: usize) -> Pieces {
+    Pieces {
+        bytes,
+        most,
+        late: 1,
+        length: None,
+    }
 }
 
 /// The streams of a port: a sink, and as input these bytes, as many at a time as `most` says.
@@ -107,34 +132,33 @@ pub(crate) fn streams(
     let mut outputs = Vec::new(alloc);
     let mut inputs = Vec::new(alloc);
     outputs.push(Output::new(0, have, sink))?;
-    let late = 1;
-    inputs.push(Input::new(0, Pieces { bytes, most, late }))?;
+    inputs.push(Input::new(0, source_of(bytes, most)))?;
     Ok(Streams { outputs, inputs })
 }
 
 // A stream, where as many steps are asked for as may be.
-fn play_within<D: Disk + Drop, R: Wait>(
+fn play_within<D: Disk + Drop, S: Sink, I: Source, R: Wait>(
     rt: &R,
     alloc: Global,
     task: Task,
     disk: D,
-    streams: &mut Streams<MemSink, Pieces>,
+    streams: &mut Streams<S, I>,
     told: &mut Told,
-) -> (D, Result<u64, StreamFault>)
+) -> (D, Result<Ended, StreamFault>)
     requires { task.quantum ≤ MAX_STEPS }
 {
     stream(rt, alloc, task, disk, streams, told)
 }
 
 /// A stream.
-pub(crate) fn play<R: Wait + Abort>(
+pub(crate) fn play<S: Sink, I: Source, R: Wait + Abort>(
     rt: &R,
     alloc: Global,
     task: Task,
     disk: MemDisk,
-    streams: &mut Streams<MemSink, Pieces>,
+    streams: &mut Streams<S, I>,
     told: &mut Told,
-) -> (MemDisk, Result<u64, StreamFault>) {
+) -> (MemDisk, Result<Ended, StreamFault>) {
     assert!(rt; task.quantum <= 4096);
     play_within(rt, alloc, task, disk, streams, told)
 }
@@ -147,7 +171,7 @@ pub(crate) fn left(alloc: Global, disk: MemDisk) -> Result<(MemDisk, Opened), Fa
 }
 
 /// The sink of the only output.
-pub(crate) fn sink_of(streams: Streams<MemSink, Pieces>) -> Result<MemSink, Fail> {
+pub(crate) fn sink_of<S: Sink + Drop, I: Source + Drop>(streams: Streams<S, I>) -> Result<S, Fail> {
     let Streams { outputs, .. } = streams;
     let mut outputs = outputs;
     match outputs.pop() {

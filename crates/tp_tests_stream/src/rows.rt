@@ -1,12 +1,12 @@
 //! Streams that are done, and those that are refused.
 
 use crate::devices::{ECHO, LETTERS, ONE, formatted};
-use crate::players::{QUIET, left, nobody, numbered, play, sink_of, streams};
+use crate::players::{Pieces, QUIET, left, nobody, numbered, play, sink_of, streams};
 use std::process::Abort;
 use std::sync::Wait;
 use std::test::Fail;
 use tp_disk::MemDisk;
-use tp_stream::{MemSink, StreamFault, Streams, Task};
+use tp_stream::{Ended, MemSink, StreamFault, Streams, Task};
 
 /// Far more bytes than a port holds, in pieces of different sizes: all come back, in an area that is switched again and again.
 #[test]
@@ -24,7 +24,7 @@ fn a_long_input_comes_back(rt: HostRuntime) -> Result<(), Fail> {
         let sink = sink_of(streams)?;
         assert!(rt; sink.bytes() == wanted.as_slice());
         let (_, opened) = left(alloc, disk)?;
-        assert!(rt; done == Ok(opened.next()) && opened.generation() > 2);
+        assert!(rt; done.is_ok_and(|ended| ended.next == opened.next()) && opened.generation() > 2);
     }
     Ok(())
 }
@@ -36,7 +36,10 @@ fn few_turns_at_a_time_come_to_the_same(rt: HostRuntime) -> Result<(), Fail> {
     let wanted = numbered(alloc, 300)?;
     let mut disk = formatted(alloc, ONE, ECHO, 16_384)?;
     let mut sink = MemSink::empty(alloc);
-    let few = Task { turns: 50, ..QUIET };
+    let few = Task {
+        turns: Some(50),
+        ..QUIET
+    };
     for _ in 0..60 {
         let bytes = numbered(alloc, 300)?;
         let mut streams = streams(alloc, None, sink, bytes, 100)?;
@@ -59,7 +62,7 @@ fn turns_run_out(rt: HostRuntime) -> Result<(), Fail> {
     let mut streams = streams(alloc, None, MemSink::empty(alloc), Vec::new(alloc), 1)?;
     let mut told = nobody();
     let task = Task {
-        turns: 5000,
+        turns: Some(5000),
         tells: 1000,
         ..QUIET
     };
@@ -76,7 +79,7 @@ fn turns_run_out(rt: HostRuntime) -> Result<(), Fail> {
 fn streams_are_refused(rt: HostRuntime) -> Result<(), Fail> {
     let alloc = rt.alloc();
     let disk = formatted(alloc, ONE, ECHO, 16_384)?;
-    let mut none = Streams {
+    let mut none: Streams<MemSink, Pieces> = Streams {
         outputs: Vec::new(alloc),
         inputs: Vec::new(alloc),
     };
@@ -139,7 +142,7 @@ fn answer_to<R: Wait + Abort>(
     rt: &R,
     disk: MemDisk,
     has: usize,
-) -> Result<(MemDisk, Result<u64, StreamFault>), Fail>
+) -> Result<(MemDisk, Result<Ended, StreamFault>), Fail>
 where
     R: AllocGlobal,
 {

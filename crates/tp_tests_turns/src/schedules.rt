@@ -4,24 +4,44 @@ use crate::devices::{drawn_topology, formatted};
 use crate::machines::{Chance, drawn_image};
 use crate::network::Net;
 use crate::replayed::{flat_of, take_in};
-use std::alloc::Global;
+use std::alloc::{AllocError, Global};
 use std::test::Fail;
 use tp_book::Refusal;
 use tp_disk::MemDisk;
+use tp_net::Topology;
+use tp_replay::FlatNetwork;
 
 /// How many schedules are played, and where the numbers begin.
 const SCHEDULES: u16 = 3_000;
 
 const SEED: u64 = 1;
 
+/// Draws the images of a network's nodes.
+fn draw_images(
+    alloc: Global,
+    chance: &mut Chance,
+    count: usize,
+    images: &mut Vec<Vec<u8>>,
+) -> Result<(), AllocError> {
+    for _node in 0..count {
+        images.push(drawn_image(alloc, chance)?)?;
+    }
+    Ok(())
+}
+
+/// A device with a network whose images are drawn.
+fn drawn_of(alloc: Global, chance: &mut Chance, topology: &Topology) -> Result<MemDisk, Fail> {
+    let mut images = Vec::new(alloc);
+    draw_images(alloc, chance, topology.pages().len(), &mut images)?;
+    let disk = formatted(alloc, topology, &images);
+    disk
+}
+
 /// A device with a network that is drawn.
 fn drawn(alloc: Global, chance: &mut Chance, nodes: u8, ports: u8) -> Result<MemDisk, Fail> {
     let topology = drawn_topology(chance, nodes, ports).ok_or("no network")?;
-    let mut images = Vec::new(alloc);
-    for _node in 0..topology.pages().len() {
-        images.push(drawn_image(alloc, chance)?)?;
-    }
-    formatted(alloc, &topology, &images)
+    let disk = drawn_of(alloc, chance, &topology);
+    disk
 }
 
 /// Whether a turn may answer so where memory isn't wanting.
@@ -46,45 +66,94 @@ fn happens(alloc: Global, net: &mut Net, chance: &mut Chance) -> bool {
     }
 }
 
-/// Plays a schedule of the network of a device. Answers how many cuts were whole, and how many tokens stood on their lines;
-/// none where a cut wasn't right, or a turn was refused that may not be.
-fn play(
-    alloc: Global,
-    disk: &mut MemDisk,
-    chance: &mut Chance,
-) -> Result<Option<(u32, usize)>, Fail> {
-    let mut net = Net::of_device(alloc, disk, 4)?;
-    let mut flat = flat_of(alloc, disk)?;
-    let (mut cuts, mut tokens) = (0u32, 0usize);
-    for _step in 0..400u16 {
-        if !happens(alloc, &mut net, chance) {
-            return Ok(None);
-        }
-        if net.book().whole().is_some() && chance.below(2) == 0 {
-            let Some(more) = take_in(alloc, &mut net, &mut flat)? else {
-                return Ok(None);
-            };
-            cuts = cuts.saturating_add(1);
-            tokens = tokens.saturating_add(more);
+/// How many cuts were whole, and how many tokens stood on their lines.
+#[derive(Clone, Copy, Debug)]
+struct Told {
+    cuts: u32,
+    tokens: usize,
+}
+
+impl Told {
+    /// Before the first cut.
+    const fn none() -> Told {
+        Told { cuts: 0, tokens: 0 }
+    }
+
+    /// Both together.
+    fn and(self, other: Told) -> Told {
+        Told {
+            cuts: self.cuts.saturating_add(other.cuts),
+            tokens: self.tokens.saturating_add(other.tokens),
         }
     }
-    Ok(Some((cuts, tokens)))
+}
+
+/// Takes a whole cut in, where there is one, every second time. None where it isn't right.
+fn takes_in(
+    alloc: Global,
+    net: &mut Net,
+    flat: &mut FlatNetwork,
+    chance: &mut Chance,
+) -> Result<Option<Told>, Fail> {
+    if net.book().whole().is_none() || chance.below(2) != 0 {
+        return Ok(Some(Told::none()));
+    }
+    let tokens = take_in(alloc, net, flat)?;
+    Ok(tokens.map(|tokens| Told { cuts: 1, tokens }))
+}
+
+/// Plays a schedule on a network. Answers of its whole cuts; none where one wasn't right, or a turn was refused that may not be.
+fn play_on(
+    alloc: Global,
+    net: &mut Net,
+    flat: &mut FlatNetwork,
+    chance: &mut Chance,
+) -> Result<Option<Told>, Fail> {
+    let mut told = Told::none();
+    for _step in 0..400u16 {
+        if !happens(alloc, net, chance) {
+            return Ok(None);
+        }
+        let Some(more) = takes_in(alloc, net, flat, chance)? else {
+            return Ok(None);
+        };
+        told = told.and(more);
+    }
+    Ok(Some(told))
+}
+
+/// Plays a schedule of the network of a device.
+fn play(alloc: Global, disk: &mut MemDisk, chance: &mut Chance) -> Result<Option<Told>, Fail> {
+    let mut net = Net::of_device(alloc, disk, 4)?;
+    let mut flat = flat_of(alloc, disk)?;
+    let told = play_on(alloc, &mut net, &mut flat, chance);
+    told
+}
+
+/// Plays a schedule of a network that is drawn.
+fn play_drawn(
+    alloc: Global,
+    chance: &mut Chance,
+    nodes: u8,
+    ports: u8,
+) -> Result<Option<Told>, Fail> {
+    let mut disk = drawn(alloc, chance, nodes, ports)?;
+    let told = play(alloc, &mut disk, chance);
+    told
 }
 
 /// Plays schedules, each of a network of its own. Answers the same of all of them together.
-fn play_all(alloc: Global, schedules: u16) -> Result<Option<(u32, usize)>, Fail> {
+fn play_all(alloc: Global, schedules: u16) -> Result<Option<Told>, Fail> {
     let mut chance = Chance { state: SEED };
-    let (mut cuts, mut tokens) = (0u32, 0usize);
+    let mut told = Told::none();
     for schedule in 0..schedules {
         let nodes = 1 + (schedule % 8) as u8;
-        let mut disk = drawn(alloc, &mut chance, nodes, 1 + nodes % 3)?;
-        let Some(told) = play(alloc, &mut disk, &mut chance)? else {
+        let Some(more) = play_drawn(alloc, &mut chance, nodes, 1 + nodes % 3)? else {
             return Ok(None);
         };
-        cuts = cuts.saturating_add(told.0);
-        tokens = tokens.saturating_add(told.1);
+        told = told.and(more);
     }
-    Ok(Some((cuts, tokens)))
+    Ok(Some(told))
 }
 
 /// Each whole cut is right. There are more than schedules, and some have tokens on their lines.
@@ -92,7 +161,7 @@ fn play_all(alloc: Global, schedules: u16) -> Result<Option<(u32, usize)>, Fail>
 fn whole_cuts_are_what_their_entries_lead_to(rt: HostRuntime) -> Result<(), Fail> {
     let told = play_all(rt.alloc(), SCHEDULES)?;
     let many = match told {
-        Some((cuts, tokens)) => cuts > u32::from(SCHEDULES) && tokens > 0,
+        Some(told) => told.cuts > u32::from(SCHEDULES) && told.tokens > 0,
         None => false,
     };
     assert!(rt; many, "{told:?}");
@@ -109,25 +178,47 @@ fn round(net: &mut Net, quantum: u16) -> bool {
     is_answer(Some(net.host_turn()))
 }
 
-/// Snapshots of a network that is drawn, one after another, each begun behind a round and whole after two more. Answers how
-/// many tokens stood on the lines of their cuts; none where one isn't whole or isn't right.
-fn snapshots(alloc: Global, nodes: u8, count: u8) -> Result<Option<usize>, Fail> {
-    let mut chance = Chance { state: 2 };
-    let mut disk = drawn(alloc, &mut chance, nodes, 2)?;
-    let mut net = Net::of_device(alloc, &mut disk, 4)?;
-    let mut flat = flat_of(alloc, &mut disk)?;
+/// A snapshot, begun behind a round and whole after two more. Answers how many tokens stood on the lines of its cut; none where it isn't
+/// whole or isn't right.
+fn snapshot(alloc: Global, net: &mut Net, flat: &mut FlatNetwork) -> Result<Option<usize>, Fail> {
+    let begun = round(net, 20) && net.begin(alloc).is_ok();
+    if !begun || !round(net, 20) || !round(net, 20) {
+        return Ok(None);
+    }
+    take_in(alloc, net, flat)
+}
+
+/// Snapshots one after another. Answers how many tokens stood on the lines of their cuts.
+fn snapshots_on(
+    alloc: Global,
+    net: &mut Net,
+    flat: &mut FlatNetwork,
+    count: u8,
+) -> Result<Option<usize>, Fail> {
     let mut tokens = 0usize;
     for _snapshot in 0..count {
-        let begun = round(&mut net, 20) && net.begin(alloc).is_ok();
-        if !begun || !round(&mut net, 20) || !round(&mut net, 20) {
-            return Ok(None);
-        }
-        let Some(more) = take_in(alloc, &mut net, &mut flat)? else {
+        let Some(more) = snapshot(alloc, net, flat)? else {
             return Ok(None);
         };
         tokens = tokens.saturating_add(more);
     }
     Ok(Some(tokens))
+}
+
+/// Snapshots of the network of a device.
+fn snapshots_of(alloc: Global, disk: &mut MemDisk, count: u8) -> Result<Option<usize>, Fail> {
+    let mut net = Net::of_device(alloc, disk, 4)?;
+    let mut flat = flat_of(alloc, disk)?;
+    let tokens = snapshots_on(alloc, &mut net, &mut flat, count);
+    tokens
+}
+
+/// Snapshots of a network that is drawn.
+fn snapshots(alloc: Global, nodes: u8, count: u8) -> Result<Option<usize>, Fail> {
+    let mut chance = Chance { state: 2 };
+    let mut disk = drawn(alloc, &mut chance, nodes, 2)?;
+    let tokens = snapshots_of(alloc, &mut disk, count);
+    tokens
 }
 
 #[test]

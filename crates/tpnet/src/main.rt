@@ -10,7 +10,7 @@ use std::io::Write;
 use std::process::ExitCode;
 use std::rt::Env;
 use std::{env, io};
-use tp_program::{answer, answer_stream, is_stream, wants_input};
+use tp_program::{answer, answer_stream, is_stream, refuse_in_use, wants_input};
 use tp_stream_files::Threaded;
 
 fn words_of<R: Env + AllocGlobal>(rt: &R) -> io::Result<Vec<String>> {
@@ -30,15 +30,6 @@ fn refuse_words<E: Write>(err: &mut E, error: &io::Error) -> ExitCode {
     ExitCode::from(2)
 }
 
-/// Says that another process holds the device.
-fn refuse_device<E: Write>(err: &mut E) -> ExitCode {
-    let _ = write!(
-        err,
-        "tpnet: InUse\n  Another tpnet runs, formats or compacts this device: wait until it ends, or end it.\n"
-    );
-    ExitCode::from(1)
-}
-
 fn main(rt: HostRuntime) -> ExitCode {
     let _stand_ins = (stand_in(&rt), stand_in(&rt), stand_in(&rt));
     let mut out = rt.stdout();
@@ -48,7 +39,7 @@ fn main(rt: HostRuntime) -> ExitCode {
         Err(error) => return refuse_words(&mut err, &error),
     };
     let Ok(_held) = hold(&rt, words.as_slice()) else {
-        return refuse_device(&mut err);
+        return ExitCode::from(refuse_in_use(words.as_slice(), &mut err));
     };
     if is_stream(words.as_slice()) {
         let reader = if wants_input(words.as_slice()) {

@@ -1,16 +1,17 @@
-use Rattle.std.proofs.Common.{◌≡◌, ◌∙◌, ℕ, [], ap, sym, Ok, Err, Result}
+use Rattle.std.proofs.Common.{◌≡◌, ◌∙◌, [], ap, sym, Ok, Err, Result}
 use contract.BorrowLft.{◌⊑◌, ⊑_meet, ⊑_static}
 use Rattle.tp_recover.specs.declared.unopened.Unopened.{Unopened}
+use Rattle.tp_stream.specs.declared.ending.Ended.{Ended}
 use Rattle.tp_stream.specs.declared.fault.StreamFault.{StreamFault}
 use Rattle.tp_stream.specs.declared.fault.StreamFault.TheVariants.{Opening}
 use Rattle.tp_program.proofs.streaming.stream_files.Goals as goal
 
 -- the fault of a stream that ended early
-abbrev fault_in : StreamFault → Result ℕ StreamFault → StreamFault
-fault_in other (Ok next) = other
+abbrev fault_in : StreamFault → Result Ended StreamFault → StreamFault
+fault_in other (Ok ended) = other
 fault_in other (Err fault) = fault
 
-same_fault : (done : Result ℕ StreamFault) (fault : StreamFault) → done ≡ Err fault → (unopened : Unopened) × (done ≡ Err (Opening unopened)) → (unopened : Unopened) × (fault ≡ Opening unopened)
+same_fault : (done : Result Ended StreamFault) (fault : StreamFault) → done ≡ Err fault → (unopened : Unopened) × (done ≡ Err (Opening unopened)) → (unopened : Unopened) × (fault ≡ Opening unopened)
 same_fault done fault is (unopened, same) = (unopened, ap (fault_in fault) (sym is ∙ same))
 
 -- the file, standard output and standard input outlive what takes outputs and gives inputs

@@ -2,9 +2,10 @@ use Rattle.std.proofs.Common.{◌≡◌, length, map, inr, Some, sym, ap, subst,
 use Rattle.tp_port.specs.Counted.{AreCounted}
 use Rattle.tp_book.specs.Book.{BookValue, next_number}
 use Rattle.tp_run.proofs.Made.{kept_is, stands}
+use Rattle.tp_stream.specs.Offered.{given_input}
 use Rattle.tp_stream.specs.Outputs.{given_of}
-use Rattle.tp_stream.specs.Standing.{AllMayBegin, IsNotBegun, standing, stands_opened}
-use Rattle.tp_stream.proofs.Standings.{opened_stands}
+use Rattle.tp_stream.specs.Standing.{AllHaveAccepted, AllMayBegin, accepted, accepted_opened, standing, stands_opened}
+use Rattle.tp_stream.proofs.Standings.{not_begun_as, opened_accepted, opened_stands}
 use Rattle.tp_stream.proofs.opening.parts_of.Goals as goal
 
 pub begin_all-requires : goal.begin_all-requires
@@ -19,7 +20,9 @@ returns-clause-refused g c =
     let where_ : standing c.in-Ok-open.book s.next ≡ stands_opened o =
     ap (λ (b : BookValue). standing b s.next) c.in-Ok-open.ensures ∙ opened_stands s (Some c.journal_room-room.result) o s.next c.in-Ok.ensures.now in
     let many : length c.in-Ok-open.book.state.ports ≡ length o.now.ports = ap (λ (b : BookValue). length b.state.ports) c.in-Ok-open.ensures ∙ ap (λ net. length net.ports) c.in-Ok.ensures.now in
-    inr (subst (λ at. IsNotBegun (length o.now.ports) at gs fault) where_ (subst (λ n. IsNotBegun n (standing c.in-Ok-open.book s.next) gs fault) many c.in-Err.ensures.refused))
+    let taken : accepted c.in-Ok-open.book ≡ accepted_opened o =
+    ap accepted c.in-Ok-open.ensures ∙ opened_accepted s (Some c.journal_room-room.result) o c.in-Ok.ensures.now in
+    inr (not_begun_as _ _ _ _ _ _ gs _ fault many where_ taken c.in-Err.ensures.refused)
 
 pub returns-in-Ok-parts_with-clause-parts : goal.returns-in-Ok-parts_with-clause-parts
 returns-in-Ok-parts_with-clause-parts g c =
@@ -38,3 +41,11 @@ returns-in-Ok-parts_with-clause-begun g c =
     let gs = map given_of c.args.streams.now.outputs.items in
     subst (λ at. AllMayBegin at gs)
     (ap (λ (b : BookValue). standing b s.next) c.in-Ok-open.ensures ∙ opened_stands s (Some c.journal_room-room.result) o s.next c.in-Ok.ensures.now) c.in-Ok-begin_all.ensures.begun
+
+pub returns-in-Ok-parts_with-clause-inputs : goal.returns-in-Ok-parts_with-clause-inputs
+returns-in-Ok-parts_with-clause-inputs g c =
+    let s = c.in-Ok.state in
+    let o = c.args.opened in
+    let is = map (λ i. given_input i.port (g.I.Source.input i.source)) c.args.streams.now.inputs.items in
+    subst (λ at. AllHaveAccepted at is)
+    (ap accepted c.in-Ok-open.ensures ∙ opened_accepted s (Some c.journal_room-room.result) o c.in-Ok.ensures.now) c.in-Ok-begin_all.ensures.inputs

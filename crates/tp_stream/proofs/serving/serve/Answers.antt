@@ -3,7 +3,12 @@ use Rattle.tp_flush.specs.Known.{Began}
 use Rattle.tp_flush.proofs.Turns.{walked_then}
 use Rattle.tp_stream.proofs.serving.serve.Goals as goal
 
-pub returns-clause-walks : goal.returns-clause-walks
-returns-clause-walks g c k began =
-    walked_then c.args.flusher c.cycles-there.result.0 c.finish-done.new.flusher (c.cycles-there.ensures.walks k began)
-    (c.finish-done.ensures.walks k (subst (Began g.J.Naming.formatted g.J.Naming.before) (sym c.cycles-there.ensures.process.opened) began))
+pub returns-in-Ok-clause-walks : goal.returns-in-Ok-clause-walks
+returns-in-Ok-clause-walks g c k began =
+    walked_then c.args.flusher c.cycles-there.result.0 c.finish.new.flusher (c.cycles-there.ensures.walks k began)
+    (c.finish.ensures.walks k (subst (Began g.J.Naming.formatted g.J.Naming.before) (sym c.cycles-there.ensures.process.opened) began))
+
+pub returns-in-Err-finish-clause-walks : goal.returns-in-Err-finish-clause-walks
+returns-in-Err-finish-clause-walks g c k began =
+    walked_then c.args.flusher c.cycles-there.result.0 c.finish.new.flusher (c.cycles-there.ensures.walks k began)
+    (c.finish.ensures.walks k (subst (Began g.J.Naming.formatted g.J.Naming.before) (sym c.cycles-there.ensures.process.opened) began))

@@ -3,10 +3,11 @@ use Rattle.tp_model.specs.Disk.{Moment}
 use Rattle.tp_flush.specs.Known.{Began}
 use Rattle.tp_stream.specs.declared.fault.StreamFault.TheVariants.{Opening}
 use Rattle.tp_stream.specs.Streamed.{Streamed}
+use Rattle.tp_stream.specs.Offered.{given_input}
 use Rattle.tp_stream.specs.Outputs.{given_of}
-use Rattle.tp_stream.specs.Standing.{AllMayBegin, IsFirstRefused, OfOutput, stands_opened}
+use Rattle.tp_stream.specs.Standing.{AllHaveAccepted, AllMayBegin, IsFirstRefused, IsFirstShort, OfInput, OfOutput, accepted_opened, stands_opened}
 use Rattle.tp_stream.proofs.Runs.{begun_written, opened, unwritten}
-use Rattle.tp_stream.proofs.Standings.{begun_refused, no_output, on_ok, same_opened, says_first}
+use Rattle.tp_stream.proofs.Standings.{begun_refused, begun_short, no_input, no_output, on_ok, same_opened, says_first, says_short}
 use Rattle.tp_stream.proofs.streaming.stream.Goals as goal
 
 pub stream_parts-requires-clause-names : goal.stream_parts-requires-clause-names
@@ -47,14 +48,14 @@ returns-clause-begun g c k other is =
     (subst (λ o. AllMayBegin (stands_opened o) (map given_of c.args.streams.now.outputs.items)) (same_opened _ _ _ (c.in-Ok.ensures.is k) is) c.in-Ok-parts_of.ensures.begun)
 
 pub returns-in-Some-clause-refused : goal.returns-in-Some-clause-refused
-returns-in-Some-clause-refused g c k other is = no_output c.in-Some.fault _ c.in-Some.ensures
+returns-in-Some-clause-refused g c k other is = no_output c.in-Some.fault _ c.in-Some.ensures.output
 
 pub returns-in-Err-parts_of-clause-refused : goal.returns-in-Err-parts_of-clause-refused
 returns-in-Err-parts_of-clause-refused g c k other is =
     let fault = c.in-Err-parts_of.fault in
     let gs = map given_of c.args.streams.now.outputs.items in
     subst (λ o. OfOutput fault (IsFirstRefused (length o.now.ports) (stands_opened o) gs fault)) (same_opened _ _ _ (c.in-Ok.ensures.is k) is)
-    (says_first _ _ gs fault c.in-Err-parts_of.ensures.refused)
+    (says_first _ _ _ gs _ fault c.in-Err-parts_of.ensures.refused)
 
 pub returns-clause-refused : goal.returns-clause-refused
 returns-clause-refused g c k other is = begun_refused c.stream_parts.result.1 _ c.stream_parts.ensures.begun
@@ -74,3 +75,25 @@ returns-clause-kept g c k other is =
 
 pub returns-clause-untouched : goal.returns-clause-untouched
 returns-clause-untouched g c unbegun = absurd (begun_written c.stream_parts.result.1 c.stream_parts.ensures.begun unbegun)
+
+-- ## What inputs may begin
+
+pub returns-clause-inputs : goal.returns-clause-inputs
+returns-clause-inputs g c k other is =
+    on_ok c.stream_parts.result.1 _
+    (subst (λ o. AllHaveAccepted (accepted_opened o) (map (λ i. given_input i.port (g.I.Source.input i.source)) c.args.streams.now.inputs.items))
+    (same_opened _ _ _ (c.in-Ok.ensures.is k) is) c.in-Ok-parts_of.ensures.inputs)
+
+pub returns-in-Some-clause-short : goal.returns-in-Some-clause-short
+returns-in-Some-clause-short g c k other is = no_input c.in-Some.fault _ c.in-Some.ensures.input
+
+pub returns-in-Err-parts_of-clause-short : goal.returns-in-Err-parts_of-clause-short
+returns-in-Err-parts_of-clause-short g c k other is =
+    let fault = c.in-Err-parts_of.fault in
+    let gs = map given_of c.args.streams.now.outputs.items in
+    let inputs = map (λ i. given_input i.port (g.I.Source.input i.source)) c.args.streams.now.inputs.items in
+    subst (λ o. OfInput fault (AllMayBegin (stands_opened o) gs × IsFirstShort (length o.now.ports) (accepted_opened o) inputs fault)) (same_opened _ _ _ (c.in-Ok.ensures.is k) is)
+    (says_short _ _ _ gs inputs fault c.in-Err-parts_of.ensures.refused)
+
+pub returns-clause-short : goal.returns-clause-short
+returns-clause-short g c k other is = begun_short c.stream_parts.result.1 _ c.stream_parts.ensures.begun

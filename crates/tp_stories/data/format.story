@@ -1,0 +1,251 @@
+# What makes a device, what is on it then, and what is refused and leaves each file as it was.
+
+story one_node
+# The device of one node: its head, the open gate of the first area with its front, the closed gate of its first group, the
+# closed gate of the second area, and the image of the node.
+text net.txt node a 4\nport h\nwire a.0 h\n
+image a.img
+tpnet format device net.txt . 16384
+length device
+show device 0 16
+show device 16 10
+show device 56 4
+show device 512 21
+show device 13033 1
+show device 16896 1
+part device image 533 4268
+equal image a.img
+
+story two_nodes
+# The device of two nodes has the image of each, in their order.
+text net.txt node left 4\nnode right 4\nport h\nwire left.0 h\n
+image left.img
+image right.img
+set right.img 437 42
+tpnet format device net.txt . 32768
+tpnet recover device
+tpnet show device
+length device
+show device 0 5
+part device image 533 4268
+equal image left.img
+part device image 4801 4268
+equal image right.img
+
+story three_nodes
+# Images stand in the order of the topology, not in that of the names: here the letters of c, a and b.
+text net.txt node c 4\nnode a 4\nnode b 4\nport h\nwire c.0 h\n
+image a.img
+set a.img 437 41
+image b.img
+set b.img 437 42
+image c.img
+set c.img 437 43
+tpnet format device net.txt . 32768
+show device 970 1
+show device 5238 1
+show device 9506 1
+
+story refused_new
+# A topology that is refused makes no file, nor does an image that can not be read.
+image a.img
+text net.txt node a 4\n
+tpnet format device net.txt . 16384
+there device
+text net.txt node a 4\nport h\nwire a.4 h\n
+tpnet format device net.txt . 16384
+there device
+text net.txt node a 4\nport h\nwire a.0 h\nwire a.0 a.1\n
+tpnet format device net.txt . 16384
+there device
+text net.txt node a 4\nwire a.0 b.1\n
+tpnet format device net.txt . 16384
+there device
+text net.txt port a\nport b\nport c\nport d\nport e\nport f\nport g\nport h\nport i\n
+tpnet format device net.txt . 16384
+there device
+text net.txt node a 4\nnode none 4\nport h\n
+tpnet format device net.txt . 16384
+there device
+# A folder that is not there.
+text net.txt node a 4\nport h\n
+tpnet format nowhere/device net.txt . 16384
+# A topology that is not there.
+remove net.txt
+tpnet format device net.txt . 16384
+
+story refused_old
+# What is refused leaves a device that is there as it was: a fault of the topology, of an image, of the area.
+text net.txt node a 4\nport h\nwire a.0 h\n
+image a.img
+tpnet format device net.txt . 16384
+copy device before
+text net.txt node a 4\n
+tpnet format device net.txt . 16384
+equal device before
+text net.txt node a 4\nport h\nwire a.0 h\n
+text net.txt node a 4\nnode b 4\nport h\n
+tpnet format device net.txt . 16384
+equal device before
+text net.txt node a 4\nport h\nwire a.0 h\n
+text a.img no image
+tpnet format device net.txt . 16384
+equal device before
+image a.img
+text net.txt node a 5\nport h\n
+tpnet format device net.txt . 16384
+equal device before
+text net.txt node a 4\nport h\nwire a.0 h\n
+tpnet format device net.txt . 13033
+equal device before
+tpnet format device net.txt . 100
+equal device before
+tpnet format device net.txt . 0
+equal device before
+# With --new a file that is there is refused; another path is taken, and the device there is the same.
+tpnet format --new device net.txt . 16384
+equal device before
+tpnet format --new other net.txt . 16384
+equal other before
+
+story small_areas
+# An area with room for one entry is the least. A file that was made stays, with its length, and all its bytes are 00.
+text net.txt node a 4\nport h\nwire a.0 h\n
+image a.img
+tpnet format device13033 net.txt . 13033
+length device13033
+fill zeros 26578 00
+equal device13033 zeros
+tpnet format device100 net.txt . 100
+length device100
+fill zeros 712 00
+equal device100 zeros
+tpnet format device0 net.txt . 0
+length device0
+fill zeros 512 00
+equal device0 zeros
+tpnet format device net.txt . 13034
+length device
+
+story other_images
+# An image does not fit where a link of it is at work, where it says other pages than the topology, or where it is none. The
+# file that was made stays, and all its bytes are 00.
+text net.txt node a 4\nport h\nwire a.0 h\n
+image a.img
+fill zeros 33280 00
+set a.img 109 01
+tpnet format busy net.txt . 16384
+equal busy zeros
+image a.img
+set a.img 2 05
+tpnet format larger net.txt . 16384
+equal larger zeros
+fill a.img 0 00
+tpnet format none net.txt . 16384
+equal none zeros
+
+story large
+# Above 4 GiB the second area has its gate where an offset that wraps would hit the first image, or read it.
+text net.txt node a 4\nport h\nwire a.0 h\n
+image a.img
+tpnet format large net.txt . 4294967317
+length large
+tpnet recover large
+set large 4294967829 A5 01
+tpnet show large
+
+story replaced
+# Neither the topology nor an image becomes the device, under whatever name; each file stays as it was.
+text net.txt node b 4\nnode a 4\nport h\nwire a.0 h\n
+image a.img
+image b.img
+text other other
+symlink net.txt to_net
+link net.txt also_net
+symlink a.img to_image
+link a.img also_image
+symlink other to_other
+link other also_other
+keep device in there fresh net.txt a.img
+tpnet format net.txt net.txt . 65536 2>err
+starts err tpnet: DEVICE 
+ends err nothing was written\n
+stay
+keep device in there fresh net.txt a.img
+tpnet format --new net.txt net.txt . 65536 2>err
+starts err tpnet: DEVICE 
+ends err nothing was written\n
+stay
+keep device in there fresh net.txt a.img
+tpnet format ./net.txt net.txt . 65536 2>err
+starts err tpnet: DEVICE 
+ends err nothing was written\n
+stay
+keep device in there fresh net.txt a.img
+tpnet format --new ./net.txt net.txt . 65536 2>err
+starts err tpnet: DEVICE 
+ends err nothing was written\n
+stay
+keep device in there fresh net.txt a.img
+tpnet format to_net net.txt . 65536 2>err
+starts err tpnet: DEVICE 
+ends err nothing was written\n
+stay
+keep device in there fresh net.txt a.img
+tpnet format --new to_net net.txt . 65536 2>err
+starts err tpnet: DEVICE 
+ends err nothing was written\n
+stay
+keep device in there fresh net.txt a.img
+tpnet format also_net net.txt . 65536 2>err
+starts err tpnet: DEVICE 
+ends err nothing was written\n
+stay
+keep device in there fresh net.txt a.img
+tpnet format --new also_net net.txt . 65536 2>err
+starts err tpnet: DEVICE 
+ends err nothing was written\n
+stay
+keep device in there fresh net.txt a.img
+tpnet format a.img net.txt . 65536 2>err
+starts err tpnet: DEVICE 
+ends err nothing was written\n
+stay
+keep device in there fresh net.txt a.img
+tpnet format --new a.img net.txt . 65536 2>err
+starts err tpnet: DEVICE 
+ends err nothing was written\n
+stay
+keep device in there fresh net.txt a.img
+tpnet format ./a.img net.txt . 65536 2>err
+starts err tpnet: DEVICE 
+ends err nothing was written\n
+stay
+keep device in there fresh net.txt a.img
+tpnet format --new ./a.img net.txt . 65536 2>err
+starts err tpnet: DEVICE 
+ends err nothing was written\n
+stay
+keep device in there fresh net.txt a.img
+tpnet format to_image net.txt . 65536 2>err
+starts err tpnet: DEVICE 
+ends err nothing was written\n
+stay
+keep device in there fresh net.txt a.img
+tpnet format --new to_image net.txt . 65536 2>err
+starts err tpnet: DEVICE 
+ends err nothing was written\n
+stay
+keep device in there fresh net.txt a.img
+tpnet format also_image net.txt . 65536 2>err
+starts err tpnet: DEVICE 
+ends err nothing was written\n
+stay
+keep device in there fresh net.txt a.img
+tpnet format --new also_image net.txt . 65536 2>err
+starts err tpnet: DEVICE 
+ends err nothing was written\n
+stay
+# A link to another file does.
+tpnet format to_other net.txt . 65536
+tpnet format also_other net.txt . 65536

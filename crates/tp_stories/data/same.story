@@ -1,0 +1,184 @@
+# No file has two parts in a stream, whatever it is named: what is refused, and that each file stays as it was.
+
+story names
+# Names that stand for one file, among them such of files that are not there yet.
+# A node hands on what port 0 gets to port 1, which has put out abcde, and nothing is confirmed.
+text net.txt node a 4\nport from\nport to\nwire a.0 from\nwire a.3 to\n
+image a.img 11 24 F2 54 41 F7 11 24 F2 53 41 FB 60 02
+text in abcde
+tpnet format device net.txt . 65536
+tpnet run device --turns=200 --workers=1 --in in >out 2>err
+fill there 0 00
+symlink fresh to_fresh
+symlink there to_there
+symlink device to_device
+symlink in to_in
+link there also_there
+link device also_device
+link in also_in
+keep device in there fresh net.txt a.img
+tpnet run device --stream --quantum=64 --until-quiet --out 0=fresh --out 1=fresh <in 2>err
+starts err tpnet: --out 1 goes into the file of 
+stay
+remove fresh
+keep device in there fresh net.txt a.img
+tpnet run device --stream --quantum=64 --until-quiet --out 0=fresh --out 1=./fresh <in 2>err
+starts err tpnet: --out 1 goes into the file of 
+stay
+remove fresh
+keep device in there fresh net.txt a.img
+tpnet run device --stream --quantum=64 --until-quiet --out 0=fresh --out 1=to_fresh <in 2>err
+starts err tpnet: --out 1 goes into the file of 
+stay
+remove fresh
+keep device in there fresh net.txt a.img
+tpnet run device --stream --quantum=64 --until-quiet --out 1=to_fresh --out 0=./fresh <in 2>err
+starts err tpnet: --out 0 goes into the file of 
+stay
+remove fresh
+keep device in there fresh net.txt a.img
+tpnet run device --stream --quantum=64 --until-quiet --out 0=there --out 1=./there <in 2>err
+starts err tpnet: --out 1 goes into the file of 
+stay
+remove fresh
+keep device in there fresh net.txt a.img
+tpnet run device --stream --quantum=64 --until-quiet --out 0=to_there --out 1=there <in 2>err
+starts err tpnet: --out 1 goes into the file of 
+stay
+remove fresh
+keep device in there fresh net.txt a.img
+tpnet run device --stream --quantum=64 --until-quiet --out 1=there --out 0=also_there <in 2>err
+starts err tpnet: --out 0 goes into the file of 
+stay
+remove fresh
+keep device in there fresh net.txt a.img
+tpnet run device --stream --quantum=64 --until-quiet --discard 0 --out 1=./device <in 2>err
+starts err tpnet: --out 1 goes into the file of 
+stay
+remove fresh
+keep device in there fresh net.txt a.img
+tpnet run device --stream --quantum=64 --until-quiet --discard 0 --out 1=to_device <in 2>err
+starts err tpnet: --out 1 goes into the file of 
+stay
+remove fresh
+keep device in there fresh net.txt a.img
+tpnet run device --stream --quantum=64 --until-quiet --discard 0 --out 1=also_device <in 2>err
+starts err tpnet: --out 1 goes into the file of 
+stay
+remove fresh
+keep device in there fresh net.txt a.img
+tpnet run device --stream --quantum=64 --until-quiet --discard 0 --out 1=./in --in 0=in <in 2>err
+starts err tpnet: --out 1 goes into the file of 
+stay
+remove fresh
+keep device in there fresh net.txt a.img
+tpnet run device --stream --quantum=64 --until-quiet --discard 0 --out 1=in --in 0=to_in <in 2>err
+starts err tpnet: --out 1 goes into the file of 
+stay
+remove fresh
+keep device in there fresh net.txt a.img
+tpnet run device --stream --quantum=64 --until-quiet --discard 0 --out 1=also_in --in 0=in <in 2>err
+starts err tpnet: --out 1 goes into the file of 
+stay
+remove fresh
+
+story standard
+# Standard streams that are one of the files.
+# A node hands on what port 0 gets to port 1, which has put out abcde, and nothing is confirmed.
+text net.txt node a 4\nport from\nport to\nwire a.0 from\nwire a.3 to\n
+image a.img 11 24 F2 54 41 F7 11 24 F2 53 41 FB 60 02
+text in abcde
+tpnet format device net.txt . 65536
+tpnet run device --turns=200 --workers=1 --in in >out 2>err
+fill there 0 00
+symlink fresh to_fresh
+symlink there to_there
+symlink device to_device
+symlink in to_in
+link there also_there
+link device also_device
+link in also_in
+stand stdout=there
+keep device in there fresh net.txt a.img
+tpnet run device --stream --quantum=64 --until-quiet --out 0=- --out 1=there <in 2>err
+starts err tpnet: --out 1 goes into the file of 
+stay
+remove fresh
+stand stdout=there
+keep device in there fresh net.txt a.img
+tpnet run device --stream --quantum=64 --until-quiet --out 1=./there --out 0=- <in 2>err
+starts err tpnet: --out 0 goes into the file of 
+stay
+remove fresh
+stand stdin=in
+keep device in there fresh net.txt a.img
+tpnet run device --stream --quantum=64 --until-quiet --discard 0 --out 1=in --in 0=- <in 2>err
+starts err tpnet: --out 1 goes into the file of 
+stay
+remove fresh
+stand stdout=device
+keep device in there fresh net.txt a.img
+tpnet run device --stream --quantum=64 --until-quiet --discard 0 --out 1=- <in 2>err
+starts err tpnet: --out 1 goes into the file of 
+stay
+remove fresh
+stand stdout=in
+keep device in there fresh net.txt a.img
+tpnet run device --stream --quantum=64 --until-quiet --discard 0 --out 1=- --in 0=in <in 2>err
+starts err tpnet: --out 1 goes into the file of 
+stay
+remove fresh
+stand stdout=in stdin=also_in
+keep device in there fresh net.txt a.img
+tpnet run device --stream --quantum=64 --until-quiet --discard 0 --out 1=- --in 0=- <in 2>err
+starts err tpnet: --out 1 goes into the file of 
+stay
+remove fresh
+stand stdout=fresh
+keep device in there fresh net.txt a.img
+tpnet run device --stream --quantum=64 --until-quiet --out 1=- --out 0=fresh <in 2>err
+starts err tpnet: --out 1 goes into the file of 
+stay
+remove fresh
+stand stderr=there
+keep device in there fresh net.txt a.img
+tpnet run device --stream --quantum=64 --until-quiet --discard 0 --out 1=to_there <in 2>err
+starts err tpnet: --out 1 goes into the file of 
+stay
+remove fresh
+stand stderr=fresh
+keep device in there fresh net.txt a.img
+tpnet run device --stream --quantum=64 --until-quiet --discard 0 --out 1=./fresh <in 2>err
+starts err tpnet: --out 1 goes into the file of 
+stay
+remove fresh
+
+story apart
+# Files of their own are taken, also where standard streams are files, or both are no file, as a terminal. What no port uses is not
+# looked at, and two inputs may be one file.
+# A node hands on what port 0 gets to port 1, which has put out abcde, and nothing is confirmed.
+text net.txt node a 4\nport from\nport to\nwire a.0 from\nwire a.3 to\n
+image a.img 11 24 F2 54 41 F7 11 24 F2 53 41 FB 60 02
+text in abcde
+tpnet format device net.txt . 65536
+tpnet run device --turns=200 --workers=1 --in in >out 2>err
+fill there 0 00
+symlink fresh to_fresh
+symlink there to_there
+symlink device to_device
+symlink in to_in
+link there also_there
+link device also_device
+link in also_in
+stand
+tpnet run device --stream --quantum=64 --until-quiet --out 0=none --out 1=one --in 0=in <in 2>err
+stand
+tpnet run device --stream --quantum=64 --until-quiet --out 0=none --out 1=one --in 0=in --in 1=in <in 2>err
+stand stdout=one stdin=in
+tpnet run device --stream --quantum=64 --until-quiet --discard 0 --out 1=one --in 0=in <in 2>err
+stand stdout=there stdin=in stderr=there
+tpnet run device --stream --quantum=64 --until-quiet --out 0=none --out 1=- --in 0=- <in 2>err
+stand stdout=. stdin=. stderr=.
+tpnet run device --stream --quantum=64 --until-quiet --discard 0 --out 1=- --in 0=- <in 2>err
+equal one in
+empty none

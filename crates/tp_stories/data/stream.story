@@ -1,0 +1,231 @@
+# What run --stream does with files and standard streams, and what it refuses. Its last line says what ended it.
+
+story refused
+# What the words alone are refused for, and then what the device and its ends are, in their order; the device stays as it is.
+text net.txt node a 4\nport h\nwire a.0 h\n
+image a.img 11 24 F2 54 41 F7 11 24 F2 41 FB 60 03
+tpnet format device net.txt . 16384
+text in ab
+copy device fresh
+tpnet run device --stream --quantum=64 --out 0=- --wait-lock 4294968
+tpnet run device --stream --quantum=64 --out 0=- --turns 4294967296
+tpnet run device --stream --quantum=64 --until-quiet --out bytes
+tpnet run device --stream --quantum=64 --until-quiet --in 8=-
+tpnet run device --stream --quantum=64 --until-quiet --have 0=+1
+tpnet run device --stream --quantum=64 --until-quiet --discard x
+tpnet run device --stream --quantum=64 --until-quiet --out 0=- --discard 0
+tpnet run device --stream --quantum=64 --until-quiet --in 1=- --in 1=in
+tpnet run device --stream --quantum=64 --until-quiet --out 0=- --out 1=-
+tpnet run device --stream --quantum=64 --until-quiet --discard 0 --have 0=1
+tpnet run device --stream --quantum=64 --until-quiet --out 0=device
+tpnet run device --stream --quantum=64 --until-quiet --out 0=- --in 0=nowhere
+tpnet run device --stream --quantum=64 --until-quiet --out 0=nowhere/out
+tpnet run device --stream --quantum=64 --until-quiet --spare 5
+tpnet run device --stream --quantum=64 --until-quiet --out 0=- --discard 1
+tpnet run device --stream --quantum=64 --until-quiet
+tpnet run device --stream --quantum=64 --until-quiet --out 0=- --have 0=1
+equal device fresh
+# What was put and confirmed is refused where an end has less of it.
+text given abcd
+tpnet run device --stream --quantum=64 --until-quiet --out 0=out --in 0=- <given
+tpnet run device --stream --quantum=64 --until-quiet --out 0=short
+tpnet run device --stream --quantum=64 --until-quiet --out 0=- --have 0=3
+tpnet run device --stream --quantum=64 --until-quiet --out 0=- --have 0=5
+show out 0 4
+length out
+
+story longer
+# A file that has one byte more than the port has put out is refused, and stays; one that has as many is taken.
+text net.txt node a 4\nport h\nwire a.0 h\n
+image a.img 11 24 F2 54 41 F7 11 24 F2 41 FB 60 03
+tpnet format device net.txt . 16384
+text one x
+fill none 0 00
+text five vwxyz
+text four stuv
+keep one five
+tpnet run device --stream --quantum=64 --until-quiet --out 0=one
+text given abcd
+tpnet run device --stream --quantum=64 --until-quiet --out 0=none --in 0=- <given
+tpnet run device --stream --quantum=64 --until-quiet --out 0=five
+tpnet run device --stream --quantum=64 --until-quiet --out 0=four
+stay
+text wanted x
+equal one wanted
+text wanted abcd
+equal none wanted
+text wanted vwxyz
+equal five wanted
+text wanted stuv
+equal four wanted
+tpnet run device --stream --quantum=64 --until-quiet --out 0=five --explain 2>err
+starts err tpnet: Long 0 5 4\n
+has err five has 5 bytes
+
+story put_out
+# A file that has as many bytes as the port has put out is taken, though none of them is confirmed; one with one more is not. Where
+# another port's file is refused, it stays as it is.
+# A node hands on what port 0 gets to port 1, which has put out abcde, and nothing is confirmed.
+text net.txt node a 4\nport from\nport to\nwire a.0 from\nwire a.3 to\n
+image a.img 11 24 F2 54 41 F7 11 24 F2 53 41 FB 60 02
+text in abcde
+tpnet format device net.txt . 65536
+tpnet run device --turns=200 --workers=1 --in in >out 2>err
+text one x
+text five vwxyz
+text six uvwxyz
+copy one one_before
+copy five five_before
+copy six six_before
+keep five
+tpnet run device --stream --quantum=64 --until-quiet --discard 0 --out 1=six
+tpnet run device --stream --quantum=64 --until-quiet --out 1=five --out 0=one
+equal one one_before
+equal five five_before
+equal six six_before
+stay
+tpnet run device --stream --quantum=64 --until-quiet --discard 0 --out 1=five >out 2>err
+equal five in
+
+story piped
+# Standard input, what the reader of standard output has, and what it gets: what goes through standard streams comes once, and what
+# was accepted is passed over.
+text net.txt node a 4\nport h\nwire a.0 h\n
+image a.img 11 24 F2 54 41 F7 11 24 F2 41 FB 60 03
+tpnet format device net.txt . 16384
+text given ab
+tpnet run device --stream --quantum=64 --until-quiet --out 0=- --in 0=- --have 0=0 <given 2>err
+starts err out 0 
+ends err  written 2 confirmed 2 quiet\n
+text given ab
+tpnet run device --stream --quantum=64 --until-quiet --out 0=- --in 0=- --have 0=2 <given 2>err
+starts err out 0 
+ends err  written 2 confirmed 2 quiet\n
+text given abcdef
+tpnet run device --stream --quantum=64 --until-quiet --out 0=- --in 0=- --have 0=2 <given 2>err
+starts err out 0 
+ends err  written 6 confirmed 6 quiet\n
+text given a
+tpnet run device --stream --quantum=64 --until-quiet --out 0=- --in 0=- --have 0=6 <given 2>err
+starts err out 0 
+ends err  written 6 confirmed 6 quiet\n
+
+story files
+# Far more bytes than a port holds go from file to file, a few turns at a time: the file is never emptied, and at the end it is the
+# input.
+text net.txt node a 4\nport h\nwire a.0 h\n
+image a.img 11 24 F2 54 41 F7 11 24 F2 41 FB 60 03
+tpnet format device net.txt . 65536
+fill in 6000 00 01 02 03 04 05 06 07 08 09 0A 0B 0C 0D 0E 0F 10 11 12 13 14 15 16 17 18 19 1A 1B 1C 1D 1E 1F 20 21 22 23 24 25 26 27 28 29 2A 2B 2C 2D 2E 2F 30 31 32 33 34 35 36 37 38 39 3A 3B 3C 3D 3E 3F 40 41 42 43 44 45 46 47 48 49 4A 4B 4C 4D 4E 4F 50 51 52 53 54 55 56 57 58 59 5A 5B 5C 5D 5E 5F 60 61 62 63 64 65 66 67 68 69 6A 6B 6C 6D 6E 6F 70 71 72 73 74 75 76 77 78 79 7A 7B 7C 7D 7E 7F 80 81 82 83 84 85 86 87 88 89 8A 8B 8C 8D 8E 8F 90 91 92 93 94 95 96 97 98 99 9A 9B 9C 9D 9E 9F A0 A1 A2 A3 A4 A5 A6 A7 A8 A9 AA AB AC AD AE AF B0 B1 B2 B3 B4 B5 B6 B7 B8 B9 BA BB BC BD BE BF C0 C1 C2 C3 C4 C5 C6 C7 C8 C9 CA CB CC CD CE CF D0 D1 D2 D3 D4 D5 D6 D7 D8 D9 DA DB DC DD DE DF E0 E1 E2 E3 E4 E5 E6 E7 E8 E9 EA EB EC ED EE EF F0 F1 F2 F3 F4 F5 F6 F7 F8 F9 FA
+tpnet run device --stream --quantum=64 --turns 9000 --out 0=out --in 0=in --progress >printed 2>err
+begins in out
+empty out
+copy out had
+tpnet run device --stream --quantum=64 --turns 9000 --out 0=out --in 0=in --progress >printed 2>err
+begins in out
+begins out had
+equal out had
+tpnet run device --stream --quantum=64 --until-quiet --out 0=out --in 0=in >printed 2>err
+equal out in
+
+story full
+# A port puts out more than it holds, beside a node that never rests: it runs on, over at least two checkpoints. The output of a port
+# that is let go is confirmed, too.
+text net.txt node a 4\nnode busy 4\nport h\nwire a.0 h\n
+image a.img
+set a.img 439 60 03
+copy a.img busy.img
+tpnet format device net.txt . 32768
+tpnet run device --stream --quantum=64 --turns 16000 --out 0=out >printed 2>err
+tpnet run device --stream --quantum=64 --turns 16000 --discard 0 >printed 2>err
+fill all 100000 41
+fill some 1001 41
+begins out some
+begins all out
+tpnet show device >shown
+ends shown  unconfirmed 0\n
+has shown generation 1 
+has shown generation 2 
+
+story endings
+# Why streams end, on a device whose node sends back each byte; and inputs of one byte less than the port has accepted, of
+# as many, and of one more.
+text net.txt node a 4\nport h\nwire a.0 h\n
+image a.img 11 24 F2 54 41 F7 11 24 F2 41 FB 60 03
+tpnet format device net.txt . 16384
+text two ab
+text three abc
+text four abcd
+tpnet run device --stream --quantum=64 --turns 0 --discard 0 --wait-lock 4294967
+text given abc
+tpnet run device --stream --quantum=64 --out 0=- --in 0=- <given
+tpnet run device --stream --quantum=64 --turns=0 --out 0=-
+tpnet run device --stream --quantum=64 --until-quiet --discard 0 --in 0=two
+tpnet run device --stream --quantum=64 --until-quiet --out 0=- --in 0=three
+tpnet run device --stream --quantum=64 --until-quiet --stop-on-halt --out 0=- --in 0=four
+tpnet run device --stream --quantum=64 --discard 0 --in 0=two --explain 2>err
+has err two has 2 bytes, and port 0 has accepted 4: 
+
+story stopped
+# A node loads a word that isn't there, and halts; the other, whose link 0 is wired to the port, waits at link 3. Both are told;
+# one that waits only where a byte of input is pending and nothing is left to do.
+text net.txt node a 4\nnode b 4\nport h\nwire b.0 h\n
+image a.img 40 30
+image b.img 11 24 F2 57 41 F7
+tpnet format device net.txt . 65536
+tpnet run device --stream --quantum=64 --stop-on-halt --discard 0
+tpnet run device --turns=3 --workers=1 --explain
+tpnet run device --turns=3 --workers=1
+text given ab
+tpnet run device --stream --quantum=64 --until-quiet --discard 0 --in 0=- <given
+tpnet run device --stream --quantum=64 --turns 9 --discard 0
+tpnet run device --stream --quantum=64 --discard 0
+tpnet run device --stream --quantum=64 --discard 0 --stop-on-halt --until-quiet
+
+story pages
+# A node of 16 pages writes a word into each of twelve of them, a thousand times, then sends the letter A and stops. It writes more
+# pages than it has spare frames, and isn't quiet while a snapshot holds it back: its byte comes.
+text net.txt node a 16\nport h\nwire a.0 h\n
+fill a.img 16556 00
+set a.img 0 01 00 10 00 00 01 00 80 00 02 00 80
+set a.img 24 00 00 00 80 00 00 00 80 00 00 00 80 00 00 00 80 00 02
+set a.img 216 00 00 00 80
+set a.img 428 23 2E 48 D3 24 F2 24 20 50 D1 4C D2 72 71 E0 71 21 20 50 D1 72 60 8F D2 72 A2 60 00 73 60 8F D3 73 A2 61 00 24 F2 24 41 FE 21 F5
+text wanted A
+tpnet format device net.txt . 65536
+text out 
+tpnet run device --stream --quantum=64 --until-quiet --spare 0 --out 0=out 2>err
+ends err  quiet\n
+equal out wanted
+tpnet format device net.txt . 65536
+text out 
+tpnet run device --stream --quantum=64 --until-quiet --spare 1 --out 0=out 2>err
+ends err  quiet\n
+equal out wanted
+tpnet format device net.txt . 65536
+text out 
+tpnet run device --stream --quantum=64 --until-quiet --spare 4 --out 0=out 2>err
+ends err  quiet\n
+equal out wanted
+tpnet format device net.txt . 65536
+text out 
+tpnet run device --stream --quantum=64 --until-quiet --spare 11 --out 0=out 2>err
+ends err  quiet\n
+equal out wanted
+tpnet format device net.txt . 65536
+text out 
+tpnet run device --stream --quantum=64 --until-quiet --spare 16 --out 0=out 2>err
+ends err  quiet\n
+equal out wanted
+
+story no_room
+# A journal that has room for one turn and no byte more takes no input, however often it is settled: the stream says so, and ends.
+text net.txt node a 8\nport h\nwire a.0 h\n
+fill a.img 8364 00
+set a.img 0 01 00 08 00 00 01 00 80 00 02 00 80
+set a.img 24 00 00 00 80 00 00 00 80 00 00 00 80 00 00 00 80 00 02
+set a.img 216 00 00 00 80
+set a.img 428 11 24 F2 54 41 F7
+text in abcdefg
+tpnet format device net.txt . 17546
+tpnet run device --stream --until-quiet --spare 8 --quantum 1 --every 2 --discard 0 --in 0=in

@@ -1,0 +1,29 @@
+# One node alone.
+
+story letter
+# The node sends a letter on link 0, waits for its acknowledge and then goes round: the letter alone is printed.
+image a.img
+image b.img
+set b.img 437 42
+tpnet try a.img --turns 4
+# Of another node it is the letter that stands in its memory.
+tpnet try b.img --turns 4
+# In no turn it sends nothing.
+tpnet try a.img --turns 0
+# It goes round for as many turns as there are.
+tpnet try a.img --turns=100001
+
+story others
+# What is no image: a file without a byte, a text, an image with a link at work, one of a later version.
+fill empty.img 0 00
+text text.img no image
+image busy.img
+set busy.img 109 01
+image later.img
+set later.img 0 02
+tpnet try empty.img --turns 4
+tpnet try text.img --turns 4
+tpnet try busy.img --turns 4
+tpnet try later.img --turns 4
+# A file that is not there can not be read.
+tpnet try a.img --turns 4

@@ -1,0 +1,125 @@
+//! The program's commands.
+
+use crate::printed::print_lines;
+use crate::stage::Stage;
+use std::alloc::Global;
+use std::fs::{Files, OpenFile};
+use std::io::Write;
+use std::os::unix::fs::FileExt;
+use std::sync::Wait;
+use std::thread::Threads;
+use std::{fs, io};
+use tp_program::{answer, answer_stream, is_stream, wants_input};
+use tp_stream_files::Plain;
+use tp_tests_files::standing::Standing;
+
+/// A command as it was typed: its words, the program's name first, and the files that its streams are redirected to.
+#[derive(Drop)]
+struct Typed {
+    words: Vec<String>,
+    input: Option<String>,
+    out: Option<String>,
+    err: Option<String>,
+}
+
+impl Typed {
+    /// Takes a word: `<FILE`, `>FILE` and `2>FILE` redirect a stream, and `''` is the empty word.
+    fn take(&mut self, alloc: Global, word: &str) -> io::Result<()> {
+        if let Some(file) = word.strip_prefix('<') {
+            self.input = Some(String::from_str(alloc, file)?);
+        } else if let Some(file) = word.strip_prefix('>') {
+            self.out = Some(String::from_str(alloc, file)?);
+        } else if let Some(file) = word.strip_prefix("2>") {
+            self.err = Some(String::from_str(alloc, file)?);
+        } else {
+            let text = if word == "''" { "" } else { word };
+            self.words.push(String::from_str(alloc, text)?)?;
+        }
+        Ok(())
+    }
+
+    /// Reads the words behind the program's name.
+    fn read(alloc: Global, words: &str) -> io::Result<Typed> {
+        let mut typed = Typed {
+            words: Vec::new(alloc),
+            input: None,
+            out: None,
+            err: None,
+        };
+        typed.take(alloc, "tpnet")?;
+        for word in words.split_whitespace() {
+            typed.take(alloc, word)?;
+        }
+        Ok(typed)
+    }
+}
+
+/// The bytes of a command's standard input.
+fn input_of<R: Files + AllocGlobal>(rt: &R, typed: &Typed) -> io::Result<Vec<u8>> {
+    match &typed.input {
+        Some(file) => fs::read(rt, file.as_str()),
+        None => Ok(Vec::new(rt.alloc())),
+    }
+}
+
+/// What a command did: its status, and what it wrote.
+#[derive(Drop)]
+struct Done {
+    status: u8,
+    out: Vec<u8>,
+    err: Vec<u8>,
+}
+
+/// Does what a command asks for, as the program does. Standard streams that are files are seen by a stream alone.
+fn carry_out<
+    R: Files<File = F> + AllocGlobal + Threads + Wait + Sync,
+    F: FileExt + OpenFile + Drop + Send,
+>(rt: &R, stage: &Stage, words: &[String], input: &[u8]) -> Done {
+    let (mut out, mut err) = (Vec::new(rt.alloc()), Vec::new(rt.alloc()));
+    let status = if is_stream(words) {
+        let files = Standing::new(rt, stage.streams.as_slice());
+        let mut feed = Plain::new(if wants_input(words) { input } else { &[] });
+        answer_stream(&files, words, &mut feed, &mut out, &mut err)
+    } else {
+        answer(rt, words, &mut out, &mut err)
+    };
+    Done { status, out, err }
+}
+
+/// Prints what came on a stream, or writes it to the file that the stream is redirected to.
+fn put<R: Files + AllocGlobal>(
+    rt: &R,
+    stage: &mut Stage,
+    mark: u8,
+    file: Option<&String>,
+    text: &[u8],
+) -> io::Result<()> {
+    match file {
+        Some(file) => fs::write(rt, file.as_str(), text),
+        None => print_lines(&mut stage.transcript, mark, text),
+    }
+}
+
+/// Prints what a command did.
+fn tell<R: Files + AllocGlobal>(
+    rt: &R,
+    stage: &mut Stage,
+    typed: &Typed,
+    done: &Done,
+) -> io::Result<()> {
+    put(rt, stage, b'|', typed.out.as_ref(), done.out.as_slice())?;
+    put(rt, stage, b'!', typed.err.as_ref(), done.err.as_slice())?;
+    let status = done.status;
+    write!(stage.transcript, "status {status}\n")
+}
+
+/// Plays a command.
+pub(crate) fn play_command<
+    R: Files<File = F> + AllocGlobal + Threads + Wait + Sync,
+    F: FileExt + OpenFile + Drop + Send,
+>(rt: &R, stage: &mut Stage, words: &str) -> io::Result<()> {
+    let typed = Typed::read(rt.alloc(), words)?;
+    let input = input_of(rt, &typed)?;
+    let done = carry_out(rt, stage, typed.words.as_slice(), input.as_slice());
+    tell(rt, stage, &typed, &done)
+}

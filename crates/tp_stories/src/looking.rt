@@ -1,0 +1,94 @@
+//! What looks at the files of a story.
+
+use crate::printed::{print_answer, print_hex};
+use crate::stage::Stage;
+use crate::staying::{keep, stay};
+use crate::typed::{count_of, malformed, number_of, parted, text_of};
+use std::fs::{Files, OpenOptions};
+use std::io::Write;
+use std::os::unix::fs::FileExt;
+use std::{fs, io};
+
+/// Reads bytes of a file from an offset on, just as many as are asked for.
+pub(crate) fn read_part<R: Files<File = F> + AllocGlobal, F: FileExt + Drop>(
+    rt: &R,
+    file: &str,
+    offset: u64,
+    count: usize,
+) -> io::Result<Vec<u8>> {
+    let mut bytes = Vec::from_elem(rt.alloc(), 0u8, count)?;
+    let mut how = OpenOptions::new();
+    let file = how.read(true).open(rt, file)?;
+    file.read_exact_at(bytes.as_mut_slice(), offset)?;
+    Ok(bytes)
+}
+
+/// Prints bytes from an offset on, as many as are asked for.
+fn show<R: Files<File = F> + AllocGlobal, F: FileExt + Drop>(
+    rt: &R,
+    stage: &mut Stage,
+    file: &str,
+    words: &str,
+) -> io::Result<()> {
+    let (offset, count) = parted(words);
+    let bytes = read_part(rt, file, number_of(offset)?, count_of(count)?)?;
+    print_hex(&mut stage.transcript, bytes.as_slice())
+}
+
+/// Prints the length of a file.
+fn tell_length<R: Files>(rt: &R, stage: &mut Stage, file: &str) -> io::Result<()> {
+    let length = fs::metadata(rt, file)?.len();
+    write!(stage.transcript, "= {length}\n")
+}
+
+/// Whether two files have the same bytes.
+fn are_equal<R: Files + AllocGlobal>(rt: &R, one: &str, other: &str) -> io::Result<bool> {
+    let (one, other) = (fs::read(rt, one)?, fs::read(rt, other)?);
+    Ok(one.as_slice() == other.as_slice())
+}
+
+/// Whether a file's bytes begin with all those of another.
+fn begins<R: Files + AllocGlobal>(rt: &R, file: &str, other: &str) -> io::Result<bool> {
+    let (bytes, front) = (fs::read(rt, file)?, fs::read(rt, other)?);
+    Ok(bytes.as_slice().starts_with(front.as_slice()))
+}
+
+/// Whether a text stands in a file: at its start, at its end, or anywhere.
+fn says<R: Files + AllocGlobal>(rt: &R, verb: &str, file: &str, text: &str) -> io::Result<bool> {
+    let (bytes, text) = (fs::read(rt, file)?, text_of(rt.alloc(), text)?);
+    let (bytes, text) = (
+        str::from_utf8(bytes.as_slice()),
+        str::from_utf8(text.as_slice()),
+    );
+    match (verb, bytes, text) {
+        ("starts", Ok(bytes), Ok(text)) => Ok(bytes.starts_with(text)),
+        ("ends", Ok(bytes), Ok(text)) => Ok(bytes.ends_with(text)),
+        (_, Ok(bytes), Ok(text)) => Ok(bytes.contains(text)),
+        _ => Err(malformed()),
+    }
+}
+
+/// Prints what a line asks for.
+pub(crate) fn look<R: Files<File = F> + AllocGlobal, F: FileExt + Drop>(
+    rt: &R,
+    stage: &mut Stage,
+    verb: &str,
+    words: &str,
+) -> io::Result<()> {
+    let (file, rest) = parted(words);
+    match verb {
+        "show" => show(rt, stage, file, rest),
+        "length" => tell_length(rt, stage, file),
+        "there" => print_answer(&mut stage.transcript, fs::metadata(rt, file).is_ok()),
+        "equal" => print_answer(&mut stage.transcript, are_equal(rt, file, rest)?),
+        "begins" => print_answer(&mut stage.transcript, begins(rt, file, rest)?),
+        "has" | "starts" | "ends" => {
+            print_answer(&mut stage.transcript, says(rt, verb, file, rest)?)
+        }
+        "empty" => print_answer(&mut stage.transcript, fs::metadata(rt, file)?.len() == 0),
+        "stand" => stage.stand(rt.alloc(), words),
+        "keep" => keep(rt, stage, words),
+        "stay" => stay(rt, stage),
+        _ => Err(malformed()),
+    }
+}

@@ -1,0 +1,50 @@
+//! Bytes as printable text.
+
+use std::io;
+use std::io::Write;
+
+/// Prints a byte: as it is, or as `\xNN` where it is no printable text.
+fn print_byte(transcript: &mut Vec<u8>, byte: u8) -> io::Result<()> {
+    match byte {
+        b'\\' => write!(transcript, "\\x5C"),
+        b' '..=b'~' => Ok(transcript.push(byte)?),
+        _ => write!(transcript, "\\x{byte:02X}"),
+    }
+}
+
+/// Prints a line behind a mark. One that has no LF ends in `\`.
+fn print_line(transcript: &mut Vec<u8>, mark: u8, line: &[u8]) -> io::Result<()> {
+    transcript.push(mark)?;
+    transcript.push(b' ')?;
+    let text = line.strip_suffix(b"\n").unwrap_or(line);
+    for byte in text {
+        print_byte(transcript, *byte)?;
+    }
+    if text.len() == line.len() {
+        transcript.push(b'\\')?;
+    }
+    Ok(transcript.push(b'\n')?)
+}
+
+/// Prints each line of a text behind a mark.
+pub(crate) fn print_lines(transcript: &mut Vec<u8>, mark: u8, text: &[u8]) -> io::Result<()> {
+    for line in text.split_inclusive(|byte| *byte == b'\n') {
+        print_line(transcript, mark, line)?;
+    }
+    Ok(())
+}
+
+/// Prints bytes in hexadecimal.
+pub(crate) fn print_hex(transcript: &mut Vec<u8>, bytes: &[u8]) -> io::Result<()> {
+    write!(transcript, "=")?;
+    for byte in bytes {
+        write!(transcript, " {byte:02X}")?;
+    }
+    write!(transcript, "\n")
+}
+
+/// Prints an answer to a question.
+pub(crate) fn print_answer(transcript: &mut Vec<u8>, is_so: bool) -> io::Result<()> {
+    let answer = if is_so { "yes" } else { "no" };
+    write!(transcript, "= {answer}\n")
+}

@@ -1,0 +1,79 @@
+//! Where a story is played.
+
+use crate::staying::Kept;
+use crate::typed::malformed;
+use std::alloc::Global;
+use std::fs::Files;
+use std::rt::Env;
+use std::{env, fs, io};
+
+/// Where a story is played: in a folder of its own.
+#[derive(Drop)]
+pub(crate) struct Stage {
+    /// The story's folder, once one has begun.
+    folder: Option<String>,
+    /// What was printed and isn't written yet.
+    pub(crate) transcript: Vec<u8>,
+    /// Standard streams that are files of the story, as `/dev/stdout`, and the path of each.
+    pub(crate) streams: Vec<(&'static str, String)>,
+    /// What files were.
+    pub(crate) kept: Vec<Kept>,
+}
+
+impl Stage {
+    /// No story has begun.
+    pub(crate) fn new(alloc: Global) -> Stage {
+        Stage {
+            folder: None,
+            transcript: Vec::new(alloc),
+            streams: Vec::new(alloc),
+            kept: Vec::new(alloc),
+        }
+    }
+
+    /// Whether a story has begun.
+    pub(crate) fn is_open(&self) -> bool {
+        self.folder.is_some()
+    }
+
+    /// Begins a story in an empty folder.
+    pub(crate) fn open<R: Files + Env + AllocGlobal>(
+        &mut self,
+        rt: &R,
+        name: &str,
+    ) -> io::Result<()> {
+        self.close(rt)?;
+        let folder = format!(in rt.alloc(); "scratch/{name}")?;
+        let _left = fs::remove_dir_all(rt, folder.as_str());
+        fs::create_dir_all(rt, folder.as_str())?;
+        env::set_current_dir(rt, folder.as_str())?;
+        self.folder = Some(folder);
+        Ok(())
+    }
+
+    /// Says which files standard streams of the commands behind this line are: words as `stdout=FILE`.
+    pub(crate) fn stand(&mut self, alloc: Global, words: &str) -> io::Result<()> {
+        self.streams.clear();
+        for word in words.split_whitespace() {
+            let (stream, file) = match word.split_once('=') {
+                Some(("stdin", file)) => ("/dev/stdin", file),
+                Some(("stdout", file)) => ("/dev/stdout", file),
+                Some(("stderr", file)) => ("/dev/stderr", file),
+                _ => return Err(malformed()),
+            };
+            self.streams.push((stream, String::from_str(alloc, file)?))?;
+        }
+        Ok(())
+    }
+
+    /// Ends the story that has begun, and removes its folder.
+    pub(crate) fn close<R: Files + Env + AllocGlobal>(&mut self, rt: &R) -> io::Result<()> {
+        self.streams.clear();
+        self.kept.clear();
+        let Some(folder) = self.folder.take() else {
+            return Ok(());
+        };
+        env::set_current_dir(rt, "../..")?;
+        fs::remove_dir_all(rt, folder.as_str())
+    }
+}

@@ -1,0 +1,47 @@
+use Rattle.std.proofs.Common.{◌≤◌, ◌<◌, inl, inr, length, map, ap, subst, ◌∙◌, arith}
+use Rattle.std.proofs.lemmas.List.{length-map}
+use Rattle.tp_stream.specs.declared.fault.StreamFault.TheVariants.{Port as Absent}
+use Rattle.tp_stream.specs.Offered.{HasAtLeast, given_input}
+use Rattle.tp_stream.specs.Standing.{accepted}
+use Rattle.tp_stream.proofs.Standings.{all_have_accepted, have_accepted_more, input_at}
+use Rattle.tp_stream.proofs.beginning.begin_inputs.Goals as goal
+
+pub returns-then-from-ports-clause-refused : goal.returns-then-from-ports-clause-refused
+returns-then-from-ports-clause-refused g c =
+    let x = c.input-item.result in
+    let within : c.loop-input.input-index < length c.args.inputs.now = omega arith in
+    let past : length c.args.book.now.state.ports ≤ x.port = omega arith in
+    record {
+      at = c.loop-input.input-index;
+      given = given_input x.port (g.I.Source.input x.source);
+      there = input_at (λ i. given_input i.port (g.I.Source.input i.source)) c.args.inputs.now c.loop-input.input-index x within c.input-item.is;
+      before = c.loop-input.invariant;
+      why = inr (ap Absent c.port-port.ensures, past);
+    }
+
+pub returns-in-Some-clause-refused : goal.returns-in-Some-clause-refused
+returns-in-Some-clause-refused g c =
+    let x = c.input-item.result in
+    let within : c.loop-input.input-index < length c.args.inputs.now = omega arith in
+    let short = c.in-Some.ensures.some in
+    record {
+      at = c.loop-input.input-index;
+      given = given_input x.port (g.I.Source.input x.source);
+      there = input_at (λ i. given_input i.port (g.I.Source.input i.source)) c.args.inputs.now c.loop-input.input-index x within c.input-item.is;
+      before = c.loop-input.invariant;
+      why = inl (c.port-port.ensures, c.accepted-accepted.ensures ∙ ap (accepted c.args.book.now) c.port-port.ensures, short.0, short.1);
+    }
+
+pub loop-input-preserved : goal.loop-input-preserved
+loop-input-preserved g c =
+    let x = c.input-item.result in
+    let within : c.loop-input.input-index < length c.args.inputs.now = omega arith in
+    have_accepted_more (accepted c.args.book.now) _ c.loop-input.input-index (given_input x.port (g.I.Source.input x.source)) c.loop-input.invariant
+    (input_at (λ i. given_input i.port (g.I.Source.input i.source)) c.args.inputs.now c.loop-input.input-index x within c.input-item.is)
+    (subst (λ n. HasAtLeast n (g.I.Source.input x.source)) (c.accepted-accepted.ensures ∙ ap (accepted c.args.book.now) c.port-port.ensures) c.in_default.ensures.none)
+
+pub returns-clause-begun : goal.returns-clause-begun
+returns-clause-begun g c =
+    let many : length (map (λ i. given_input i.port (g.I.Source.input i.source)) c.args.inputs.now) ≤ c.loop-input.input-index =
+    let same = length-map c.args.inputs.now (λ i. given_input i.port (g.I.Source.input i.source)) in omega arith in
+    all_have_accepted (accepted c.args.book.now) _ c.loop-input.input-index many c.loop-input.invariant

@@ -1,0 +1,16 @@
+use Rattle.std.proofs.Common.{◌≡◌, ℕ, ◌<◌, true, length, Result, Ok, Err, arith}
+use Rattle.std.specs.Prelude.{IfOk}
+use Rattle.tp_model.specs.NodeState.{NodeState}
+use Rattle.tp_model.specs.Network.{Network}
+use Rattle.tp_book.specs.declared.refusal.Refusal.{Refusal}
+use Rattle.tp_stream.specs.declared.turns.Did.{Did}
+use Rattle.tp_stream.specs.Quiet.{HadNothing, NodeRests}
+use Rattle.tp_stream.proofs.rounds.make_turn.Goals as goal
+
+node_had : (start : Network NodeState) (number : ℕ) (r : Result Did Refusal) → number < length start.nodes → IfOk r (λ did. did.nothing ≡ true → NodeRests start number)
+    → IfOk r (λ did. did.nothing ≡ true → HadNothing start number)
+node_had start number (Ok did) there rests = λ nothing. record { node = λ low. rests nothing; host = λ high. absurd (omega (arith, there, high)) }
+node_had start number (Err refusal) there rests = tt
+
+pub returns-else-whose-nodes : goal.returns-else-whose-nodes
+returns-else-whose-nodes g c = node_had g.J.Naming.start c.args.whose c.node_turn.result (omega arith) c.node_turn.ensures

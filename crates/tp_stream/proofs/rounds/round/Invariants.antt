@@ -1,0 +1,5 @@
+use Rattle.tp_stream.specs.Quiet.{HaveRested}
+use Rattle.tp_stream.proofs.rounds.round.Given as goal
+
+abbrev pub invariant-loop : goal.invariant-loop
+invariant-loop g l = HaveRested g.J.Naming.start l.turns.whose l.turns.idle

@@ -1,0 +1,29 @@
+-- What steps of streams come to.
+use Rattle.std.specs.Prelude.{ℕ, Bool, true, false, Option, Some, None}
+use Rattle.tp_node.specs.declared.standing.Standing.{Standing}
+use Rattle.tp_node.specs.declared.standing.Standing.TheVariants.{Halted as NodeHalted, Waits as NodeWaits, Free}
+use Rattle.tp_stream.specs.declared.ending.Stopped.{Stopped}
+use Rattle.tp_stream.specs.declared.ending.Stopped.TheVariants.{Halted, Waits}
+use Rattle.tp_stream.specs.declared.fault.StreamFault.TheVariants.{OutputFailed}
+use Rattle.tp_stream.specs.declared.sink.SinkFault.{SinkFault}
+use Rattle.tp_stream.specs.declared.sink.SinkFault.TheVariants.{Failed, Gone}
+use Rattle.tp_stream.specs.declared.output.StepFault.{StepFault}
+use Rattle.tp_stream.specs.declared.output.StepFault.TheVariants.{Gone as TakerGone, Fault}
+use Rattle.tp_stream.specs.Streamed.{IsBegun}
+
+-- Why a step of a port's output isn't done, where its sink answered so.
+abbrev pub step_fault_of : ℕ → SinkFault → StepFault
+step_fault_of port Failed = Fault (OutputFailed port)
+step_fault_of port Gone = TakerGone
+
+-- Whoever takes the output has gone, or it is a fault of a stream that was begun.
+abbrev pub IsStepFault : StepFault → Type 0
+IsStepFault TakerGone = Unit {0}
+IsStepFault (Fault fault) = IsBegun fault
+
+-- How a node has stopped that stands so: where it has halted; or where it waits and there is input that no node takes any more.
+abbrev pub stopped_of : Standing → Bool → Option Stopped
+stopped_of (NodeHalted fault at) stuck = Some (Halted fault at)
+stopped_of NodeWaits true = Some Waits
+stopped_of NodeWaits false = None
+stopped_of Free stuck = None

@@ -1,0 +1,75 @@
+-- Turns that had nothing to do, and when nothing is left to do in a network.
+use Rattle.std.specs.Prelude.{◌≡◌, ◌<◌, ◌≤◌, ℕ, ◌+◌, false, true, length, None, Ok, IsSome}
+use Rattle.tp_model.specs.NodeState.{NodeState}
+use Rattle.tp_model.specs.Network.{Network}
+use Rattle.tp_model.specs.Node.{node_step}
+use Rattle.tp_node.specs.declared.run.Why.{Why}
+use Rattle.tp_node.specs.declared.run.Why.TheVariants.{Full, Idle, NoFrame, Halted as Stopped}
+use Rattle.tp_snap.specs.Needs.{has_recorded_in}
+use Rattle.tp_book.specs.Book.{BookValue, node_count}
+use Rattle.tp_shared.specs.declared.node_turn.NodeTurn.{NodeTurn}
+use Rattle.tp_shared.specs.Went.{HostWent, Went}
+use Rattle.tp_stream.specs.declared.task.Task.{Task}
+use Rattle.tp_stream.specs.declared.ending.Ending.{Ending}
+use Rattle.tp_stream.specs.declared.ending.Ending.TheVariants.{Quiet, Turns, Gone, Halted}
+
+-- A book of the network, with as many nodes and ports, was seen in which no snapshot runs.
+pub record IsStill (start : Network NodeState) : Type 0 where
+  pub seen : BookValue
+  pub nodes : length seen.state.start.nodes ≡ length start.nodes
+  pub ports : length seen.state.ports ≡ length start.ports
+  pub still : has_recorded_in seen.state.snapshot (node_count seen) ≡ false
+
+-- Why a run made no more steps: there is none. One for want of a frame has a step left.
+abbrev pub HasNoStep : Why → Type 0
+HasNoStep Full = ⊥
+HasNoStep Idle = Unit {0}
+HasNoStep NoFrame = ⊥
+HasNoStep Stopped = Unit {0}
+
+-- A turn of a node took no token and made no step, and that since the node has no step: it wasn't for want of a frame.
+pub record NodeRests (start : Network NodeState) (number : ℕ) : Type 0 where
+  pub quantum : ℕ
+  pub turn : NodeTurn
+  pub went : Went start number quantum turn
+  pub taken : turn.taken ≡ 0
+  pub count : turn.ran.count ≡ 0
+  pub rests : node_step went.ran.live ≡ None
+
+-- A turn of a process had nothing to do: one of a node; or the host took no token.
+pub record HadNothing (start : Network NodeState) (process : ℕ) : Type 0 where
+  pub node : process < length start.nodes → NodeRests start process
+  pub host : length start.nodes ≤ process → HostWent start (Ok 0)
+
+-- so while no snapshot ran
+pub record Rested (start : Network NodeState) (process : ℕ) : Type 0 where
+  pub had : HadNothing start process
+  pub still : IsStill start
+
+-- In each of the last `idle` turns the process had nothing to do, while no snapshot ran. Turns go round over the nodes in order and the
+-- host, which is the process behind them; the next one is that of `whose`.
+pub record HaveRested (start : Network NodeState) (whose idle : ℕ) : Type 0 where
+  pub whose_is : whose ≤ length start.nodes
+  pub this_round : (p : ℕ) → p < whose → whose ≤ p + idle → Rested start p
+  pub round_before : (p : ℕ) → p ≤ length start.nodes → whose + length start.nodes + 1 ≤ p + idle → Rested start p
+
+-- Nothing is left to do: each node and the host had nothing to do in its last turn, while no snapshot ran.
+abbrev pub AreQuiet : Network NodeState → Type 0
+AreQuiet start = (p : ℕ) → p ≤ length start.nodes → Rested start p
+
+-- ## Why a stream is over
+
+-- It was asked to end so; and where it ended as quiet, nothing is left to do.
+abbrev pub IsWhyEnded : Network NodeState → Task → Ending → Type 0
+IsWhyEnded start task Quiet = (task.until_quiet ≡ true) × AreQuiet start
+IsWhyEnded start task Turns = IsSome task.turns
+IsWhyEnded start task Gone = Unit {0}
+IsWhyEnded start task Halted = task.stop_on_halt ≡ true
+
+-- It was asked to end so: without a bound on turns it is over only by quiet where that was asked for, by a halt where that was asked
+-- for, or since its ends are gone.
+abbrev pub IsAsked : Task → Ending → Type 0
+IsAsked task Quiet = task.until_quiet ≡ true
+IsAsked task Turns = IsSome task.turns
+IsAsked task Gone = Unit {0}
+IsAsked task Halted = task.stop_on_halt ≡ true

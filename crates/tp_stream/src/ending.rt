@@ -1,0 +1,44 @@
+//! How a stream ended.
+
+use tp_model::Fault;
+
+/// Why a stream is over.
+#[derive(Clone, Copy, Debug, PartialEq, Eq)]
+pub enum Ending {
+    /// It was to end where nothing is left to do, and nothing is.
+    Quiet,
+    /// All turns were made that it was given.
+    Turns,
+    /// Its ends are gone: nothing is left to do and no input can come any more, or whoever takes an output has gone.
+    Gone,
+    /// It was to end where a node halts, and one has halted.
+    Halted,
+}
+
+impl Ending {
+    /// The word for it.
+    pub fn word(self) -> &'static str {
+        match self {
+            Ending::Quiet => "quiet",
+            Ending::Turns => "turns",
+            Ending::Gone => "gone",
+            Ending::Halted => "halted",
+        }
+    }
+}
+
+/// What a stream came to: the number that the next entry gets, all below being stored, and why it is over.
+#[derive(Clone, Copy, Debug, PartialEq, Eq)]
+pub struct Ended {
+    pub next: u64,
+    pub why: Ending,
+}
+
+/// How a node stands that does nothing any more.
+#[derive(Clone, Copy, Debug, PartialEq, Eq)]
+pub enum Stopped {
+    /// It halted at the instruction at this address.
+    Halted { fault: Fault, at: u32 },
+    /// It waits at a link, though a port has input that no node has taken.
+    Waits,
+}

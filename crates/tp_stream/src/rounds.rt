@@ -1,0 +1,208 @@
+//! Rounds of turns of the network's processes, one behind the other.
+
+ghost use Rattle.std.specs.Prelude.{◌≡◌, ◌<◌, ◌≤◌, length, true, false, Ok, IfOk, IfErr, OnOk};
+ghost use Rattle.tp_model.specs.declared.limits.TheConstants.{MAX_STEPS};
+ghost use Rattle.tp_book.specs.Marked.{after_begin};
+ghost use Rattle.tp_shared.specs.Went.{HostWent};
+ghost use Rattle.tp_run.specs.Every.{is_due};
+ghost use Rattle.tp_stream.specs.Quiet.{HadNothing, HasNoStep, HaveRested, IsStill, NodeRests};
+ghost use Rattle.tp_stream.specs.Rooms.{HavePlace};
+ghost use Rattle.tp_stream.specs.Streamed.{IsBegun};
+
+use crate::fault::StreamFault;
+use crate::pace::Pace;
+use crate::rooms::have_place;
+use crate::turns::{Did, Turns};
+use std::alloc::Global;
+use std::sync::Wait;
+use tp_book::Refusal;
+use tp_node::Why;
+use tp_shared::{Locked, Naming, NoGate, NodeTurn, Seat, Shared};
+
+/// How many turns are made at most between two flushes.
+const ROUND: u32 = 1024;
+
+/// Whether a run ended since there is no step, and whether that is since the node has halted. One that lacks a frame has a step left.
+fn rests(why: Why) -> (bool, bool)
+    ensures { result.0 ≡ true → HasNoStep why }
+{
+    match why {
+        Why::Idle => (true, false),
+        Why::Halted => (true, true),
+        Why::Full | Why::NoFrame => (false, false),
+    }
+}
+
+/// What a node did in a turn. There was nothing to do only where it took no token and made no step, since it has none.
+fn did_of(turn: &NodeTurn) -> Did
+    ensures taken { result.nothing ≡ true → turn.now.taken ≡ 0 }
+    ensures count { result.nothing ≡ true → turn.now.ran.count ≡ 0 }
+    ensures rests { result.nothing ≡ true → HasNoStep turn.now.ran.why }
+{
+    let (rests, halted) = rests(turn.ran.why());
+    Did {
+        nothing: turn.taken == 0 && turn.ran.count() == 0 && rests,
+        halted,
+    }
+}
+
+/// A turn of the node `number`, of at most `quantum` steps.
+fn node_turn<J: Naming, R: Wait>(
+    rt: &R,
+    shared: &Shared<J>,
+    seat: &mut Seat<J>,
+    number: u8,
+    quantum: u16,
+) -> Result<Did, Refusal>
+    requires there { number < length J.start.nodes }
+    requires quantum { quantum ≤ MAX_STEPS }
+    ensures { IfOk result (λ did. did.nothing ≡ true → NodeRests J.start number) }
+{
+    match shared.turn(rt, &NoGate, seat, number, quantum) {
+        Ok(turn) => Ok(did_of(&turn)),
+        Err(refusal) => Err(refusal),
+    }
+}
+
+/// A turn of the host.
+fn host_turn<J: Naming, R: Wait>(
+    rt: &R,
+    shared: &Shared<J>,
+    seat: &mut Seat<J>,
+) -> Result<Did, Refusal>
+    ensures { IfOk result (λ did. did.nothing ≡ true → HostWent J.start (Ok 0)) }
+{
+    match shared.host_turn(rt, &NoGate, seat) {
+        Ok(takes) => Ok(Did {
+            nothing: takes == 0,
+            halted: false,
+        }),
+        Err(refusal) => Err(refusal),
+    }
+}
+
+/// A turn of a process, of at most `quantum` steps; the host's where there is no such node. It says that there was nothing to do only
+/// where a node took no token and has no step, or the host took none.
+pub(crate) fn make_turn<J: Naming, R: Wait>(
+    rt: &R,
+    shared: &Shared<J>,
+    seat: &mut Seat<J>,
+    whose: u8,
+    quantum: u16,
+) -> Result<Did, Refusal>
+    requires { quantum ≤ MAX_STEPS }
+    ensures { IfOk result (λ did. did.nothing ≡ true → HadNothing J.start whose) }
+{
+    if whose >= shared.nodes() {
+        host_turn(rt, shared, seat)
+    } else {
+        node_turn(rt, shared, seat, whose, quantum)
+    }
+}
+
+/// Begins a snapshot, under the book's lock, where `every` entries have been made since the kept cut and each port has room for one
+/// more byte. That it is refused is passed over. Whether one was begun.
+pub(crate) fn begin_where_due<J: Naming>(held: &mut Locked<J>, alloc: Global, every: u64) -> bool
+    ensures due { result ≡ true → is_due every held.old.book ≡ true }
+    ensures place { result ≡ true → HavePlace held.old.book }
+    ensures begun { result ≡ true → held.new ≡ record held.old { book = after_begin held.old.book } }
+    ensures same { result ≡ false → held.new ≡ held.old }
+{
+    let made = held.book().next().saturating_sub(held.book().base());
+    if made < every || !have_place(held.book()) {
+        return false;
+    }
+    held.begin_snapshot(alloc).is_ok()
+}
+
+/// What was seen of the book before a turn: whether the journal has room for it and the confirms behind it, and whether a snapshot runs.
+#[derive(Clone, Copy)]
+struct Seen {
+    has_room: bool,
+    is_running: bool,
+}
+
+/// What is seen of the book under its lock.
+fn look_at<J: Naming>(held: &Locked<J>, pace: Pace) -> Seen
+    ensures { result.is_running ≡ false → IsStill J.start }
+{
+    held.known();
+    Seen {
+        has_room: pace.rooms.has_room(held.book(), pace.need),
+        is_running: held.book().recorded(held.book().nodes()),
+    }
+}
+
+/// Looks at the book before a turn. Before that a snapshot is begun where it is due; none ends before the flusher's next turn.
+fn look<J: Naming, R: Wait>(rt: &R, alloc: Global, shared: &Shared<J>, pace: Pace) -> Seen
+    ensures { result.is_running ≡ false → IsStill J.start }
+{
+    let mut held = shared.book().lock(rt);
+    let _begun = begin_where_due(&mut held, alloc, pace.every);
+    look_at(&held, pace)
+}
+
+/// A turn of the process whose turn it is, behind what was seen of the book. One for which the journal has no room counts, and has
+/// something left to do.
+fn one_turn<J: Naming, R: Wait>(
+    rt: &R,
+    shared: &Shared<J>,
+    pace: Pace,
+    seat: &mut Seat<J>,
+    turns: &mut Turns,
+    seen: Seen,
+) -> Result<(), StreamFault>
+    requires rested { HaveRested J.start turns.old.whose turns.old.idle }
+    requires still { seen.is_running ≡ false → IsStill J.start }
+    ensures rested { OnOk result (HaveRested J.start turns.new.whose turns.new.idle) }
+    ensures begun { IfErr result IsBegun }
+{
+    let nodes = shared.nodes();
+    match make_turn(rt, shared, seat, turns.whose, pace.task.quantum) {
+        Ok(did) => {
+            turns.count(did, seen.is_running, nodes);
+            Ok(())
+        }
+        Err(Refusal::JournalFull) => {
+            turns.count(Did::refused(), seen.is_running, nodes);
+            Ok(())
+        }
+        Err(Refusal::StoreBroken) => Err(StreamFault::FlushFailed),
+        Err(_) => Err(StreamFault::Memory),
+    }
+}
+
+/// A round of turns, of all processes in order, until the journal has no room for one more, no turn may be made, or nothing is left to
+/// do. While a snapshot runs each process has one, and the flusher's turn comes next.
+///
+/// While one runs nothing counts as left undone, so rounds and flushes go on until it has ended. It does: each node records in its turn,
+/// also one that has halted; in front of a Marker stand at most a Data and an Ack, which its taker can take, since each port had room for
+/// one more byte, the reserve of the journal is for them, and the flusher's turn copies the frozen pages, so that no node lacks a frame
+/// for long; once all is copied and the cut is whole the flusher ends it. And the next one begins only where an entry has been made since.
+pub(crate) fn round<J: Naming, R: Wait>(
+    rt: &R,
+    alloc: Global,
+    shared: &Shared<J>,
+    pace: Pace,
+    seat: &mut Seat<J>,
+    turns: &mut Turns,
+) -> Result<(), StreamFault>
+    requires { turns.old.whose ≤ length J.start.nodes }
+    ensures rested { OnOk result (HaveRested J.start turns.new.whose turns.new.idle) }
+    ensures begun { IfErr result IsBegun }
+{
+    let nodes = shared.nodes();
+    turns.begin();
+    for _ in 0..ROUND {
+        if turns.is_round_over(pace.task, nodes) {
+            return Ok(());
+        }
+        let seen = look(rt, alloc, shared, pace);
+        if !seen.has_room {
+            turns.fill();
+            return Ok(());
+        }
+        one_turn(rt, shared, pace, seat, turns, seen)?;
+    }
+    Ok(())
+}

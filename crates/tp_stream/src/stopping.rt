@@ -1,0 +1,70 @@
+//! Nodes that have stopped.
+
+ghost use Rattle.std.specs.Prelude.{◌≡◌};
+ghost use Rattle.tp_stream.specs.Outcomes.{stopped_of};
+
+use crate::ending::{Ending, Stopped};
+use crate::listener::Listener;
+use std::sync::Wait;
+use tp_book::Book;
+use tp_model::limits::MAX_HELD;
+use tp_node::Standing;
+use tp_shared::{Naming, Shared};
+
+/// Whether a node has halted.
+pub(crate) fn find_halted<J: Naming, R: Wait>(rt: &R, shared: &Shared<J>) -> bool {
+    for node in 0..shared.nodes() {
+        if let Standing::Halted { .. } = shared.standing(rt, node) {
+            return true;
+        }
+    }
+    false
+}
+
+/// Whether a port has input that no node has taken.
+fn has_pending(book: &Book) -> bool {
+    book.known();
+    for port in 0..book.ports() {
+        if book.room(port as u8) < MAX_HELD {
+            return true;
+        }
+    }
+    false
+}
+
+/// Whether a stream that ended so left input that no node takes any more.
+fn is_stuck<J: Naming, R: Wait>(rt: &R, shared: &Shared<J>, why: Ending) -> bool {
+    match why {
+        Ending::Quiet | Ending::Gone => {
+            let held = shared.book().lock(rt);
+            has_pending(held.book())
+        }
+        Ending::Turns | Ending::Halted => false,
+    }
+}
+
+/// How a node has stopped, where it has: one that waits has where there is input that no node takes any more.
+fn stopped(standing: Standing, is_stuck: bool) -> Option<Stopped>
+    ensures { result ≡ stopped_of standing is_stuck }
+{
+    match standing {
+        Standing::Halted { fault, at } => Some(Stopped::Halted { fault, at }),
+        Standing::Waits if is_stuck => Some(Stopped::Waits),
+        Standing::Waits | Standing::Free => None,
+    }
+}
+
+/// Tells of each node that has stopped, in order, where a stream ended so.
+pub(crate) fn tell_stopped<J: Naming, L: Listener, R: Wait>(
+    rt: &R,
+    shared: &Shared<J>,
+    why: Ending,
+    listener: &mut L,
+) {
+    let is_stuck = is_stuck(rt, shared, why);
+    for node in 0..shared.nodes() {
+        if let Some(how) = stopped(shared.standing(rt, node), is_stuck) {
+            listener.stopped(node, how);
+        }
+    }
+}

@@ -1,0 +1,178 @@
+//! A device that another process writes while it is read.
+
+ghost use Rattle.std.specs.Prelude.{◌≡◌, ◌+◌, ◌≤◌, length, take, drop, OnOk, OnErr};
+ghost use Rattle.tp_model.specs.Disk.{Write, Sync, Read, done};
+ghost use Rattle.tp_model.specs.DiskHistory.{Goes, Fails, unknown};
+ghost use Rattle.tp_tests_program.specs.Changing.{changing_keeps, no_changing};
+
+use std::alloc::{AllocError, Global};
+use tp_disk::{DeviceFailed, RawDisk};
+use tp_tests_fixtures::place;
+
+/// Bytes that were written at a place.
+#[derive(Drop)]
+struct Written {
+    at: usize,
+    bytes: Vec<u8>,
+}
+
+/// When the writes come to pass: `count` of them before the call with the number `first`, and `count` more before each call that comes
+/// `period` calls later.
+#[derive(Clone, Copy, Debug)]
+pub(crate) struct Pace {
+    pub(crate) first: u64,
+    pub(crate) period: u64,
+    pub(crate) count: usize,
+}
+
+/// A device in memory that keeps the list of what was written to it. Once it is rewound, the writes come to pass again while it is read.
+#[derive(Drop)]
+pub(crate) struct RawChanging {
+    alloc: Global,
+    size: u64,
+    first: Vec<u8>,
+    bytes: Vec<u8>,
+    writes: Vec<Written>,
+    /// How many of the writes have come to pass, and before which call the next ones do.
+    done: usize,
+    pace: Option<Pace>,
+    calls: u64,
+}
+
+impl RawChanging {
+    /// A device that holds `bytes`.
+    pub(crate) fn new(alloc: Global, bytes: &[u8]) -> Result<RawChanging, AllocError> {
+        Ok(RawChanging {
+            alloc,
+            size: bytes.len() as u64,
+            first: Vec::from_slice(alloc, bytes)?,
+            bytes: Vec::from_slice(alloc, bytes)?,
+            writes: Vec::new(alloc),
+            done: 0,
+            pace: None,
+            calls: 0,
+        })
+    }
+
+    /// How many writes there are.
+    pub(crate) fn count(&self) -> usize {
+        self.writes.len()
+    }
+
+    /// How many of them have come to pass.
+    pub(crate) fn done(&self) -> usize {
+        self.done
+    }
+
+    /// How many calls were made since it was rewound.
+    pub(crate) fn calls(&self) -> u64 {
+        self.calls
+    }
+
+    /// Goes back to where the first `done` writes had come to pass. The others come to pass at `pace`, where there is one.
+    pub(crate) fn rewind(&mut self, done: usize, pace: Option<Pace>)
+        ensures { self.new.size ≡ self.old.size }
+    {
+        place(&mut self.bytes, 0, &self.first);
+        self.done = 0;
+        self.come_to_pass(done);
+        self.pace = pace;
+        self.calls = 0;
+    }
+
+    /// Some more writes come to pass.
+    fn come_to_pass(&mut self, count: usize)
+        ensures { self.new.size ≡ self.old.size }
+    {
+        let RawChanging {
+            bytes,
+            writes,
+            done,
+            ..
+        } = self;
+        for written in writes.iter().skip(*done).take(count) {
+            place(bytes, written.at, &written.bytes);
+            *done = done.saturating_add(1);
+        }
+    }
+
+    /// Counts a call. The writes that come before it come to pass.
+    fn begin(&mut self)
+        ensures { self.new.size ≡ self.old.size }
+    {
+        let call = self.calls;
+        self.calls = call.saturating_add(1);
+        if let Some(pace) = self.pace {
+            if pace.first == call {
+                self.pace = Some(Pace {
+                    first: call.saturating_add(pace.period),
+                    ..pace
+                });
+                self.come_to_pass(pace.count);
+            }
+        }
+    }
+
+    /// Writes bytes, and keeps them.
+    pub(crate) fn write(&mut self, at: u64, bytes: &[u8]) -> Result<(), AllocError>
+        ensures { self.new.size ≡ self.old.size }
+    {
+        let (at, bytes) = (at as usize, Vec::from_slice(self.alloc, bytes)?);
+        place(&mut self.bytes, at, &bytes);
+        self.writes.push(Written { at, bytes })?;
+        self.done = self.writes.len();
+        Ok(())
+    }
+}
+
+impl RawDisk for RawChanging {
+    ghost size_of = { λ d. d.size };
+
+    ghost keeps = { changing_keeps };
+
+    ghost state = { λ _. unknown };
+
+    fn size(&self) -> u64 {
+        self.size
+    }
+
+    #[tactic(auto, unfolding(crate::specs::Changing::changing_keeps))]
+    fn read(&mut self, at: u64, out: &mut [u8]) -> Result<(), DeviceFailed>
+        ensures size { self.new.size ≡ self.old.size }
+        ensures goes { changing_keeps → Goes unknown unknown }
+        ensures bytes { changing_keeps → OnOk result (out.new ≡ take (length out.old) (drop at unknown.now.bytes)) }
+        ensures after { changing_keeps → OnOk result (unknown.now ≡ done Read unknown.now) }
+        ensures failed { changing_keeps → OnErr result (Fails Read unknown unknown) }
+    {
+        self.begin();
+        let start = (at as usize).min(self.bytes.len());
+        place(out, 0, &self.bytes[start..]);
+        Ok(())
+    }
+
+    #[tactic(auto, unfolding(crate::specs::Changing::changing_keeps))]
+    fn write_at(&mut self, at: u64, bytes: &[u8]) -> Result<(), DeviceFailed>
+        ensures size { self.new.size ≡ self.old.size }
+        ensures goes { changing_keeps → Goes unknown unknown }
+        ensures after { changing_keeps → OnOk result (unknown.now ≡ done (Write at bytes.now) unknown.now) }
+        ensures failed { changing_keeps → OnErr result (Fails (Write at bytes.now) unknown unknown) }
+    {
+        match self.write(at, bytes) {
+            Ok(()) => Ok(()),
+            Err(_) => Err(DeviceFailed),
+        }
+    }
+
+    #[tactic(auto, unfolding(crate::specs::Changing::changing_keeps))]
+    fn sync(&mut self) -> Result<(), DeviceFailed>
+        ensures size { self.new.size ≡ self.old.size }
+        ensures goes { changing_keeps → Goes unknown unknown }
+        ensures after { changing_keeps → OnOk result (unknown.now ≡ done Sync unknown.now) }
+        ensures failed { changing_keeps → OnErr result (Fails Sync unknown unknown) }
+    {
+        self.begin();
+        Ok(())
+    }
+
+    ghost whole = { λ k d. absurd (no_changing k) };
+}

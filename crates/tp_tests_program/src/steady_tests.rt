@@ -1,0 +1,284 @@
+//! What commands that read a device say of one that another process writes meanwhile.
+
+use crate::changing::{Pace, RawChanging};
+use crate::format_tests::{AREA, images_of};
+use std::alloc::Global;
+use std::sync::Wait;
+use std::test::Fail;
+use tp_disk::Counted;
+use tp_net::Topology;
+use tp_program::{View, compact_on, format_on, recover_on, show_on, view_on};
+use tp_tests_files::scratch::Output;
+use tp_tests_fixtures::{ONE_NODE, SIZE, letter};
+
+/// A command that reads a device.
+#[derive(Clone, Copy)]
+enum Reader {
+    Recover,
+    Show,
+    Look(View),
+}
+
+/// What stands behind the gate of a group of the node's first turns and the host's: a run of 3 steps, the letter, its acknowledge, and a
+/// run of 16 steps.
+const TURNS: &[u8] = &[
+    0, 4, 0, 0, 0, 0, 0, 0, 0, 0, 0, 0, 0, 0, 0, // the header
+    1, 0, 3, 0, 0, 0, 0, 0, 0, 0, 0, 0, 0, 0, 0, 0, //
+    2, 1, 0, 0, 0x41, 0, 0, 0, 1, 0, 0, 0, 0, 0, 0, 0, //
+    2, 2, 4, 0, 0, 0, 0, 0, 2, 0, 0, 0, 0, 0, 0, 0, //
+    1, 0, 16, 0, 0, 0, 0, 0, 3, 0, 0, 0, 0, 0, 0, 0, //
+    0,
+];
+
+/// And of a group of a further run.
+const FURTHER: &[u8] = &[
+    0, 1, 0, 0, 0, 0, 0, 4, 0, 0, 0, 0, 0, 0, 0, // the header
+    1, 0, 16, 0, 0, 0, 0, 0, 4, 0, 0, 0, 0, 0, 0, 0, //
+    0,
+];
+
+/// The groups that are appended, each with the place of its gate. A checkpoint comes behind each.
+const GROUPS: &[(u64, &[u8])] = &[(13_033, TURNS), (29_417, FURTHER)];
+
+/// A device, as it is formatted.
+fn formatted(alloc: Global) -> Result<RawChanging, Fail> {
+    let Ok(topology) = Topology::read(alloc, ONE_NODE) else {
+        return Err(Fail::new("the topology"));
+    };
+    let _rules = topology.pages();
+    let images = images_of(alloc, letter(alloc)?)?;
+    let zeros = Vec::from_elem(alloc, 0u8, SIZE)?;
+    let mut disk = Counted::new(RawChanging::new(alloc, &zeros)?);
+    let (mut out, mut err) = (Vec::new(alloc), Vec::new(alloc));
+    match format_on(
+        alloc, &mut disk, &topology, &images, AREA, &mut out, &mut err,
+    ) {
+        0 => Ok(disk.into_raw()),
+        _ => Err(Fail::new("not formatted")),
+    }
+}
+
+/// Appends a group as a run does, its gate last, and then takes a checkpoint.
+fn stepped<R: AllocGlobal + Wait>(
+    rt: &R,
+    raw: RawChanging,
+    gate: u64,
+    body: &[u8],
+) -> Result<RawChanging, Fail> {
+    let (alloc, mut raw) = (rt.alloc(), raw);
+    raw.write(gate.wrapping_add(1), body)?;
+    raw.write(gate, &[0xA5])?;
+    let (mut out, mut err) = (Vec::new(alloc), Vec::new(alloc));
+    let (disk, status) = compact_on(rt, alloc, Counted::new(raw), &mut out, &mut err);
+    if status == 0 {
+        Ok(disk.into_raw())
+    } else {
+        Err(Fail::new("no checkpoint"))
+    }
+}
+
+/// What a command says of a device.
+fn asked(alloc: Global, raw: RawChanging, reader: Reader) -> (RawChanging, Output) {
+    let mut disk = Counted::new(raw);
+    let (mut out, mut err) = (Vec::new(alloc), Vec::new(alloc));
+    let status = match reader {
+        Reader::Recover => recover_on(alloc, &mut disk, &mut out, &mut err),
+        Reader::Show => show_on(alloc, &mut disk, &mut out, &mut err),
+        Reader::Look(view) => view_on(alloc, &mut disk, view, &mut out, &mut err),
+    };
+    (disk.into_raw(), Output { status, out, err })
+}
+
+/// What `show` says behind each of the writes, where the device then stays as it is.
+fn said_of_each(alloc: Global, raw: RawChanging) -> Result<(RawChanging, Vec<Output>), Fail> {
+    let (mut raw, mut said) = (raw, Vec::new(alloc));
+    for done in 0..=raw.count() {
+        raw.rewind(done, None);
+        let (back, output) = asked(alloc, raw, Reader::Show);
+        raw = back;
+        said.push(output)?;
+    }
+    Ok((raw, said))
+}
+
+fn is_alike(one: &Output, other: &Output) -> bool {
+    one.status == other.status
+        && one.out.as_slice() == other.out.as_slice()
+        && one.err.as_slice() == other.err.as_slice()
+}
+
+/// Whether that was said of a moment between two, of which none is damaged.
+fn is_of_a_moment(said: &[Output], from: usize, upto: usize, output: &Output) -> bool {
+    said.iter()
+        .take(upto.saturating_add(1))
+        .skip(from)
+        .any(|moment| is_alike(moment, output))
+        && !output.err.as_slice().starts_with(b"tpnet: Damaged")
+}
+
+/// Asks `show` while writes come to pass, `count` of them before each call from one on, for each such call of the first `calls`. Answers
+/// how often what was said is of no moment in between.
+fn asked_meanwhile(
+    alloc: Global,
+    raw: RawChanging,
+    said: &[Output],
+    from: usize,
+    count: usize,
+    calls: u64,
+) -> (RawChanging, usize) {
+    let (mut raw, mut wrong) = (raw, 0usize);
+    for first in 0..calls {
+        let pace = Pace {
+            first,
+            period: 1,
+            count,
+        };
+        raw.rewind(from, Some(pace));
+        let (back, output) = asked(alloc, raw, Reader::Show);
+        raw = back;
+        if !is_of_a_moment(said, from, raw.done(), &output) {
+            wrong = wrong.saturating_add(1);
+        }
+    }
+    (raw, wrong)
+}
+
+/// How many writes have come to pass when the device is read, and how many come to pass before each call: the first are those of the
+/// format.
+const PACES: &[(usize, usize)] = &[(0, 1), (7, 1), (7, 3), (7, usize::MAX)];
+
+#[test]
+fn an_answer_is_of_one_moment(rt: HostRuntime) -> Result<(), Fail> {
+    let mut raw = formatted(rt.alloc())?;
+    for (gate, body) in GROUPS {
+        raw = stepped(&rt, raw, *gate, body)?;
+    }
+    let (mut raw, said) = said_of_each(rt.alloc(), raw)?;
+    let calls = raw.calls();
+    for (from, count) in PACES {
+        let (back, wrong) = asked_meanwhile(rt.alloc(), raw, &said, *from, *count, calls);
+        raw = back;
+        assert_eq!(rt; wrong, 0);
+    }
+    Ok(())
+}
+
+/// A write that writes nothing.
+const NONE: (usize, &[u8]) = (0, &[]);
+
+/// Two switches, three writes before each call: the first area's gate is closed where a look reads it, and the second one's where the look
+/// reads that, though one of the two is open at each moment. While the first area is read it is written anew.
+const SWITCHES: &[[(usize, &[u8]); 3]] = &[
+    [
+        (16_896, &[0xA5, 2, 0, 0, 0, 0, 0, 0, 0]),
+        (512, &[0, 3, 0, 0, 0, 0, 0, 0, 0]),
+        NONE,
+    ],
+    [NONE; 3],
+    [
+        (512, &[0xA5]),
+        (16_896, &[0]),
+        (16_897, &[4, 0, 0, 0, 0, 0, 0, 0]),
+    ],
+    [NONE; 3],
+    [NONE; 3],
+    [NONE; 3],
+    [NONE; 3],
+    [NONE; 3],
+    [(16_896, &[0xA5]), (512, &[0]), (533, &[2])],
+    [NONE; 3],
+    [NONE; 3],
+    [NONE; 3],
+    [
+        (533, &[1]),
+        (512, &[0xA5, 5, 0, 0, 0, 0, 0, 0, 0]),
+        (16_896, &[0]),
+    ],
+];
+
+/// A device to which that was written.
+fn switched(alloc: Global) -> Result<RawChanging, Fail> {
+    let mut raw = formatted(alloc)?;
+    for (at, bytes) in SWITCHES.iter().flatten() {
+        raw.write(*at as u64, bytes)?;
+    }
+    Ok(raw)
+}
+
+/// Whether `show` says what is so behind the switches, where they come while it reads.
+fn is_not_overlooked(alloc: Global) -> Result<bool, Fail> {
+    let mut raw = switched(alloc)?;
+    let count = raw.count();
+    let (mut raw, still) = asked(alloc, raw, Reader::Show);
+    let from = count.wrapping_sub(SWITCHES.len().wrapping_mul(3));
+    raw.rewind(
+        from,
+        Some(Pace {
+            first: 0,
+            period: 1,
+            count: 3,
+        }),
+    );
+    let (raw, output) = asked(alloc, raw, Reader::Show);
+    Ok(output.status == 0 && is_alike(&output, &still) && raw.done() == count)
+}
+
+#[test]
+fn no_switch_is_overlooked(rt: HostRuntime) -> Result<(), Fail> {
+    assert!(rt; is_not_overlooked(rt.alloc())?);
+    Ok(())
+}
+
+/// Writes to the area that counts, each a generation two above the one before it, as two checkpoints leave it.
+fn aged(alloc: Global, times: u8) -> Result<RawChanging, Fail> {
+    let mut raw = formatted(alloc)?;
+    for time in 1..=times {
+        let generation = time.wrapping_mul(2).wrapping_add(1);
+        raw.write(512, &[0xA5, generation, 0, 0, 0, 0, 0, 0, 0])?;
+    }
+    Ok(raw)
+}
+
+/// A command, in how many of its tries the device is written, and whether it says what is so in the end; else it says `Busy`.
+const TRIES: &[(Reader, u8, bool)] = &[
+    (Reader::Recover, 19, true),
+    (Reader::Recover, 20, false),
+    (Reader::Show, 19, true),
+    (Reader::Show, 20, false),
+    (Reader::Show, 21, false),
+    (Reader::Look(View::Node(0)), 20, false),
+    (Reader::Look(View::Image(0)), 20, false),
+    (Reader::Look(View::Journal(0)), 20, false),
+    (Reader::Look(View::Outputs(0)), 20, false),
+];
+
+/// Whether a command says what it has to of a device that is written once in each of so many tries.
+fn is_tried(alloc: Global, reader: Reader, times: u8, is_read: bool) -> Result<bool, Fail> {
+    let mut raw = aged(alloc, times)?;
+    let count = raw.count();
+    raw.rewind(count, None);
+    let (mut raw, still) = asked(alloc, raw, reader);
+    let (from, calls) = (count.wrapping_sub(usize::from(times)), raw.calls());
+    raw.rewind(
+        from,
+        Some(Pace {
+            first: 6,
+            period: calls,
+            count: 1,
+        }),
+    );
+    let (_raw, output) = asked(alloc, raw, reader);
+    Ok(if is_read {
+        is_alike(&output, &still)
+    } else {
+        output.is(1, "", "tpnet: Busy\n")
+    })
+}
+
+#[test]
+fn a_device_is_tried_twenty_times(rt: HostRuntime) -> Result<(), Fail> {
+    for (reader, times, is_read) in TRIES {
+        assert!(rt; is_tried(rt.alloc(), *reader, *times, *is_read)?);
+    }
+    Ok(())
+}

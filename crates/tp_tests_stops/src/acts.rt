@@ -1,0 +1,239 @@
+//! What processes, a host and the flusher do over a device, one after another, each time as it was told.
+
+ghost use Rattle.std.specs.Prelude.{◌≡◌, ◌<◌, ◌≤◌, [], All, IfSome, Some};
+ghost use Rattle.tp_model.specs.declared.limits.TheConstants.{MAX_STEPS};
+ghost use Rattle.tp_shared.specs.Named.{Names};
+ghost use Rattle.tp_tests_begun.specs.Spelt.{IsSpelt};
+
+use std::alloc::Global;
+use std::marker::Brand;
+use std::sync::Wait;
+use std::test::Fail;
+use tp_disk::MemDisk;
+use tp_flush::{FlushFault, Flusher};
+use tp_host::Session;
+use tp_node::Why;
+use tp_shared::{Naming, NoGate, Shared};
+use tp_tests_begun::opening::{Opening, begin_with};
+use tp_work::{Net, Seat, Turn};
+
+/// What is done, and what comes of it.
+#[derive(Clone, Copy)]
+pub(crate) enum Act {
+    /// The process of that number, which waits longest, makes a turn: it takes that many tokens, and a node makes that many steps, and no
+    /// more for that reason.
+    Turn(u8, u64, Option<(u16, Why)>),
+    /// Bytes are handed to the port at a position.
+    Offer(u64, &'static [u8]),
+    /// A snapshot begins.
+    Begin,
+    /// The book's next number is that, and its cut is whole or isn't.
+    Book(u64, bool),
+    /// A turn of the flusher brings all to the device, and switches its areas or doesn't.
+    Flush(bool),
+    /// That many times a node and the host make a turn, and then the flusher one, which doesn't switch.
+    Groups(u8),
+    /// A turn of the flusher in which the device fails.
+    Fails,
+}
+
+impl Act {
+    /// The same where no snapshot begins.
+    fn plain(self) -> Act {
+        match self {
+            Act::Begin | Act::Flush(_) | Act::Fails => Act::Flush(false),
+            Act::Book(next, _) => Act::Book(next, false),
+            other => other,
+        }
+    }
+}
+
+/// Whether it is that turn.
+fn is_as_told(turn: &Turn, number: u8, takes: u64, ran: Option<(u16, Why)>) -> bool {
+    let made = turn.ran.as_ref().map(|ran| (ran.count(), ran.why()));
+    turn.process == number && turn.takes == takes && made == ran
+}
+
+/// Whether a turn is made as it was told.
+fn is_turned<J: Naming, R: Wait>(
+    rt: &R,
+    net: &Net<J, NoGate>,
+    seat: &mut Seat<J>,
+    number: u8,
+    takes: u64,
+    ran: Option<(u16, Why)>,
+) -> bool
+    requires { seat.old.hand ≡ Some net.now.queue }
+    ensures { seat.new.hand ≡ Some net.now.queue }
+{
+    match net.turn(rt, seat) {
+        Ok(turn) => is_as_told(&turn, number, takes, ran),
+        Err(_) => false,
+    }
+}
+
+/// Whether the book's next number is that, and its cut is whole or isn't.
+fn is_book<J: Naming, R: Wait>(rt: &R, shared: &Shared<J>, next: u64, is_whole: bool) -> bool {
+    let held = shared.book().lock(rt);
+    held.book().next() == next && held.book().whole().is_some() == is_whole
+}
+
+/// The number that the next entry gets.
+fn next_of<J: Naming, R: Wait>(rt: &R, shared: &Shared<J>) -> u64 {
+    shared.book().lock(rt).book().next()
+}
+
+/// Whether a turn of the flusher brings all to the device, and switches its areas or doesn't.
+fn is_flushed<J: Naming, R: Wait>(
+    rt: &R,
+    alloc: Global,
+    shared: &Shared<J>,
+    flusher: &mut Flusher<J, MemDisk>,
+    switched: bool,
+) -> bool {
+    let next = next_of(rt, shared);
+    match flusher.turn(rt, alloc, shared) {
+        Ok(flushed) => flushed.mark == next && flushed.switched == switched,
+        Err(_) => false,
+    }
+}
+
+/// Whether a node and the host make a turn, and then the flusher one, as many times as is told.
+fn are_groups<J: Naming, R: Wait>(
+    rt: &R,
+    alloc: Global,
+    net: &Net<J, NoGate>,
+    seat: &mut Seat<J>,
+    flusher: &mut Flusher<J, MemDisk>,
+    count: u8,
+) -> bool
+    requires { seat.old.hand ≡ Some net.now.queue }
+    ensures { seat.new.hand ≡ Some net.now.queue }
+{
+    for _ in 0..count {
+        let is_ran = net.turn(rt, seat).is_ok();
+        let is_taken = net.turn(rt, seat).is_ok();
+        if !is_ran || !is_taken || !is_flushed(rt, alloc, net.shared(), flusher, false) {
+            return false;
+        }
+    }
+    true
+}
+
+/// Whether it comes as it was told.
+fn does<J: Naming, R: Wait>(
+    rt: &R,
+    alloc: Global,
+    net: &Net<J, NoGate>,
+    session: &Session<'_, J>,
+    seat: &mut Seat<J>,
+    flusher: &mut Flusher<J, MemDisk>,
+    act: Act,
+) -> bool
+    requires { seat.old.hand ≡ Some net.now.queue }
+    ensures { seat.new.hand ≡ Some net.now.queue }
+{
+    let shared = net.shared();
+    match act {
+        Act::Turn(number, takes, ran) => is_turned(rt, net, seat, number, takes, ran),
+        Act::Offer(at, bytes) => session.offer(rt, at, bytes).is_ok(),
+        Act::Begin => flusher.snapshot(rt, alloc, shared).is_ok(),
+        Act::Book(next, is_whole) => is_book(rt, shared, next, is_whole),
+        Act::Flush(switched) => is_flushed(rt, alloc, shared, flusher, switched),
+        Act::Groups(count) => are_groups(rt, alloc, net, seat, flusher, count),
+        Act::Fails => matches!(
+            flusher.turn(rt, alloc, shared),
+            Err(FlushFault::DeviceFailed)
+        ),
+    }
+}
+
+/// Whether all of it does.
+fn do_all<J: Naming, R: Wait>(
+    rt: &R,
+    alloc: Global,
+    net: &Net<J, NoGate>,
+    session: &Session<'_, J>,
+    seat: &mut Seat<J>,
+    flusher: &mut Flusher<J, MemDisk>,
+    acts: &[Act],
+    is_plain: bool,
+) -> bool
+    requires { seat.old.hand ≡ Some net.now.queue }
+    ensures { seat.new.hand ≡ Some net.now.queue }
+{
+    for act in acts {
+        let act = if is_plain { act.plain() } else { *act };
+        if !does(rt, alloc, net, session, seat, flusher, act) {
+            return false;
+        }
+    }
+    true
+}
+
+/// The only seat.
+fn only_seat<J: Naming>(net: &Net<J, NoGate>, seats: Vec<Seat<J>>) -> Option<Seat<J>>
+    requires { All (λ seat. (seat.hand ≡ Some net.now.queue) × (seat.slips ≡ [])) seats.items }
+    ensures { IfSome result (λ seat. seat.hand ≡ Some net.now.queue) }
+{
+    let _net = net;
+    let mut seats = seats;
+    seats.pop()
+}
+
+/// Whether all of it does, at the only seat and over the first port.
+fn are_done<J: Naming, R: Wait>(
+    rt: &R,
+    alloc: Global,
+    net: &Net<J, NoGate>,
+    seats: Vec<Seat<J>>,
+    flusher: &mut Flusher<J, MemDisk>,
+    acts: &[Act],
+    is_plain: bool,
+) -> bool
+    requires { All (λ seat. (seat.hand ≡ Some net.now.queue) × (seat.slips ≡ [])) seats.items }
+{
+    let Some(mut seat) = only_seat(net, seats) else {
+        return false;
+    };
+    let Some(session) = Session::new(net.shared(), 0) else {
+        return false;
+    };
+    do_all(rt, alloc, net, &session, &mut seat, flusher, acts, is_plain)
+}
+
+/// What is left of a device that opened. None where something didn't come as it was told.
+fn play<J: Naming, R: Wait>(
+    rt: &R,
+    alloc: Global,
+    opening: Opening<MemDisk>,
+    quantum: u16,
+    acts: &[Act],
+    is_plain: bool,
+) -> Result<Option<Vec<u8>>, Fail>
+    requires names { Names J.roll J.first J.start J.node J.mark J.flusher J.room opening.parts }
+    requires spelt { IsSpelt opening.opened.value }
+    requires quantum { (0 < quantum) × (quantum ≤ MAX_STEPS) }
+{
+    let (net, seats, mut flusher, _) = begin_with::<J, MemDisk, NoGate, R>(
+        rt, alloc, opening, quantum, 1, NoGate,
+    )?;
+    let are_done = are_done(rt, alloc, &net, seats, &mut flusher, acts, is_plain);
+    let bytes = flusher.into_disk().crash();
+    Ok(if are_done { Some(bytes) } else { None })
+}
+
+/// The same with new names. Without snapshots where `is_plain`.
+pub(crate) fn play_in<R: Wait>(
+    rt: &R,
+    alloc: Global,
+    opening: Opening<MemDisk>,
+    quantum: u16,
+    acts: &[Act],
+    is_plain: bool,
+) -> Result<Option<Vec<u8>>, Fail>
+    requires spelt { IsSpelt opening.opened.value }
+    requires quantum { (0 < quantum) × (quantum ≤ MAX_STEPS) }
+{
+    play::<Brand, R>(rt, alloc, opening, quantum, acts, is_plain)
+}

@@ -1,0 +1,449 @@
+//! A script whose device fails, or stops it, at each of its calls: what the device then opens to, and how it goes on.
+
+use crate::script::{Done, Step, Told, play_in};
+use crate::unkind::{Ending, Fault, RawUnkind, Torn};
+use std::alloc::{AllocError, Global};
+use std::fs;
+use std::io::Write;
+use std::sync::Wait;
+use std::test::Fail;
+use tp_area::format;
+use tp_disk::MemDisk;
+use tp_model::{Entry, Token};
+use tp_net::Topology;
+use tp_recover::{Unopened, open};
+use tp_replay::FlatNetwork;
+use tp_tests_begun::opening::opening_of;
+use tp_tests_begun::plain::{is_network, replayed};
+use tp_tests_fixtures::{AREA, ONE_NODE, SIZE, letter};
+
+/// The script, over a device that was just formatted.
+const SCRIPT: &[Step<'static>] = &[
+    Step::Offer(0, b"ab"),
+    Step::Turns(4),
+    Step::Flush,
+    Step::Switch,
+    Step::Offer(2, b"c"),
+    Step::Flush,
+    Step::Switch,
+];
+
+/// What is journalled: the node takes a byte, which it holds; it sends a letter, which the host takes; it takes the acknowledge, and goes
+/// round, in its next turns too.
+const JOURNAL: &[Entry] = &[
+    Entry::HostIn {
+        port: 0,
+        byte: b'a',
+    },
+    Entry::HostIn {
+        port: 0,
+        byte: b'b',
+    },
+    Entry::Take {
+        line: 4,
+        token: Token::Data(b'a'),
+    },
+    Entry::Run { node: 0, count: 3 },
+    Entry::Take {
+        line: 0,
+        token: Token::Data(0x41),
+    },
+    Entry::Take {
+        line: 4,
+        token: Token::Ack,
+    },
+    Entry::Run { node: 0, count: 9 },
+    Entry::Run { node: 0, count: 9 },
+    Entry::HostIn {
+        port: 0,
+        byte: b'c',
+    },
+    Entry::Run { node: 0, count: 9 },
+];
+
+/// How many of its steps are in front of it, in front of and behind the first checkpoint, and in front of and behind the second.
+const ENDS: [usize; 5] = [0, 3, 4, 6, 7];
+
+/// A checkpoint, and what is done with a device once it was opened again.
+const CHECKPOINT: &[Step<'static>] = &[Step::Switch];
+
+const GOES_ON: &[Step<'static>] = &[Step::More(b'z'), Step::Turns(2), Step::Flush];
+
+/// How a call ends, and how the range that was written last and the others are torn then.
+type Tear = (Ending, Torn, Torn);
+
+/// Those that the gate tries.
+const SOME: &[Tear] = &[
+    (Ending::Within, Torn::Filled(0xA5), Torn::Filled(0xA5)),
+    (Ending::Fails, Torn::Drawn(1), Torn::Drawn(1)),
+];
+
+/// All.
+const EACH: &[Tear] = &[
+    (Ending::Before, Torn::Old, Torn::Old),
+    (Ending::Before, Torn::New, Torn::New),
+    (Ending::Before, Torn::Filled(0x00), Torn::Filled(0x00)),
+    (Ending::Before, Torn::Filled(0xA5), Torn::Filled(0xA5)),
+    (Ending::Before, Torn::Filled(0xFF), Torn::Filled(0xFF)),
+    (Ending::Before, Torn::Drawn(2), Torn::Drawn(2)),
+    (Ending::Within, Torn::Old, Torn::Old),
+    (Ending::Within, Torn::New, Torn::New),
+    (Ending::Within, Torn::Filled(0x00), Torn::Filled(0x00)),
+    (Ending::Within, Torn::Filled(0xA5), Torn::Filled(0xA5)),
+    (Ending::Within, Torn::Filled(0xFF), Torn::Filled(0xFF)),
+    (Ending::Within, Torn::Drawn(3), Torn::Drawn(3)),
+    (Ending::Fails, Torn::Old, Torn::Old),
+    (Ending::Fails, Torn::New, Torn::New),
+    (Ending::Fails, Torn::Filled(0x00), Torn::Filled(0x00)),
+    (Ending::Fails, Torn::Filled(0xA5), Torn::Filled(0xA5)),
+    (Ending::Fails, Torn::Filled(0xFF), Torn::Filled(0xFF)),
+    (Ending::Fails, Torn::Drawn(4), Torn::Drawn(4)),
+    (Ending::Before, Torn::New, Torn::Old),
+    (Ending::Before, Torn::Old, Torn::New),
+    (Ending::Within, Torn::New, Torn::Old),
+    (Ending::Within, Torn::Old, Torn::New),
+    (Ending::Within, Torn::Filled(0xA5), Torn::Old),
+    (Ending::Fails, Torn::New, Torn::Old),
+    (Ending::Fails, Torn::Old, Torn::New),
+    (Ending::Fails, Torn::Filled(0xA5), Torn::Old),
+];
+
+/// A device of a topology and images.
+fn formatted(alloc: Global, topology: &Topology, images: &[Vec<u8>]) -> Result<MemDisk, Fail> {
+    let mut disk = MemDisk::zeroed(alloc, SIZE)?;
+    // A topology keeps its rules: its page counts say so, which `format` asks.
+    let _rules = topology.pages();
+    format(alloc, &mut disk, topology, images, AREA)?;
+    Ok(disk)
+}
+
+/// The device, freshly formatted.
+fn fresh(alloc: Global) -> Result<Vec<u8>, Fail> {
+    let images = Vec::from_array(alloc, [letter(alloc)?])?;
+    let topology = Topology::read(alloc, ONE_NODE)?;
+    let disk = formatted(alloc, &topology, &images)?;
+    Ok(disk.crash())
+}
+
+/// What a run leaves: the bytes, how many calls were made, how far it came, and what was told.
+#[derive(Drop)]
+struct Left {
+    bytes: Vec<u8>,
+    calls: u64,
+    done: Done,
+    told: Told,
+}
+
+/// Steps over a device, where a call may end badly.
+fn run<R: Wait>(
+    rt: &R,
+    alloc: Global,
+    bytes: &[u8],
+    fault: Option<Fault>,
+    steps: &[Step<'_>],
+    told: Told,
+) -> Result<Left, Fail> {
+    let mut told = told;
+    let opening = opening_of(alloc, RawUnkind::new(alloc, bytes, fault)?)?;
+    let (disk, done) = play_in(rt, alloc, opening, steps, &mut told)?;
+    Ok(Left {
+        bytes: Vec::from_slice(alloc, disk.raw().bytes())?,
+        calls: disk.raw().calls(),
+        done,
+        told,
+    })
+}
+
+/// What was told at first.
+fn untold(alloc: Global) -> Told {
+    Told {
+        mark: 0,
+        journal: Vec::new(alloc),
+    }
+}
+
+/// What whoever opens the device knows: the journal's beginning, all of it stored.
+fn known(alloc: Global, told: &Told, next: u64) -> Result<Told, AllocError> {
+    let kept = told.journal.get(..next as usize).unwrap_or(&[]);
+    Ok(Told {
+        mark: next,
+        journal: Vec::from_slice(alloc, kept)?,
+    })
+}
+
+/// Whether a network is a plain replay of a journal.
+fn is_replay(
+    alloc: Global,
+    first: &[u8],
+    journal: &[Entry],
+    network: &mut FlatNetwork,
+) -> Result<bool, Fail> {
+    let parts = network.parts(alloc)?;
+    let wanted = replayed(alloc, first, journal)?;
+    Ok(is_network(&parts, &wanted))
+}
+
+/// The next number of a device and its network, where it opens.
+fn opened_as(alloc: Global, bytes: &[u8]) -> Result<Option<(u64, FlatNetwork)>, AllocError> {
+    let mut disk = MemDisk::of_bytes(Vec::from_slice(alloc, bytes)?);
+    let Ok(opened) = open(alloc, &mut disk) else {
+        return Ok(None);
+    };
+    let next = opened.next();
+    let (_, network, _) = opened.into_parts();
+    Ok(Some((next, network)))
+}
+
+/// The next number of what a run left, where it opens to a plain replay of the journal up to there, with all below the greatest mark that
+/// was read; `None` otherwise.
+fn recovered(alloc: Global, first: &[u8], left: &Left) -> Result<Option<u64>, Fail> {
+    let Some((next, mut network)) = opened_as(alloc, &left.bytes)? else {
+        return Ok(None);
+    };
+    let is_so = match left.told.journal.get(..next as usize) {
+        Some(journal) if next >= left.told.mark => is_replay(alloc, first, journal, &mut network),
+        _ => Ok(false),
+    };
+    Ok(if is_so? { Some(next) } else { None })
+}
+
+/// The fault of a call.
+fn fault_at(call: u64, tear: Tear) -> Fault {
+    let (ending, last, others) = tear;
+    Fault {
+        call,
+        ending,
+        last,
+        others,
+    }
+}
+
+/// Whether what is opened again goes on as if nothing had been.
+fn goes_on<R: Wait>(
+    rt: &R,
+    alloc: Global,
+    first: &[u8],
+    left: &Left,
+    next: u64,
+) -> Result<bool, Fail> {
+    let told = known(alloc, &left.told, next)?;
+    let later = run(rt, alloc, &left.bytes, None, GOES_ON, told)?;
+    let reached = if later.done == Done::All {
+        recovered(alloc, first, &later)
+    } else {
+        Ok(None)
+    };
+    let count = later.told.journal.len() as u64;
+    Ok(reached? == Some(count) && count > next)
+}
+
+/// What steps leave where a call ends badly, if the device then was called no more, and opens as it ought to: with its next number.
+fn ended<R: Wait>(
+    rt: &R,
+    alloc: Global,
+    first: &[u8],
+    bytes: &[u8],
+    told: Told,
+    steps: &[Step<'_>],
+    fault: Fault,
+) -> Result<Option<(Left, u64)>, Fail> {
+    let left = run(rt, alloc, bytes, Some(fault), steps, told)?;
+    let next = if left.done == Done::Failed && left.calls == fault.call.wrapping_add(1) {
+        recovered(alloc, first, &left)?
+    } else {
+        None
+    };
+    Ok(next.map(|next| (left, next)))
+}
+
+/// How many calls of the device the steps make, with those that open it.
+fn calls_of<R: Wait>(
+    rt: &R,
+    alloc: Global,
+    bytes: &[u8],
+    told: Told,
+    steps: &[Step<'_>],
+) -> Result<u64, Fail> {
+    let left = run(rt, alloc, bytes, None, steps, told)?;
+    if left.done != Done::All {
+        return Err(Fail::new("the steps end early"));
+    }
+    Ok(left.calls)
+}
+
+/// Opens what a run left, and begins a checkpoint that stops within each of its calls, where all that isn't synced is then A5. Answers how
+/// many calls there are, where each time the device opens as it ought to.
+fn checkpoints_behind<R: Wait>(
+    rt: &R,
+    alloc: Global,
+    first: &[u8],
+    left: &Left,
+    next: u64,
+) -> Result<Option<u64>, Fail> {
+    let bytes = left.bytes.as_slice();
+    let from = calls_of(rt, alloc, bytes, known(alloc, &left.told, next)?, &[])?;
+    let to = calls_of(
+        rt,
+        alloc,
+        bytes,
+        known(alloc, &left.told, next)?,
+        CHECKPOINT,
+    )?;
+    for call in from..to {
+        let fault = fault_at(
+            call,
+            (Ending::Within, Torn::Filled(0xA5), Torn::Filled(0xA5)),
+        );
+        let told = known(alloc, &left.told, next)?;
+        if ended(rt, alloc, first, bytes, told, CHECKPOINT, fault)?.is_none() {
+            return Ok(None);
+        }
+    }
+    Ok(Some(to.saturating_sub(from)))
+}
+
+/// The script's device, and the numbers of its calls: those of the first step and behind the last, and those of both checkpoints.
+#[derive(Drop)]
+struct Script {
+    first: Vec<u8>,
+    from: u64,
+    to: u64,
+    switches: [(u64, u64); 2],
+}
+
+impl Script {
+    fn new<R: Wait>(rt: &R, alloc: Global) -> Result<Script, Fail> {
+        let first = fresh(alloc)?;
+        let mut ends = [0u64; 5];
+        for (end, count) in ends.iter_mut().zip(ENDS) {
+            let steps = SCRIPT.get(..count).unwrap_or(SCRIPT);
+            *end = calls_of(rt, alloc, &first, untold(alloc), steps)?;
+        }
+        let [from, third, fourth, sixth, to] = ends;
+        Ok(Script {
+            first,
+            from,
+            to,
+            switches: [(third, fourth), (sixth, to)],
+        })
+    }
+
+    /// Whether a call is one of a checkpoint.
+    fn is_of_a_checkpoint(&self, call: u64) -> bool {
+        self.switches
+            .iter()
+            .any(|(from, to)| *from <= call && call < *to)
+    }
+
+    /// Ends the script by a fault, goes on with what it leaves, and where it ended in a checkpoint begins another, which stops at each of
+    /// its calls. Answers how many calls it had; `None` where something wasn't as it ought to be.
+    fn end<R: Wait>(&self, rt: &R, alloc: Global, fault: Fault) -> Result<Option<u64>, Fail> {
+        let first = self.first.as_slice();
+        let found = ended(rt, alloc, first, first, untold(alloc), SCRIPT, fault)?;
+        let Some((left, next)) = found else {
+            return Ok(None);
+        };
+        if !goes_on(rt, alloc, first, &left, next)? {
+            return Ok(None);
+        }
+        if !self.is_of_a_checkpoint(fault.call) {
+            return Ok(Some(0));
+        }
+        checkpoints_behind(rt, alloc, first, &left, next)
+    }
+
+    /// Ends it at a call in each way.
+    fn end_at<R: Wait>(
+        &self,
+        rt: &R,
+        alloc: Global,
+        call: u64,
+        tears: &[Tear],
+    ) -> Result<Option<u64>, Fail> {
+        let mut behind = 0u64;
+        for tear in tears {
+            let Some(count) = self.end(rt, alloc, fault_at(call, *tear))? else {
+                return Ok(None);
+            };
+            behind = behind.saturating_add(count);
+        }
+        Ok(Some(behind))
+    }
+}
+
+/// Whether a device that was opened is what the script leaves: its first area was written anew, the last run isn't in its cut.
+fn is_last(alloc: Global, bytes: &[u8]) -> Result<bool, Fail> {
+    let mut disk = MemDisk::of_bytes(Vec::from_slice(alloc, bytes)?);
+    let opened = open(alloc, &mut disk)?;
+    Ok(
+        !opened.second()
+            && opened.generation() == 3
+            && opened.base() == 9
+            && opened.kept().len() == 1
+            && opened.next() == 10,
+    )
+}
+
+#[test]
+fn a_script_journals_what_it_does(rt: HostRuntime) -> Result<(), Fail> {
+    let alloc = rt.alloc();
+    let first = fresh(alloc)?;
+    let left = run(&rt, alloc, &first, None, SCRIPT, untold(alloc))?;
+    assert!(rt; left.done == Done::All && left.told.mark == 10);
+    assert!(rt; left.told.journal.as_slice() == JOURNAL);
+    assert!(rt; recovered(alloc, &first, &left)? == Some(10));
+    assert!(rt; is_last(alloc, &left.bytes)?);
+    Ok(())
+}
+
+/// Whether a device isn't opened whose call fails or stops the opening, and is as it was.
+fn is_unopened(alloc: Global, bytes: &[u8], call: u64, tear: Tear) -> Result<bool, Fail> {
+    let mut disk = RawUnkind::new(alloc, bytes, Some(fault_at(call, tear)))?;
+    let told = open(alloc, &mut disk);
+    Ok(matches!(told, Err(Unopened::ReadFailed)) && disk.raw().bytes() == bytes)
+}
+
+#[test]
+fn an_opening_whose_device_fails_changes_nothing(rt: HostRuntime) -> Result<(), Fail> {
+    let alloc = rt.alloc();
+    let script = Script::new(&rt, alloc)?;
+    let left = run(&rt, alloc, &script.first, None, SCRIPT, untold(alloc))?;
+    for call in 0..script.from {
+        for tear in EACH {
+            let told = is_unopened(alloc, &left.bytes, call, *tear)?;
+            assert!(rt; told, "call {call}");
+        }
+    }
+    Ok(())
+}
+
+/// What a folder has in which all is tried.
+const ALL: &str = "each-stop";
+
+#[test]
+fn a_script_that_ends_at_each_call(rt: HostRuntime) -> Result<(), Fail> {
+    let alloc = rt.alloc();
+    let script = Script::new(&rt, alloc)?;
+    let tears = if fs::read(&rt, ALL).is_ok() {
+        EACH
+    } else {
+        SOME
+    };
+    let mut behind = 0u64;
+    for call in script.from..script.to {
+        let Some(count) = script.end_at(&rt, alloc, call, tears)? else {
+            panic!(rt; "call {call}")
+        };
+        behind = behind.saturating_add(count);
+    }
+    let ended = script
+        .to
+        .saturating_sub(script.from)
+        .saturating_mul(tears.len() as u64);
+    let mut out = rt.stdout();
+    let _ = write!(
+        &mut out,
+        "{ended} ended, {behind} checkpoints behind them\n"
+    );
+    Ok(())
+}
