@@ -110,38 +110,21 @@ fn short_reads_and_writes_go_on(rt: HostRuntime) -> Result<(), Fail> {
     scratch.remove(&rt)
 }
 
-/// Whether a command is done and asks for no right to write the device.
-fn only_reads<
-    R: Files<File = F> + AllocGlobal + Threads + Wait + Sync,
-    F: FileExt + OpenFile + Drop + Send,
->(rt: &R, scratch: &Scratch, words: &[&str]) -> Result<bool, Fail> {
-    let faults = Faults::short(usize::MAX);
-    let output = tpnet(&FaultyFiles::new(rt, &faults), scratch, words)?;
-    Ok(output.status == 0 && !faults.writable.load(Ordering::SeqCst))
-}
-
-/// How many other files and folders a format that is done has synced.
-fn synced_by_format<
-    R: Files<File = F> + AllocGlobal + Threads + Wait + Sync,
-    F: FileExt + OpenFile + Drop + Send,
->(rt: &R, scratch: &Scratch) -> Result<u64, Fail> {
-    let faults = Faults::short(usize::MAX);
-    match tpnet(&FaultyFiles::new(rt, &faults), scratch, FORMAT)?.status {
-        0 => Ok(faults.synced.load(Ordering::SeqCst)),
-        _ => Err(Fail::new("not formatted")),
-    }
-}
-
-/// `recover` and `show` ask for no right to write; `format` syncs the folder of a file that it made.
+/// `recover` and `show` ask for no right to write; `format` syncs the folder of a file that it made, and no other.
 #[test]
 fn how_files_are_opened(rt: HostRuntime) -> Result<(), Fail> {
     let (scratch, device) = network(&rt, "opened")?;
-    let is_read = only_reads(&rt, &scratch, &["recover", "@device"])?;
-    let is_shown = only_reads(&rt, &scratch, &["show", "@device"])?;
-    let synced_old = synced_by_format(&rt, &scratch)?;
-    fs::remove_file(&rt, scratch.path(rt.alloc(), "device")?.as_str())?;
-    let synced_new = synced_by_format(&rt, &scratch)?;
-    assert!(rt; is_read && is_shown && synced_old == 0 && synced_new == 1);
-    assert_eq!(rt; scratch.read(&rt, "device")?.as_slice(), device.as_slice());
+    for words in [["recover", "@device"], ["show", "@device"]] {
+        let faults = Faults::short(usize::MAX);
+        let output = tpnet(&FaultyFiles::new(&rt, &faults), &scratch, &words)?;
+        assert!(rt; output.status == 0 && !faults.writable.load(Ordering::SeqCst));
+    }
+    for folders in [0u64, 1] {
+        let faults = Faults::short(usize::MAX);
+        let output = tpnet(&FaultyFiles::new(&rt, &faults), &scratch, FORMAT)?;
+        assert!(rt; output.status == 0 && faults.synced.load(Ordering::SeqCst) == folders);
+        assert_eq!(rt; scratch.read(&rt, "device")?.as_slice(), device.as_slice());
+        fs::remove_file(&rt, scratch.path(rt.alloc(), "device")?.as_str())?;
+    }
     scratch.remove(&rt)
 }
