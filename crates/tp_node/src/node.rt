@@ -1,7 +1,7 @@
 //! A node: its image, the tokens that come in, and how it is frozen.
 
 ghost use Rattle.std.specs.Prelude.{◌≡◌, ◌*◌, ◌<◌, [], Some, None, true, false, length, replicate, IsSome, IsNone, IfSome, IfOk, is_some};
-ghost use Rattle.tp_model.specs.Image.{image_head, node_of};
+ghost use Rattle.tp_model.specs.Image.{image_head, node_of, IsNode};
 ghost use Rattle.tp_model.specs.Network.{steps};
 ghost use Rattle.tp_model.specs.Node.{took, t414, waits, holds};
 ghost use Rattle.tp_model.specs.NodeWrites.{node_ranges, kept_behind_steps, took_ranges};
@@ -88,6 +88,22 @@ impl Node {
         ensures { result ≡ holds self.now.live link }
     {
         self.head.inputs[link as usize].is_holding()
+    }
+
+    /// Whether a link of a node that has an image can take `token` now: a byte where none is held, an acknowledge where one is
+    /// waited for, a marker nowhere. There is no fifth link.
+    #[tactic(auto, using(crate::proofs::CanTake::takes_at_links, crate::proofs::CanTake::takes_byte, crate::proofs::CanTake::takes_acknowledge, crate::proofs::CanTake::takes_no_marker))]
+    pub fn can_take(&self, link: u8, token: &Token) -> bool
+        ensures { IsNode self.now.live → result ≡ is_some (took self.now.live link token.now) }
+    {
+        if link >= 4 {
+            return false;
+        }
+        match *token {
+            Token::Data(_) => !self.holds(link),
+            Token::Ack => self.waits(link),
+            Token::Marker => false,
+        }
     }
 
     /// Whether a process waits at a link: for the acknowledge of its byte, or for a byte.
