@@ -1,3 +1,4 @@
+pub mod Capacity
 pub mod Fronts
 pub mod Heads
 pub mod Lines

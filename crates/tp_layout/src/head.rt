@@ -10,12 +10,12 @@ ghost use Rattle.tp_model.specs.Journal.{is_roomy};
 ghost use Rattle.tp_model.specs.Topology.{is_topology};
 ghost use Rattle.tp_layout.specs.Heads.{fields_in, head_in, topology_at};
 
+use crate::area::fits;
 use crate::end::{end_byte, end_of_byte};
 use crate::head_places::{
     AREA_PLACE, ENDS_PLACE, NODES_PLACE, PAGES_PLACE, PORTS_PLACE, VERSION_PLACE,
 };
 use crate::number::{u16_at, u64_at};
-use crate::room::fits;
 use crate::written::{pad, put};
 use arrayvec::ArrayVec;
 use std::marker::Model;
