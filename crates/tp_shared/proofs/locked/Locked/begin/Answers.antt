@@ -68,17 +68,17 @@ invariant_of-self g c =
     let many = as_many c.entries-before.result.now b.state.entries c.entries-before.ensures.entries in
     acted_written inv A.grown (ap length A.runs ∙ length-set b.runs c.args.number _) (length-set c.self.inside.seals.items c.args.number _)
     (sealed_after Are g.J.Naming.node c.self.inside.seals.items b new c.args.number node done
-          (record { frozen = c.is_frozen-here.result; seal = c.turn.new.seal }) inv.sealed A c.begin-done.ensures.is
-          (omega (arith, inv.seal_count, c.requires.there)) (c.turn.ensures.names.0 ∙ c.agree.ensures.names.0 ∙ S.named)
-          (ap (λ x. x.state) c.turn.ensures.seal ∙ c.with-now.ensures ∙ ap (λ r. record { node = node.live; frozen = node.frozen; reserved = r }) c.is_ok.ensures.value)
-          c.is_frozen-here.ensures)
+    (record { frozen = c.is_frozen-here.result; seal = c.turn.new.seal }) inv.sealed A c.begin-done.ensures.is
+    (omega (arith, inv.seal_count, c.requires.there)) (c.turn.ensures.names.0 ∙ c.agree.ensures.names.0 ∙ S.named)
+    (ap (λ x. x.state) c.turn.ensures.seal ∙ c.with-now.ensures ∙ ap (λ r. record { node = node.live; frozen = node.frozen; reserved = r }) c.is_ok.ensures.value)
+    c.is_frozen-here.ensures)
     (thaws_set c.self.inside.told.value c.self.inside.seals.items c.args.number (record { frozen = c.is_frozen-here.result; seal = c.turn.new.seal }) inv.thawed
-          (λ thawed.
-          c.is_frozen-here.ensures
-          ∙ ap is_some (c.begin-done.ensures.stays (thawed_recorded g.J.Naming.before g.J.Naming.first c.self.inside.told.value c.self.inside.seals.items (record { book = b; all = c.self.inside.roll.items }) thawed inv.since c.args.number))
-          ∙ ap (λ (x : Agreement). is_some x.frozen) (sym (ap (λ x. x.state) c.agree.ensures.agreed ∙ c.requires.shows.shown))
-          ∙ sym S.flag
-          ∙ thawed_at c.self.inside.told.value c.self.inside.seals.items c.args.number here thawed at))
+    (λ thawed.
+    c.is_frozen-here.ensures
+    ∙ ap is_some (c.begin-done.ensures.stays (thawed_recorded g.J.Naming.before g.J.Naming.first c.self.inside.told.value c.self.inside.seals.items (record { book = b; all = c.self.inside.roll.items }) thawed inv.since c.args.number))
+    ∙ ap (λ (x : Agreement). is_some x.frozen) (sym (ap (λ x. x.state) c.agree.ensures.agreed ∙ c.requires.shows.shown))
+    ∙ sym S.flag
+    ∙ thawed_at c.self.inside.told.value c.self.inside.seals.items c.args.number here thawed at))
     c.write_new.ensures.names.0 c.write_new.ensures.first many c.write_new.ensures.roll
 
 pub returns-clause-noted : goal.returns-clause-noted

@@ -75,10 +75,10 @@ invariant_of-self g c =
     let many = as_many c.entries-before.result.now b.state.entries c.entries-before.ensures.entries in
     acted_written inv A.grown (ap length A.runs ∙ length-set b.runs c.args.number _) (length-set c.self.inside.seals.items c.args.number _)
     (sealed_after Are g.J.Naming.node c.self.inside.seals.items b new c.args.number node false
-          (record { frozen = here.frozen; seal = c.turn.new.seal }) inv.sealed A c.commit-ran.ensures.is
-          (omega (arith, inv.seal_count, c.requires.there)) (c.turn.ensures.names.0 ∙ c.agree.ensures.names.0 ∙ S.named) (ap (λ x. x.state) c.turn.ensures.seal ∙ c.free-now.ensures) flag)
+    (record { frozen = here.frozen; seal = c.turn.new.seal }) inv.sealed A c.commit-ran.ensures.is
+    (omega (arith, inv.seal_count, c.requires.there)) (c.turn.ensures.names.0 ∙ c.agree.ensures.names.0 ∙ S.named) (ap (λ x. x.state) c.turn.ensures.seal ∙ c.free-now.ensures) flag)
     (thaws_set c.self.inside.told.value c.self.inside.seals.items c.args.number (record { frozen = here.frozen; seal = c.turn.new.seal }) inv.thawed
-          (λ thawed. thawed_at c.self.inside.told.value c.self.inside.seals.items c.args.number here thawed at))
+    (λ thawed. thawed_at c.self.inside.told.value c.self.inside.seals.items c.args.number here thawed at))
     c.write_new.ensures.names.0 c.write_new.ensures.first many c.write_new.ensures.roll
 
 pub returns-clause-noted : goal.returns-clause-noted

@@ -61,17 +61,17 @@ invariant_of-self g c =
     let A = c.record.ensures.acted in
     acted_still inv A.grown (ap length A.runs ∙ length-set b.runs c.args.number _) (length-set c.self.inside.seals.items c.args.number _)
     (sealed_after Are g.J.Naming.node c.self.inside.seals.items b new c.args.number node false
-          (record { frozen = c.is_frozen-here.result; seal = c.turn.new.seal }) inv.sealed A c.record.ensures.is
-          (omega (arith, inv.seal_count, c.requires.there)) (c.turn.ensures.names.0 ∙ c.agree.ensures.names.0 ∙ S.named)
-          (ap (λ x. x.state) c.turn.ensures.seal ∙ c.free-now.ensures)
-          c.is_frozen-here.ensures)
+    (record { frozen = c.is_frozen-here.result; seal = c.turn.new.seal }) inv.sealed A c.record.ensures.is
+    (omega (arith, inv.seal_count, c.requires.there)) (c.turn.ensures.names.0 ∙ c.agree.ensures.names.0 ∙ S.named)
+    (ap (λ x. x.state) c.turn.ensures.seal ∙ c.free-now.ensures)
+    c.is_frozen-here.ensures)
     (thaws_set c.self.inside.told.value c.self.inside.seals.items c.args.number (record { frozen = c.is_frozen-here.result; seal = c.turn.new.seal }) inv.thawed
-          (λ thawed.
-          c.is_frozen-here.ensures
-          ∙ ap is_some (c.record.ensures.stays (thawed_recorded g.J.Naming.before g.J.Naming.first c.self.inside.told.value c.self.inside.seals.items (record { book = b; all = c.self.inside.roll.items }) thawed inv.since c.args.number))
-          ∙ ap (λ (x : Agreement). is_some x.frozen) (sym (ap (λ x. x.state) c.agree.ensures.agreed ∙ c.requires.shows.shown))
-          ∙ sym S.flag
-          ∙ thawed_at c.self.inside.told.value c.self.inside.seals.items c.args.number here thawed at))
+    (λ thawed.
+    c.is_frozen-here.ensures
+    ∙ ap is_some (c.record.ensures.stays (thawed_recorded g.J.Naming.before g.J.Naming.first c.self.inside.told.value c.self.inside.seals.items (record { book = b; all = c.self.inside.roll.items }) thawed inv.since c.args.number))
+    ∙ ap (λ (x : Agreement). is_some x.frozen) (sym (ap (λ x. x.state) c.agree.ensures.agreed ∙ c.requires.shows.shown))
+    ∙ sym S.flag
+    ∙ thawed_at c.self.inside.told.value c.self.inside.seals.items c.args.number here thawed at))
 
 pub returns-clause-did : goal.returns-clause-did
 returns-clause-did g c = subst (λ stage. Done c.args.number (Records c.args.number) (moment stage.book c.args.place.now.node) (moment c.record.new.book c.record.new.node)) c.self.view_is c.record.ensures.did

@@ -37,6 +37,6 @@ invariant_of-self g c =
     let is = ap (λ (a : Agreement). record { node = a.node; frozen = None; reserved = a.reserved }) shown in
     sealed_anew inv (length-set seals c.args.number _)
     (sealed_set g.J.Naming.node seals b c.args.number here (record { frozen = false; seal = c.turn.new.seal }) inv.sealed at
-          (subst (λ name. IsSealOf (g.J.Naming.node c.args.number) c.turn.new.seal.value.state false name b c.args.number) (sym (c.turn.ensures.names.0 ∙ c.agree.ensures.names.0))
-          (subst (λ a. IsSealOf (g.J.Naming.node c.args.number) a false here.seal.name b c.args.number) (is ∙ sym now) S)))
+    (subst (λ name. IsSealOf (g.J.Naming.node c.args.number) c.turn.new.seal.value.state false name b c.args.number) (sym (c.turn.ensures.names.0 ∙ c.agree.ensures.names.0))
+    (subst (λ a. IsSealOf (g.J.Naming.node c.args.number) a false here.seal.name b c.args.number) (is ∙ sym now) S)))
     (thaws_set c.self.inside.told.value seals c.args.number (record { frozen = false; seal = c.turn.new.seal }) inv.thawed (λ thawed. refl))
