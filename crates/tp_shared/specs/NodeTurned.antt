@@ -9,7 +9,7 @@ use Rattle.tp_shared.specs.declared.node_turn.NodeTurn.{NodeTurn}
 
 -- The node took as many tokens as the turn says, and then ran as many steps as it says, of as many as were asked for. The seat
 -- has the slips of just the turn's entries.
-pub record Turned (start : Network NodeState) (number quantum : ℕ) (turn : NodeTurn) (seat_old seat_new : List (ℕ × Entry)) : Type 0 where
+pub record NodeTurned (start : Network NodeState) (number quantum : ℕ) (turn : NodeTurn) (seat_old seat_new : List (ℕ × Entry)) : Type 0 where
   pub asked : turn.ran.max ≡ quantum
   pub few : turn.ran.count ≤ quantum
   pub between : List (ℕ × Entry)

@@ -3,5 +3,5 @@ use Rattle.std.specs.Prelude.{◌≡◌, ℕ, ◌-◌, ◌^◌, List, length, mi
 use Rattle.tp_model.specs.declared.entry.Entry.{Entry}
 
 -- The number of the slips, or the greatest one where there are more.
-abbrev pub IsCount : ℕ → List (ℕ × Entry) → Type 0
-IsCount count slips = count ≡ min (length slips) (2 ^ 64 - 1)
+abbrev pub IsSlipCount : ℕ → List (ℕ × Entry) → Type 0
+IsSlipCount count slips = count ≡ min (length slips) (2 ^ 64 - 1)

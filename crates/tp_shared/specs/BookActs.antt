@@ -26,7 +26,7 @@ pub record Grown (Are : List Entry → Type 0) (old new : BookValue) : Type 0 wh
 
 -- Acts of a node were done, and it and whether a run of it is reserved are then so. The others are as they were: whether they have
 -- recorded, and their frozen images.
-pub record Acted (Are : List Entry → Type 0) (number : ℕ) (agreement : Agreement) (old new : BookValue) : Type 0 where
+pub record NodeActed (Are : List Entry → Type 0) (number : ℕ) (agreement : Agreement) (old new : BookValue) : Type 0 where
   pub grown : Grown Are old new
   pub nodes : agreed new.state ≡ set (agreed old.state) number agreement.node
   pub runs : new.runs ≡ set old.runs number agreement.reserved
@@ -34,7 +34,7 @@ pub record Acted (Are : List Entry → Type 0) (number : ℕ) (agreement : Agree
   pub frozen : (other : ℕ) → other ≢ number → get_or new.frozen other None ≡ get_or old.frozen other None
 
 -- Acts of the host were done. All nodes and reservations are as they were.
-pub record Hosted (Are : List Entry → Type 0) (old new : BookValue) : Type 0 where
+pub record HostActed (Are : List Entry → Type 0) (old new : BookValue) : Type 0 where
   pub grown : Grown Are old new
   pub nodes : agreed new.state ≡ agreed old.state
   pub runs : new.runs ≡ old.runs
