@@ -1,5 +1,6 @@
 mod Looks
 pub mod Kept
+pub mod Made
 mod Appends
 mod Begins
 pub mod Turns

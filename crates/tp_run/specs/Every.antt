@@ -1,5 +1,5 @@
 -- When a snapshot begins, and how many entries turns make.
-use Rattle.std.specs.Prelude.{ℕ, ◌+◌, ◌-◌, ◌*◌, ◌/◌, ◌==◌, Bool, nat_le, if◌then◌else◌, Option, Some, None}
+use Rattle.std.specs.Prelude.{ℕ, ◌+◌, ◌-◌, ◌*◌, ◌/◌, ◌==◌, nat_le, if◌then◌else◌, Option, Some, None}
 use Rattle.tp_model.specs.Topology.{Topology, line_count}
 use Rattle.tp_model.specs.Journal.{entry_room, reserve, room}
 use Rattle.tp_node.specs.RunEnd.{RunEnd}
@@ -14,10 +14,6 @@ half_of t area = (room t area - reserve (line_count t)) / (2 * entry_room)
 abbrev pub every_of : Option ℕ → Topology → ℕ → ℕ
 every_of (Some asked) t area = asked
 every_of None t area = if nat_le (half_of t area) 1 then 1 else half_of t area
-
--- as many entries have been made since the kept cut
-abbrev pub is_due : ℕ → BookValue → Bool
-is_due every b = nat_le every (next_number b - b.base)
 
 -- how many entries are wanting until there are as many
 abbrev pub missing_in : ℕ → BookValue → ℕ
