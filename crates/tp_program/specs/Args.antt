@@ -5,7 +5,7 @@ use Rattle.std.specs.Option.{option_map}
 use Rattle.std.specs.declared.alloc.Global.{Global}
 use Rattle.std.specs.declared.string.String.{String}
 use Rattle.tp_model.specs.declared.limits.TheConstants.{MAX_STEPS}
-use Rattle.tp_run.specs.declared.job.TheConstants.{MAX_WORKERS}
+use Rattle.tp_work.specs.declared.start.TheConstants.{MAX_WORKERS}
 use Rattle.tp_program.specs.declared.args.Asked.{Asked}
 use Rattle.tp_program.specs.declared.args.Asked.TheVariants.{Help, Try, Format, Run as Runs, Compact, Recover, Show, Check, View as Views}
 use Rattle.tp_program.specs.declared.args.Run.{Run}

@@ -14,7 +14,7 @@ use clap::ArgMatches;
 use std::alloc::{AllocError, AllocFailed, Global};
 use std::fmt;
 use tp_model::limits::MAX_STEPS;
-use tp_run::MAX_WORKERS;
+use tp_work::MAX_WORKERS;
 
 /// What the command line asks for.
 #[derive(Drop)]

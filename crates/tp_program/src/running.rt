@@ -5,7 +5,7 @@ ghost use Rattle.tp_model.specs.Opening.{verdict};
 ghost use Rattle.tp_model.specs.declared.limits.TheConstants.{MAX_STEPS};
 ghost use Rattle.tp_recover.specs.Reading.{LeavesNothingNew};
 ghost use Rattle.tp_run.specs.Ran.{History};
-ghost use Rattle.tp_run.specs.declared.job.TheConstants.{MAX_WORKERS};
+ghost use Rattle.tp_work.specs.declared.start.TheConstants.{MAX_WORKERS};
 ghost use Rattle.tp_program.specs.Args.{IsRun};
 ghost use Rattle.tp_program.specs.Running.{RanAs, job_of, status_of};
 

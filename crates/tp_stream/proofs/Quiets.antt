@@ -15,9 +15,9 @@ use Rattle.tp_node.specs.declared.run.Why.TheVariants.{Full, Idle, NoFrame, Halt
 use Rattle.tp_shared.specs.TurnsMade.{TurnMade}
 use Rattle.tp_shared.specs.declared.node_turn.NodeTurn.{NodeTurn}
 use Rattle.tp_stream.specs.declared.task.Task.{Task}
-use Rattle.tp_stream.specs.declared.ending.Ended.{Ended}
-use Rattle.tp_stream.specs.declared.ending.Ending.{Ending}
-use Rattle.tp_stream.specs.declared.ending.Ending.TheVariants.{Quiet, Turns, Gone, Halted}
+use Rattle.tp_stream_ends.specs.declared.ending.Ended.{Ended}
+use Rattle.tp_stream_ends.specs.declared.ending.Ending.{Ending}
+use Rattle.tp_stream_ends.specs.declared.ending.Ending.TheVariants.{Quiet, Turns, Gone, Halted}
 use Rattle.tp_stream.specs.declared.fault.StreamFault.{StreamFault}
 use Rattle.tp_stream.specs.declared.pumping.Pumped.{Pumped}
 use Rattle.tp_stream.specs.declared.turns.Turns.{Turns as TurnsValue}

@@ -10,8 +10,8 @@ use Rattle.tp_book.specs.Book.{BookValue, node_count}
 use Rattle.tp_shared.specs.declared.node_turn.NodeTurn.{NodeTurn}
 use Rattle.tp_shared.specs.TurnsMade.{HostTurnMade, TurnMade}
 use Rattle.tp_stream.specs.declared.task.Task.{Task}
-use Rattle.tp_stream.specs.declared.ending.Ending.{Ending}
-use Rattle.tp_stream.specs.declared.ending.Ending.TheVariants.{Quiet, Turns, Gone, Halted}
+use Rattle.tp_stream_ends.specs.declared.ending.Ending.{Ending}
+use Rattle.tp_stream_ends.specs.declared.ending.Ending.TheVariants.{Quiet, Turns, Gone, Halted}
 
 -- A book of the network, with as many nodes and ports, was seen in which no snapshot runs.
 pub record IsStill (start : Network NodeState) : Type 0 where

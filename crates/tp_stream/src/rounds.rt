@@ -4,7 +4,7 @@ ghost use Rattle.std.specs.Prelude.{◌≡◌, ◌<◌, ◌≤◌, length, true,
 ghost use Rattle.tp_model.specs.declared.limits.TheConstants.{MAX_STEPS};
 ghost use Rattle.tp_book.specs.Marked.{after_begin};
 ghost use Rattle.tp_shared.specs.TurnsMade.{HostTurnMade};
-ghost use Rattle.tp_run.specs.Every.{is_due};
+ghost use Rattle.tp_flush.specs.Due.{is_due};
 ghost use Rattle.tp_stream.specs.Quiet.{HadNothing, HasNoStep, HaveRested, IsStill, NodeRests};
 ghost use Rattle.tp_stream.specs.Rooms.{HavePlace};
 ghost use Rattle.tp_stream.specs.Streamed.{IsBegun};

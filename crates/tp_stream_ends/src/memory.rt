@@ -1,7 +1,7 @@
 //! A sink in memory. One of its calls may fail.
 
 ghost use Rattle.std.specs.Prelude.{◌≡◌, ◌≤◌, ◌++◌, length, take, Some, OnOk, OnErr};
-ghost use Rattle.tp_stream.specs.Held.{HasLength, HasPut, HasReach, IsSafe, KeepsBytes, KeepsFront, Reaches};
+ghost use Rattle.tp_stream_ends.specs.Held.{HasLength, HasPut, HasReach, IsSafe, KeepsBytes, KeepsFront, Reaches};
 
 use crate::sink::{Sink, SinkFault};
 use std::alloc::Global;

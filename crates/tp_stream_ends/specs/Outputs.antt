@@ -1,6 +1,6 @@
 -- A port's output, and the sink that takes it.
 use Rattle.std.specs.Prelude.{◌≡◌, ℕ, ◌+◌, List, length, Option}
-use Rattle.tp_stream.specs.Held.{Held, HasPut}
+use Rattle.tp_stream_ends.specs.Held.{Held, HasPut}
 
 -- The port; up to where its reader says that it has the outputs; up to where they are confirmed; up to where they were put and are
 -- safe; and what the sink holds.

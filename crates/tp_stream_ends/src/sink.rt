@@ -1,7 +1,7 @@
 //! What takes a port's output.
 
 ghost use Rattle.std.specs.Prelude.{Option, None, OnOk};
-ghost use Rattle.tp_stream.specs.Held.{Held, HasLength, HasPut, HasReach, IsSafe, KeepsBytes, KeepsFront, Reaches};
+ghost use Rattle.tp_stream_ends.specs.Held.{Held, HasLength, HasPut, HasReach, IsSafe, KeepsBytes, KeepsFront, Reaches};
 
 /// Why bytes couldn't be put, or not be made safe.
 #[derive(Clone, Copy, Debug, PartialEq, Eq)]

@@ -1,7 +1,7 @@
 -- Bytes that are put and made safe.
 use Rattle.std.proofs.Common.{◌≡◌, ℕ, ◌+◌, ◌≤◌, List, [], ◌∷◌, ◌++◌, length, take, Option, Some, None, refl, sym, ap, subst, ◌∙◌, arith, append-nil, length-append}
 use Rattle.std.proofs.lemmas.List.{length-take, length-take-le}
-use Rattle.tp_stream.specs.Held.{Held, HasPut, IsSafe, KeepsBytes, KeepsFront, Reaches}
+use Rattle.tp_stream_ends.specs.Held.{Held, HasAtMost, HasLength, HasPut, IsSafe, KeepsBytes, KeepsFront, Reaches}
 
 -- nothing is asked for
 pub reaches_none : (h : Option Held) → Reaches 0 h
@@ -72,3 +72,13 @@ none_put n (x ∷ xs) (Some h) none = absurd (omega (arith, none))
 pub none_reaches : (n : ℕ) (bytes : List ℕ) (h : Option Held) → length bytes ≡ 0 → Reaches n h → Reaches (n + length bytes) h
 none_reaches n bytes None none r = tt
 none_reaches n bytes (Some h) none r = let safe = r.0 in let there = r.1 in (omega (arith, none, safe), omega (arith, none, there))
+
+-- ## A sink's length
+
+pub has_at_most : (n most : ℕ) (h : Option Held) → HasLength (Some n) h → n ≤ most → HasAtMost most h
+has_at_most n most None has low = tt
+has_at_most n most (Some h) has low = let same : n ≡ length h.bytes = cc in omega (arith, same, low)
+
+pub has_no_length : (most : ℕ) (h : Option Held) → HasLength None h → HasAtMost most h
+has_no_length most None has = tt
+has_no_length most (Some h) has = absurd (cc)

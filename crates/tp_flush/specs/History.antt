@@ -1,15 +1,19 @@
--- Histories of devices.
+-- What a process goes on from.
 use Rattle.std.specs.Prelude.{[]}
 use Rattle.tp_model.specs.NodeState.{NodeState}
 use Rattle.tp_model.specs.Network.{Network}
-use Rattle.tp_model.specs.Runs.{fresh}
+use Rattle.tp_model.specs.Runs.{World, fresh}
 use Rattle.tp_model.specs.WriteOrder.{Resting}
-use Rattle.tp_run.specs.Ran.{History}
+
+-- the network of the images that the device was formatted with, and the world before it was opened
+pub record History : Type 0 where
+  pub formatted : Network NodeState
+  pub before : World NodeState
 
 abbrev none : Network NodeState
 none = record { wires = []; nodes = []; ports = []; lines = [] }
 
--- nothing is told of: what crashes leave is tried
+-- nothing is told of
 unfoldable pub untold : History
 untold = record {
   formatted = none;

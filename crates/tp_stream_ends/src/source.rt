@@ -1,7 +1,7 @@
 //! Where a port's input comes from.
 
 ghost use Rattle.std.specs.Prelude.{◌≡◌, ◌≤◌, ℕ, List, length, take, Option, None, IfOk};
-ghost use Rattle.tp_stream.specs.Offered.{AreFrom, IsLength};
+ghost use Rattle.tp_stream_ends.specs.Inputs.{AreFrom, IsLength};
 
 /// Bytes couldn't be read.
 #[derive(Clone, Copy, Debug, PartialEq, Eq)]
