@@ -13,17 +13,11 @@ use std::io;
 use std::io::Write;
 use std::os::unix::fs::FileExt;
 use tp_disk::{Counted, NotedFile, RawFile};
-use tp_layout::area_for;
+use tp_layout::{JournalRoom, area_for};
 use tp_model::NetFault;
 use tp_model::limits::MAX_HELD;
 use tp_net::{Named, Topology};
 use tp_recover::{Opened, Unopened};
-
-/// The bytes that an entry may take in the journal.
-const ENTRY_ROOM: u64 = 32;
-
-/// The bytes that are kept back for each line, to finish a snapshot.
-const KEPT_ROOM: u64 = 96;
 
 /// Says what is left where all files are good.
 fn push_rest(text: &mut String) -> Result<(), AllocError> {
@@ -343,11 +337,8 @@ fn offered(run: &Run, opened: &Opened, input: usize) -> u64 {
 
 /// How many entries a device's journal takes.
 fn journal_entries(opened: &Opened) -> u64 {
-    let lines = opened.head().topology().line_count() as u64;
-    opened
-        .journal_room()
-        .saturating_sub(lines.saturating_mul(KEPT_ROOM))
-        / ENTRY_ROOM
+    let head = opened.head();
+    JournalRoom::of(head.topology(), head.area()).capacity()
 }
 
 /// Says how full a device's journal is, where a run's input or the confirmation of its output has no room. `input` is how many bytes

@@ -1,24 +1,24 @@
 -- What is left of a device that was compacted, whatever becomes of it meanwhile.
-use Rattle.std.specs.Prelude.{◌≡◌, ◌≤◌, ◌⊎◌, ℕ, ◌+◌, ◌-◌, ◌/◌, List, Result, Ok, Err, IfOk}
+use Rattle.std.specs.Prelude.{◌≡◌, ◌≤◌, ◌⊎◌, ℕ, ◌+◌, List, Result, Ok, Err, IfOk}
 use Rattle.tp_model.specs.declared.entry.Entry.{Entry}
 use Rattle.tp_model.specs.declared.opening.OpenFault.{OpenFault}
 use Rattle.tp_model.specs.NodeState.{NodeState}
 use Rattle.tp_model.specs.Node.{t414}
 use Rattle.tp_model.specs.Network.{Network}
-use Rattle.tp_model.specs.Topology.{Topology, line_count}
-use Rattle.tp_model.specs.Journal.{entry_room, reserve, room}
+use Rattle.tp_model.specs.Topology.{Topology}
 use Rattle.tp_model.specs.Opening.{Opened}
 use Rattle.tp_model.specs.Disk.{MayBe}
 use Rattle.tp_model.specs.DiskHistory.{State, LeavesOnly}
 use Rattle.tp_model.specs.DeviceAreas.{device_areas}
 use Rattle.tp_model.specs.Walks.{RecoversTo}
+use Rattle.tp_layout.specs.Capacity.{capacity, journal_of}
 use Rattle.tp_run.specs.declared.compacting.Compaction.{Compaction}
 use Rattle.tp_run.specs.declared.compacting.CompactFault.{CompactFault}
 use Rattle.tp_run.specs.declared.compacting.CompactFault.TheVariants.{Opening, NoGeneration, DeviceFailed, NotWhole, Memory}
 
--- how many entries of their own groups a journal takes behind a cut, beside the reserve
+-- how many entries the journal of an area takes behind a cut
 abbrev pub entries_of : Topology → ℕ → ℕ
-entries_of t area = (room t area - reserve (line_count t)) / entry_room
+entries_of t area = capacity (journal_of t area)
 
 -- the device isn't written
 abbrev pub IsUnbegun : {A : Type 0} → Result A CompactFault → Type 0

@@ -1,12 +1,12 @@
 -- When a snapshot begins.
-use Rattle.std.specs.Prelude.{ℕ, ◌-◌, ◌*◌, ◌/◌, nat_le, if◌then◌else◌, Option, Some, None}
-use Rattle.tp_model.specs.Topology.{Topology, line_count}
-use Rattle.tp_model.specs.Journal.{entry_room, reserve, room}
+use Rattle.std.specs.Prelude.{ℕ, ◌-◌, nat_le, if◌then◌else◌, Option, Some, None}
+use Rattle.tp_model.specs.Topology.{Topology}
+use Rattle.tp_layout.specs.Capacity.{half_capacity, journal_of}
 use Rattle.tp_book.specs.Book.{BookValue, next_number}
 
--- how many entries of their own groups fill half of what a journal has room for beside the reserve
+-- how many entries fill half of the journal of an area
 abbrev pub half_of : Topology → ℕ → ℕ
-half_of t area = (room t area - reserve (line_count t)) / (2 * entry_room)
+half_of t area = half_capacity (journal_of t area)
 
 -- how many entries since the kept cut begin a snapshot: those that were asked for, else half of a journal, and at least one
 abbrev pub every_of : Option ℕ → Topology → ℕ → ℕ

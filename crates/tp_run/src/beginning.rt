@@ -4,23 +4,13 @@ ghost use Rattle.std.specs.Prelude.{◌≡◌, true, false, Ok, IfOk, OnErr};
 ghost use Rattle.tp_book.specs.Marked.{after_begin, begin_refusal};
 ghost use Rattle.tp_book.specs.Refusals.{IsAnswer};
 ghost use Rattle.tp_flush.specs.Due.{is_due};
-ghost use Rattle.tp_run.specs.Every.{every_of, half_of, missing_in};
+ghost use Rattle.tp_run.specs.Every.{every_of, missing_in};
 
 use std::alloc::Global;
 use tp_book::Refusal;
-use tp_entry::ENTRY_ROOM;
-use tp_layout::journal_room;
-use tp_model::limits::RESERVED;
+use tp_layout::JournalRoom;
 use tp_net::Topology;
 use tp_shared::{Locked, Naming};
-
-/// How many entries fill half of a journal, beside what is kept for a running snapshot.
-fn half_of(topology: &Topology, area: u64) -> u64
-    ensures { result ≡ half_of topology.now area }
-{
-    let reserve = (RESERVED * ENTRY_ROOM) as u64 * topology.line_count() as u64;
-    journal_room(topology, area).saturating_sub(reserve) / (2 * ENTRY_ROOM as u64)
-}
 
 /// How many entries since the kept cut begin a snapshot, where `asked` were asked for; by default half of a journal.
 pub(crate) fn every_of(asked: Option<u32>, topology: &Topology, area: u64) -> u64
@@ -28,7 +18,7 @@ pub(crate) fn every_of(asked: Option<u32>, topology: &Topology, area: u64) -> u6
 {
     match asked {
         Some(entries) => entries.into(),
-        None => half_of(topology, area).max(1),
+        None => JournalRoom::of(topology, area).half().max(1),
     }
 }
 

@@ -6,6 +6,7 @@ ghost use Rattle.tp_area.specs.Places.{place_at};
 ghost use Rattle.tp_flush.specs.Flushing.{IsSameProcess, Walked};
 ghost use Rattle.tp_flush.specs.Known.{Began};
 ghost use Rattle.tp_law_machine.specs.NodeOfBytes.{IsNodeOfBytes};
+ghost use Rattle.tp_layout.specs.Capacity.{capacity};
 ghost use Rattle.tp_model.specs.DiskHistory.{IsSynced};
 ghost use Rattle.tp_model.specs.Journal.{is_roomy, room};
 ghost use Rattle.tp_model.specs.Node.{t414_ends};
@@ -27,11 +28,9 @@ use thiserror::Error;
 use tp_area::Store;
 use tp_book::Refusal;
 use tp_disk::Disk;
-use tp_entry::ENTRY_ROOM;
 use tp_flush::{FlushFault, Flusher, topology_of};
-use tp_layout::journal_room;
+use tp_layout::JournalRoom;
 use tp_mark::Raiser;
-use tp_model::limits::RESERVED;
 use tp_net::Topology;
 use tp_recover::{Opened, Unopened, open};
 use tp_shared::{Naming, Parts, Shared};
@@ -65,21 +64,13 @@ pub enum CompactFault {
     Memory,
 }
 
-/// How many entries a journal takes behind a cut, beside what is kept for a running snapshot.
-fn entries_of(topology: &Topology, area: u64) -> u64
-    ensures { result ≡ entries_of topology.now area }
-{
-    let reserve = (RESERVED * ENTRY_ROOM) as u64 * topology.line_count() as u64;
-    journal_room(topology, area).saturating_sub(reserve) / ENTRY_ROOM as u64
-}
-
-/// How many of `entries` have not been made since the kept cut.
-fn left_of<J: Naming, R: Wait>(rt: &R, shared: &Shared<J>, entries: u64) -> u64
-    ensures { result ≤ entries }
+/// How many entries `journal` takes behind those that were made since the kept cut.
+fn left_in<J: Naming, R: Wait>(rt: &R, shared: &Shared<J>, journal: JournalRoom) -> u64
+    ensures { result ≤ capacity journal }
 {
     let held = shared.book().lock(rt);
     let made = held.book().next().saturating_sub(held.book().base());
-    entries.saturating_sub(made)
+    journal.left(made)
 }
 
 /// The fault of a snapshot that doesn't begin; none where one runs.
@@ -132,19 +123,19 @@ fn fault_in(fault: FlushFault) -> CompactFault
     }
 }
 
-/// Makes all of the network one cut, and switches the areas to it. `entries` is how many its journal takes.
+/// Makes all of the network one cut, and switches the areas to it, each with such a `journal`.
 fn switch_all<J: Naming, D: Disk, R: Wait>(
     rt: &R,
     alloc: Global,
     shared: &Shared<J>,
     flusher: &mut Flusher<J, D>,
-    entries: u64,
+    journal: JournalRoom,
 ) -> Result<Compaction, CompactFault>
     ensures walks { D.keeps → Began J.formatted J.before flusher.old.opened → Walked flusher.old flusher.new }
     ensures process { IsSameProcess flusher.old flusher.new }
     ensures stored { IfOk result (λ done. done.next ≤ flusher.new.world.mark) }
     ensures switched { IfOk result (λ done. done.generation ≡ flusher.old.place.generation + 1) }
-    ensures room { IfOk result (λ done. done.room ≤ entries) }
+    ensures room { IfOk result (λ done. done.room ≤ capacity journal) }
     ensures begun { IfErr result IsBegun }
 {
     flusher.known();
@@ -162,7 +153,7 @@ fn switch_all<J: Naming, D: Disk, R: Wait>(
     Ok(Compaction {
         next: flushed.mark,
         generation: flusher.generation(),
-        room: left_of(rt, shared, entries),
+        room: left_in(rt, shared, journal),
     })
 }
 
@@ -194,10 +185,10 @@ fn compact_parts<J: Naming, D: Disk, R: Wait>(
     ensures begun { IfErr result.1 IsBegun }
 {
     let (shared, key) = Shared::<J>::start(parts);
-    let entries = entries_of(&topology, store.place.area);
+    let journal = JournalRoom::of(&topology, store.place.area);
     let mut flusher = Flusher::over(opened, topology, store, key, raiser);
     flusher.known();
-    let done = switch_all(rt, alloc, &shared, &mut flusher, entries);
+    let done = switch_all(rt, alloc, &shared, &mut flusher, journal);
     (flusher.into_disk(), done)
 }
 

@@ -6,9 +6,8 @@ use std::sync::Wait;
 use std::sync::atomic::{AtomicBool, AtomicU64, Ordering};
 use std::time::Duration;
 
-/// How many turns are drawn until the entries are counted anew, and the flusher has a turn to make though none was made. No turn makes
-/// more entries.
-pub(crate) const EACH: u64 = 64;
+/// How many turns are drawn until the entries are counted anew, and the flusher has a turn to make though none was made.
+const LOOK_TURNS: u64 = 64;
 
 /// How many microseconds the flusher sleeps where nothing was made. No turn wakes it, so what is journalled then, and the mark with it,
 /// waits for the device and for one such sleep.
@@ -58,11 +57,11 @@ impl Watch {
         self.every
     }
 
-    /// Takes one of the turns that are left; false where none is. With the last one of [`EACH`] the flusher has a turn to make: a
+    /// Takes one of the turns that are left; false where none is. With the last one of [`LOOK_TURNS`] the flusher has a turn to make: a
     /// snapshot may go on by what is no entry. Nobody is woken.
     pub(crate) fn draw(&self) -> bool {
         let before = self.drawn.fetch_add(1, Ordering::SeqCst);
-        if before % EACH == EACH - 1 {
+        if before % LOOK_TURNS == LOOK_TURNS - 1 {
             self.count_anew();
             self.tell(1);
         }

@@ -5,13 +5,16 @@ ghost use Rattle.tp_run.specs.Worked.{Worked};
 ghost use Rattle.tp_work.specs.Made.{made_by};
 
 use crate::beginning::{begin_where_due, missing_in};
-use crate::watch::{EACH, Watch};
+use crate::watch::Watch;
 use std::alloc::Global;
 use std::sync::Wait;
 use std::thread;
 use std::thread::Threads;
 use tp_shared::{Naming, NoGate, Shared};
 use tp_work::{Net, Seat, Turn, TurnFault};
+
+/// How many entries a turn is reckoned at where nobody knows how many it made. No turn makes more.
+const RECKONED_ENTRIES: u64 = 64;
 
 /// How many entries a turn made, where that is a number.
 fn entries_of(turn: &Turn) -> Option<u64>
@@ -26,8 +29,8 @@ fn entries_of(turn: &Turn) -> Option<u64>
 /// The same; or more, where the turn was broken off, since it may have taken tokens before.
 fn made_by(done: &Result<Turn, TurnFault>) -> u64 {
     match done {
-        Ok(turn) => entries_of(turn).unwrap_or(EACH),
-        Err(TurnFault::JournalFull | TurnFault::Memory) => EACH,
+        Ok(turn) => entries_of(turn).unwrap_or(RECKONED_ENTRIES),
+        Err(TurnFault::JournalFull | TurnFault::Memory) => RECKONED_ENTRIES,
         Err(TurnFault::Empty | TurnFault::StoreBroken) => 0,
     }
 }

@@ -1,55 +1,49 @@
 //! Room in the journal.
 
-ghost use Rattle.std.specs.Prelude.{◌≡◌, ◌<◌, ◌^◌, true, false, Ok};
-ghost use Rattle.tp_model.specs.Journal.{reserve, room};
-ghost use Rattle.tp_model.specs.Topology.{line_count};
+ghost use Rattle.std.specs.Prelude.{◌≡◌, ◌<◌, true, false};
 ghost use Rattle.tp_book.specs.Refusals.{is_journal_full};
+ghost use Rattle.tp_layout.specs.Capacity.{journal_of};
 ghost use Rattle.tp_stream.specs.Rooms.{HavePlace, Lies, free_of, has_room};
 
 use tp_book::Book;
-use tp_entry::ENTRY_ROOM;
-use tp_layout::journal_room;
-use tp_model::limits::{MAX_HELD, NUMBER_LIMIT, RESERVED};
+use tp_layout::JournalRoom;
+use tp_model::limits::{MAX_HELD, NUMBER_LIMIT};
 use tp_net::Topology;
 
-/// How many bytes a journal has, and how many of them are kept for a running snapshot.
+/// The journal of an area, in which a stream asks for room.
 #[derive(Clone, Copy)]
 pub(crate) struct Rooms {
-    most: u64,
-    kept: u64,
-    pub ghost few: { kept < 2 ^ 32 },
+    journal: JournalRoom,
 }
 
 impl Rooms {
     /// Those of the areas of a device.
     pub(crate) fn of(topology: &Topology, area: u64) -> Rooms
-        ensures most { result.most ≡ room topology.now area }
-        ensures kept { result.kept ≡ reserve (line_count topology.now) }
+        ensures { result.journal ≡ journal_of topology.now area }
     {
         Rooms {
-            most: journal_room(topology, area),
-            kept: (RESERVED * ENTRY_ROOM) as u64 * topology.line_count() as u64,
+            journal: JournalRoom::of(topology, area),
         }
     }
 
     /// Whether there is room for `more` entries that anyone may make. Where the book lies in such a journal, and no run is reserved, none
     /// of them is then refused as JournalFull.
     pub(crate) fn has_room(self, book: &Book, more: u32) -> bool
-        ensures value { result ≡ has_room self.most self.kept book.now more }
-        ensures keeps { Lies self.most self.kept book.now → result ≡ true → is_journal_full book.now more ≡ false }
+        ensures value { result ≡ has_room self.journal book.now more }
+        ensures keeps { Lies self.journal book.now → result ≡ true → is_journal_full book.now more ≡ false }
     {
         book.known();
         let made = book.next().saturating_sub(book.base());
-        let bytes = ENTRY_ROOM as u64 * (made + u64::from(more)) + self.kept;
-        bytes <= self.most && book.next() + u64::from(more) < NUMBER_LIMIT as u64
+        self.journal.takes(made + u64::from(more))
+            && book.next() + u64::from(more) < NUMBER_LIMIT as u64
     }
 
     /// How many entries there is room for.
     pub(crate) fn free(self, book: &Book) -> u64
-        ensures { result ≡ free_of self.most self.kept book.now }
+        ensures { result ≡ free_of self.journal book.now }
     {
         let made = book.next().saturating_sub(book.base());
-        (self.most.saturating_sub(self.kept) / ENTRY_ROOM as u64).saturating_sub(made)
+        self.journal.left(made)
     }
 
     /// How many entries since the kept cut begin a snapshot, where `asked` were asked for: at most those that fill half of it, and at
@@ -57,7 +51,7 @@ impl Rooms {
     pub(crate) fn every(self, asked: Option<u32>) -> u64
         ensures { 0 < result }
     {
-        let half = (self.most.saturating_sub(self.kept) / (2 * ENTRY_ROOM as u64)).max(1);
+        let half = self.journal.half().max(1);
         match asked {
             Some(entries) => half.min(u64::from(entries).max(1)),
             None => half,
@@ -66,9 +60,8 @@ impl Rooms {
 
     /// How much of it is in use, in percent.
     pub(crate) fn used(self, book: &Book) -> u64 {
-        let all = self.most.saturating_sub(self.kept) / ENTRY_ROOM as u64;
         let made = book.next().saturating_sub(book.base());
-        made.saturating_mul(100) / all.max(1)
+        made.saturating_mul(100) / self.journal.capacity().max(1)
     }
 }
 

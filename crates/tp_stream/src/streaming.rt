@@ -41,14 +41,10 @@ use tp_net::Topology;
 use tp_recover::{Opened, open};
 use tp_shared::{Naming, Parts, Shared};
 use tp_stream_ends::{Ended, Listener, Sink, Source, Streams};
+use tp_turn::{TAKES, TURN_ENTRIES};
 
-/// The most entries of a node's turn: twelve tokens taken, and a run.
-const NODE_ENTRIES: u32 = 13;
-
-/// The most entries of the host's turn at a port.
-const PORT_ENTRIES: u32 = 3;
-
-/// How turns are made on a device of this topology.
+/// How turns are made on a device of this topology. Each needs room for a node's turn, or for the host's with [`TAKES`] entries a port,
+/// whichever is more, and for a confirm a port.
 fn pace_of(task: Task, topology: &Topology, area: u64) -> Pace
     requires { task.quantum ≤ MAX_STEPS }
     ensures { result.task ≡ task }
@@ -59,7 +55,7 @@ fn pace_of(task: Task, topology: &Topology, area: u64) -> Pace
         task,
         every: rooms.every(task.every),
         rooms,
-        need: NODE_ENTRIES.max(PORT_ENTRIES * ports) + ports,
+        need: (TURN_ENTRIES as u32).max(TAKES as u32 * ports) + ports,
         confirms: ports,
     }
 }
