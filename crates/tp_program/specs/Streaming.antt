@@ -24,10 +24,10 @@ use Rattle.tp_program.specs.declared.streaming.FilesFault.TheVariants.{End, Stre
 use Rattle.tp_program.specs.declared.stream_args.StreamAsked.{StreamAsked}
 use Rattle.tp_program.specs.declared.stream_args.StreamAsked.TheVariants.{Help, Run}
 use Rattle.tp_program.specs.declared.stream_args.StreamRun.{StreamRun}
-use Rattle.tp_program.specs.Args.{IsEvery}
+use Rattle.tp_words.specs.Args.{IsEvery}
 use Rattle.tp_program.specs.Ends.{AreEnds}
-use Rattle.tp_program.specs.Given.{given, IsGivenOr}
-use Rattle.tp_program.specs.Typed.{has_word}
+use Rattle.tp_words.specs.Given.{given, IsGivenOr}
+use Rattle.tp_words.specs.Typed.{has_word}
 
 -- turns have no bound, or one in its range
 abbrev pub IsBound : Option ℕ → Type 0
