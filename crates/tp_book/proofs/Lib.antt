@@ -27,3 +27,4 @@ pub mod Outside
 pub mod GoingOn
 pub mod Trimmed
 pub mod Tails
+pub mod Dropped

@@ -17,4 +17,5 @@ pub mod Receipts
 pub mod Acts
 pub mod Marked
 pub mod Trimmed
+pub mod Dropped
 pub mod Copies

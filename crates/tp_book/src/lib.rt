@@ -8,6 +8,7 @@ mod commits;
 mod confirm;
 mod count;
 mod cut;
+mod forget;
 mod full;
 mod host;
 mod hosts;

@@ -1,5 +1,7 @@
 mod Looks
 pub mod Kept
+pub mod Made
+pub mod Recovers
 mod Appends
 mod Begins
 pub mod Turns

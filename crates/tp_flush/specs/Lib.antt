@@ -8,3 +8,6 @@ pub mod Settled
 pub mod All
 pub mod Ahead
 pub mod Switching
+pub mod Due
+pub mod History
+pub mod Made

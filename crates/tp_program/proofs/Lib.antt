@@ -1,3 +1,2 @@
-mod Fronts
 pub mod Histories
 mod Statuses

@@ -1,11 +1,3 @@
-pub mod Typed
-pub mod Given
-pub mod Args
-pub mod Front
-pub mod Shown
-pub mod Opens
-pub mod Steady
-pub mod Attempt
 pub mod Formats
 pub mod Running
 pub mod Compacting

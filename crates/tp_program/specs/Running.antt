@@ -8,7 +8,7 @@ use Rattle.tp_run.specs.Ran.{History, Ran}
 use Rattle.tp_run.specs.declared.fault.RunFault.{RunFault}
 use Rattle.tp_run.specs.declared.fault.RunFault.TheVariants.{Opening, Spare, Port, OfferRefused, FlushFailed, OutputFailed, ConfirmRefused, LastFlushFailed, Unaccounted, Memory}
 use Rattle.tp_run.specs.declared.job.Job.{Job}
-use Rattle.tp_program.specs.declared.args.Run.{Run}
+use Rattle.tp_words.specs.declared.args.Run.{Run}
 
 -- what threads are asked: a number that no device has is the greatest of its kind
 abbrev pub job_of : Run → Job

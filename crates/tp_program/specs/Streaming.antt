@@ -11,9 +11,9 @@ use Rattle.tp_model.specs.DiskHistory.{State}
 use Rattle.tp_recover.specs.Reading.{LeavesNothingNew}
 use Rattle.tp_recover.specs.declared.unopened.Unopened.{Unopened}
 use Rattle.tp_stream.specs.Streamed.{IsUnbegun, Streamed}
-use Rattle.tp_stream.specs.declared.ending.Ended.{Ended}
-use Rattle.tp_stream.specs.declared.ending.Ending.{Ending}
-use Rattle.tp_stream.specs.declared.ending.Ending.TheVariants.{Quiet, Turns, Gone as AllGone, Halted}
+use Rattle.tp_stream_ends.specs.declared.ending.Ended.{Ended}
+use Rattle.tp_stream_ends.specs.declared.ending.Ending.{Ending}
+use Rattle.tp_stream_ends.specs.declared.ending.Ending.TheVariants.{Quiet, Turns, Gone as AllGone, Halted}
 use Rattle.tp_stream.specs.declared.fault.StreamFault.{StreamFault}
 use Rattle.tp_stream.specs.declared.fault.StreamFault.TheVariants.{Opening, Spare, Port, Unnamed, Short, Long, Gone, NotShown, ShortInput, InputFailed, OutputFailed, FlushFailed, JournalFull, Memory}
 use Rattle.tp_stream.specs.declared.task.Task.{Task}
@@ -24,10 +24,10 @@ use Rattle.tp_program.specs.declared.streaming.FilesFault.TheVariants.{End, Stre
 use Rattle.tp_program.specs.declared.stream_args.StreamAsked.{StreamAsked}
 use Rattle.tp_program.specs.declared.stream_args.StreamAsked.TheVariants.{Help, Run}
 use Rattle.tp_program.specs.declared.stream_args.StreamRun.{StreamRun}
-use Rattle.tp_program.specs.Args.{IsEvery}
+use Rattle.tp_words.specs.Args.{IsEvery}
 use Rattle.tp_program.specs.Ends.{AreEnds}
-use Rattle.tp_program.specs.Given.{given, IsGivenOr}
-use Rattle.tp_program.specs.Typed.{has_word}
+use Rattle.tp_words.specs.Given.{given, IsGivenOr}
+use Rattle.tp_words.specs.Typed.{has_word}
 
 -- turns have no bound, or one in its range
 abbrev pub IsBound : Option ℕ → Type 0

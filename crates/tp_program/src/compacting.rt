@@ -7,13 +7,12 @@ ghost use Rattle.tp_recover.specs.Reading.{LeavesNothingNew};
 ghost use Rattle.tp_run.specs.Ran.{History};
 ghost use Rattle.tp_program.specs.Compacting.{CompactedAs, PrintsDone, compaction_line};
 
-use crate::commands::{put, refuse};
-use crate::refusal::Refusal;
 use std::alloc::{AllocError, Global};
 use std::io::Write;
 use std::sync::Wait;
 use tp_disk::Disk;
 use tp_run::{CompactFault, Compaction, compact};
+use tp_views::{Refusal, put, refuse};
 
 /// What is printed of a device that was compacted.
 fn compaction_line(alloc: Global, done: Compaction) -> Result<String, AllocError>
@@ -36,6 +35,14 @@ fn print_done<O: Write>(alloc: Global, done: Compaction, out: &mut O) -> Result<
     put(out, text.as_bytes())
 }
 
+/// Says why a device wasn't compacted. Answers the status. A failed write of that is let go.
+fn refuse_compaction<E: Write>(err: &mut E, fault: CompactFault) -> u8
+    ensures { result ≡ 1 }
+{
+    let _ = write!(err, "tpnet: {fault}\n");
+    1
+}
+
 /// Prints what is so of a device that was compacted, or says why it wasn't. Answers the status.
 fn report<O: Write, E: Write>(
     alloc: Global,
@@ -49,7 +56,7 @@ fn report<O: Write, E: Write>(
 {
     let done = match done {
         Ok(done) => done,
-        Err(fault) => return refuse(err, Refusal::Compact(fault)),
+        Err(fault) => return refuse_compaction(err, fault),
     };
     match print_done(alloc, done, out) {
         Ok(()) => 0,

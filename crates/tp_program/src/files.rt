@@ -2,19 +2,12 @@
 
 ghost use Rattle.std.specs.Prelude.{◌≡◌, ◌≤◌, true, IfSome};
 ghost use Rattle.tp_model.specs.Topology.{is_topology};
-ghost use Rattle.tp_program.specs.Args.{IsRun};
-ghost use Rattle.tp_program.specs.declared.args.TheConstants.{MAX_AREA};
+ghost use Rattle.tp_words.specs.Args.{IsRun};
+ghost use Rattle.tp_words.specs.declared.args.TheConstants.{MAX_AREA};
 
-use crate::args::{NewDevice, Run};
-use crate::checking::check_on;
-use crate::commands::{refuse, try_on};
 use crate::compacting::compact_on;
-use crate::device_file::is_device_file;
 use crate::formatting::format_on;
-use crate::opening::{recover_on, show_on};
-use crate::refusal::Refusal;
 use crate::running::run_on;
-use crate::view::{View, view_on};
 use std::alloc::Global;
 use std::fs::{Files, OpenFile};
 use std::io::Write;
@@ -26,6 +19,8 @@ use tp_disk::{Counted, NewDisk, NotedFile, RawFile};
 use tp_layout::area_start;
 use tp_net::{Named, Topology};
 use tp_stream_files::is_one_file;
+use tp_views::{Refusal, check_on, is_device_file, recover_on, refuse, show_on, try_on, view_on};
+use tp_words::{NewDevice, Run, View};
 
 /// Why a file wasn't read.
 fn read_refusal(error: &io::Error) -> Refusal {

@@ -7,16 +7,15 @@ ghost use Rattle.tp_model.specs.DiskHistory.{LeavesOnly};
 ghost use Rattle.tp_model.specs.Format.{start_of};
 ghost use Rattle.tp_model.specs.Topology.{is_topology};
 ghost use Rattle.tp_area.specs.Formatting.{Formatted, IsOldOrNew};
-ghost use Rattle.tp_program.specs.Front.{AppendsFront};
+ghost use Rattle.tp_views.specs.Front.{AppendsFront};
 ghost use Rattle.tp_program.specs.Formats.{formatted_text};
 
-use crate::commands::{put, refuse};
-use crate::refusal::Refusal;
 use std::alloc::Global;
 use std::io::Write;
 use tp_area::format;
 use tp_disk::Disk;
 use tp_net::Topology;
+use tp_views::{Refusal, put, refuse};
 
 /// Formats the device, and says so.
 fn make<D: Disk, O: Write>(

@@ -2,10 +2,9 @@
 
 ghost use Rattle.std.specs.Prelude.{◌≡◌};
 
-use crate::commands::refuse;
-use crate::numbers::has_word;
-use crate::refusal::Refusal;
 use std::io::Write;
+use tp_views::{Refusal, refuse};
+use tp_words::has_word;
 
 /// Refuses what a command line asks for, since another process holds the device, and says more of it where the words ask for that. Answers
 /// the status. A failed write is let go.

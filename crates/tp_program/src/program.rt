@@ -1,15 +1,11 @@
 //! What the program does for the words of its command line.
 
 ghost use Rattle.std.specs.Prelude.{◌≡◌, ◌≤◌};
-ghost use Rattle.tp_program.specs.Args.{IsInRange};
+ghost use Rattle.tp_words.specs.Args.{IsInRange};
 
-use crate::args::{Asked, read_args};
-use crate::commands::print_help;
-use crate::explain::explain;
 use crate::files::{
     check_file, compact_file, format_file, recover_file, run_file, show_file, try_file, view_file,
 };
-use crate::numbers::has_word;
 use crate::stopped::tell_halted;
 use std::fs::{Files, OpenFile};
 use std::io;
@@ -18,6 +14,8 @@ use std::os::unix::fs::FileExt;
 use std::sync::Wait;
 use std::thread::Threads;
 use tp_stream_files::is_one_file;
+use tp_views::{explain, print_help};
+use tp_words::{Asked, has_word, read_args};
 
 /// Does what was asked for. Answers the program's status: 0 where it was done, 1 where it was refused, 2 where a node or port
 /// isn't there. What the system said of a call on a device that failed is put into `system`.

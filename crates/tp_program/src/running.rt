@@ -5,22 +5,20 @@ ghost use Rattle.tp_model.specs.Opening.{verdict};
 ghost use Rattle.tp_model.specs.declared.limits.TheConstants.{MAX_STEPS};
 ghost use Rattle.tp_recover.specs.Reading.{LeavesNothingNew};
 ghost use Rattle.tp_run.specs.Ran.{History};
-ghost use Rattle.tp_run.specs.declared.job.TheConstants.{MAX_WORKERS};
-ghost use Rattle.tp_program.specs.Args.{IsRun};
+ghost use Rattle.tp_work.specs.declared.start.TheConstants.{MAX_WORKERS};
+ghost use Rattle.tp_words.specs.Args.{IsRun};
 ghost use Rattle.tp_program.specs.Running.{RanAs, job_of, status_of};
 
-use crate::args::Run;
-use crate::commands::refuse;
-use crate::refusal::Refusal;
 use std::alloc::Global;
 use std::io::Write;
 use std::sync::Wait;
 use std::thread::Threads;
 use tp_disk::Disk;
 use tp_run::{Job, RunFault, run};
+use tp_words::Run;
 
 /// What the threads are asked. A number that no device has is the greatest of its kind.
-#[tactic(auto, unfolding(crate::specs::Args::IsRun))]
+#[tactic(auto, unfolding(tp_words::specs::Args::IsRun))]
 fn job_of(asked: &Run) -> Job
     requires { IsRun asked.now }
     ensures value { result ≡ job_of asked.now }
@@ -45,6 +43,14 @@ fn is_not_there<E: Write>(err: &mut E, what: &str) -> u8
     2
 }
 
+/// Says why a run was refused. Answers the status. A failed write of that is let go.
+fn refuse_run<E: Write>(err: &mut E, fault: RunFault) -> u8
+    ensures { result ≡ 1 }
+{
+    let _ = write!(err, "tpnet: {fault}\n");
+    1
+}
+
 /// Says on standard error what came of a run. Answers the status. A failed write of that is let go.
 fn report<E: Write>(err: &mut E, done: Result<u64, RunFault>) -> u8
     ensures { result ≡ status_of done }
@@ -59,7 +65,7 @@ fn report<E: Write>(err: &mut E, done: Result<u64, RunFault>) -> u8
             "--spare is above the pages of a node; see tpnet node",
         ),
         Err(RunFault::Port) => is_not_there(err, "the device has no such port; see tpnet show"),
-        Err(fault) => refuse(err, Refusal::Run(fault)),
+        Err(fault) => refuse_run(err, fault),
     }
 }
 

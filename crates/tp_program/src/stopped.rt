@@ -1,6 +1,5 @@
 //! Which nodes have halted, said after a run.
 
-use crate::args::Asked;
 use std::fs::{Files, OpenFile};
 use std::io::Write;
 use std::os::unix::fs::FileExt;
@@ -10,6 +9,7 @@ use tp_node::{Node, Standing};
 use tp_recover::open;
 use tp_stream::Stopped;
 use tp_stream_files::say_stopped;
+use tp_words::Asked;
 
 /// Says which of these nodes have halted, and where, a line each.
 fn say_halted<E: Write>(nodes: &[Node], err: &mut E) {

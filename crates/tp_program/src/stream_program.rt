@@ -3,11 +3,7 @@
 ghost use Rattle.std.specs.Prelude.{◌≡◌, ◌≤◌};
 ghost use Rattle.tp_program.specs.Streaming.{IsStreamRun};
 
-use crate::commands::{print_help, refuse};
-use crate::device_file::is_device_file;
 use crate::files::said_again;
-use crate::numbers::has_word;
-use crate::refusal::Refusal;
 use crate::stream_args::{StreamAsked, StreamRun, read_stream_args};
 use crate::stream_explain::explain_stream;
 use crate::streaming::{FilesFault, Streamed, stream_on};
@@ -18,6 +14,8 @@ use std::os::unix::fs::FileExt;
 use std::sync::Wait;
 use tp_disk::Counted;
 use tp_stream_files::Feed;
+use tp_views::{Refusal, is_device_file, print_help, refuse};
+use tp_words::has_word;
 
 /// What came of a command: its status, why a stream ended early, and what the system said of a call on the device that failed.
 #[derive(Drop)]

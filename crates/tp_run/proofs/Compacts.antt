@@ -1,6 +1,7 @@
 -- What is left of a device that was compacted.
 use Rattle.std.proofs.Common.{◌≡◌, ℕ, ◌≤◌, ◌⊎◌, inl, inr, List, [], Result, Ok, Err, subst, arith}
 use Rattle.std.specs.Prelude.{IfErr, IfOk}
+use Rattle.std.proofs.lemmas.Result.{IfOk-weaker}
 use Rattle.tp_model.specs.NodeState.{NodeState}
 use Rattle.tp_model.specs.Node.{t414}
 use Rattle.tp_model.specs.Network.{Network}
@@ -14,13 +15,12 @@ use Rattle.tp_recover.specs.Reading.{LeavesNothingNew}
 use Rattle.tp_flush.specs.Known.{Reached}
 use Rattle.tp_flush.specs.Flushing.{Flushing, Walked}
 use Rattle.tp_flush.proofs.Kept.{reached_then}
+use Rattle.tp_flush.proofs.Recovers.{recovers_less}
 use Rattle.tp_flush.proofs.Turns.{walked_nowhere, walked_recovers}
 use Rattle.tp_run.specs.declared.compacting.Compaction.{Compaction}
 use Rattle.tp_run.specs.declared.compacting.CompactFault.{CompactFault}
 use Rattle.tp_run.specs.declared.compacting.CompactFault.TheVariants.{Opening, NoGeneration, DeviceFailed, NotWhole, Memory}
 use Rattle.tp_run.specs.Compacted.{Compacted, Grown, IsBegun, IsUnbegun, entries_of}
-use Rattle.tp_run.proofs.Runs.{recovers_less}
-use Rattle.tp_run.proofs.Slips.{if_ok}
 
 -- a device whose flusher walked on
 pub walked_compacted : (start : Network NodeState) (old new : Flushing) (result : Result Compaction CompactFault) → Reached start old.world → Walked old new → IfOk result (λ done. done.next ≤ new.world.mark)
@@ -32,7 +32,7 @@ walked_compacted start old new result R W stored =
       journal = new.world.journal;
       first = old.world.mark;
       leaves = weaker old.state new.state (RecoversTo t414 device_areas start new.world.journal old.world.mark) _ (λ left r. inr r) (walked_recovers start old new R W);
-      stored = if_ok result (λ done. done.next ≤ new.world.mark) _ (λ done low left may. recovers_less start new.world.journal new.world.mark done.next left low (last.each left (inr may))) stored;
+      stored = IfOk-weaker result (λ done. done.next ≤ new.world.mark) _ (λ done low left may. recovers_less start new.world.journal new.world.mark done.next left low (last.each left (inr may))) stored;
     }
 
 -- a device that was only read

@@ -1,6 +1,5 @@
 pub mod Gathered
 pub mod Faults
-pub mod Fronts
 pub mod Made
 pub mod Runs
 mod Shown

@@ -1,47 +1,23 @@
 -- What is made of a device that opened, and what the flusher is first told.
-use Rattle.std.proofs.Common.{◌≡◌, ℕ, ◌+◌, List, [], ◌∷◌, length, take, Option, Some, refl, sym, ap, ◌∙◌, arith, append-nil}
+use Rattle.std.proofs.Common.{◌≡◌, ℕ, ◌+◌, List, [], length, take, Option, Some, sym, ap, ◌∙◌, append-nil}
 use Rattle.std.specs.Prelude.{get_or, map}
 use Rattle.std.proofs.lemmas.List.{length-map}
 use Rattle.tp_model.specs.NodeState.{NodeState}
-use Rattle.tp_model.specs.Node.{t414, t414_ends}
+use Rattle.tp_model.specs.Node.{t414_ends}
 use Rattle.tp_model.specs.Network.{Network, Port}
 use Rattle.tp_model.specs.Snapshot.{MarkedNetwork}
 use Rattle.tp_model.specs.Opening.{Opened, held_of, next_of}
-use Rattle.tp_model.specs.OpensTo.{book_of}
-use Rattle.tp_model.specs.Order.{after}
 use Rattle.tp_model.specs.Runs.{World, reopened}
 use Rattle.tp_model.specs.Spelling.{IsCut}
-use Rattle.tp_law_machine.proofs.LinkLaws.{has_four_links}
-use Rattle.tp_law_network.proofs.Reorder.{after_shape}
 use Rattle.tp_replay.specs.Replaying.{numbered}
-use Rattle.tp_book.specs.declared.note.Numbered.{Numbered}
 use Rattle.tp_book.specs.declared.state.NetState.{NetState}
-use Rattle.tp_book.specs.Book.{BookValue, next_number, world_of}
-use Rattle.tp_book.specs.Opened.{kept_of, now_of, opened_book}
+use Rattle.tp_book.specs.Opened.{now_of, opened_book}
 use Rattle.tp_mark.specs.Seen.{RaiserValue}
 use Rattle.tp_shared.specs.Parted.{PartsValue}
 use Rattle.tp_shared.specs.Told.{IsFirst, told_of}
-use Rattle.tp_run.specs.Made.{StandsFor}
+use Rattle.tp_flush.specs.Made.{StandsFor}
+use Rattle.tp_flush.proofs.Made.{next_is}
 use Rattle.tp_run.specs.Outset.{outset_in, outset_of, outset_with}
-
--- the entries of numbered ones
-pub kept_entries : (ns : List Numbered) → map (λ n. n.entry) ns ≡ map (λ e. e.0) (map numbered ns)
-kept_entries [] = refl
-kept_entries (n ∷ ns) = ap (λ es. n.entry ∷ es) (kept_entries ns)
-
-pub kept_is : (s : NetState) (o : Opened) → map numbered s.kept.items ≡ o.kept → kept_of s ≡ map (λ e. e.0) o.kept
-kept_is s o same = kept_entries s.kept.items ∙ ap (λ ns. map (λ e. e.0) ns) same
-
-next_is : (s : NetState) (o : Opened) (room : Option ℕ) → s.base ≡ o.base → map numbered s.kept.items ≡ o.kept → next_number (opened_book s room) ≡ next_of o
-next_is s o room base kept =
-    let entries : length (kept_of s) ≡ length o.kept = ap length (kept_is s o kept) ∙ length-map o.kept (λ e. e.0) in
-    omega (arith, base, entries)
-
--- its book has the ports of the topology
-pub ports_are : (s : NetState) (o : Opened) → now_of s ≡ o.now → IsCut t414_ends o.head.topology o.base o.cut → after t414 o.cut (map (λ e. e.0) o.kept) ≡ Some o.now
-    → length (now_of s).ports ≡ o.head.topology.ports
-ports_are s o now cut leads =
-    ap (λ (n : Network NodeState). length n.ports) now ∙ (after_shape t414 has_four_links o.cut o.now (map (λ e. e.0) o.kept) leads).ports ∙ cut.count
 
 abbrev fresh : Port
 fresh = record { pending = []; in_base = 0; outputs = []; out_base = 0 }
@@ -52,19 +28,6 @@ pub outset_is : (s : NetState) (o : Opened) (room : Option ℕ) (port : ℕ) →
 outset_is s o room port now base kept =
     ap (λ next. outset_with port next (get_or (now_of s).ports port fresh)) (next_is s o room base kept)
     ∙ ap (λ (n : Network NodeState). outset_with port (next_of o) (get_or n.ports port fresh)) now
-
--- the parts of the book of a state that was opened
-pub stands : (s : NetState) (o : Opened) (room : Option ℕ) (parts : PartsValue) (raiser : RaiserValue) → now_of s ≡ o.now → s.base ≡ o.base → s.next ≡ next_of o
-    → map numbered s.kept.items ≡ o.kept → IsCut t414_ends o.head.topology o.base o.cut → after t414 o.cut (map (λ e. e.0) o.kept) ≡ Some o.now
-    → world_of (opened_book s room) ≡ book_of o → parts.book ≡ opened_book s room → parts.first ≡ next_number (opened_book s room)
-    → raiser ≡ record { mark = parts.mark; at = s.next } → StandsFor o parts raiser
-stands s o room parts raiser now base next kept cut leads world book first raised = record {
-  book = ap world_of book ∙ world;
-  base = ap (λ (b : BookValue). b.base) book ∙ base;
-  first = first ∙ next_is s o room base kept;
-  ports = ap (λ (b : BookValue). length b.state.ports) book ∙ ports_are s o now cut leads;
-  raised = raised ∙ ap (λ n. record { mark = parts.mark; at = n }) next;
-}
 
 -- what is first told of their book is the world that goes on from what was opened
 pub first_told : (before : World NodeState) (o : Opened) (parts : PartsValue) (raiser : RaiserValue) (bytes : List ℕ) (first : ℕ) → StandsFor o parts raiser → parts.first ≡ first

@@ -1,6 +1,7 @@
 -- What runs leave of a device.
 use Rattle.std.proofs.Common.{◌≡◌, ℕ, ◌≤◌, ◌⊎◌, inl, inr, List, [], Option, Result, Ok, Err, refl, subst, arith}
 use Rattle.std.specs.Prelude.{IfOk}
+use Rattle.std.proofs.lemmas.Result.{IfOk-weaker}
 use Rattle.tp_model.specs.declared.entry.Entry.{Entry}
 use Rattle.tp_model.specs.NodeState.{NodeState}
 use Rattle.tp_model.specs.Node.{t414}
@@ -18,6 +19,7 @@ use Rattle.tp_flush.specs.Known.{Reached}
 use Rattle.tp_flush.specs.Flushing.{Flushing, Walked}
 use Rattle.tp_flush.specs.Settled.{RecoversWith, Stand}
 use Rattle.tp_flush.proofs.Kept.{reached_then}
+use Rattle.tp_flush.proofs.Recovers.{recovers_less}
 use Rattle.tp_flush.proofs.Turns.{walked_nowhere, walked_recovers}
 use Rattle.tp_run.specs.declared.fault.RunFault.{RunFault}
 use Rattle.tp_run.specs.declared.job.Job.{Job}
@@ -25,24 +27,10 @@ use Rattle.tp_run.specs.Input.{input_slips}
 use Rattle.tp_run.specs.Outset.{outset_in}
 use Rattle.tp_run.specs.Ran.{Carried, Ran, Settled}
 use Rattle.tp_run.specs.Shown.{MayPrint}
-use Rattle.tp_run.proofs.Slips.{if_ok}
 
 pub if_both : {A E : Type 0} (r : Result A E) (P Q R : A → Type 0) → ((x : A) → P x → Q x → R x) → IfOk r P → IfOk r Q → IfOk r R
 if_both (Ok x) P Q R turn p q = turn x p q
 if_both (Err e) P Q R turn p q = p
-
--- what recovers to a prefix with all below a mark has all below a lesser number
-pub recovers_less : (start : Network NodeState) (journal : List Entry) (mark next : ℕ) (left : List ℕ) → next ≤ mark → RecoversTo t414 device_areas start journal mark left
-    → RecoversTo t414 device_areas start journal next left
-recovers_less start journal mark next left low r = record {
-  held = r.held;
-  reads = r.reads;
-  now = r.now;
-  replayed = r.replayed;
-  exact = r.exact;
-  no_less = let least = r.no_less in omega (arith, low, least);
-  no_more = r.no_more;
-}
 
 -- The law of slips that stand in a journal.
 abbrev pub SlipsAreRecovered : Type 0
@@ -64,7 +52,7 @@ served_ran law start opened job input was now old new result reads R W stored se
       journal = new.world.journal;
       first = old.world.mark;
       leaves = weaker old.state new.state (RecoversTo t414 device_areas start new.world.journal old.world.mark) _ (λ left r. inr r) (walked_recovers start old new R W);
-      stored = if_ok result (λ next. next ≤ new.world.mark) _ (λ next low left may. less next low left may) stored;
+      stored = IfOk-weaker result (λ next. next ≤ new.world.mark) _ (λ next low left may. less next low left may) stored;
       carried =
           if_both result (λ next. next ≤ new.world.mark) (Settled start opened.cut job (outset_in opened job.port) (input_slips (outset_in opened job.port) input) was now new.world.journal)
           (λ next. Carried start new.world.journal job input was now next old.state new.state)
@@ -118,7 +106,7 @@ opened_ran start job input was now result old read new L same R = record {
       (λ left either. elim either [ inl may ↦ inl (L.each left (inr may)) | inr r ↦ inr r ]) R.leaves);
   stored = R.stored;
   carried =
-      if_ok result (λ next. Carried start R.journal job input was now next read new) (λ next. Carried start R.journal job input was now next old new)
+      IfOk-weaker result (λ next. Carried start R.journal job input was now next read new) (λ next. Carried start R.journal job input was now next old new)
       (λ next c. record {
         opened = c.opened;
         reads = subst (λ bytes. verdict bytes ≡ Ok c.opened) same c.reads;

@@ -30,7 +30,7 @@ use Rattle.tp_flush.proofs.Turns.{walked_nowhere, walked_recovers, walked_stays}
 use Rattle.tp_run.specs.declared.fault.RunFault.{RunFault}
 use Rattle.tp_run.specs.Output.{AppendsFront, AreOutputs, AreShown, IsForOutput, Printed, PrintedOf, ShowsAll, confirms}
 use Rattle.tp_run.specs.Shown.{AreShownIn, MayPrint, MayShow}
-use Rattle.tp_run.proofs.Runs.{recovers_less}
+use Rattle.tp_flush.proofs.Recovers.{recovers_less}
 use Rattle.tp_run.proofs.Slips.{confirms_shown}
 
 -- ## In the book

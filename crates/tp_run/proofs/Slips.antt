@@ -15,6 +15,7 @@ use Rattle.tp_book.specs.Calls.{marks_of}
 use Rattle.tp_shared.specs.Entries.{confirm_entries}
 use Rattle.tp_shared.specs.Receipted.{AreBelow, Receipted}
 use Rattle.tp_flush.specs.Settled.{Stand}
+use Rattle.tp_flush.proofs.Settling.{below_more}
 use Rattle.tp_host.specs.Receipts.{IsFor}
 use Rattle.tp_run.specs.Accounted.{Accounted}
 use Rattle.tp_run.specs.declared.job.Job.{Job}
@@ -25,17 +26,9 @@ use Rattle.tp_run.specs.Output.{IsForOutput, confirms}
 use Rattle.tp_run.specs.Ran.{Settled, output_slips}
 use Rattle.tp_run.specs.Shown.{Shows}
 
-pub if_ok : {A E : Type 0} (r : Result A E) (P Q : A → Type 0) → ((x : A) → P x → Q x) → IfOk r P → IfOk r Q
-if_ok (Ok x) P Q turn p = turn x p
-if_ok (Err e) P Q turn p = p
-
 both : {A : Type 0} (P : A → Type 0) (xs ys : List A) → AllByRecursion P xs → AllByRecursion P ys → AllByRecursion P (xs ++ ys)
 both P [] ys one other = other
 both P (x ∷ xs) ys one other = (one.0, both P xs ys one.1 other)
-
-below_more : (m n : ℕ) (slips : List (ℕ × Entry)) → m ≤ n → AreBelow m slips → AreBelow n slips
-below_more m n [] up below = tt
-below_more m n (slip ∷ slips) up below = (let low = below.0 in omega (arith, low, up), below_more m n slips up below.1)
 
 -- ## What is confirmed
 

@@ -10,9 +10,9 @@ use Rattle.tp_model.specs.Disk.{MayBe}
 use Rattle.tp_model.specs.DiskHistory.{State, LeavesOnly, moment}
 use Rattle.tp_model.specs.DeviceAreas.{device_areas}
 use Rattle.tp_model.specs.Opening.{Opened, next_of, verdict}
-use Rattle.tp_model.specs.Runs.{World}
 use Rattle.tp_model.specs.Walks.{RecoversTo}
 use Rattle.tp_shared.specs.Receipted.{AreBelow}
+pub use Rattle.tp_flush.specs.History.{History}
 use Rattle.tp_flush.specs.Settled.{RecoversWith, Stand}
 use Rattle.tp_run.specs.Accounted.{Accounted}
 use Rattle.tp_run.specs.declared.fault.RunFault.{RunFault}
@@ -22,11 +22,6 @@ use Rattle.tp_run.specs.Input.{input_slips}
 use Rattle.tp_run.specs.Outset.{outset_in}
 use Rattle.tp_run.specs.Output.{confirms}
 use Rattle.tp_run.specs.Shown.{Shows}
-
--- What a process goes on from: the network of the images that the device was formatted with, and the world before it was opened.
-pub record History : Type 0 where
-  pub formatted : Network NodeState
-  pub before : World NodeState
 
 -- the entry that confirms what a run printed, under this number; none where nothing was printed
 abbrev pub output_slips : Outset → ℕ → List ℕ → List (ℕ × Entry)

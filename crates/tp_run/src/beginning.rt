@@ -3,7 +3,8 @@
 ghost use Rattle.std.specs.Prelude.{◌≡◌, true, false, Ok, IfOk, OnErr};
 ghost use Rattle.tp_book.specs.Marked.{after_begin, begin_refusal};
 ghost use Rattle.tp_book.specs.Refusals.{IsAnswer};
-ghost use Rattle.tp_run.specs.Every.{every_of, is_due, missing_in};
+ghost use Rattle.tp_flush.specs.Due.{is_due};
+ghost use Rattle.tp_run.specs.Every.{every_of, missing_in};
 
 use std::alloc::Global;
 use tp_book::Refusal;

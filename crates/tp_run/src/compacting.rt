@@ -15,7 +15,7 @@ ghost use Rattle.tp_model.specs.Spelling.{IsCut};
 ghost use Rattle.tp_recover.specs.Reading.{LeavesNothingNew};
 ghost use Rattle.tp_recover.specs.declared.unopened.Unopened.{Unopened};
 ghost use Rattle.tp_run.specs.Compacted.{Compacted, Grown, IsBegun, IsUnbegun, entries_of};
-ghost use Rattle.tp_run.specs.Made.{StandsFor};
+ghost use Rattle.tp_flush.specs.Made.{StandsFor};
 ghost use Rattle.tp_run.specs.Ran.{History};
 ghost use Rattle.tp_shared.specs.Named.{Names};
 

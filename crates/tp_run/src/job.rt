@@ -1,8 +1,5 @@
 //! What a run is asked.
 
-/// The most workers of a run.
-pub const MAX_WORKERS: u8 = 16;
-
 /// How a device's network is run.
 #[derive(Clone, Copy, Debug, PartialEq, Eq)]
 pub struct Job {

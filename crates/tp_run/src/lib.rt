@@ -18,5 +18,6 @@ mod working;
 
 pub use compacting::{CompactFault, Compaction, compact};
 pub use fault::RunFault;
-pub use job::{Job, MAX_WORKERS};
+pub use job::Job;
 pub use running::run;
+pub use tp_work::MAX_WORKERS;

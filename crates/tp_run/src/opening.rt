@@ -2,7 +2,8 @@
 
 ghost use Rattle.std.specs.Prelude.{◌≡◌, ◌<◌, IfOk, Some};
 ghost use Rattle.tp_model.specs.Journal.{room};
-ghost use Rattle.tp_run.specs.Made.{StandsFor, fault_by, has_pages, job_fault};
+ghost use Rattle.tp_flush.specs.Made.{StandsFor};
+ghost use Rattle.tp_run.specs.Made.{fault_by, has_pages, job_fault};
 ghost use Rattle.tp_run.specs.Outset.{outset_in};
 
 use crate::fault::RunFault;

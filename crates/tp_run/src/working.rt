@@ -1,8 +1,8 @@
 //! Workers.
 
 ghost use Rattle.std.specs.Prelude.{◌≡◌, All, Some, IfSome, length};
-ghost use Rattle.tp_run.specs.Every.{made_by};
 ghost use Rattle.tp_run.specs.Worked.{Worked};
+ghost use Rattle.tp_work.specs.Made.{made_by};
 
 use crate::beginning::{begin_where_due, missing_in};
 use crate::watch::Watch;

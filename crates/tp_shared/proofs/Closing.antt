@@ -14,7 +14,7 @@ use Rattle.tp_turn.specs.Over.{ClosesOver, ClosesAll}
 use Rattle.tp_turn.proofs.Adding.{entries_more}
 use Rattle.tp_turn.specs.Settled.{Records}
 use Rattle.tp_snap.specs.Needs.{is_asked}
-use Rattle.tp_shared.specs.Acts.{Acted, Hosted}
+use Rattle.tp_shared.specs.BookActs.{NodeActed, HostActed}
 use Rattle.tp_shared.proofs.Holding.{acted_free}
 use Rattle.tp_shared.proofs.Hosting.{hosted_by}
 use Rattle.tp_shared.proofs.Untrimmed.{AreTurnActs}
@@ -33,7 +33,7 @@ closes_quiet (suc count) s acts t D =
     subst (λ given. AllByRecursion (λ act. is_trim act ≡ false) given × (entries_in given ≡ [])) (sym D.are)
     (all_append (λ act. is_trim act ≡ false) D.first D.second one.0 other.0, entries_more D.first D.second ∙ ap (λ es. es ++ entries_in D.second) one.1 ∙ other.1)
 
-pub hosted_closes : (b new : BookValue) → HostDone ClosesAll b new → Hosted (λ entries. entries ≡ []) b new
+pub hosted_closes : (b new : BookValue) → HostDone ClosesAll b new → HostActed (λ entries. entries ≡ []) b new
 hosted_closes b new D =
     let quiet = closes_quiet (length b.state.lines) b D.acts new D.did in
     hosted_by (λ (entries : List Entry). entries ≡ []) D.acts b new D.added quiet.0 quiet.1
@@ -45,7 +45,7 @@ records_quiet number true acts e = subst (λ given. AreTurnActs given × (entrie
 records_quiet number false acts e = subst (λ given. AreTurnActs given × (entries_in given ≡ [])) (sym e) (tt, refl)
 
 pub acted_records : (number : ℕ) (s t : Moment) → slice_get s.book.runs number ≡ Some false → Done number (Records number) s t
-    → Acted (λ entries. entries ≡ []) number (record { node = t.node.live; frozen = t.node.frozen; reserved = false }) s.book t.book
+    → NodeActed (λ entries. entries ≡ []) number (record { node = t.node.live; frozen = t.node.frozen; reserved = false }) s.book t.book
 acted_records number s t free D =
     let quiet = records_quiet number (is_asked s.book.state.snapshot number) D.acts D.did.are in
     acted_free (λ (entries : List Entry). entries ≡ []) number D.acts s.book t.book t.node D.added quiet.0 quiet.1 free

@@ -6,7 +6,7 @@ use Rattle.std.proofs.lemmas.Bool.{and_parts}
 use Rattle.std.proofs.lemmas.List.{take_more}
 use Rattle.std.proofs.lemmas.Option.{get_or_from_slice_get, slice_get_within}
 use Rattle.tp_book.proofs.Stood.{no_act}
-use Rattle.tp_shared.specs.Copied.{has_copy}
+use Rattle.tp_shared.specs.CopiedTail.{has_copy}
 use Rattle.tp_shared.specs.Told.{Since}
 use Rattle.tp_shared.specs.declared.seal.NodeSeal.{NodeSeal}
 use Rattle.tp_shared.specs.declared.told.Told.{Told}

@@ -4,7 +4,7 @@ use Rattle.std.specs.Prelude.{◌-◌}
 use Rattle.std.proofs.lemmas.Bool.{cases_eq}
 use Rattle.std.proofs.lemmas.Option.{slice_get_within}
 use Rattle.tp_book.specs.Book.{BookValue}
-use Rattle.tp_shared.specs.Cells.{IsIn, Celled, given}
+use Rattle.tp_shared.specs.Cells.{IsPlaceOf, AreOfCell, with_place}
 use Rattle.tp_shared.specs.Seals.{IsSealOf, Sealed}
 use Rattle.tp_shared.specs.Parted.{name_of, IsDealt}
 use Rattle.tp_shared.specs.declared.dealt.Dealt.{Dealt}
@@ -70,24 +70,24 @@ sealed_more ss t b S T i s e = elim (cases_eq i (length ss)) [
 
 -- ## Cells
 
-pub celled_none : (cell : ℕ) (names : ℕ → ℕ) → Celled cell names 0 []
+pub celled_none : (cell : ℕ) (names : ℕ → ℕ) → AreOfCell cell names 0 []
 celled_none cell names = record { each = λ k p e. cc; all = λ k h. absurd (omega (arith, h)) }
 
 -- a place of one network is one of a larger one
-more_in : (name other i count more : ℕ) (p : Place) → name ≡ other → count ≤ more → IsIn name i count p → IsIn other i more p
+more_in : (name other i count more : ℕ) (p : Place) → name ≡ other → count ≤ more → IsPlaceOf name i count p → IsPlaceOf other i more p
 more_in name other i count more p same few I = record { there = (let t = I.there in omega (arith, t, few)); named = I.named ∙ same; shows = I.shows }
 
-module _ (cell : ℕ) (ss : List NodeSeal) (t : NodeSeal) (places : List Place) (p : Place) (small : cell < 4) (C : Celled cell (name_of ss) (length ss) places) (P : IsIn t.seal.name (length ss) (suc (length ss)) p) where
-  old_each : (k : ℕ) (q : Place) → slice_get places k ≡ Some q → IsIn (name_of (ss ++ t ∷ []) (4 * k + cell)) (4 * k + cell) (suc (length ss)) q
+module _ (cell : ℕ) (ss : List NodeSeal) (t : NodeSeal) (places : List Place) (p : Place) (small : cell < 4) (C : AreOfCell cell (name_of ss) (length ss) places) (P : IsPlaceOf t.seal.name (length ss) (suc (length ss)) p) where
+  old_each : (k : ℕ) (q : Place) → slice_get places k ≡ Some q → IsPlaceOf (name_of (ss ++ t ∷ []) (4 * k + cell)) (4 * k + cell) (suc (length ss)) q
   old_each k q e =
       let was = C.each k q e in
       more_in (name_of ss (4 * k + cell)) (name_of (ss ++ t ∷ []) (4 * k + cell)) (4 * k + cell) (length ss) (suc (length ss)) q (sym (name_before ss t (4 * k + cell) was.there)) (omega arith) was
 
   -- a node of another cell
-  away : length ss % 4 ≢ cell → Celled cell (name_of (ss ++ t ∷ [])) (suc (length ss)) places
+  away : length ss % 4 ≢ cell → AreOfCell cell (name_of (ss ++ t ∷ [])) (suc (length ss)) places
   away other = record { each = old_each; all = λ k h. let differ : 4 * k + cell ≢ length ss = λ e. other (omega (arith, e, small)) in C.all k (omega (arith, h, differ)) }
 
-  here : length ss % 4 ≡ cell → Celled cell (name_of (ss ++ t ∷ [])) (suc (length ss)) (places ++ p ∷ [])
+  here : length ss % 4 ≡ cell → AreOfCell cell (name_of (ss ++ t ∷ [])) (suc (length ss)) (places ++ p ∷ [])
   here same = record { each = each; all = all }
     where
       -- the places are as many as nodes of the cell
@@ -112,13 +112,13 @@ module _ (cell : ℕ) (ss : List NodeSeal) (t : NodeSeal) (places : List Place) 
       place_is : 4 * length places + cell ≡ length ss
       place_is = let a = places_all in omega (arith, a, same)
 
-      each : (k : ℕ) (q : Place) → slice_get (places ++ p ∷ []) k ≡ Some q → IsIn (name_of (ss ++ t ∷ []) (4 * k + cell)) (4 * k + cell) (suc (length ss)) q
+      each : (k : ℕ) (q : Place) → slice_get (places ++ p ∷ []) k ≡ Some q → IsPlaceOf (name_of (ss ++ t ∷ []) (4 * k + cell)) (4 * k + cell) (suc (length ss)) q
       each k q e = elim (cases_eq k (length places)) [
         | inl last ↦
             let is : p ≡ q = same_some p q (sym (at_end places p k last) ∙ e) in
             let at : 4 * k + cell ≡ length ss = (let a = place_is in omega (arith, a, last)) in
-            subst (λ i. IsIn (name_of (ss ++ t ∷ []) i) i (suc (length ss)) q) (sym at)
-            (subst (IsIn (name_of (ss ++ t ∷ []) (length ss)) (length ss) (suc (length ss))) is
+            subst (λ i. IsPlaceOf (name_of (ss ++ t ∷ []) i) i (suc (length ss)) q) (sym at)
+            (subst (IsPlaceOf (name_of (ss ++ t ∷ []) (length ss)) (length ss) (suc (length ss))) is
             (more_in t.seal.name (name_of (ss ++ t ∷ []) (length ss)) (length ss) (suc (length ss)) (suc (length ss)) p (sym (name_last ss t)) (omega arith) P))
         | inr other ↦
             let within : k < length places = (let b = within_end places p q k e in omega (arith, b, other)) in
@@ -128,22 +128,22 @@ module _ (cell : ℕ) (ss : List NodeSeal) (t : NodeSeal) (places : List Place) 
       all : (k : ℕ) → 4 * k + cell < suc (length ss) → k < length (places ++ p ∷ [])
       all k h = let l = length-append places (p ∷ []) in let a = place_is in omega (arith, l, a, h)
 
-  pub celled_more : Celled cell (name_of (ss ++ t ∷ [])) (suc (length ss)) (given cell (length ss) p places)
+  pub celled_more : AreOfCell cell (name_of (ss ++ t ∷ [])) (suc (length ss)) (with_place cell (length ss) p places)
   celled_more = elim (cases_eq (length ss % 4) cell) [
-    | inl same ↦ subst (λ test. Celled cell (name_of (ss ++ t ∷ [])) (suc (length ss)) (cond test (places ++ p ∷ []) places)) (sym (eq-eqb (length ss % 4) cell same)) (here same)
-    | inr other ↦ subst (λ test. Celled cell (name_of (ss ++ t ∷ [])) (suc (length ss)) (cond test (places ++ p ∷ []) places)) (sym (ne_eqb (length ss % 4) cell other)) (away other)
+    | inl same ↦ subst (λ test. AreOfCell cell (name_of (ss ++ t ∷ [])) (suc (length ss)) (cond test (places ++ p ∷ []) places)) (sym (eq-eqb (length ss % 4) cell same)) (here same)
+    | inr other ↦ subst (λ test. AreOfCell cell (name_of (ss ++ t ∷ [])) (suc (length ss)) (cond test (places ++ p ∷ []) places)) (sym (ne_eqb (length ss % 4) cell other)) (away other)
   ]
 
 -- another name for each place, which is the same
-pub celled_named : (cell : ℕ) (names others : ℕ → ℕ) (count : ℕ) (places : List Place) → ((i : ℕ) → others i ≡ names i) → Celled cell names count places → Celled cell others count places
+pub celled_named : (cell : ℕ) (names others : ℕ → ℕ) (count : ℕ) (places : List Place) → ((i : ℕ) → others i ≡ names i) → AreOfCell cell names count places → AreOfCell cell others count places
 celled_named cell names others count places same C = record {
   each = λ k p e. more_in (names (4 * k + cell)) (others (4 * k + cell)) (4 * k + cell) count count p (sym (same (4 * k + cell))) (omega arith) (C.each k p e);
   all = C.all;
 }
 
 -- the places of a cell under the names that were picked
-pub celled_start : (cell : ℕ) (names : ℕ → ℕ) (seals : List NodeSeal) (n m : ℕ) (places : List Place) → n ≡ m → ((i : ℕ) → names i ≡ name_of seals i) → Celled cell (name_of seals) n places → Celled cell names m places
-celled_start cell names seals n m places same named C = subst (λ k. Celled cell names k places) same (celled_named cell (name_of seals) names n places named C)
+pub celled_start : (cell : ℕ) (names : ℕ → ℕ) (seals : List NodeSeal) (n m : ℕ) (places : List Place) → n ≡ m → ((i : ℕ) → names i ≡ name_of seals i) → AreOfCell cell (name_of seals) n places → AreOfCell cell names m places
+celled_start cell names seals n m places same named C = subst (λ k. AreOfCell cell names k places) same (celled_named cell (name_of seals) names n places named C)
 
 pub sealed_named : (names others : ℕ → ℕ) (ss : List NodeSeal) (b : BookValue) → ((i : ℕ) → others i ≡ names i) → Sealed names ss b → Sealed others ss b
 sealed_named names others ss b same S i s e = subst (λ n. IsSealOf n s.seal.value.state s.frozen s.seal.name b i) (sym (same i)) (S i s e)
@@ -155,28 +155,28 @@ module _ (b : BookValue) where
   dealt_none ss d none e0 e1 e2 e3 = record {
     many = ap length none;
     sealed = subst (λ xs. Sealed (name_of xs) xs b) (sym none) (sealed_none (name_of []) b);
-    zeroth = subst (Celled 0 (name_of ss) 0) (sym e0) (celled_none 0 (name_of ss));
-    first = subst (Celled 1 (name_of ss) 0) (sym e1) (celled_none 1 (name_of ss));
-    second = subst (Celled 2 (name_of ss) 0) (sym e2) (celled_none 2 (name_of ss));
-    third = subst (Celled 3 (name_of ss) 0) (sym e3) (celled_none 3 (name_of ss));
+    zeroth = subst (AreOfCell 0 (name_of ss) 0) (sym e0) (celled_none 0 (name_of ss));
+    first = subst (AreOfCell 1 (name_of ss) 0) (sym e1) (celled_none 1 (name_of ss));
+    second = subst (AreOfCell 2 (name_of ss) 0) (sym e2) (celled_none 2 (name_of ss));
+    third = subst (AreOfCell 3 (name_of ss) 0) (sym e3) (celled_none 3 (name_of ss));
   }
 
-  cell_more : (cell : ℕ) (ss new : List NodeSeal) (t : NodeSeal) (p : Place) (places more : List Place) (count : ℕ) → cell < 4 → count ≡ length ss → new ≡ ss ++ t ∷ [] → more ≡ given cell count p places
-      → Celled cell (name_of ss) count places → IsIn t.seal.name count (suc count) p → Celled cell (name_of new) (suc count) more
+  cell_more : (cell : ℕ) (ss new : List NodeSeal) (t : NodeSeal) (p : Place) (places more : List Place) (count : ℕ) → cell < 4 → count ≡ length ss → new ≡ ss ++ t ∷ [] → more ≡ with_place cell count p places
+      → AreOfCell cell (name_of ss) count places → IsPlaceOf t.seal.name count (suc count) p → AreOfCell cell (name_of new) (suc count) more
   cell_more cell ss new t p places more count small many is same C P =
-      subst (Celled cell (name_of new) (suc count)) (sym same)
-      (subst (λ xs. Celled cell (name_of xs) (suc count) (given cell count p places)) (sym is)
-      (subst (λ n. Celled cell (name_of (ss ++ t ∷ [])) (suc n) (given cell n p places)) (sym many)
-      (celled_more cell ss t places p small (subst (λ n. Celled cell (name_of ss) n places) many C) (subst (λ n. IsIn t.seal.name n (suc n) p) many P))))
+      subst (AreOfCell cell (name_of new) (suc count)) (sym same)
+      (subst (λ xs. AreOfCell cell (name_of xs) (suc count) (with_place cell count p places)) (sym is)
+      (subst (λ n. AreOfCell cell (name_of (ss ++ t ∷ [])) (suc n) (with_place cell n p places)) (sym many)
+      (celled_more cell ss t places p small (subst (λ n. AreOfCell cell (name_of ss) n places) many C) (subst (λ n. IsPlaceOf t.seal.name n (suc n) p) many P))))
 
   pub dealt_more : (ss new : List NodeSeal) (d e : Dealt) (t : NodeSeal) (p : Place) (count index : ℕ) → IsDealt b ss d count → new ≡ ss ++ t ∷ [] → index ≡ count
-      → e.p0.items ≡ given 0 index p d.p0.items → e.p1.items ≡ given 1 index p d.p1.items → e.p2.items ≡ given 2 index p d.p2.items → e.p3.items ≡ given 3 index p d.p3.items
-      → IsSealOf t.seal.name t.seal.value.state t.frozen t.seal.name b count → IsIn t.seal.name count (suc count) p → IsDealt b new e (suc count)
+      → e.p0.items ≡ with_place 0 index p d.p0.items → e.p1.items ≡ with_place 1 index p d.p1.items → e.p2.items ≡ with_place 2 index p d.p2.items → e.p3.items ≡ with_place 3 index p d.p3.items
+      → IsSealOf t.seal.name t.seal.value.state t.frozen t.seal.name b count → IsPlaceOf t.seal.name count (suc count) p → IsDealt b new e (suc count)
   dealt_more ss new d e t p count index D is at e0 e1 e2 e3 S P = record {
     many = let l = ap length is ∙ length-append ss (t ∷ []) in let m = D.many in omega (arith, l, m);
     sealed = subst (λ xs. Sealed (name_of xs) xs b) (sym is) (sealed_more ss t b D.sealed (subst (IsSealOf t.seal.name t.seal.value.state t.frozen t.seal.name b) (sym D.many) S));
-    zeroth = cell_more 0 ss new t p d.p0.items e.p0.items count (omega arith) (sym D.many) is (subst (λ i. e.p0.items ≡ given 0 i p d.p0.items) at e0) D.zeroth P;
-    first = cell_more 1 ss new t p d.p1.items e.p1.items count (omega arith) (sym D.many) is (subst (λ i. e.p1.items ≡ given 1 i p d.p1.items) at e1) D.first P;
-    second = cell_more 2 ss new t p d.p2.items e.p2.items count (omega arith) (sym D.many) is (subst (λ i. e.p2.items ≡ given 2 i p d.p2.items) at e2) D.second P;
-    third = cell_more 3 ss new t p d.p3.items e.p3.items count (omega arith) (sym D.many) is (subst (λ i. e.p3.items ≡ given 3 i p d.p3.items) at e3) D.third P;
+    zeroth = cell_more 0 ss new t p d.p0.items e.p0.items count (omega arith) (sym D.many) is (subst (λ i. e.p0.items ≡ with_place 0 i p d.p0.items) at e0) D.zeroth P;
+    first = cell_more 1 ss new t p d.p1.items e.p1.items count (omega arith) (sym D.many) is (subst (λ i. e.p1.items ≡ with_place 1 i p d.p1.items) at e1) D.first P;
+    second = cell_more 2 ss new t p d.p2.items e.p2.items count (omega arith) (sym D.many) is (subst (λ i. e.p2.items ≡ with_place 2 i p d.p2.items) at e2) D.second P;
+    third = cell_more 3 ss new t p d.p3.items e.p3.items count (omega arith) (sym D.many) is (subst (λ i. e.p3.items ≡ with_place 3 i p d.p3.items) at e3) D.third P;
   }

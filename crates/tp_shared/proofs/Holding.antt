@@ -21,7 +21,7 @@ use Rattle.tp_turn.specs.Moments.{Moment, entries_in, Added}
 use Rattle.tp_turn.specs.Fronts.{IsStop, OnWire}
 use Rattle.tp_turn.specs.Stages.{Breaks, Opens}
 use Rattle.tp_shared.specs.Agreement.{Agreement}
-use Rattle.tp_shared.specs.Acts.{Grown, Acted}
+use Rattle.tp_shared.specs.BookActs.{Grown, NodeActed}
 use Rattle.tp_shared.specs.Entries.{Takes, TakesOf, IsTurnRefusal, run_entries}
 use Rattle.tp_shared.proofs.Untrimmed.{AreTurnActs, untrimmed, taken, settles_turn, breaks_turn}
 
@@ -54,7 +54,7 @@ grown_like One Other b new like G = record {
   floor = G.floor;
 }
 
-pub acted_like : (One Other : List Entry → Type 0) (number : ℕ) (a : Agreement) (b new : BookValue) → ((es : List Entry) → One es → Other es) → Acted One number a b new → Acted Other number a b new
+pub acted_like : (One Other : List Entry → Type 0) (number : ℕ) (a : Agreement) (b new : BookValue) → ((es : List Entry) → One es → Other es) → NodeActed One number a b new → NodeActed Other number a b new
 acted_like One Other number a b new like A = record { grown = grown_like One Other b new like A.grown; nodes = A.nodes; runs = A.runs; recorded = A.recorded; frozen = A.frozen }
 
 -- ## A turn is opened
@@ -76,7 +76,7 @@ module _ (Are : List Entry → Type 0) (number : ℕ) (acts : List Act) (b mid :
   }
 
   -- no run is reserved
-  pub acted_free : slice_get b.runs number ≡ Some false → Acted Are number (record { node = n.live; frozen = n.frozen; reserved = false }) b mid
+  pub acted_free : slice_get b.runs number ≡ Some false → NodeActed Are number (record { node = n.live; frozen = n.frozen; reserved = false }) b mid
   acted_free free = record {
     grown = grown;
     nodes = A.nodes;
@@ -86,7 +86,7 @@ module _ (Are : List Entry → Type 0) (number : ℕ) (acts : List Act) (b mid :
   }
 
   -- one is
-  pub acted_reserved : Acted Are number (record { node = n.live; frozen = n.frozen; reserved = true }) b (with_run mid number)
+  pub acted_reserved : NodeActed Are number (record { node = n.live; frozen = n.frozen; reserved = true }) b (with_run mid number)
   acted_reserved = record {
     grown = record {
       acts = acts;
@@ -108,12 +108,12 @@ module _ (Are : List Entry → Type 0) (number : ℕ) (acts : List Act) (b mid :
   }
 
 pub acted_opens : (number : ℕ) (r : Result ℕ Refusal) (s t : Moment) → slice_get s.book.runs number ≡ Some false → Opens number r s t
-    → Acted (TakesOf s.book.state.start number r) number (record { node = t.node.live; frozen = t.node.frozen; reserved = is_ok r }) s.book t.book
+    → NodeActed (TakesOf s.book.state.start number r) number (record { node = t.node.live; frozen = t.node.frozen; reserved = is_ok r }) s.book t.book
 acted_opens number (Ok takes) s t free O =
     let D = O.settled in
     let b = O.between in
     let turns = settles_turn number s b D.acts D.did.did in
-    subst (λ (m : Moment). Acted (TakesOf s.book.state.start number (Ok takes)) number (record { node = m.node.live; frozen = m.node.frozen; reserved = true }) s.book m.book) (sym O.is)
+    subst (λ (m : Moment). NodeActed (TakesOf s.book.state.start number (Ok takes)) number (record { node = m.node.live; frozen = m.node.frozen; reserved = true }) s.book m.book) (sym O.is)
     (acted_reserved (TakesOf s.book.state.start number (Ok takes)) number D.acts s.book b.book b.node D.added turns (sym D.did.many, taken s.book.state.start number D.acts turns D.added.own))
 acted_opens number (Err e) s t free D =
     let turns = breaks_turn number e s t D.acts D.did in
@@ -163,7 +163,7 @@ run_listed number count true = refl
 run_listed number count false = refl
 
 pub acted_run : (b new : BookValue) (number count : ℕ) (n : NodeContents) → Added number n.live (run_acts number count) (without_run b number) new
-    → Acted (λ entries. entries ≡ run_entries number count) number (record { node = n.live; frozen = n.frozen; reserved = false }) b new
+    → NodeActed (λ entries. entries ≡ run_entries number count) number (record { node = n.live; frozen = n.frozen; reserved = false }) b new
 acted_run b new number count n A = record {
   grown = record {
     acts = run_acts number count;

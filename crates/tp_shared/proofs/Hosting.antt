@@ -22,7 +22,7 @@ use Rattle.tp_book.proofs.Stood.{one_act, no_act}
 use Rattle.tp_turn.specs.Moments.{entries_in}
 use Rattle.tp_turn.specs.Hosted.{HostAdded, HostDone, HostTurns}
 use Rattle.tp_turn.proofs.Fronted.{collected_recorded}
-use Rattle.tp_shared.specs.Acts.{Grown, Hosted}
+use Rattle.tp_shared.specs.BookActs.{Grown, HostActed}
 use Rattle.tp_shared.specs.Entries.{TakesOf, IsTurnRefusal, confirm_entries}
 use Rattle.tp_shared.proofs.Untrimmed.{untrimmed, taken, host_turns}
 
@@ -37,7 +37,7 @@ inputs_listed port [] = refl
 inputs_listed port (x ∷ xs) = ap (λ es. HostIn port x ∷ es) (inputs_listed port xs)
 
 pub hosted_input : (b new : BookValue) (port : ℕ) (bytes : List ℕ) → new ≡ after_input b port bytes → agreed new.state ≡ agreed b.state → acted t414 (world_of b) (input_acts port bytes) ≡ Some (world_of new)
-    → Hosted (λ entries. entries ≡ map (HostIn port) bytes) b new
+    → HostActed (λ entries. entries ≡ map (HostIn port) bytes) b new
 hosted_input b new port bytes is same act = record {
   grown = record {
     acts = input_acts port bytes;
@@ -61,11 +61,11 @@ hosted_input b new port bytes is same act = record {
 -- ## Outputs confirmed
 
 pub hosted_confirm : (b new : BookValue) (port upto : ℕ) → new ≡ after_confirm b port upto → agreed new.state ≡ agreed b.state → acted t414 (world_of b) (confirm_acts b port upto) ≡ Some (world_of new)
-    → Hosted (λ entries. entries ≡ confirm_entries b port upto) b new
+    → HostActed (λ entries. entries ≡ confirm_entries b port upto) b new
 hosted_confirm b new port upto is same act = go (nat_le upto (port_in b port).out_base) is act
   where
     go : (before : Bool) → new ≡ cond before b (with_confirmed b port upto) → acted t414 (world_of b) (cond before [] (Journal (Confirm port upto) ∷ [])) ≡ Some (world_of new)
-        → Hosted (λ entries. entries ≡ cond before [] (Confirm port upto ∷ [])) b new
+        → HostActed (λ entries. entries ≡ cond before [] (Confirm port upto ∷ [])) b new
     go true e act = record {
       grown = record {
         acts = [];
@@ -107,7 +107,7 @@ hosted_confirm b new port upto is same act = go (nat_le upto (port_in b port).ou
 
 -- ## Turns
 
-pub hosted_by : (Are : List Entry → Type 0) (acts : List Act) (b new : BookValue) → HostAdded acts b new → AllByRecursion (λ act. is_trim act ≡ false) acts → Are (entries_in acts) → Hosted Are b new
+pub hosted_by : (Are : List Entry → Type 0) (acts : List Act) (b new : BookValue) → HostAdded acts b new → AllByRecursion (λ act. is_trim act ≡ false) acts → Are (entries_in acts) → HostActed Are b new
 hosted_by Are acts b new A none are = record {
   grown = record {
     acts = acts;
@@ -128,7 +128,7 @@ hosted_by Are acts b new A none are = record {
   frozen = A.frozen;
 }
 
-pub hosted_turn : (r : Result ℕ Refusal) (b new : BookValue) → HostDone (HostTurns r) b new → Hosted (TakesOf b.state.start (length b.state.start.nodes) r) b new
+pub hosted_turn : (r : Result ℕ Refusal) (b new : BookValue) → HostDone (HostTurns r) b new → HostActed (TakesOf b.state.start (length b.state.start.nodes) r) b new
 hosted_turn (Ok takes) b new D =
     let turns = host_turns (Ok takes) b new D.acts D.did in
     hosted_by (TakesOf b.state.start (length b.state.start.nodes) (Ok takes)) D.acts b new D.added (untrimmed D.acts turns)
@@ -180,7 +180,7 @@ begun_grown b new is act = record {
 
 -- ## The store breaks
 
-pub hosted_broken : (b new : BookValue) → new ≡ record b { broken = true } → Hosted (λ entries. entries ≡ []) b new
+pub hosted_broken : (b new : BookValue) → new ≡ record b { broken = true } → HostActed (λ entries. entries ≡ []) b new
 hosted_broken b new is = record {
   grown = record {
     acts = [];

@@ -15,3 +15,4 @@ pub mod Resealing
 pub mod Copying
 pub mod Trims
 pub mod Closing
+pub mod Keeping

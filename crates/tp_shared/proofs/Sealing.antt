@@ -16,7 +16,7 @@ use Rattle.tp_book.specs.Book.{BookValue, agreed, next_number}
 use Rattle.tp_book.specs.Joined.{FitsRoom}
 use Rattle.tp_turn.specs.Moments.{IsNodeOf, entries_in}
 use Rattle.tp_shared.specs.Agreement.{Agreement}
-use Rattle.tp_shared.specs.Acts.{Grown, Acted, Hosted}
+use Rattle.tp_shared.specs.BookActs.{Grown, NodeActed, HostActed}
 use Rattle.tp_shared.specs.Gains.{Noted}
 use Rattle.tp_shared.specs.Seals.{Stage, IsSealOf, Sealed, IsTied}
 use Rattle.tp_shared.specs.Receipted.{AreBelow}
@@ -40,7 +40,7 @@ node_of_seal name a flag seal_name b i n S node frozen image = record {
 }
 
 module _ (Are : List Entry → Type 0) (names : ℕ → ℕ) (seals : List NodeSeal) (b new : BookValue) (i : ℕ) (n : NodeContents) (reserved : Bool) (s : NodeSeal) (S : Sealed names seals b)
-    (A : Acted Are i (record { node = n.live; frozen = n.frozen; reserved = reserved }) b new) (N : IsNodeOf new i n) (below : i < length seals)
+    (A : NodeActed Are i (record { node = n.live; frozen = n.frozen; reserved = reserved }) b new) (N : IsNodeOf new i n) (below : i < length seals)
     (named : s.seal.name ≡ names i) (shows : s.seal.value.state ≡ record { node = n.live; frozen = n.frozen; reserved = reserved }) (flag : s.frozen ≡ is_some n.frozen) where
   here : IsSealOf (names i) (record { node = n.live; frozen = n.frozen; reserved = reserved }) s.frozen s.seal.name new i
   here =
@@ -79,7 +79,7 @@ module _ (Are : List Entry → Type 0) (names : ℕ → ℕ) (seals : List NodeS
   ]
 
 -- no node has changed
-pub sealed_still : (Are : List Entry → Type 0) (names : ℕ → ℕ) (seals : List NodeSeal) (b new : BookValue) → Sealed names seals b → Hosted Are b new → Sealed names seals new
+pub sealed_still : (Are : List Entry → Type 0) (names : ℕ → ℕ) (seals : List NodeSeal) (b new : BookValue) → Sealed names seals b → HostActed Are b new → Sealed names seals new
 sealed_still Are names seals b new S H i s e =
     let was = S i s e in
     record {

@@ -8,17 +8,17 @@ use Rattle.tp_snap.specs.Needs.{has_recorded_in}
 use Rattle.tp_book.specs.Book.{world_of}
 use Rattle.tp_shared.specs.Seals.{Stage}
 use Rattle.tp_shared.specs.Told.{Since, told_of}
-use Rattle.tp_shared.specs.Thawed.{HasThawed, Thaws}
+use Rattle.tp_shared.specs.Thawed.{HasThawed, ThawedAsTold}
 use Rattle.tp_shared.specs.declared.seal.NodeSeal.{NodeSeal}
 use Rattle.tp_shared.specs.declared.told.Told.{Told}
 use Rattle.tp_shared.proofs.Cuts.{stays_whole, whole_recorded}
 
 -- nothing is told of pages
-pub thaws_none : (t : Told) (seals : List NodeSeal) → t.thawed ≡ false → Thaws t seals
+pub thaws_none : (t : Told) (seals : List NodeSeal) → t.thawed ≡ false → ThawedAsTold t seals
 thaws_none t seals e h = absurd (true≢false (sym h ∙ e))
 
 -- one seal is another, beside which stands that no pages are kept
-pub thaws_set : (t : Told) (seals : List NodeSeal) (i : ℕ) (s : NodeSeal) → Thaws t seals → (HasThawed t seals → s.frozen ≡ false) → Thaws t (set seals i s)
+pub thaws_set : (t : Told) (seals : List NodeSeal) (i : ℕ) (s : NodeSeal) → ThawedAsTold t seals → (HasThawed t seals → s.frozen ≡ false) → ThawedAsTold t (set seals i s)
 thaws_set t seals i s T kept h =
     let H = T h in
     record { cut = H.cut; nodes = H.nodes; has = H.has; holds = H.holds; none = all_set (λ x. x.frozen ≡ false) seals i s H.none (kept H) }

@@ -4,16 +4,16 @@ use Rattle.tp_shared.specs.declared.place.Place.{Place}
 use Rattle.tp_shared.specs.Seals.{Shows}
 
 -- A node that is there, with the key of its name, which shows it. No run of it is reserved.
-pub record IsIn (name i count : ℕ) (p : Place) : Type 0 where
+pub record IsPlaceOf (name i count : ℕ) (p : Place) : Type 0 where
   pub there : i < count
   pub named : p.key.name ≡ name
   pub shows : Shows p false
 
 -- each fourth node from `first` on, among `count`
-pub record Celled (first : ℕ) (names : ℕ → ℕ) (count : ℕ) (places : List Place) : Type 0 where
-  pub each : (k : ℕ) (p : Place) → slice_get places k ≡ Some p → IsIn (names (4 * k + first)) (4 * k + first) count p
+pub record AreOfCell (first : ℕ) (names : ℕ → ℕ) (count : ℕ) (places : List Place) : Type 0 where
+  pub each : (k : ℕ) (p : Place) → slice_get places k ≡ Some p → IsPlaceOf (names (4 * k + first)) (4 * k + first) count p
   pub all : (k : ℕ) → 4 * k + first < count → k < length places
 
 -- the places of a cell, and behind them one more where it belongs there
-abbrev pub given : ℕ → ℕ → Place → List Place → List Place
-given cell index place places = if index % 4 == cell then places ++ place ∷ [] else places
+abbrev pub with_place : ℕ → ℕ → Place → List Place → List Place
+with_place cell index place places = if index % 4 == cell then places ++ place ∷ [] else places

@@ -3,7 +3,7 @@ use Rattle.std.specs.Prelude.{◌≡◌, ℕ, zero, suc, List, [], ◌∷◌, le
 use Rattle.tp_mark.specs.Seen.{MarkName}
 use Rattle.tp_model.specs.declared.entry.Entry.{Entry}
 use Rattle.tp_book.specs.Book.{BookValue}
-use Rattle.tp_shared.specs.Cells.{Celled}
+use Rattle.tp_shared.specs.Cells.{AreOfCell}
 use Rattle.tp_shared.specs.Seals.{Sealed, IsTied}
 use Rattle.tp_shared.specs.declared.dealt.Dealt.{Dealt}
 use Rattle.tp_shared.specs.declared.seal.NodeSeal.{NodeSeal}
@@ -18,10 +18,10 @@ name_of (s ∷ ss) (suc i) = name_of ss i
 pub record IsDealt (b : BookValue) (seals : List NodeSeal) (dealt : Dealt) (count : ℕ) : Type 0 where
   pub many : length seals ≡ count
   pub sealed : Sealed (name_of seals) seals b
-  pub zeroth : Celled 0 (name_of seals) count dealt.p0.items
-  pub first : Celled 1 (name_of seals) count dealt.p1.items
-  pub second : Celled 2 (name_of seals) count dealt.p2.items
-  pub third : Celled 3 (name_of seals) count dealt.p3.items
+  pub zeroth : AreOfCell 0 (name_of seals) count dealt.p0.items
+  pub first : AreOfCell 1 (name_of seals) count dealt.p1.items
+  pub second : AreOfCell 2 (name_of seals) count dealt.p2.items
+  pub third : AreOfCell 3 (name_of seals) count dealt.p3.items
 
 -- The parts belong together: no take is made ready, there is a seal and a place for each node, and there is no entry yet that
 -- the roll would have. Both halves of what the flusher is told are of one name.

@@ -18,5 +18,5 @@ pub record HasThawed (told : Told) (seals : List NodeSeal) : Type 0 where
   pub none : AllByRecursion (λ s. s.frozen ≡ false) seals
 
 -- so it is where it was told
-abbrev pub Thaws : Told → List NodeSeal → Type 0
-Thaws told seals = told.thawed ≡ true → HasThawed told seals
+abbrev pub ThawedAsTold : Told → List NodeSeal → Type 0
+ThawedAsTold told seals = told.thawed ≡ true → HasThawed told seals

@@ -5,12 +5,12 @@ ghost use Rattle.tp_law_machine.specs.NodeOfBytes.{IsNodeOfBytes};
 ghost use Rattle.tp_model.specs.Network.{steps};
 ghost use Rattle.tp_model.specs.Node.{t414};
 ghost use Rattle.tp_model.specs.declared.limits.TheConstants.{MAX_STEPS};
-ghost use Rattle.tp_shared.specs.Cells.{Celled};
+ghost use Rattle.tp_shared.specs.Cells.{AreOfCell};
 ghost use Rattle.tp_shared.specs.Entries.{IsTurnRefusal, Takes, TakesOf, run_entries};
 ghost use Rattle.tp_shared.specs.Gains.{Gained};
 ghost use Rattle.tp_shared.specs.Seals.{Shows};
-ghost use Rattle.tp_shared.specs.Turned.{Turned};
-ghost use Rattle.tp_shared.specs.Went.{BrokeOff, CommittedBy, OpenedBy, Went};
+ghost use Rattle.tp_shared.specs.NodeTurned.{NodeTurned};
+ghost use Rattle.tp_shared.specs.TurnsMade.{TurnBrokenOff, RunCommitted, TurnOpened, TurnMade};
 
 use crate::gate::{COMMITTED, Gate, NODE_LOCKED, RUN_DONE};
 use crate::locked::Locked;
@@ -35,13 +35,13 @@ pub struct Cell<const I: usize, J: Naming> {
 impl<const I: usize, J: Naming> Model for Cell<I, J> {
     ghost use Rattle.std.specs.Prelude.{List, length};
     ghost use Rattle.tp_shared.specs.declared.place.Place.{Place};
-    ghost use Rattle.tp_shared.specs.Cells.{Celled};
+    ghost use Rattle.tp_shared.specs.Cells.{AreOfCell};
 
     ghost Value = { List Place };
 
     ghost view = { λ c. c.places.items };
 
-    ghost invariant = { λ c. Celled I J.node (length J.start.nodes) c.places.items };
+    ghost invariant = { λ c. AreOfCell I J.node (length J.start.nodes) c.places.items };
 }
 
 // The first hold of the book's lock in a node's turn.
@@ -57,7 +57,7 @@ fn begin<J: Naming, R: Wait>(
     requires shows { Shows place.old false }
     ensures named { place.new.key.name ≡ place.old.key.name }
     ensures shows { Shows place.new (is_ok result) }
-    ensures opened { OpenedBy J.start number result place.old.node place.new.node }
+    ensures opened { TurnOpened J.start number result place.old.node place.new.node }
     ensures gained { Gained (TakesOf J.start number result) seat.old seat.new }
     ensures refused { IfErr result IsTurnRefusal }
 {
@@ -84,7 +84,7 @@ fn commit<J: Naming, R: Wait>(
     ensures ran { result ≡ stretch.ran }
     ensures named { place.new.key.name ≡ place.old.key.name }
     ensures shows { Shows place.new false }
-    ensures committed { CommittedBy J.start number stretch.ran.count place.old.node }
+    ensures committed { RunCommitted J.start number stretch.ran.count place.old.node }
     ensures gained { Gained (λ entries. entries ≡ run_entries number stretch.ran.count) seat.old seat.new }
 {
     let mut held = lock_soon(rt, book);
@@ -107,8 +107,8 @@ fn turn_of<J: Naming, G: Gate, R: Wait>(
     requires shows { Shows place.old false }
     ensures named { place.new.key.name ≡ place.old.key.name }
     ensures shows { Shows place.new false }
-    ensures turned { MatchResult result (λ turn. Turned J.start number quantum turn seat.old seat.new) (λ e. Gained (Takes J.start number) seat.old seat.new) }
-    ensures went { MatchResult result (λ turn. Went J.start number quantum turn) (λ e. BrokeOff J.start number e) }
+    ensures turned { MatchResult result (λ turn. NodeTurned J.start number quantum turn seat.old seat.new) (λ e. Gained (Takes J.start number) seat.old seat.new) }
+    ensures went { MatchResult result (λ turn. TurnMade J.start number quantum turn) (λ e. TurnBrokenOff J.start number e) }
     ensures refused { IfErr result IsTurnRefusal }
 {
     gate.at(number, NODE_LOCKED);
@@ -134,7 +134,7 @@ fn record_of<J: Naming, R: Wait>(rt: &R, book: &Mutex<Locked<J>>, place: &mut Pl
 
 impl<const I: usize, J: Naming> Cell<I, J> {
     pub(crate) fn new(places: Vec<Place>) -> Cell<I, J>
-        requires { Celled I J.node (length J.start.nodes) places.items }
+        requires { AreOfCell I J.node (length J.start.nodes) places.items }
     {
         Cell {
             places,
@@ -155,8 +155,8 @@ impl<const I: usize, J: Naming> Cell<I, J> {
         requires quantum { quantum ≤ MAX_STEPS }
         requires there { number < length J.start.nodes }
         requires here { number % 4 ≡ I }
-        ensures turned { MatchResult result (λ turn. Turned J.start number quantum turn seat.old seat.new) (λ e. Gained (Takes J.start number) seat.old seat.new) }
-        ensures went { MatchResult result (λ turn. Went J.start number quantum turn) (λ e. BrokeOff J.start number e) }
+        ensures turned { MatchResult result (λ turn. NodeTurned J.start number quantum turn seat.old seat.new) (λ e. Gained (Takes J.start number) seat.old seat.new) }
+        ensures went { MatchResult result (λ turn. TurnMade J.start number quantum turn) (λ e. TurnBrokenOff J.start number e) }
         ensures refused { IfErr result IsTurnRefusal }
     {
         let Cell { places, .. } = self;

@@ -1,7 +1,7 @@
 //! Places dealt to the four cells.
 
 ghost use Rattle.std.specs.Prelude.{◌≡◌, [], OnOk};
-ghost use Rattle.tp_shared.specs.Cells.{given};
+ghost use Rattle.tp_shared.specs.Cells.{with_place};
 
 use crate::place::Place;
 use std::alloc::{AllocError, Global};
@@ -29,10 +29,10 @@ impl Dealt {
 
     /// Puts the place of the node `index` behind the others of its cell.
     pub(crate) fn push(&mut self, index: usize, place: Place) -> Result<(), AllocError>
-        ensures zeroth { OnOk result (self.new.p0.items ≡ given 0 index place self.old.p0.items) }
-        ensures first { OnOk result (self.new.p1.items ≡ given 1 index place self.old.p1.items) }
-        ensures second { OnOk result (self.new.p2.items ≡ given 2 index place self.old.p2.items) }
-        ensures third { OnOk result (self.new.p3.items ≡ given 3 index place self.old.p3.items) }
+        ensures zeroth { OnOk result (self.new.p0.items ≡ with_place 0 index place self.old.p0.items) }
+        ensures first { OnOk result (self.new.p1.items ≡ with_place 1 index place self.old.p1.items) }
+        ensures second { OnOk result (self.new.p2.items ≡ with_place 2 index place self.old.p2.items) }
+        ensures third { OnOk result (self.new.p3.items ≡ with_place 3 index place self.old.p3.items) }
     {
         match index % 4 {
             0 => self.p0.push(place)?,

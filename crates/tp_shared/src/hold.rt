@@ -2,7 +2,7 @@
 
 ghost use Rattle.std.specs.Prelude.{◌≡◌, [], Some, None, true, false, slice_get, is_ok, IfErr};
 ghost use Rattle.tp_snap.specs.Needs.{has_recorded_in};
-ghost use Rattle.tp_shared.specs.Acts.{Acted};
+ghost use Rattle.tp_shared.specs.BookActs.{NodeActed};
 ghost use Rattle.tp_shared.specs.Entries.{IsTurnRefusal, TakesOf, run_entries};
 ghost use Rattle.tp_book.specs.Acts.{run_acts};
 ghost use Rattle.tp_book.specs.Calls.{without_run};
@@ -20,7 +20,7 @@ pub(crate) fn begin(book: &mut Book, node: &mut Node, number: u8) -> Result<u64,
     requires free { slice_get book.old.runs number ≡ Some false }
     requires idle { book.old.ready ≡ None }
     requires is { IsNodeOf book.old number node.old }
-    ensures acted { Acted (TakesOf book.old.state.start number result) number (record { node = node.new.live; frozen = node.new.frozen; reserved = is_ok result }) book.old book.new }
+    ensures acted { NodeActed (TakesOf book.old.state.start number result) number (record { node = node.new.live; frozen = node.new.frozen; reserved = is_ok result }) book.old book.new }
     ensures opens { Opens number result (moment book.old node.old) (moment book.new node.new) }
     ensures is { IsNodeOf book.new number node.new }
     ensures stays { has_recorded_in book.old.state.snapshot number ≡ true → node.new.frozen ≡ node.old.frozen }
@@ -33,7 +33,7 @@ pub(crate) fn begin(book: &mut Book, node: &mut Node, number: u8) -> Result<u64,
 pub(crate) fn record(book: &mut Book, node: &mut Node, number: u8)
     requires free { slice_get book.old.runs number ≡ Some false }
     requires is { IsNodeOf book.old number node.old }
-    ensures acted { Acted (λ entries. entries ≡ []) number (record { node = node.new.live; frozen = node.new.frozen; reserved = false }) book.old book.new }
+    ensures acted { NodeActed (λ entries. entries ≡ []) number (record { node = node.new.live; frozen = node.new.frozen; reserved = false }) book.old book.new }
     ensures did { Done number (Records number) (moment book.old node.old) (moment book.new node.new) }
     ensures is { IsNodeOf book.new number node.new }
     ensures stays { has_recorded_in book.old.state.snapshot number ≡ true → node.new.frozen ≡ node.old.frozen }
@@ -47,7 +47,7 @@ pub(crate) fn commit(book: &mut Book, node: &Node, number: u8, stretch: Stretch)
     requires idle { book.old.ready ≡ None }
     requires ran { HasRunOn book.old number stretch.ran.count stretch.sent.items node.now }
     ensures ran { result ≡ stretch.ran }
-    ensures acted { Acted (λ entries. entries ≡ run_entries number stretch.ran.count) number (record { node = node.now.live; frozen = node.now.frozen; reserved = false }) book.old book.new }
+    ensures acted { NodeActed (λ entries. entries ≡ run_entries number stretch.ran.count) number (record { node = node.now.live; frozen = node.now.frozen; reserved = false }) book.old book.new }
     ensures added { Added number node.now.live (run_acts number stretch.ran.count) (without_run book.old number) book.new }
     ensures is { IsNodeOf book.new number node.now }
 {

@@ -7,7 +7,7 @@ ghost use Rattle.tp_book.specs.Refusals.{IsAnswer};
 ghost use Rattle.tp_model.specs.declared.entry.Entry.TheVariants.{HostIn};
 ghost use Rattle.tp_shared.specs.Entries.{IsTurnRefusal, TakesOf, confirm_entries};
 ghost use Rattle.tp_shared.specs.Gains.{Noted};
-ghost use Rattle.tp_shared.specs.Went.{IsOf};
+ghost use Rattle.tp_shared.specs.TurnsMade.{IsBookOf};
 ghost use Rattle.tp_turn.specs.Hosted.{HostDone, HostTurns};
 
 use crate::locked::Locked;
@@ -63,7 +63,7 @@ impl<J: Naming> Locked<J> {
     /// `seat` gets the slips of the entries, also where the turn broke off. Answers how many tokens were taken; a Marker isn't
     /// counted.
     pub fn host_turn(&mut self, seat: &mut Seat<J>) -> Result<u64, Refusal>
-        ensures of { IsOf J.start self.old.book }
+        ensures of { IsBookOf J.start self.old.book }
         ensures did { HostDone (HostTurns result) self.old.book self.new.book }
         ensures noted { Noted (TakesOf J.start (length J.start.nodes) result) J.first self.old self.new seat.old seat.new }
         ensures refused { IfErr result IsTurnRefusal }

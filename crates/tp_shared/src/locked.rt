@@ -9,7 +9,7 @@ ghost use Rattle.tp_shared.specs.Entries.{IsTurnRefusal, TakesOf, run_entries};
 ghost use Rattle.tp_shared.specs.Gains.{Noted};
 ghost use Rattle.tp_shared.specs.Seals.{Shows, Sealed, IsTied};
 ghost use Rattle.tp_shared.specs.Told.{told_of};
-ghost use Rattle.tp_shared.specs.Went.{IsOf};
+ghost use Rattle.tp_shared.specs.TurnsMade.{IsBookOf};
 ghost use Rattle.tp_book.specs.Acts.{run_acts};
 ghost use Rattle.tp_book.specs.Calls.{without_run};
 ghost use Rattle.tp_turn.specs.Moments.{Added, IsNodeOf, moment};
@@ -42,16 +42,14 @@ pub struct Locked<J: Naming> {
 }
 
 impl<J: Naming> Model for Locked<J> {
-    ghost use Rattle.std.specs.Prelude.{◌≡◌, ◌≤◌, ◌+◌, ◌-◌, ◌*◌, None, length};
-    ghost use Rattle.tp_shared.specs.Seals.{Stage, Sealed, IsTied};
-    ghost use Rattle.tp_shared.specs.Told.{Since, told_of};
-    ghost use Rattle.tp_shared.specs.Thawed.{Thaws};
+    ghost use Rattle.tp_shared.specs.Seals.{Stage};
+    ghost use Rattle.tp_shared.specs.Together.{AreTogether};
 
     ghost Value = { Stage };
 
     ghost view = { λ l. record { book = l.book; all = l.roll.items } };
 
-    ghost invariant = { λ l. (l.book.ready ≡ None) × (length l.seals.items ≡ length J.start.nodes) × (length l.book.runs ≡ length J.start.nodes) × Sealed J.node l.seals.items l.book × (l.roll.name ≡ J.roll) × (l.roll.first ≡ J.first) × IsTied J.first l.roll.items l.book × (l.book.state.start.wires ≡ J.start.wires) × (length l.book.state.start.nodes ≡ length J.start.nodes) × (l.told.name ≡ J.flusher) × Since l.told.value (told_of J.before J.first (record { book = l.book; all = l.roll.items })) × (length J.start.wires ≡ 4 * length J.start.nodes + length J.start.ports) × (l.book.room ≡ J.room) × (l.book.floor ≤ J.first - l.book.base) × Thaws l.told.value l.seals.items };
+    ghost invariant = { λ l. AreTogether J.roll J.first J.start J.node J.flusher J.room J.before l.book l.seals.items l.roll l.told };
 }
 
 impl<J: Naming> Locked<J> {
@@ -110,7 +108,7 @@ impl<J: Naming> Locked<J> {
         requires shows { Shows place.old false }
         ensures named { place.new.key.name ≡ place.old.key.name }
         ensures shows { Shows place.new (is_ok result) }
-        ensures of { IsOf J.start self.old.book }
+        ensures of { IsBookOf J.start self.old.book }
         ensures is { IsNodeOf self.old.book number place.old.node }
         ensures opens { Opens number result (moment self.old.book place.old.node) (moment self.new.book place.new.node) }
         ensures noted { Noted (TakesOf J.start number result) J.first self.old self.new seat.old seat.new }
@@ -153,7 +151,7 @@ impl<J: Naming> Locked<J> {
         ensures ran { result ≡ stretch.ran }
         ensures named { place.new.key.name ≡ place.old.key.name }
         ensures shows { Shows place.new false }
-        ensures of { IsOf J.start self.old.book }
+        ensures of { IsBookOf J.start self.old.book }
         ensures node { place.new.node ≡ place.old.node }
         ensures added { Added number place.old.node.live (run_acts number stretch.ran.count) (without_run self.old.book number) self.new.book }
         ensures noted { Noted (λ entries. entries ≡ run_entries number stretch.ran.count) J.first self.old self.new seat.old seat.new }

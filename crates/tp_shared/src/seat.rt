@@ -19,13 +19,13 @@ pub struct Seat<J: Naming> {
 impl<J: Naming> Model for Seat<J> {
     ghost use Rattle.std.specs.Prelude.{◌≡◌, ℕ, List};
     ghost use Rattle.tp_model.specs.declared.entry.Entry.{Entry};
-    ghost use Rattle.tp_shared.specs.Counted.{IsCount};
+    ghost use Rattle.tp_shared.specs.SlipCount.{IsSlipCount};
 
     ghost Value = { List (ℕ × Entry) };
 
     ghost view = { λ s. s.slips.items };
 
-    ghost invariant = { λ s. (s.slips.name ≡ J.roll) × IsCount s.count s.slips.items };
+    ghost invariant = { λ s. (s.slips.name ≡ J.roll) × IsSlipCount s.count s.slips.items };
 }
 
 impl<J: Naming> Seat<J> {

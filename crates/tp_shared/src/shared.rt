@@ -6,8 +6,8 @@ ghost use Rattle.tp_shared.specs.Entries.{IsTurnRefusal, Takes, TakesOf, Counted
 ghost use Rattle.tp_shared.specs.Gains.{Gained};
 ghost use Rattle.tp_shared.specs.Named.{Names};
 ghost use Rattle.tp_shared.specs.Told.{told_of};
-ghost use Rattle.tp_shared.specs.Turned.{Turned};
-ghost use Rattle.tp_shared.specs.Went.{BrokeOff, HostWent, Went};
+ghost use Rattle.tp_shared.specs.NodeTurned.{NodeTurned};
+ghost use Rattle.tp_shared.specs.TurnsMade.{TurnBrokenOff, HostTurnMade, TurnMade};
 
 use crate::cell::Cell;
 use crate::gate::{COMMITTED, Gate};
@@ -30,7 +30,7 @@ fn host_hold<J: Naming, R: Wait>(
     seat: &mut Seat<J>,
 ) -> Result<u64, Refusal>
     ensures gained { Gained (TakesOf J.start (length J.start.nodes) result) seat.old seat.new }
-    ensures went { HostWent J.start result }
+    ensures went { HostTurnMade J.start result }
     ensures refused { IfErr result IsTurnRefusal }
 {
     let mut held = lock_soon(rt, book);
@@ -129,8 +129,8 @@ impl<J: Naming> Shared<J> {
     ) -> Result<NodeTurn, Refusal>
         requires quantum { quantum ≤ MAX_STEPS }
         requires there { number < length J.start.nodes }
-        ensures turned { MatchResult result (λ turn. Turned J.start number quantum turn seat.old seat.new) (λ e. Gained (Takes J.start number) seat.old seat.new) }
-        ensures went { MatchResult result (λ turn. Went J.start number quantum turn) (λ e. BrokeOff J.start number e) }
+        ensures turned { MatchResult result (λ turn. NodeTurned J.start number quantum turn seat.old seat.new) (λ e. Gained (Takes J.start number) seat.old seat.new) }
+        ensures went { MatchResult result (λ turn. TurnMade J.start number quantum turn) (λ e. TurnBrokenOff J.start number e) }
         ensures refused { IfErr result IsTurnRefusal }
     {
         match number % 4 {
@@ -175,7 +175,7 @@ impl<J: Naming> Shared<J> {
         seat: &mut Seat<J>,
     ) -> Result<u64, Refusal>
         ensures turned { MatchResult result (λ takes. Gained (CountedTakes J.start (length J.start.nodes) takes) seat.old seat.new) (λ e. Gained (Takes J.start (length J.start.nodes)) seat.old seat.new) }
-        ensures went { HostWent J.start result }
+        ensures went { HostTurnMade J.start result }
         ensures refused { IfErr result IsTurnRefusal }
     {
         let done = host_hold(rt, &self.book, seat);

@@ -27,7 +27,7 @@ impl Model for Told {
 
 impl Told {
     ghost use Rattle.std.specs.Prelude.{◌≡◌, [], true};
-    ghost use Rattle.tp_shared.specs.Copied.{trim_of};
+    ghost use Rattle.tp_shared.specs.TrimmedTo.{trim_of};
     ghost use Rattle.tp_shared.specs.Told.{told_of};
     ghost use Rattle.tp_shared.specs.declared.told.Told.{Told};
 

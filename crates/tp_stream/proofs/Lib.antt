@@ -2,5 +2,4 @@ pub mod Kept
 pub mod Quiets
 pub mod Runs
 pub mod Shown
-pub mod Sinks
 pub mod Standings

@@ -12,12 +12,12 @@ use Rattle.tp_node.specs.NodeContents.{kept_of}
 use Rattle.tp_node.specs.RunEnd.{IsWhy}
 use Rattle.tp_node.specs.declared.run.Why.{Why}
 use Rattle.tp_node.specs.declared.run.Why.TheVariants.{Full, Idle, NoFrame, Halted as Stopped}
-use Rattle.tp_shared.specs.Went.{Went}
+use Rattle.tp_shared.specs.TurnsMade.{TurnMade}
 use Rattle.tp_shared.specs.declared.node_turn.NodeTurn.{NodeTurn}
 use Rattle.tp_stream.specs.declared.task.Task.{Task}
-use Rattle.tp_stream.specs.declared.ending.Ended.{Ended}
-use Rattle.tp_stream.specs.declared.ending.Ending.{Ending}
-use Rattle.tp_stream.specs.declared.ending.Ending.TheVariants.{Quiet, Turns, Gone, Halted}
+use Rattle.tp_stream_ends.specs.declared.ending.Ended.{Ended}
+use Rattle.tp_stream_ends.specs.declared.ending.Ending.{Ending}
+use Rattle.tp_stream_ends.specs.declared.ending.Ending.TheVariants.{Quiet, Turns, Gone, Halted}
 use Rattle.tp_stream.specs.declared.fault.StreamFault.{StreamFault}
 use Rattle.tp_stream.specs.declared.pumping.Pumped.{Pumped}
 use Rattle.tp_stream.specs.declared.turns.Turns.{Turns as TurnsValue}
@@ -35,7 +35,7 @@ no_step Idle max count cause now is none = is.1
 no_step NoFrame max count cause now is none = absurd none
 no_step Stopped max count cause now is none = halted_rests now is.1
 
-pub node_rests : (start : Network NodeState) (number quantum : ℕ) (turn : NodeTurn) → Went start number quantum turn → turn.taken ≡ 0 → turn.ran.count ≡ 0
+pub node_rests : (start : Network NodeState) (number quantum : ℕ) (turn : NodeTurn) → TurnMade start number quantum turn → turn.taken ≡ 0 → turn.ran.count ≡ 0
     → HasNoStep turn.ran.why → NodeRests start number
 node_rests start number quantum turn went taken count none = record {
   quantum = quantum;

@@ -1,6 +1,7 @@
 -- What streams leave of a device.
 use Rattle.std.proofs.Common.{ℕ, ◌≤◌, ◌⊎◌, inl, inr, List, [], Result, Ok, Err, arith}
-use Rattle.std.specs.Prelude.{IfOk}
+use Rattle.std.specs.Prelude.{IfErr, IfOk}
+use Rattle.std.proofs.lemmas.Result.{IfOk-weaker}
 use Rattle.tp_model.specs.declared.entry.Entry.{Entry}
 use Rattle.tp_model.specs.NodeState.{NodeState}
 use Rattle.tp_model.specs.Node.{t414}
@@ -15,29 +16,12 @@ use Rattle.tp_recover.specs.Reading.{LeavesNothingNew}
 use Rattle.tp_flush.specs.Known.{Reached}
 use Rattle.tp_flush.specs.Flushing.{Flushing, Walked}
 use Rattle.tp_flush.proofs.Kept.{reached_then}
+use Rattle.tp_flush.proofs.Recovers.{recovers_less}
 use Rattle.tp_flush.proofs.Turns.{walked_nowhere, walked_recovers}
-use Rattle.tp_stream.specs.declared.ending.Ended.{Ended}
+use Rattle.tp_stream_ends.specs.declared.ending.Ended.{Ended}
 use Rattle.tp_stream.specs.declared.fault.StreamFault.{StreamFault}
 use Rattle.tp_stream.specs.declared.fault.StreamFault.TheVariants.{Opening, Spare, Port, Unnamed, Short, Long, Gone, NotShown, ShortInput, InputFailed, OutputFailed, FlushFailed, JournalFull, Memory}
 use Rattle.tp_stream.specs.Streamed.{IsBegun, IsUnbegun, Streamed}
-use Rattle.std.specs.Prelude.{IfErr}
-
-if_ok : {A E : Type 0} (r : Result A E) (P Q : A → Type 0) → ((x : A) → P x → Q x) → IfOk r P → IfOk r Q
-if_ok (Ok x) P Q turn p = turn x p
-if_ok (Err e) P Q turn p = p
-
--- what recovers to a prefix with all below a mark has all below a lesser number
-recovers_less : (start : Network NodeState) (journal : List Entry) (mark next : ℕ) (left : List ℕ) → next ≤ mark → RecoversTo t414 device_areas start journal mark left
-    → RecoversTo t414 device_areas start journal next left
-recovers_less start journal mark next left low r = record {
-  held = r.held;
-  reads = r.reads;
-  now = r.now;
-  replayed = r.replayed;
-  exact = r.exact;
-  no_less = let least = r.no_less in omega (arith, low, least);
-  no_more = r.no_more;
-}
 
 -- a device that was opened, and whose flusher walked on from there
 pub served : (start : Network NodeState) (old new : Flushing) (result : Result Ended StreamFault) → Reached start old.world → Walked old new
@@ -49,7 +33,7 @@ served start old new result R W stored =
       journal = new.world.journal;
       first = old.world.mark;
       leaves = weaker old.state new.state (RecoversTo t414 device_areas start new.world.journal old.world.mark) _ (λ left r. inr r) (walked_recovers start old new R W);
-      stored = if_ok result (λ ended. ended.next ≤ new.world.mark) _ (λ ended low left may. recovers_less start new.world.journal new.world.mark ended.next left low (last.each left (inr may))) stored;
+      stored = IfOk-weaker result (λ ended. ended.next ≤ new.world.mark) _ (λ ended low left may. recovers_less start new.world.journal new.world.mark ended.next left low (last.each left (inr may))) stored;
     }
 
 -- a device that was only read

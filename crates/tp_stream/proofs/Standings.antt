@@ -15,13 +15,12 @@ use Rattle.tp_book.specs.declared.state.NetState.{NetState}
 use Rattle.tp_book.specs.Book.{BookValue, outputs_of}
 use Rattle.tp_book.specs.Host.{accepted_of, port_in}
 use Rattle.tp_book.specs.Opened.{now_of, opened_book}
-use Rattle.tp_stream.specs.declared.ending.Ended.{Ended}
+use Rattle.tp_stream_ends.specs.declared.ending.Ended.{Ended}
 use Rattle.tp_stream.specs.declared.fault.StreamFault.{StreamFault}
 use Rattle.tp_stream.specs.declared.fault.StreamFault.TheVariants.{Opening, Spare, Port as Absent, Unnamed, Short, Long, Gone, NotShown, ShortInput, InputFailed, OutputFailed, FlushFailed, JournalFull, Memory}
 use Rattle.tp_stream.specs.declared.standing.Standing.{Standing}
-use Rattle.tp_stream.specs.Held.{Held, HasAtMost, HasLength}
-use Rattle.tp_stream.specs.Outputs.{Given, OutputValue, given_of}
-use Rattle.tp_stream.specs.Offered.{GivenInput, HasAtLeast}
+use Rattle.tp_stream_ends.specs.Inputs.{GivenInput, HasAtLeast}
+use Rattle.tp_stream_ends.specs.Outputs.{Given, OutputValue, given_of}
 use Rattle.tp_stream.specs.Standing.{AllHaveAccepted, AllMayBegin, HaveAcceptedBelow, IsFirstRefused, IsFirstShort, IsNotBegun, MayBegin, MayBeginBelow, OfInput, OfOutput, Refuses, RefusesInput, accepted, accepted_opened, put_out, standing, stands_opened}
 use Rattle.tp_stream.specs.Streamed.{IsBegun}
 
@@ -39,16 +38,6 @@ length_outputs b p xs is = ap length (outputs_in b.state.ports p xs is)
 -- no more than there are entries
 pub put_out_few : (b : BookValue) (mark p : ℕ) → AreCounted mark b.state.ports → p < length b.state.ports → put_out (port_in b p) ≤ mark
 put_out_few b mark p counted there = (counted p (port_in b p) (slice_get-get_or b.state.ports p fresh_port.port there)).outputs
-
--- ## A sink's length
-
-pub has_at_most : (n most : ℕ) (h : Option Held) → HasLength (Some n) h → n ≤ most → HasAtMost most h
-has_at_most n most None has low = tt
-has_at_most n most (Some h) has low = let same : n ≡ length h.bytes = cc in omega (arith, same, low)
-
-pub has_no_length : (most : ℕ) (h : Option Held) → HasLength None h → HasAtMost most h
-has_no_length most None has = tt
-has_no_length most (Some h) has = absurd (cc)
 
 -- ## Outputs one behind the other
 

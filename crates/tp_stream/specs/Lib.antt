@@ -1,8 +1,6 @@
 pub mod Endings
-pub mod Held
 pub mod Offered
 pub mod Outcomes
-pub mod Outputs
 pub mod Quiet
 pub mod Rooms
 pub mod Standing

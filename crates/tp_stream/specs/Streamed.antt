@@ -8,7 +8,7 @@ use Rattle.tp_model.specs.Disk.{MayBe}
 use Rattle.tp_model.specs.DiskHistory.{State, LeavesOnly}
 use Rattle.tp_model.specs.DeviceAreas.{device_areas}
 use Rattle.tp_model.specs.Walks.{RecoversTo}
-use Rattle.tp_stream.specs.declared.ending.Ended.{Ended}
+use Rattle.tp_stream_ends.specs.declared.ending.Ended.{Ended}
 use Rattle.tp_stream.specs.declared.fault.StreamFault.{StreamFault}
 use Rattle.tp_stream.specs.declared.fault.StreamFault.TheVariants.{Opening, Spare, Port, Unnamed, Short, Long, Gone, NotShown, ShortInput, InputFailed, OutputFailed, FlushFailed, JournalFull, Memory}
 

@@ -2,20 +2,16 @@
 
 ghost use Rattle.std.specs.Prelude.{◌≡◌, length, map, IfSome, OnOk, IfErr};
 ghost use Rattle.tp_port.specs.Counted.{AreCounted};
-ghost use Rattle.tp_stream.specs.Offered.{given_input};
-ghost use Rattle.tp_stream.specs.Outputs.{given_of};
+ghost use Rattle.tp_stream_ends.specs.Inputs.{given_input};
+ghost use Rattle.tp_stream_ends.specs.Outputs.{given_of};
 ghost use Rattle.tp_stream.specs.Standing.{AllHaveAccepted, AllMayBegin, IsFirstRefused, IsFirstShort, IsNotBegun, OfInput, OfOutput, accepted, standing};
 
 use crate::fault::StreamFault;
-use crate::input::Input;
-use crate::listener::Listener;
-use crate::output::Output;
-use crate::sink::Sink;
-use crate::source::Source;
-use crate::streams::Streams;
+use crate::output::begin;
 use crate::task::Task;
 use tp_book::Book;
 use tp_net::Topology;
+use tp_stream_ends::{Input, Listener, Output, Sink, Source, Streams};
 
 /// Whether a port has a wire.
 fn is_wired(topology: &Topology, port: usize) -> bool {
@@ -93,7 +89,7 @@ fn begin_outputs<S: Sink, L: Listener>(
         if usize::from(output.port()) >= book.ports() {
             return Err(StreamFault::Port(output.port()));
         }
-        match output.begin(book, mark) {
+        match begin(output, book, mark) {
             Ok(()) => listener.output(output.port(), output.put()),
             Err(fault) => return Err(fault),
         }

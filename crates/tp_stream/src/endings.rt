@@ -3,12 +3,10 @@
 ghost use Rattle.std.specs.Prelude.{◌≡◌, true, nat_lt, IfSome};
 ghost use Rattle.tp_stream.specs.Endings.{IsEnding};
 
-use crate::ending::Ending;
-use crate::input::Input;
 use crate::pumping::Pumped;
-use crate::source::Source;
 use crate::task::Task;
 use crate::turns::Turns;
+use tp_stream_ends::{Ending, Input, Source};
 
 /// Whether no input is left that its port may take.
 pub(crate) fn are_over<I: Source>(inputs: &[Input<I>]) -> bool {

@@ -4,15 +4,12 @@ ghost use Rattle.std.specs.Prelude.{IfErr};
 ghost use Rattle.tp_stream.specs.Streamed.{IsBegun};
 
 use crate::fault::StreamFault;
-use crate::input::Input;
-use crate::output::{Output, StepFault};
+use crate::output::StepFault;
 use crate::pace::Pace;
-use crate::sink::Sink;
-use crate::source::Source;
-use crate::streams::Streams;
 use std::sync::Wait;
 use tp_model::limits::MAX_HELD;
 use tp_shared::{Naming, Shared};
+use tp_stream_ends::{Input, Output, Sink, Source, Streams};
 
 /// What steps of streams came to.
 #[derive(Clone, Copy, Debug, PartialEq, Eq)]
@@ -67,7 +64,7 @@ fn step_output<J: Naming, S: Sink, R: Wait>(
     if output.port() >= shared.ports() {
         return Err(StreamFault::OutputFailed(output.port()));
     }
-    match output.step(&mut held, mark) {
+    match crate::output::step(output, &mut held, mark) {
         Ok(_) => Ok(Pumped::of(output.put() > before)),
         Err(StepFault::Gone) => Ok(Pumped::Gone),
         Err(StepFault::Fault(fault)) => Err(fault),
@@ -112,7 +109,12 @@ fn step_input<J: Naming, I: Source, R: Wait>(
         return Ok(false);
     }
     let free = pace.rooms.free(held.book());
-    input.step(&mut held, piece, free.saturating_sub(u64::from(pace.need)))
+    crate::input::step(
+        input,
+        &mut held,
+        piece,
+        free.saturating_sub(u64::from(pace.need)),
+    )
 }
 
 /// A step of each input.

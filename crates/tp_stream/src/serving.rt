@@ -6,20 +6,14 @@ ghost use Rattle.tp_flush.specs.Flushing.{IsSameProcess, Walked};
 ghost use Rattle.tp_stream.specs.Quiet.{HaveRested, IsWhyEnded};
 ghost use Rattle.tp_stream.specs.Streamed.{IsBegun};
 
-use crate::ending::{Ended, Ending};
 use crate::endings::{are_over, ending, may_wait};
 use crate::fault::StreamFault;
 use crate::flushing::{finish, flush};
-use crate::listener::{Listener, Progress};
-use crate::output::Output;
 use crate::pace::Pace;
 use crate::pumping::{Pumped, can_confirm, pump};
 use crate::rounds::round;
 use crate::settling::settle;
-use crate::sink::Sink;
-use crate::source::Source;
 use crate::stopping::{find_halted, tell_stopped};
-use crate::streams::Streams;
 use crate::turns::Turns;
 use std::alloc::Global;
 use std::sync::Wait;
@@ -27,6 +21,7 @@ use tp_disk::Disk;
 use tp_flush::Flusher;
 use tp_model::limits::MAX_PORTS;
 use tp_shared::{Naming, Seat, Shared};
+use tp_stream_ends::{Ended, Ending, Listener, Output, Progress, Sink, Source, Streams};
 
 /// How a stream goes on: its turns, the slips of what they journalled, and at how many turns it is told again how far it has come.
 #[derive(Drop)]

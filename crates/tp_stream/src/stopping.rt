@@ -3,13 +3,12 @@
 ghost use Rattle.std.specs.Prelude.{◌≡◌};
 ghost use Rattle.tp_stream.specs.Outcomes.{stopped_of};
 
-use crate::ending::{Ending, Stopped};
-use crate::listener::Listener;
 use std::sync::Wait;
 use tp_book::Book;
 use tp_model::limits::MAX_HELD;
 use tp_node::Standing;
 use tp_shared::{Naming, Shared};
+use tp_stream_ends::{Ending, Listener, Stopped};
 
 /// Whether a node has halted.
 pub(crate) fn find_halted<J: Naming, R: Wait>(rt: &R, shared: &Shared<J>) -> bool {

@@ -2,7 +2,7 @@
 
 use std::io::{ErrorKind, Read};
 use tp_model::limits::MAX_HELD;
-use tp_stream::SourceFailed;
+use tp_stream_ends::SourceFailed;
 
 /// Bytes that come once, in order, as those of standard input.
 pub trait Feed {

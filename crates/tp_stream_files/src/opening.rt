@@ -12,7 +12,7 @@ use crate::sources::AnySource;
 use std::fs::{Files, OpenFile, OpenOptions};
 use std::io::Write;
 use std::os::unix::fs::FileExt;
-use tp_stream::{Input, Output, Streams};
+use tp_stream_ends::{Input, Output, Streams};
 
 /// Gives a file its part in the stream.
 fn take(taken: &mut Taken, file: Option<FileNumbers>) -> Result<(), EndFault> {

@@ -4,7 +4,7 @@ ghost use Rattle.std.specs.Prelude.{◌≤◌, length, IfOk};
 
 use crate::feeds::Feed;
 use tp_model::limits::MAX_HELD;
-use tp_stream::SourceFailed;
+use tp_stream_ends::SourceFailed;
 
 /// A port's whole input, from a feed. The last bytes that came are kept, since a port may have no room for them yet.
 #[derive(Drop)]

@@ -1,14 +1,14 @@
 //! What takes a port's output in the program: a file, standard output, or nothing.
 
 ghost use Rattle.std.specs.Prelude.{◌≡◌, ◌↔◌, None, is_ok};
-ghost use Rattle.tp_stream.specs.Held.{HasLength, HasPut, HasReach, IsSafe, KeepsBytes, KeepsFront, Reaches};
+ghost use Rattle.tp_stream_ends.specs.Held.{HasLength, HasPut, HasReach, IsSafe, KeepsBytes, KeepsFront, Reaches};
 
 use std::fs::{Files, OpenFile, OpenOptions};
 use std::io;
 use std::io::{ErrorKind, Write};
 use std::os::unix::fs::FileExt;
 use tp_disk::{NotedFile, SystemFile};
-use tp_stream::{Sink, SinkFault};
+use tp_stream_ends::{Sink, SinkFault};
 
 /// A file whose byte number q is byte number q of the port.
 #[derive(Drop)]

@@ -1,13 +1,13 @@
 //! Where a port's input comes from in the program: a file, or standard input.
 
 ghost use Rattle.std.specs.Prelude.{◌≤◌, None, length, IfOk};
-ghost use Rattle.tp_stream.specs.Offered.{AreFrom, IsLength};
+ghost use Rattle.tp_stream_ends.specs.Inputs.{AreFrom, IsLength};
 
 use crate::feeds::Feed;
 use crate::pipes::Pipe;
 use std::fs::OpenFile;
 use std::os::unix::fs::FileExt;
-use tp_stream::{Source, SourceFailed};
+use tp_stream_ends::{Source, SourceFailed};
 
 /// Where a port's input comes from.
 #[derive(Drop)]

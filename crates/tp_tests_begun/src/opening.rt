@@ -2,12 +2,12 @@
 
 ghost use Rattle.std.specs.Prelude.{◌≡◌, ◌<◌, ◌≤◌, [], true, false, Ok, All, IfOk, Some};
 ghost use Rattle.tp_area.specs.Places.{place_at};
+ghost use Rattle.tp_flush.specs.Made.{StandsFor};
 ghost use Rattle.tp_model.specs.DiskHistory.{IsSynced};
 ghost use Rattle.tp_model.specs.Journal.{is_roomy, room};
 ghost use Rattle.tp_model.specs.Opening.{verdict};
 ghost use Rattle.tp_model.specs.declared.limits.TheConstants.{MAX_STEPS};
 ghost use Rattle.tp_shared.specs.Named.{Names};
-ghost use Rattle.tp_tests_begun.specs.Made.{IsMadeOf};
 ghost use Rattle.tp_tests_begun.specs.Spelt.{IsSpelt};
 ghost use Rattle.tp_work.specs.declared.start.TheConstants.{MAX_SEATS};
 
@@ -40,7 +40,7 @@ pub struct Opening<D: Disk> {
     pub first: u64,
     raiser: Raiser,
     store: Store<D>,
-    pub ghost made: { IsMadeOf opened.value parts raiser },
+    pub ghost made: { StandsFor opened.value parts raiser },
     pub ghost bound: { parts.book.room ≡ Some (room opened.value.head.topology opened.value.head.area) },
     pub ghost first_is: { first ≡ parts.first },
     pub ghost topology_is: { topology ≡ opened.value.head.topology },
@@ -53,7 +53,7 @@ pub struct Opening<D: Disk> {
 
 /// The book and the nodes of what was opened, and the raiser of their mark.
 fn parts_of(alloc: Global, opened: Opened, spare: usize) -> Result<(Parts, Raiser), AllocError>
-    ensures parts { IfOk result (λ made. IsMadeOf opened made.0 made.1) }
+    ensures parts { IfOk result (λ made. StandsFor opened made.0 made.1) }
     ensures bound { IfOk result (λ made. made.0.book.room ≡ Some (room opened.head.topology opened.head.area)) }
 {
     opened_books_begin();

@@ -15,7 +15,8 @@ use Rattle.tp_shared.specs.Receipted.{Receipted}
 use Rattle.tp_host.specs.Receipts.{IsFor}
 use Rattle.tp_work.specs.Turns.{Turned, TurnedAs}
 use Rattle.tp_work.specs.declared.turn.Turn.{Turn}
-use Rattle.tp_tests_gate.specs.Made.{IsSum, made_by, made_by_run}
+use Rattle.tp_work.specs.Made.{made_by, made_by_run}
+use Rattle.tp_tests_gate.specs.Made.{IsSum}
 
 gained : (Are : List Entry → Type 0) (old new : List (ℕ × Entry)) → (G : Gained Are old new) → length new ≡ length old + length G.entries
 gained Are old new G = ap length G.seat ∙ length-append old (enumerate_from G.next G.entries) ∙ ap (λ n. length old + n) (length-enumerate_from G.next G.entries)

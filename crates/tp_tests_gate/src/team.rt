@@ -2,7 +2,8 @@
 
 ghost use Rattle.std.specs.Prelude.{◌≡◌, [], IsTrue, IfSome, Some, All, length, ℕ};
 ghost use Rattle.std.specs.Option.{ForSome};
-ghost use Rattle.tp_tests_gate.specs.Made.{IsSum, made_by};
+ghost use Rattle.tp_tests_gate.specs.Made.{IsSum};
+ghost use Rattle.tp_work.specs.Made.{made_by};
 ghost use Rattle.tp_token.specs.Sound.{item_of, shown};
 
 use std::alloc::AllocError;

@@ -1,6 +1,6 @@
 //! What `tpnet run` makes of a device by many workers, and where a call or an output fails.
 
-ghost use Rattle.tp_program.specs.Args.{IsRun};
+ghost use Rattle.tp_words.specs.Args.{IsRun};
 
 use crate::program::tpnet;
 use std::alloc::Global;
@@ -190,7 +190,7 @@ impl InMemory {
 }
 
 /// What a run by one worker is asked, for `turns` turns of 16 steps.
-#[tactic(auto, unfolding(tp_program::specs::Args::IsRun))]
+#[tactic(auto, unfolding(tp_words::specs::Args::IsRun))]
 fn asked_of(alloc: Global, turns: u32) -> Run
     ensures { IsRun result }
 {

@@ -2,7 +2,7 @@
 
 ghost use Rattle.std.specs.Prelude.{◌<◌, ◌≤◌};
 ghost use Rattle.tp_model.specs.declared.limits.TheConstants.{MAX_STEPS};
-ghost use Rattle.tp_run.specs.declared.job.TheConstants.{MAX_WORKERS};
+ghost use Rattle.tp_work.specs.declared.start.TheConstants.{MAX_WORKERS};
 
 use crate::devices::{DEAF, LETTERS, ONE, formatted};
 use crate::players::{QUIET, left, nobody, numbered, play, sink_of, streams};

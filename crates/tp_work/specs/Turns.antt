@@ -8,7 +8,7 @@ use Rattle.tp_book.specs.declared.refusal.Refusal.{Refusal}
 use Rattle.tp_book.specs.declared.refusal.Refusal.TheVariants as refusal
 use Rattle.tp_shared.specs.Entries.{Takes, CountedTakes}
 use Rattle.tp_shared.specs.Gains.{Gained}
-use Rattle.tp_shared.specs.Turned.{Turned as NodeTurned}
+use Rattle.tp_shared.specs.NodeTurned.{NodeTurned}
 use Rattle.tp_work.specs.declared.fault.TurnFault.{TurnFault}
 use Rattle.tp_work.specs.declared.fault.TurnFault.TheVariants.{Empty, JournalFull, StoreBroken, Memory}
 use Rattle.tp_work.specs.declared.turn.Turn.{Turn}

@@ -12,6 +12,6 @@ pub use fault::TurnFault;
 pub use net::Net;
 pub use nodes::nodes_of;
 pub use seat::Seat;
-pub use start::MAX_SEATS;
+pub use start::{MAX_SEATS, MAX_WORKERS};
 pub use tp_shared::{Gate, NoGate};
 pub use turn::Turn;

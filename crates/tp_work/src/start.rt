@@ -17,6 +17,9 @@ use tp_token::Key;
 /// The most seats of a network.
 pub const MAX_SEATS: u8 = 32;
 
+/// The most workers of a run, each at a seat of its own.
+pub const MAX_WORKERS: u8 = 16;
+
 // A seat without a slip for each hand.
 fn seats_of<J: Naming>(alloc: Global, hands: Vec<Hand>) -> Result<Vec<Seat<J>>, AllocError>
     ensures count { IfOk result (λ seats. vec_len seats ≡ vec_len hands) }

@@ -1,7 +1,8 @@
 use Rattle.std.proofs.Common.{Some, sym, ap, subst, ◌<◌, length, ◌∙◌}
 use Rattle.tp_book.specs.Book.{BookValue, next_number}
 use Rattle.tp_run.specs.Outset.{outset_of}
-use Rattle.tp_run.proofs.Made.{kept_is, outset_is, ports_are, stands}
+use Rattle.tp_flush.proofs.Made.{kept_is, ports_are, stands}
+use Rattle.tp_run.proofs.Made.{outset_is}
 use Rattle.tp_run.proofs.opening.parts_of.Goals as goal
 
 pub returns-clause-parts : goal.returns-clause-parts

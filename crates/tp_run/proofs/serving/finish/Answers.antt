@@ -1,5 +1,6 @@
 use Rattle.std.proofs.Common.{◌≡◌, ◌≤◌, ◌++◌, sym, ap, subst, ◌∙◌, arith, IfOk}
 use Rattle.std.specs.Prelude.{flat_map}
+use Rattle.std.proofs.lemmas.Result.{IfOk-weaker}
 use Rattle.tp_flush.specs.Known.{Began}
 use Rattle.tp_flush.specs.Flushing.{Flushing, Walked}
 use Rattle.tp_flush.proofs.Turns.{walked_then}
@@ -10,7 +11,7 @@ use Rattle.tp_flush.specs.All.{AreAll}
 use Rattle.tp_work.specs.declared.seat.Seat.{Seat}
 use Rattle.tp_run.proofs.Gathered.{accounted_for, all_settled}
 use Rattle.tp_run.proofs.Faults.{late_said}
-use Rattle.tp_run.proofs.Slips.{both_settled, if_ok}
+use Rattle.tp_run.proofs.Slips.{both_settled}
 use Rattle.tp_run.proofs.serving.finish.Goals as goal
 
 -- ## Each moment of the device
@@ -106,7 +107,7 @@ returns-clause-stored g c =
     let up = stored.1 in
     let low : next ≤ two.world.mark = omega (arith, here, up) in
     subst (λ (f : Flushing). IfOk c.settle.result (λ answer. answer ≤ f.world.mark)) (sym c.settle.ensures.same)
-    (if_ok c.settle.result (λ answer. answer ≡ next) (λ answer. answer ≤ two.world.mark) (λ answer is. subst (λ n. n ≤ two.world.mark) (sym is) low) c.settle.ensures.next)
+    (IfOk-weaker c.settle.result (λ answer. answer ≡ next) (λ answer. answer ≤ two.world.mark) (λ answer is. subst (λ n. n ≤ two.world.mark) (sym is) low) c.settle.ensures.next)
 
 pub returns-clause-silent : goal.returns-clause-silent
 returns-clause-silent g c silent = absurd (late_said c.settle.result c.settle.ensures.late silent)

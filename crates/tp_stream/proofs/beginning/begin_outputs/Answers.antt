@@ -1,7 +1,7 @@
 use Rattle.std.proofs.Common.{◌≤◌, ◌<◌, inl, inr, length, map, slice_index_or, ap, ◌∙◌, arith}
 use Rattle.std.proofs.lemmas.List.{length-map}
 use Rattle.tp_stream.specs.declared.fault.StreamFault.TheVariants.{Port as Absent}
-use Rattle.tp_stream.specs.Outputs.{given_of}
+use Rattle.tp_stream_ends.specs.Outputs.{given_of}
 use Rattle.tp_stream.proofs.Standings.{all_may_begin, given_at, given_set, may_begin_more, put_out_few}
 use Rattle.tp_stream.proofs.beginning.begin_outputs.Goals as goal
 
@@ -39,7 +39,7 @@ returns-in-Err-clause-refused g c =
 
 pub returns-in-Err-clause-same : goal.returns-in-Err-clause-same
 returns-in-Err-clause-same g c =
-    given_set c.loop-output.outputs c.loop-output.output-index c.output-item.result c.begin.new.self c.begin.ensures.same ∙ c.loop-output.invariant.same
+    given_set c.loop-output.outputs c.loop-output.output-index c.output-item.result c.begin.new.output c.begin.ensures.same ∙ c.loop-output.invariant.same
 
 pub loop-output-preserved : goal.loop-output-preserved
 loop-output-preserved g c =
@@ -47,7 +47,7 @@ loop-output-preserved g c =
     let I = c.loop-output.invariant in
     let within : c.loop-output.output-index < length xs = omega arith in
     record {
-      same = given_set xs c.loop-output.output-index c.output-item.result c.begin.new.self c.begin.ensures.same ∙ I.same;
+      same = given_set xs c.loop-output.output-index c.output-item.result c.begin.new.output c.begin.ensures.same ∙ I.same;
       begun = may_begin_more _ _ c.loop-output.output-index _ I.begun (given_at xs _ c.loop-output.output-index c.output-item.result I.same within) c.in-Ok.ensures.begun;
     }
 

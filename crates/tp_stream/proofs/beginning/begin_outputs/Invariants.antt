@@ -1,6 +1,6 @@
 -- The outputs so far may begin, and all are given as they were.
 use Rattle.std.proofs.Common.{◌≡◌, map}
-use Rattle.tp_stream.specs.Outputs.{given_of}
+use Rattle.tp_stream_ends.specs.Outputs.{given_of}
 use Rattle.tp_stream.specs.Standing.{MayBeginBelow, standing}
 use Rattle.tp_stream.proofs.beginning.begin_outputs.Given as goal
 

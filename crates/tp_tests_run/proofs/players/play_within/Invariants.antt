@@ -1,4 +1,4 @@
-use Rattle.tp_tests_run.specs.Histories.{untold}
+use Rattle.tp_flush.specs.History.{untold}
 use Rattle.tp_tests_run.proofs.players.play_within.Given as goal
 
 abbrev pub ghost-run : goal.ghost-run

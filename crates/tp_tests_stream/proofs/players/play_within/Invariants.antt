@@ -1,4 +1,4 @@
-use Rattle.tp_tests_stream.specs.Histories.{untold}
+use Rattle.tp_flush.specs.History.{untold}
 use Rattle.tp_tests_stream.proofs.players.play_within.Given as goal
 
 abbrev pub ghost-stream : goal.ghost-stream

@@ -9,48 +9,33 @@ use Rattle.tp_shared.specs.Seals.{Stage}
 use Rattle.tp_shared.proofs.Frozen.{kept_frozen}
 use Rattle.tp_shared.proofs.Resealing.{sealed_again}
 use Rattle.tp_shared.proofs.Thawing.{thaws_set, thawed_at}
+use Rattle.tp_shared.proofs.Keeping.{seal_at, sealed_anew}
 use Rattle.tp_shared.proofs.locked.Locked.audit_frozen.Goals as goal
 
 pub agree-requires : goal.agree-requires
 agree-requires g c =
     let inv = c.self.invariant in
     let here = c.index_mut-here.result.now in
-    let at : slice_get c.self.inside.seals.items c.args.number ≡ Some here =
-    slice_get_read c.self.inside.seals.items (length c.self.inside.seals.items) c.args.number here refl (omega (arith, inv.1, c.requires.there)) c.index_mut-here.ensures.value in
-    (inv.3 c.args.number here at).named ∙ sym c.requires.named
+    let at = seal_at inv c.args.number here c.requires.there c.index_mut-here.ensures.value in
+    (inv.sealed c.args.number here at).named ∙ sym c.requires.named
 
 pub invariant_of-self : goal.invariant_of-self
 invariant_of-self g c =
     let inv = c.self.invariant in
     let seals = c.self.inside.seals.items in
     let here = c.index_mut-here.result.now in
-    let at : slice_get seals c.args.number ≡ Some here =
-    slice_get_read seals (length seals) c.args.number here refl (omega (arith, inv.1, c.requires.there)) c.index_mut-here.ensures.value in (
-      inv.0,
-      length-set seals c.args.number _ ∙ inv.1,
-      inv.2,
-      sealed_again g.J.Naming.node seals c.self.inside.book c.args.number here (record { frozen = here.frozen; seal = c.agree.new.seal }) inv.3 at c.agree.ensures.names.0 c.agree.ensures.values.0 refl,
-      inv.4,
-      inv.5,
-      inv.6,
-      inv.7,
-      inv.8,
-      inv.9,
-      inv.10,
-      inv.11,
-      inv.12,
-      inv.13,
-      thaws_set c.self.inside.told.value seals c.args.number (record { frozen = here.frozen; seal = c.agree.new.seal }) inv.14 (λ thawed. thawed_at c.self.inside.told.value seals c.args.number here thawed at),
-    )
+    let at = seal_at inv c.args.number here c.requires.there c.index_mut-here.ensures.value in
+    sealed_anew inv (length-set seals c.args.number _)
+    (sealed_again g.J.Naming.node seals c.self.inside.book c.args.number here (record { frozen = here.frozen; seal = c.agree.new.seal }) inv.sealed at c.agree.ensures.names.0 c.agree.ensures.values.0 refl)
+    (thaws_set c.self.inside.told.value seals c.args.number (record { frozen = here.frozen; seal = c.agree.new.seal }) inv.thawed (λ thawed. thawed_at c.self.inside.told.value seals c.args.number here thawed at))
 
 pub returns-clause-frozen : goal.returns-clause-frozen
 returns-clause-frozen g c node frozen =
     let inv = c.self.invariant in
     let b = c.self.inside.book in
     let here = c.index_mut-here.result.now in
-    let at : slice_get c.self.inside.seals.items c.args.number ≡ Some here =
-    slice_get_read c.self.inside.seals.items (length c.self.inside.seals.items) c.args.number here refl (omega (arith, inv.1, c.requires.there)) c.index_mut-here.ensures.value in
-    let S = inv.3 c.args.number here at in
+    let at = seal_at inv c.args.number here c.requires.there c.index_mut-here.ensures.value in
+    let S = inv.sealed c.args.number here at in
     let is = ap (λ (x : Agreement). x.frozen) (ap (λ x. x.state) c.agree.ensures.agreed ∙ c.requires.shows.shown) ∙ frozen in
     subst (λ (stage : Stage). IsFrozenAs (world_of stage.book) c.args.number node) c.self.view_is
     (kept_frozen b c.args.number node c.known.ensures.holds (slice_get_within (agreed b.state) c.args.number here.seal.value.state.node S.node) (S.recorded (ap is_some is)) (λ there t. S.kept node there is t))

@@ -8,30 +8,29 @@ use Rattle.tp_shared.specs.Agreement.{Agreement}
 use Rattle.tp_shared.specs.Entries.{TakesOf}
 use Rattle.tp_shared.specs.Seals.{Stage}
 use Rattle.tp_shared.specs.Gains.{Noted}
-use Rattle.tp_shared.specs.Went.{IsOf}
+use Rattle.tp_shared.specs.TurnsMade.{IsBookOf}
 use Rattle.tp_shared.proofs.Holding.{acted_like, takes_of_like}
 use Rattle.tp_shared.proofs.Sealing.{floor_after, node_of_seal, sealed_after, tied_after, all_after, noted_by}
 use Rattle.tp_shared.proofs.Telling.{since_more}
 use Rattle.tp_shared.proofs.Thawing.{thaws_set, thawed_at, thawed_recorded}
 use Rattle.tp_shared.proofs.Writing.{as_many}
+use Rattle.tp_shared.proofs.Keeping.{seal_at, acted_written}
 use Rattle.tp_shared.proofs.locked.Locked.begin.Goals as goal
 
 pub agree-requires : goal.agree-requires
 agree-requires g c =
     let inv = c.self.invariant in
     let here = c.index_mut-here.result.now in
-    let at : slice_get c.self.inside.seals.items c.args.number ≡ Some here =
-    slice_get_read c.self.inside.seals.items (length c.self.inside.seals.items) c.args.number here refl (omega (arith, inv.1, c.requires.there)) c.index_mut-here.ensures.value in
-    let S = inv.3 c.args.number here at in
+    let at = seal_at inv c.args.number here c.requires.there c.index_mut-here.ensures.value in
+    let S = inv.sealed c.args.number here at in
     S.named ∙ sym c.requires.named
 
 pub turn-requires : goal.turn-requires
 turn-requires g c =
     let inv = c.self.invariant in
     let here = c.index_mut-here.result.now in
-    let at : slice_get c.self.inside.seals.items c.args.number ≡ Some here =
-    slice_get_read c.self.inside.seals.items (length c.self.inside.seals.items) c.args.number here refl (omega (arith, inv.1, c.requires.there)) c.index_mut-here.ensures.value in
-    let S = inv.3 c.args.number here at in
+    let at = seal_at inv c.args.number here c.requires.there c.index_mut-here.ensures.value in
+    let S = inv.sealed c.args.number here at in
     c.agree.ensures.names.0 ∙ S.named ∙ sym c.requires.named ∙ sym c.agree.ensures.names.1
 
 pub begin-done-requires-clause-free : goal.begin-done-requires-clause-free
@@ -39,9 +38,8 @@ begin-done-requires-clause-free g c =
     let b = c.self.inside.book in
     let inv = c.self.invariant in
     let here = c.index_mut-here.result.now in
-    let at : slice_get c.self.inside.seals.items c.args.number ≡ Some here =
-    slice_get_read c.self.inside.seals.items (length c.self.inside.seals.items) c.args.number here refl (omega (arith, inv.1, c.requires.there)) c.index_mut-here.ensures.value in
-    let S = inv.3 c.args.number here at in
+    let at = seal_at inv c.args.number here c.requires.there c.index_mut-here.ensures.value in
+    let S = inv.sealed c.args.number here at in
     S.reserved ∙ ap (λ (x : Agreement). Some x.reserved) (ap (λ x. x.state) c.agree.ensures.agreed ∙ c.requires.shows.shown)
 
 pub begin-done-requires-clause-is : goal.begin-done-requires-clause-is
@@ -49,9 +47,8 @@ begin-done-requires-clause-is g c =
     let b = c.self.inside.book in
     let inv = c.self.invariant in
     let here = c.index_mut-here.result.now in
-    let at : slice_get c.self.inside.seals.items c.args.number ≡ Some here =
-    slice_get_read c.self.inside.seals.items (length c.self.inside.seals.items) c.args.number here refl (omega (arith, inv.1, c.requires.there)) c.index_mut-here.ensures.value in
-    let S = inv.3 c.args.number here at in
+    let at = seal_at inv c.args.number here c.requires.there c.index_mut-here.ensures.value in
+    let S = inv.sealed c.args.number here at in
     let shown = ap (λ x. x.state) c.agree.ensures.agreed ∙ c.requires.shows.shown in
     node_of_seal (g.J.Naming.node c.args.number) here.seal.value.state here.frozen here.seal.name b c.args.number c.args.place.now.node S
     (ap (λ (x : Agreement). x.node) shown) (ap (λ (x : Agreement). x.frozen) shown) c.requires.shows.image
@@ -61,42 +58,28 @@ invariant_of-self g c =
     let b = c.self.inside.book in
     let inv = c.self.invariant in
     let here = c.index_mut-here.result.now in
-    let at : slice_get c.self.inside.seals.items c.args.number ≡ Some here =
-    slice_get_read c.self.inside.seals.items (length c.self.inside.seals.items) c.args.number here refl (omega (arith, inv.1, c.requires.there)) c.index_mut-here.ensures.value in
-    let S = inv.3 c.args.number here at in
+    let at = seal_at inv c.args.number here c.requires.there c.index_mut-here.ensures.value in
+    let S = inv.sealed c.args.number here at in
     let new = c.begin-done.new.book in
     let node = c.begin-done.new.node in
     let done = is_ok c.begin-done.result in
     let Are = TakesOf b.state.start c.args.number c.begin-done.result in
     let A = c.begin-done.ensures.acted in
-    let many = as_many c.entries-before.result.now b.state.entries c.entries-before.ensures.entries in (
-      A.grown.ready ∙ inv.0,
-      length-set c.self.inside.seals.items c.args.number _ ∙ inv.1,
-      ap length A.runs ∙ length-set b.runs c.args.number _ ∙ inv.2,
-      sealed_after Are g.J.Naming.node c.self.inside.seals.items b new c.args.number node done
-          (record { frozen = c.is_frozen-here.result; seal = c.turn.new.seal }) inv.3 A c.begin-done.ensures.is
-          (omega (arith, inv.1, c.requires.there)) (c.turn.ensures.names.0 ∙ c.agree.ensures.names.0 ∙ S.named)
-          (ap (λ x. x.state) c.turn.ensures.seal ∙ c.with-now.ensures ∙ ap (λ r. record { node = node.live; frozen = node.frozen; reserved = r }) c.is_ok.ensures.value)
-          c.is_frozen-here.ensures,
-      c.write_new.ensures.names.0 ∙ inv.4,
-      c.write_new.ensures.first ∙ inv.5,
-      tied_after Are b new A.grown (length c.entries-before.result.now) many g.J.Naming.first c.self.inside.roll.items c.write_new.new.roll.items inv.6 c.write_new.ensures.roll,
-      ap (λ s. s.wires) A.grown.start ∙ inv.7,
-      ap (λ s. length s.nodes) A.grown.start ∙ inv.8,
-      inv.9,
-      since_more Are g.J.Naming.before g.J.Naming.first c.self.inside.told.value b new c.self.inside.roll.items c.write_new.new.roll.items A.grown
-          (all_after Are b new A.grown (length c.entries-before.result.now) many c.self.inside.roll.items c.write_new.new.roll.items c.write_new.ensures.roll) inv.10,
-      inv.11,
-      A.grown.room ∙ inv.12,
-      floor_after Are b new A.grown g.J.Naming.first inv.13,
-      thaws_set c.self.inside.told.value c.self.inside.seals.items c.args.number (record { frozen = c.is_frozen-here.result; seal = c.turn.new.seal }) inv.14
-          (λ thawed.
-          c.is_frozen-here.ensures
-          ∙ ap is_some (c.begin-done.ensures.stays (thawed_recorded g.J.Naming.before g.J.Naming.first c.self.inside.told.value c.self.inside.seals.items (record { book = b; all = c.self.inside.roll.items }) thawed inv.10 c.args.number))
-          ∙ ap (λ (x : Agreement). is_some x.frozen) (sym (ap (λ x. x.state) c.agree.ensures.agreed ∙ c.requires.shows.shown))
-          ∙ sym S.flag
-          ∙ thawed_at c.self.inside.told.value c.self.inside.seals.items c.args.number here thawed at),
-    )
+    let many = as_many c.entries-before.result.now b.state.entries c.entries-before.ensures.entries in
+    acted_written inv A.grown (ap length A.runs ∙ length-set b.runs c.args.number _) (length-set c.self.inside.seals.items c.args.number _)
+    (sealed_after Are g.J.Naming.node c.self.inside.seals.items b new c.args.number node done
+    (record { frozen = c.is_frozen-here.result; seal = c.turn.new.seal }) inv.sealed A c.begin-done.ensures.is
+    (omega (arith, inv.seal_count, c.requires.there)) (c.turn.ensures.names.0 ∙ c.agree.ensures.names.0 ∙ S.named)
+    (ap (λ x. x.state) c.turn.ensures.seal ∙ c.with-now.ensures ∙ ap (λ r. record { node = node.live; frozen = node.frozen; reserved = r }) c.is_ok.ensures.value)
+    c.is_frozen-here.ensures)
+    (thaws_set c.self.inside.told.value c.self.inside.seals.items c.args.number (record { frozen = c.is_frozen-here.result; seal = c.turn.new.seal }) inv.thawed
+    (λ thawed.
+    c.is_frozen-here.ensures
+    ∙ ap is_some (c.begin-done.ensures.stays (thawed_recorded g.J.Naming.before g.J.Naming.first c.self.inside.told.value c.self.inside.seals.items (record { book = b; all = c.self.inside.roll.items }) thawed inv.since c.args.number))
+    ∙ ap (λ (x : Agreement). is_some x.frozen) (sym (ap (λ x. x.state) c.agree.ensures.agreed ∙ c.requires.shows.shown))
+    ∙ sym S.flag
+    ∙ thawed_at c.self.inside.told.value c.self.inside.seals.items c.args.number here thawed at))
+    c.write_new.ensures.names.0 c.write_new.ensures.first many c.write_new.ensures.roll
 
 pub returns-clause-noted : goal.returns-clause-noted
 returns-clause-noted g c =
@@ -106,23 +89,22 @@ returns-clause-noted g c =
     let Are = TakesOf g.J.Naming.start c.args.number c.begin-done.result in
     let node = c.begin-done.new.node in
     let A = acted_like (TakesOf b.state.start c.args.number c.begin-done.result) Are c.args.number (record { node = node.live; frozen = node.frozen; reserved = is_ok c.begin-done.result }) b new
-    (λ es. takes_of_like g.J.Naming.start b.state.start c.args.number c.begin-done.result es inv.7 inv.8) c.begin-done.ensures.acted in
+    (λ es. takes_of_like g.J.Naming.start b.state.start c.args.number c.begin-done.result es inv.wires_are inv.count_is) c.begin-done.ensures.acted in
     let many = as_many c.entries-before.result.now b.state.entries c.entries-before.ensures.entries in
     let old_stage : Stage = record { book = b; all = c.self.inside.roll.items } in
     let new_stage : Stage = record { book = new; all = c.write_new.new.roll.items } in
     subst (λ stage. Noted Are g.J.Naming.first stage new_stage c.args.seat.now c.write_new.new.slips.items) c.self.view_is
     (subst (λ seat. Noted Are g.J.Naming.first old_stage new_stage seat c.write_new.new.slips.items) c.seat.view_is
     (noted_by Are b new old_stage new_stage g.J.Naming.first c.self.inside.roll.first (length c.entries-before.result.now) c.seat.inside.slips.items c.write_new.new.slips.items
-    A.grown many inv.5 c.write_new.ensures.roll c.write_new.ensures.slips c.write_new.ensures.sound))
+    A.grown many inv.first_is c.write_new.ensures.roll c.write_new.ensures.slips c.write_new.ensures.sound))
 
 pub returns-clause-is : goal.returns-clause-is
 returns-clause-is g c =
     let b = c.self.inside.book in
     let inv = c.self.invariant in
     let here = c.index_mut-here.result.now in
-    let at : slice_get c.self.inside.seals.items c.args.number ≡ Some here =
-    slice_get_read c.self.inside.seals.items (length c.self.inside.seals.items) c.args.number here refl (omega (arith, inv.1, c.requires.there)) c.index_mut-here.ensures.value in
-    let S = inv.3 c.args.number here at in
+    let at = seal_at inv c.args.number here c.requires.there c.index_mut-here.ensures.value in
+    let S = inv.sealed c.args.number here at in
     let shown = ap (λ x. x.state) c.agree.ensures.agreed ∙ c.requires.shows.shown in
     subst (λ stage. IsNodeOf stage.book c.args.number c.args.place.now.node) c.self.view_is
     (node_of_seal (g.J.Naming.node c.args.number) here.seal.value.state here.frozen here.seal.name b c.args.number c.args.place.now.node S
@@ -133,4 +115,4 @@ returns-clause-opens g c =
     subst (λ stage. Opens c.args.number c.begin-done.result (moment stage.book c.args.place.now.node) (moment c.begin-done.new.book c.begin-done.new.node)) c.self.view_is c.begin-done.ensures.opens
 
 pub returns-clause-of : goal.returns-clause-of
-returns-clause-of g c = subst (λ stage. IsOf g.J.Naming.start stage.book) c.self.view_is (record { wires = c.self.invariant.7; nodes = c.self.invariant.8 })
+returns-clause-of g c = subst (λ stage. IsBookOf g.J.Naming.start stage.book) c.self.view_is (record { wires = c.self.invariant.wires_are; nodes = c.self.invariant.count_is })

@@ -3,6 +3,7 @@ use Rattle.tp_model.specs.declared.entry.Entry.{Entry}
 use Rattle.tp_shared.proofs.Hosting.{hosted_broken}
 use Rattle.tp_shared.proofs.Sealing.{floor_after, sealed_still, tied_still}
 use Rattle.tp_shared.proofs.Telling.{since_still}
+use Rattle.tp_shared.proofs.Keeping.{acted_still}
 use Rattle.tp_shared.proofs.locked.Locked.break_store.Goals as goal
 
 pub invariant_of-self : goal.invariant_of-self
@@ -10,20 +11,7 @@ invariant_of-self g c =
     let b = c.self.inside.book in
     let new = c.break_store.new.self in
     let inv = c.self.invariant in
-    let H = hosted_broken b new c.break_store.ensures in (
-      H.grown.ready ∙ inv.0,
-      inv.1,
-      ap length H.runs ∙ inv.2,
-      sealed_still (λ (entries : List Entry). entries ≡ []) g.J.Naming.node c.self.inside.seals.items b new inv.3 H,
-      inv.4,
-      inv.5,
-      tied_still b new g.J.Naming.first c.self.inside.roll.items H.grown inv.6,
-      ap (λ s. s.wires) H.grown.start ∙ inv.7,
-      ap (λ s. length s.nodes) H.grown.start ∙ inv.8,
-      inv.9,
-      since_still g.J.Naming.before g.J.Naming.first c.self.inside.told.value b new c.self.inside.roll.items H.grown inv.10,
-      inv.11,
-      H.grown.room ∙ inv.12,
-      floor_after (λ (entries : List Entry). entries ≡ []) b new H.grown g.J.Naming.first inv.13,
-      inv.14,
-    )
+    let H = hosted_broken b new c.break_store.ensures in
+    acted_still inv H.grown (ap length H.runs) refl
+    (sealed_still (λ (entries : List Entry). entries ≡ []) g.J.Naming.node c.self.inside.seals.items b new inv.sealed H)
+    inv.thawed

@@ -10,29 +10,28 @@ use Rattle.tp_turn.specs.Moments.{Added}
 use Rattle.tp_shared.specs.Entries.{run_entries}
 use Rattle.tp_shared.specs.Seals.{Stage}
 use Rattle.tp_shared.specs.Gains.{Noted}
-use Rattle.tp_shared.specs.Went.{IsOf}
+use Rattle.tp_shared.specs.TurnsMade.{IsBookOf}
 use Rattle.tp_shared.proofs.Sealing.{floor_after, node_of_seal, sealed_after, tied_after, all_after, noted_by}
 use Rattle.tp_shared.proofs.Telling.{since_more}
 use Rattle.tp_shared.proofs.Thawing.{thaws_set, thawed_at}
 use Rattle.tp_shared.proofs.Writing.{as_many}
+use Rattle.tp_shared.proofs.Keeping.{seal_at, acted_written}
 use Rattle.tp_shared.proofs.locked.Locked.commit.Goals as goal
 
 pub agree-requires : goal.agree-requires
 agree-requires g c =
     let inv = c.self.invariant in
     let here = c.index_mut-here.result.now in
-    let at : slice_get c.self.inside.seals.items c.args.number ≡ Some here =
-    slice_get_read c.self.inside.seals.items (length c.self.inside.seals.items) c.args.number here refl (omega (arith, inv.1, c.requires.there)) c.index_mut-here.ensures.value in
-    let S = inv.3 c.args.number here at in
+    let at = seal_at inv c.args.number here c.requires.there c.index_mut-here.ensures.value in
+    let S = inv.sealed c.args.number here at in
     S.named ∙ sym c.requires.named
 
 pub turn-requires : goal.turn-requires
 turn-requires g c =
     let inv = c.self.invariant in
     let here = c.index_mut-here.result.now in
-    let at : slice_get c.self.inside.seals.items c.args.number ≡ Some here =
-    slice_get_read c.self.inside.seals.items (length c.self.inside.seals.items) c.args.number here refl (omega (arith, inv.1, c.requires.there)) c.index_mut-here.ensures.value in
-    let S = inv.3 c.args.number here at in
+    let at = seal_at inv c.args.number here c.requires.there c.index_mut-here.ensures.value in
+    let S = inv.sealed c.args.number here at in
     c.agree.ensures.names.0 ∙ S.named ∙ sym c.requires.named ∙ sym c.agree.ensures.names.1
 
 pub commit-ran-requires-clause-reserved : goal.commit-ran-requires-clause-reserved
@@ -40,9 +39,8 @@ commit-ran-requires-clause-reserved g c =
     let b = c.self.inside.book in
     let inv = c.self.invariant in
     let here = c.index_mut-here.result.now in
-    let at : slice_get c.self.inside.seals.items c.args.number ≡ Some here =
-    slice_get_read c.self.inside.seals.items (length c.self.inside.seals.items) c.args.number here refl (omega (arith, inv.1, c.requires.there)) c.index_mut-here.ensures.value in
-    let S = inv.3 c.args.number here at in
+    let at = seal_at inv c.args.number here c.requires.there c.index_mut-here.ensures.value in
+    let S = inv.sealed c.args.number here at in
     S.reserved ∙ ap Some (ap (λ x. x.state.reserved) c.agree.ensures.agreed ∙ c.requires.reserved)
 
 pub commit-ran-requires-clause-ran : goal.commit-ran-requires-clause-ran
@@ -50,9 +48,8 @@ commit-ran-requires-clause-ran g c =
     let b = c.self.inside.book in
     let inv = c.self.invariant in
     let here = c.index_mut-here.result.now in
-    let at : slice_get c.self.inside.seals.items c.args.number ≡ Some here =
-    slice_get_read c.self.inside.seals.items (length c.self.inside.seals.items) c.args.number here refl (omega (arith, inv.1, c.requires.there)) c.index_mut-here.ensures.value in
-    let S = inv.3 c.args.number here at in
+    let at = seal_at inv c.args.number here c.requires.there c.index_mut-here.ensures.value in
+    let S = inv.sealed c.args.number here at in
     let before : NodeContents = record { live = c.args.place.now.key.value.state.node; frozen = c.args.place.now.key.value.state.frozen; shared = []; spare = 0 } in
     record {
       before = before;
@@ -68,35 +65,21 @@ invariant_of-self g c =
     let b = c.self.inside.book in
     let inv = c.self.invariant in
     let here = c.index_mut-here.result.now in
-    let at : slice_get c.self.inside.seals.items c.args.number ≡ Some here =
-    slice_get_read c.self.inside.seals.items (length c.self.inside.seals.items) c.args.number here refl (omega (arith, inv.1, c.requires.there)) c.index_mut-here.ensures.value in
-    let S = inv.3 c.args.number here at in
+    let at = seal_at inv c.args.number here c.requires.there c.index_mut-here.ensures.value in
+    let S = inv.sealed c.args.number here at in
     let new = c.commit-ran.new.book in
     let node = c.args.place.now.node in
     let Are = (λ (entries : List Entry). entries ≡ run_entries c.args.number c.args.stretch.ran.count) in
     let A = c.commit-ran.ensures.acted in
     let flag = S.flag ∙ ap (λ x. is_some x.state.frozen) c.agree.ensures.agreed ∙ ap is_some (sym c.requires.kept) in
-    let many = as_many c.entries-before.result.now b.state.entries c.entries-before.ensures.entries in (
-      A.grown.ready ∙ inv.0,
-      length-set c.self.inside.seals.items c.args.number _ ∙ inv.1,
-      ap length A.runs ∙ length-set b.runs c.args.number _ ∙ inv.2,
-      sealed_after Are g.J.Naming.node c.self.inside.seals.items b new c.args.number node false
-          (record { frozen = here.frozen; seal = c.turn.new.seal }) inv.3 A c.commit-ran.ensures.is
-          (omega (arith, inv.1, c.requires.there)) (c.turn.ensures.names.0 ∙ c.agree.ensures.names.0 ∙ S.named) (ap (λ x. x.state) c.turn.ensures.seal ∙ c.free-now.ensures) flag,
-      c.write_new.ensures.names.0 ∙ inv.4,
-      c.write_new.ensures.first ∙ inv.5,
-      tied_after Are b new A.grown (length c.entries-before.result.now) many g.J.Naming.first c.self.inside.roll.items c.write_new.new.roll.items inv.6 c.write_new.ensures.roll,
-      ap (λ s. s.wires) A.grown.start ∙ inv.7,
-      ap (λ s. length s.nodes) A.grown.start ∙ inv.8,
-      inv.9,
-      since_more Are g.J.Naming.before g.J.Naming.first c.self.inside.told.value b new c.self.inside.roll.items c.write_new.new.roll.items A.grown
-          (all_after Are b new A.grown (length c.entries-before.result.now) many c.self.inside.roll.items c.write_new.new.roll.items c.write_new.ensures.roll) inv.10,
-      inv.11,
-      A.grown.room ∙ inv.12,
-      floor_after Are b new A.grown g.J.Naming.first inv.13,
-      thaws_set c.self.inside.told.value c.self.inside.seals.items c.args.number (record { frozen = here.frozen; seal = c.turn.new.seal }) inv.14
-          (λ thawed. thawed_at c.self.inside.told.value c.self.inside.seals.items c.args.number here thawed at),
-    )
+    let many = as_many c.entries-before.result.now b.state.entries c.entries-before.ensures.entries in
+    acted_written inv A.grown (ap length A.runs ∙ length-set b.runs c.args.number _) (length-set c.self.inside.seals.items c.args.number _)
+    (sealed_after Are g.J.Naming.node c.self.inside.seals.items b new c.args.number node false
+    (record { frozen = here.frozen; seal = c.turn.new.seal }) inv.sealed A c.commit-ran.ensures.is
+    (omega (arith, inv.seal_count, c.requires.there)) (c.turn.ensures.names.0 ∙ c.agree.ensures.names.0 ∙ S.named) (ap (λ x. x.state) c.turn.ensures.seal ∙ c.free-now.ensures) flag)
+    (thaws_set c.self.inside.told.value c.self.inside.seals.items c.args.number (record { frozen = here.frozen; seal = c.turn.new.seal }) inv.thawed
+    (λ thawed. thawed_at c.self.inside.told.value c.self.inside.seals.items c.args.number here thawed at))
+    c.write_new.ensures.names.0 c.write_new.ensures.first many c.write_new.ensures.roll
 
 pub returns-clause-noted : goal.returns-clause-noted
 returns-clause-noted g c =
@@ -110,11 +93,11 @@ returns-clause-noted g c =
     subst (λ stage. Noted Are g.J.Naming.first stage new_stage c.args.seat.now c.write_new.new.slips.items) c.self.view_is
     (subst (λ seat. Noted Are g.J.Naming.first old_stage new_stage seat c.write_new.new.slips.items) c.seat.view_is
     (noted_by Are b new old_stage new_stage g.J.Naming.first c.self.inside.roll.first (length c.entries-before.result.now) c.seat.inside.slips.items c.write_new.new.slips.items
-    c.commit-ran.ensures.acted.grown many inv.5 c.write_new.ensures.roll c.write_new.ensures.slips c.write_new.ensures.sound))
+    c.commit-ran.ensures.acted.grown many inv.first_is c.write_new.ensures.roll c.write_new.ensures.slips c.write_new.ensures.sound))
 
 pub returns-clause-added : goal.returns-clause-added
 returns-clause-added g c =
     subst (λ stage. Added c.args.number c.args.place.now.node.live (run_acts c.args.number c.args.stretch.ran.count) (without_run stage.book c.args.number) c.commit-ran.new.book) c.self.view_is c.commit-ran.ensures.added
 
 pub returns-clause-of : goal.returns-clause-of
-returns-clause-of g c = subst (λ stage. IsOf g.J.Naming.start stage.book) c.self.view_is (record { wires = c.self.invariant.7; nodes = c.self.invariant.8 })
+returns-clause-of g c = subst (λ stage. IsBookOf g.J.Naming.start stage.book) c.self.view_is (record { wires = c.self.invariant.wires_are; nodes = c.self.invariant.count_is })

@@ -5,6 +5,7 @@ use Rattle.tp_shared.proofs.Hosting.{hosted_confirm}
 use Rattle.tp_shared.proofs.Sealing.{floor_after, sealed_still, tied_after, all_after}
 use Rattle.tp_shared.proofs.Telling.{since_more}
 use Rattle.tp_shared.proofs.Writing.{as_many}
+use Rattle.tp_shared.proofs.Keeping.{acted_written}
 use Rattle.tp_shared.proofs.locked.Locked.confirm.Goals as goal
 
 pub invariant_of-self : goal.invariant_of-self
@@ -17,21 +18,8 @@ invariant_of-self-2 g c =
     let inv = c.self.invariant in
     let Are = (λ (entries : List Entry). entries ≡ confirm_entries b c.args.port c.args.upto) in
     let H = hosted_confirm b new c.args.port c.args.upto c.in_ok-given.ensures.ok c.in_ok-given.ensures.agreed c.in_ok-given.ensures.acts in
-    let many = as_many c.entries-before.result.now b.state.entries c.entries-before.ensures.entries in (
-      H.grown.ready ∙ inv.0,
-      inv.1,
-      ap length H.runs ∙ inv.2,
-      sealed_still Are g.J.Naming.node c.self.inside.seals.items b new inv.3 H,
-      c.write_new.ensures.names.0 ∙ inv.4,
-      c.write_new.ensures.first ∙ inv.5,
-      tied_after Are b new H.grown (length c.entries-before.result.now) many g.J.Naming.first c.self.inside.roll.items c.write_new.new.roll.items inv.6 c.write_new.ensures.roll,
-      ap (λ s. s.wires) H.grown.start ∙ inv.7,
-      ap (λ s. length s.nodes) H.grown.start ∙ inv.8,
-      inv.9,
-      since_more Are g.J.Naming.before g.J.Naming.first c.self.inside.told.value b new c.self.inside.roll.items c.write_new.new.roll.items H.grown
-          (all_after Are b new H.grown (length c.entries-before.result.now) many c.self.inside.roll.items c.write_new.new.roll.items c.write_new.ensures.roll) inv.10,
-      inv.11,
-      H.grown.room ∙ inv.12,
-      floor_after Are b new H.grown g.J.Naming.first inv.13,
-      inv.14,
-    )
+    let many = as_many c.entries-before.result.now b.state.entries c.entries-before.ensures.entries in
+    acted_written inv H.grown (ap length H.runs) refl
+    (sealed_still Are g.J.Naming.node c.self.inside.seals.items b new inv.sealed H)
+    inv.thawed
+    c.write_new.ensures.names.0 c.write_new.ensures.first many c.write_new.ensures.roll

@@ -6,6 +6,7 @@ use Rattle.tp_shared.proofs.Hosting.{hosted_input}
 use Rattle.tp_shared.proofs.Sealing.{floor_after, sealed_still, slips_below, tied_after, all_after}
 use Rattle.tp_shared.proofs.Telling.{since_more}
 use Rattle.tp_shared.proofs.Writing.{as_many}
+use Rattle.tp_shared.proofs.Keeping.{acted_written}
 use Rattle.tp_shared.proofs.locked.Locked.host_in.Goals as goal
 
 pub invariant_of-self : goal.invariant_of-self
@@ -18,24 +19,11 @@ invariant_of-self-2 g c =
     let inv = c.self.invariant in
     let Are = (λ (entries : List Entry). entries ≡ map (HostIn c.args.port) c.args.bytes.now) in
     let H = hosted_input b new c.args.port c.args.bytes.now c.in_ok-given.ensures.ok c.in_ok-given.ensures.agreed c.in_ok-given.ensures.acts in
-    let many = as_many c.entries-before.result.now b.state.entries c.entries-before.ensures.entries in (
-      H.grown.ready ∙ inv.0,
-      inv.1,
-      ap length H.runs ∙ inv.2,
-      sealed_still Are g.J.Naming.node c.self.inside.seals.items b new inv.3 H,
-      c.write_new.ensures.names.0 ∙ inv.4,
-      c.write_new.ensures.first ∙ inv.5,
-      tied_after Are b new H.grown (length c.entries-before.result.now) many g.J.Naming.first c.self.inside.roll.items c.write_new.new.roll.items inv.6 c.write_new.ensures.roll,
-      ap (λ s. s.wires) H.grown.start ∙ inv.7,
-      ap (λ s. length s.nodes) H.grown.start ∙ inv.8,
-      inv.9,
-      since_more Are g.J.Naming.before g.J.Naming.first c.self.inside.told.value b new c.self.inside.roll.items c.write_new.new.roll.items H.grown
-          (all_after Are b new H.grown (length c.entries-before.result.now) many c.self.inside.roll.items c.write_new.new.roll.items c.write_new.ensures.roll) inv.10,
-      inv.11,
-      H.grown.room ∙ inv.12,
-      floor_after Are b new H.grown g.J.Naming.first inv.13,
-      inv.14,
-    )
+    let many = as_many c.entries-before.result.now b.state.entries c.entries-before.ensures.entries in
+    acted_written inv H.grown (ap length H.runs) refl
+    (sealed_still Are g.J.Naming.node c.self.inside.seals.items b new inv.sealed H)
+    inv.thawed
+    c.write_new.ensures.names.0 c.write_new.ensures.first many c.write_new.ensures.roll
 
 pub invariant_of-result : goal.invariant_of-result
 invariant_of-result g c =
@@ -47,7 +35,7 @@ invariant_of-result g c =
     let many = as_many c.entries-before.result.now b.state.entries c.entries-before.ensures.entries in
     let es = drop (length c.entries-before.result.now) new.state.entries in
     slips_below g.J.Naming.first c.self.inside.roll.first c.in_ok-given.given.number c.self.inside.roll.items c.write_new.new.roll.items es c.write_new.new.slips.items new
-    (tied_after Are b new H.grown (length c.entries-before.result.now) many g.J.Naming.first c.self.inside.roll.items c.write_new.new.roll.items inv.6 c.write_new.ensures.roll)
-    inv.5 c.write_new.ensures.roll
+    (tied_after Are b new H.grown (length c.entries-before.result.now) many g.J.Naming.first c.self.inside.roll.items c.write_new.new.roll.items inv.tied c.write_new.ensures.roll)
+    inv.first_is c.write_new.ensures.roll
     (c.write_new.ensures.slips ∙ ap (λ xs. xs ++ enumerate_from (c.self.inside.roll.first + length c.self.inside.roll.items) es) (c.seat.view_is ∙ c.new-seat.ensures))
     c.in_ok-given.ensures.receipt

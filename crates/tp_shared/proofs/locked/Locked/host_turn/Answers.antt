@@ -1,15 +1,16 @@
 use Rattle.std.proofs.Common.{◌∙◌, length, ap, subst}
 use Rattle.tp_turn.specs.Hosted.{HostDone, HostTurns}
-use Rattle.tp_shared.specs.Acts.{Hosted}
+use Rattle.tp_shared.specs.BookActs.{HostActed}
 use Rattle.tp_shared.specs.Entries.{TakesOf}
 use Rattle.tp_shared.specs.Seals.{Stage}
 use Rattle.tp_shared.specs.Gains.{Noted}
-use Rattle.tp_shared.specs.Went.{IsOf}
+use Rattle.tp_shared.specs.TurnsMade.{IsBookOf}
 use Rattle.tp_shared.proofs.Holding.{grown_like, takes_of_like}
 use Rattle.tp_shared.proofs.Hosting.{hosted_turn, host_refused}
 use Rattle.tp_shared.proofs.Sealing.{floor_after, sealed_still, tied_after, all_after, noted_by}
 use Rattle.tp_shared.proofs.Telling.{since_more}
 use Rattle.tp_shared.proofs.Writing.{as_many}
+use Rattle.tp_shared.proofs.Keeping.{acted_written}
 use Rattle.tp_shared.proofs.locked.Locked.host_turn.Goals as goal
 
 pub invariant_of-self : goal.invariant_of-self
@@ -19,24 +20,11 @@ invariant_of-self g c =
     let inv = c.self.invariant in
     let Are = TakesOf b.state.start (length b.state.start.nodes) c.host_turn-done.result in
     let H = hosted_turn c.host_turn-done.result b new c.host_turn-done.ensures in
-    let many = as_many c.entries-before.result.now b.state.entries c.entries-before.ensures.entries in (
-      H.grown.ready ∙ inv.0,
-      inv.1,
-      ap length H.runs ∙ inv.2,
-      sealed_still Are g.J.Naming.node c.self.inside.seals.items b new inv.3 H,
-      c.write_new.ensures.names.0 ∙ inv.4,
-      c.write_new.ensures.first ∙ inv.5,
-      tied_after Are b new H.grown (length c.entries-before.result.now) many g.J.Naming.first c.self.inside.roll.items c.write_new.new.roll.items inv.6 c.write_new.ensures.roll,
-      ap (λ s. s.wires) H.grown.start ∙ inv.7,
-      ap (λ s. length s.nodes) H.grown.start ∙ inv.8,
-      inv.9,
-      since_more Are g.J.Naming.before g.J.Naming.first c.self.inside.told.value b new c.self.inside.roll.items c.write_new.new.roll.items H.grown
-          (all_after Are b new H.grown (length c.entries-before.result.now) many c.self.inside.roll.items c.write_new.new.roll.items c.write_new.ensures.roll) inv.10,
-      inv.11,
-      H.grown.room ∙ inv.12,
-      floor_after Are b new H.grown g.J.Naming.first inv.13,
-      inv.14,
-    )
+    let many = as_many c.entries-before.result.now b.state.entries c.entries-before.ensures.entries in
+    acted_written inv H.grown (ap length H.runs) refl
+    (sealed_still Are g.J.Naming.node c.self.inside.seals.items b new inv.sealed H)
+    inv.thawed
+    c.write_new.ensures.names.0 c.write_new.ensures.first many c.write_new.ensures.roll
 
 pub returns-clause-noted : goal.returns-clause-noted
 returns-clause-noted g c =
@@ -45,15 +33,15 @@ returns-clause-noted g c =
     let inv = c.self.invariant in
     let host = length g.J.Naming.start.nodes in
     let Are = TakesOf g.J.Naming.start host c.host_turn-done.result in
-    let H = subst (λ n. Hosted (TakesOf b.state.start n c.host_turn-done.result) b new) inv.8 (hosted_turn c.host_turn-done.result b new c.host_turn-done.ensures) in
-    let G = grown_like (TakesOf b.state.start host c.host_turn-done.result) Are b new (λ es. takes_of_like g.J.Naming.start b.state.start host c.host_turn-done.result es inv.7 inv.8) H.grown in
+    let H = subst (λ n. HostActed (TakesOf b.state.start n c.host_turn-done.result) b new) inv.count_is (hosted_turn c.host_turn-done.result b new c.host_turn-done.ensures) in
+    let G = grown_like (TakesOf b.state.start host c.host_turn-done.result) Are b new (λ es. takes_of_like g.J.Naming.start b.state.start host c.host_turn-done.result es inv.wires_are inv.count_is) H.grown in
     let many = as_many c.entries-before.result.now b.state.entries c.entries-before.ensures.entries in
     let old_stage : Stage = record { book = b; all = c.self.inside.roll.items } in
     let new_stage : Stage = record { book = new; all = c.write_new.new.roll.items } in
     subst (λ stage. Noted Are g.J.Naming.first stage new_stage c.args.seat.now c.write_new.new.slips.items) c.self.view_is
     (subst (λ seat. Noted Are g.J.Naming.first old_stage new_stage seat c.write_new.new.slips.items) c.seat.view_is
     (noted_by Are b new old_stage new_stage g.J.Naming.first c.self.inside.roll.first (length c.entries-before.result.now) c.seat.inside.slips.items c.write_new.new.slips.items
-    G many inv.5 c.write_new.ensures.roll c.write_new.ensures.slips c.write_new.ensures.sound))
+    G many inv.first_is c.write_new.ensures.roll c.write_new.ensures.slips c.write_new.ensures.sound))
 
 pub returns-clause-refused : goal.returns-clause-refused
 returns-clause-refused g c = host_refused c.host_turn-done.result c.self.inside.book c.host_turn-done.new.book c.host_turn-done.ensures
@@ -62,4 +50,4 @@ pub returns-clause-did : goal.returns-clause-did
 returns-clause-did g c = subst (λ stage. HostDone (HostTurns c.host_turn-done.result) stage.book c.host_turn-done.new.book) c.self.view_is c.host_turn-done.ensures
 
 pub returns-clause-of : goal.returns-clause-of
-returns-clause-of g c = subst (λ stage. IsOf g.J.Naming.start stage.book) c.self.view_is (record { wires = c.self.invariant.7; nodes = c.self.invariant.8 })
+returns-clause-of g c = subst (λ stage. IsBookOf g.J.Naming.start stage.book) c.self.view_is (record { wires = c.self.invariant.wires_are; nodes = c.self.invariant.count_is })

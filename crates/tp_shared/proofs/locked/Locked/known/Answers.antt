@@ -3,15 +3,15 @@ use Rattle.tp_shared.specs.Seals.{IsTied}
 use Rattle.tp_shared.proofs.locked.Locked.known.Goals as goal
 
 pub returns-clause-tied : goal.returns-clause-tied
-returns-clause-tied g c = subst (λ stage. IsTied g.J.Naming.first stage.all stage.book) c.self.view_is c.self.invariant.6
+returns-clause-tied g c = subst (λ stage. IsTied g.J.Naming.first stage.all stage.book) c.self.view_is c.self.invariant.tied
 
 pub returns-clause-nodes : goal.returns-clause-nodes
-returns-clause-nodes g c = subst (λ stage. length stage.book.state.start.nodes ≡ length g.J.Naming.start.nodes) c.self.view_is c.self.invariant.8
+returns-clause-nodes g c = subst (λ stage. length stage.book.state.start.nodes ≡ length g.J.Naming.start.nodes) c.self.view_is c.self.invariant.count_is
 
 pub returns-clause-ports : goal.returns-clause-ports
 returns-clause-ports g c =
     let wires = c.known.ensures.shaped.wires in
-    let same = ap length c.self.invariant.7 in
-    let runs = c.self.invariant.2 in
-    let all = c.self.invariant.11 in
+    let same = ap length c.self.invariant.wires_are in
+    let runs = c.self.invariant.run_count in
+    let all = c.self.invariant.wire_count in
     subst (λ stage. length stage.book.state.ports ≡ length g.J.Naming.start.ports) c.self.view_is (omega (arith, wires, same, runs, all))

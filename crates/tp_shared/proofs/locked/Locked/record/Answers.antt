@@ -9,24 +9,23 @@ use Rattle.tp_shared.specs.Agreement.{Agreement}
 use Rattle.tp_shared.proofs.Sealing.{floor_after, node_of_seal, sealed_after, tied_still}
 use Rattle.tp_shared.proofs.Telling.{since_still}
 use Rattle.tp_shared.proofs.Thawing.{thaws_set, thawed_at, thawed_recorded}
+use Rattle.tp_shared.proofs.Keeping.{seal_at, acted_still}
 use Rattle.tp_shared.proofs.locked.Locked.record.Goals as goal
 
 pub agree-requires : goal.agree-requires
 agree-requires g c =
     let inv = c.self.invariant in
     let here = c.index_mut-here.result.now in
-    let at : slice_get c.self.inside.seals.items c.args.number ≡ Some here =
-    slice_get_read c.self.inside.seals.items (length c.self.inside.seals.items) c.args.number here refl (omega (arith, inv.1, c.requires.there)) c.index_mut-here.ensures.value in
-    let S = inv.3 c.args.number here at in
+    let at = seal_at inv c.args.number here c.requires.there c.index_mut-here.ensures.value in
+    let S = inv.sealed c.args.number here at in
     S.named ∙ sym c.requires.named
 
 pub turn-requires : goal.turn-requires
 turn-requires g c =
     let inv = c.self.invariant in
     let here = c.index_mut-here.result.now in
-    let at : slice_get c.self.inside.seals.items c.args.number ≡ Some here =
-    slice_get_read c.self.inside.seals.items (length c.self.inside.seals.items) c.args.number here refl (omega (arith, inv.1, c.requires.there)) c.index_mut-here.ensures.value in
-    let S = inv.3 c.args.number here at in
+    let at = seal_at inv c.args.number here c.requires.there c.index_mut-here.ensures.value in
+    let S = inv.sealed c.args.number here at in
     c.agree.ensures.names.0 ∙ S.named ∙ sym c.requires.named ∙ sym c.agree.ensures.names.1
 
 pub record-requires-clause-free : goal.record-requires-clause-free
@@ -34,9 +33,8 @@ record-requires-clause-free g c =
     let b = c.self.inside.book in
     let inv = c.self.invariant in
     let here = c.index_mut-here.result.now in
-    let at : slice_get c.self.inside.seals.items c.args.number ≡ Some here =
-    slice_get_read c.self.inside.seals.items (length c.self.inside.seals.items) c.args.number here refl (omega (arith, inv.1, c.requires.there)) c.index_mut-here.ensures.value in
-    let S = inv.3 c.args.number here at in
+    let at = seal_at inv c.args.number here c.requires.there c.index_mut-here.ensures.value in
+    let S = inv.sealed c.args.number here at in
     S.reserved ∙ ap (λ (x : Agreement). Some x.reserved) (ap (λ x. x.state) c.agree.ensures.agreed ∙ c.requires.shows.shown)
 
 pub record-requires-clause-is : goal.record-requires-clause-is
@@ -44,9 +42,8 @@ record-requires-clause-is g c =
     let b = c.self.inside.book in
     let inv = c.self.invariant in
     let here = c.index_mut-here.result.now in
-    let at : slice_get c.self.inside.seals.items c.args.number ≡ Some here =
-    slice_get_read c.self.inside.seals.items (length c.self.inside.seals.items) c.args.number here refl (omega (arith, inv.1, c.requires.there)) c.index_mut-here.ensures.value in
-    let S = inv.3 c.args.number here at in
+    let at = seal_at inv c.args.number here c.requires.there c.index_mut-here.ensures.value in
+    let S = inv.sealed c.args.number here at in
     let shown = ap (λ x. x.state) c.agree.ensures.agreed ∙ c.requires.shows.shown in
     node_of_seal (g.J.Naming.node c.args.number) here.seal.value.state here.frozen here.seal.name b c.args.number c.args.place.now.node S
     (ap (λ (x : Agreement). x.node) shown) (ap (λ (x : Agreement). x.frozen) shown) c.requires.shows.image
@@ -56,39 +53,25 @@ invariant_of-self g c =
     let b = c.self.inside.book in
     let inv = c.self.invariant in
     let here = c.index_mut-here.result.now in
-    let at : slice_get c.self.inside.seals.items c.args.number ≡ Some here =
-    slice_get_read c.self.inside.seals.items (length c.self.inside.seals.items) c.args.number here refl (omega (arith, inv.1, c.requires.there)) c.index_mut-here.ensures.value in
-    let S = inv.3 c.args.number here at in
+    let at = seal_at inv c.args.number here c.requires.there c.index_mut-here.ensures.value in
+    let S = inv.sealed c.args.number here at in
     let new = c.record.new.book in
     let node = c.record.new.node in
     let Are = λ (entries : List Entry). entries ≡ [] in
-    let A = c.record.ensures.acted in (
-      A.grown.ready ∙ inv.0,
-      length-set c.self.inside.seals.items c.args.number _ ∙ inv.1,
-      ap length A.runs ∙ length-set b.runs c.args.number _ ∙ inv.2,
-      sealed_after Are g.J.Naming.node c.self.inside.seals.items b new c.args.number node false
-          (record { frozen = c.is_frozen-here.result; seal = c.turn.new.seal }) inv.3 A c.record.ensures.is
-          (omega (arith, inv.1, c.requires.there)) (c.turn.ensures.names.0 ∙ c.agree.ensures.names.0 ∙ S.named)
-          (ap (λ x. x.state) c.turn.ensures.seal ∙ c.free-now.ensures)
-          c.is_frozen-here.ensures,
-      inv.4,
-      inv.5,
-      tied_still b new g.J.Naming.first c.self.inside.roll.items A.grown inv.6,
-      ap (λ s. s.wires) A.grown.start ∙ inv.7,
-      ap (λ s. length s.nodes) A.grown.start ∙ inv.8,
-      inv.9,
-      since_still g.J.Naming.before g.J.Naming.first c.self.inside.told.value b new c.self.inside.roll.items A.grown inv.10,
-      inv.11,
-      A.grown.room ∙ inv.12,
-      floor_after Are b new A.grown g.J.Naming.first inv.13,
-      thaws_set c.self.inside.told.value c.self.inside.seals.items c.args.number (record { frozen = c.is_frozen-here.result; seal = c.turn.new.seal }) inv.14
-          (λ thawed.
-          c.is_frozen-here.ensures
-          ∙ ap is_some (c.record.ensures.stays (thawed_recorded g.J.Naming.before g.J.Naming.first c.self.inside.told.value c.self.inside.seals.items (record { book = b; all = c.self.inside.roll.items }) thawed inv.10 c.args.number))
-          ∙ ap (λ (x : Agreement). is_some x.frozen) (sym (ap (λ x. x.state) c.agree.ensures.agreed ∙ c.requires.shows.shown))
-          ∙ sym S.flag
-          ∙ thawed_at c.self.inside.told.value c.self.inside.seals.items c.args.number here thawed at),
-    )
+    let A = c.record.ensures.acted in
+    acted_still inv A.grown (ap length A.runs ∙ length-set b.runs c.args.number _) (length-set c.self.inside.seals.items c.args.number _)
+    (sealed_after Are g.J.Naming.node c.self.inside.seals.items b new c.args.number node false
+    (record { frozen = c.is_frozen-here.result; seal = c.turn.new.seal }) inv.sealed A c.record.ensures.is
+    (omega (arith, inv.seal_count, c.requires.there)) (c.turn.ensures.names.0 ∙ c.agree.ensures.names.0 ∙ S.named)
+    (ap (λ x. x.state) c.turn.ensures.seal ∙ c.free-now.ensures)
+    c.is_frozen-here.ensures)
+    (thaws_set c.self.inside.told.value c.self.inside.seals.items c.args.number (record { frozen = c.is_frozen-here.result; seal = c.turn.new.seal }) inv.thawed
+    (λ thawed.
+    c.is_frozen-here.ensures
+    ∙ ap is_some (c.record.ensures.stays (thawed_recorded g.J.Naming.before g.J.Naming.first c.self.inside.told.value c.self.inside.seals.items (record { book = b; all = c.self.inside.roll.items }) thawed inv.since c.args.number))
+    ∙ ap (λ (x : Agreement). is_some x.frozen) (sym (ap (λ x. x.state) c.agree.ensures.agreed ∙ c.requires.shows.shown))
+    ∙ sym S.flag
+    ∙ thawed_at c.self.inside.told.value c.self.inside.seals.items c.args.number here thawed at))
 
 pub returns-clause-did : goal.returns-clause-did
 returns-clause-did g c = subst (λ stage. Done c.args.number (Records c.args.number) (moment stage.book c.args.place.now.node) (moment c.record.new.book c.record.new.node)) c.self.view_is c.record.ensures.did

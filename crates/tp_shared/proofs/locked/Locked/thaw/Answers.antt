@@ -6,23 +6,22 @@ use Rattle.tp_shared.specs.Agreement.{Agreement}
 use Rattle.tp_shared.specs.Seals.{IsSealOf}
 use Rattle.tp_shared.proofs.Resealing.{sealed_set, thawed_seal}
 use Rattle.tp_shared.proofs.Thawing.{thaws_set}
+use Rattle.tp_shared.proofs.Keeping.{seal_at, sealed_anew}
 use Rattle.tp_shared.proofs.locked.Locked.thaw.Goals as goal
 
 pub agree-requires : goal.agree-requires
 agree-requires g c =
     let inv = c.self.invariant in
     let here = c.index_mut-here.result.now in
-    let at : slice_get c.self.inside.seals.items c.args.number ≡ Some here =
-    slice_get_read c.self.inside.seals.items (length c.self.inside.seals.items) c.args.number here refl (omega (arith, inv.1, c.requires.there)) c.index_mut-here.ensures.value in
-    (inv.3 c.args.number here at).named ∙ sym c.requires.named
+    let at = seal_at inv c.args.number here c.requires.there c.index_mut-here.ensures.value in
+    (inv.sealed c.args.number here at).named ∙ sym c.requires.named
 
 pub turn-requires : goal.turn-requires
 turn-requires g c =
     let inv = c.self.invariant in
     let here = c.index_mut-here.result.now in
-    let at : slice_get c.self.inside.seals.items c.args.number ≡ Some here =
-    slice_get_read c.self.inside.seals.items (length c.self.inside.seals.items) c.args.number here refl (omega (arith, inv.1, c.requires.there)) c.index_mut-here.ensures.value in
-    c.agree.ensures.names.0 ∙ (inv.3 c.args.number here at).named ∙ sym c.requires.named ∙ sym c.agree.ensures.names.1
+    let at = seal_at inv c.args.number here c.requires.there c.index_mut-here.ensures.value in
+    c.agree.ensures.names.0 ∙ (inv.sealed c.args.number here at).named ∙ sym c.requires.named ∙ sym c.agree.ensures.names.1
 
 pub invariant_of-self : goal.invariant_of-self
 invariant_of-self g c =
@@ -30,28 +29,14 @@ invariant_of-self g c =
     let b = c.self.inside.book in
     let seals = c.self.inside.seals.items in
     let here = c.index_mut-here.result.now in
-    let at : slice_get seals c.args.number ≡ Some here =
-    slice_get_read seals (length seals) c.args.number here refl (omega (arith, inv.1, c.requires.there)) c.index_mut-here.ensures.value in
+    let at = seal_at inv c.args.number here c.requires.there c.index_mut-here.ensures.value in
     let shown = ap (λ x. x.state) c.agree.ensures.agreed ∙ c.requires.shows.shown in
     let live = c.args.place.now.node.live in
-    let S = thawed_seal (g.J.Naming.node c.args.number) here.seal.name here.seal.value.state here.frozen b c.args.number (inv.3 c.args.number here at) in
+    let S = thawed_seal (g.J.Naming.node c.args.number) here.seal.name here.seal.value.state here.frozen b c.args.number (inv.sealed c.args.number here at) in
     let now = ap (λ x. x.state) c.turn.ensures.seal ∙ c.free-now.ensures ∙ ap (λ (n : NodeContents). record { node = n.live; frozen = n.frozen; reserved = false }) c.drop_frozen.ensures in
-    let is = ap (λ (a : Agreement). record { node = a.node; frozen = None; reserved = a.reserved }) shown in (
-      inv.0,
-      length-set seals c.args.number _ ∙ inv.1,
-      inv.2,
-      sealed_set g.J.Naming.node seals b c.args.number here (record { frozen = false; seal = c.turn.new.seal }) inv.3 at
-          (subst (λ name. IsSealOf (g.J.Naming.node c.args.number) c.turn.new.seal.value.state false name b c.args.number) (sym (c.turn.ensures.names.0 ∙ c.agree.ensures.names.0))
-          (subst (λ a. IsSealOf (g.J.Naming.node c.args.number) a false here.seal.name b c.args.number) (is ∙ sym now) S)),
-      inv.4,
-      inv.5,
-      inv.6,
-      inv.7,
-      inv.8,
-      inv.9,
-      inv.10,
-      inv.11,
-      inv.12,
-      inv.13,
-      thaws_set c.self.inside.told.value seals c.args.number (record { frozen = false; seal = c.turn.new.seal }) inv.14 (λ thawed. refl),
-    )
+    let is = ap (λ (a : Agreement). record { node = a.node; frozen = None; reserved = a.reserved }) shown in
+    sealed_anew inv (length-set seals c.args.number _)
+    (sealed_set g.J.Naming.node seals b c.args.number here (record { frozen = false; seal = c.turn.new.seal }) inv.sealed at
+    (subst (λ name. IsSealOf (g.J.Naming.node c.args.number) c.turn.new.seal.value.state false name b c.args.number) (sym (c.turn.ensures.names.0 ∙ c.agree.ensures.names.0))
+    (subst (λ a. IsSealOf (g.J.Naming.node c.args.number) a false here.seal.name b c.args.number) (is ∙ sym now) S)))
+    (thaws_set c.self.inside.told.value seals c.args.number (record { frozen = false; seal = c.turn.new.seal }) inv.thawed (λ thawed. refl))

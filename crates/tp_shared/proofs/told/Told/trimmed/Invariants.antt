@@ -1,4 +1,4 @@
-use Rattle.tp_shared.specs.Copied.{trim_of}
+use Rattle.tp_shared.specs.TrimmedTo.{trim_of}
 use Rattle.tp_shared.specs.Told.{told_of}
 use Rattle.tp_shared.proofs.told.Told.trimmed.Given as goal
 

@@ -1,0 +1,42 @@
+-- What is done to a book while its lock is held.
+use Rattle.std.specs.Prelude.{◌≡◌, ◌≢◌, ℕ, false, List, ◌++◌, set, get_or, Some, None}
+use Rattle.std.specs.List.{AllByRecursion}
+use Rattle.tp_model.specs.declared.entry.Entry.{Entry}
+use Rattle.tp_model.specs.Node.{t414}
+use Rattle.tp_model.specs.Acts.{Act, acted}
+use Rattle.tp_model.specs.Runs.{is_trim}
+use Rattle.tp_snap.specs.Needs.{has_recorded_in}
+use Rattle.tp_book.specs.Book.{BookValue, agreed, world_of}
+use Rattle.tp_turn.specs.Moments.{entries_in}
+use Rattle.tp_shared.specs.Agreement.{Agreement}
+
+-- Acts were done, none of them a trim. The book has their entries more, which are so.
+pub record Grown (Are : List Entry → Type 0) (old new : BookValue) : Type 0 where
+  pub acts : List Act
+  pub none : AllByRecursion (λ act. is_trim act ≡ false) acts
+  pub did : acted t414 (world_of old) acts ≡ Some (world_of new)
+  pub are : Are (entries_in acts)
+  pub start : new.state.start ≡ old.state.start
+  pub entries_are : new.state.entries ≡ old.state.entries ++ entries_in acts
+  pub history : new.history ≡ old.history ++ entries_in acts
+  pub base : new.base ≡ old.base
+  pub ready : new.ready ≡ old.ready
+  pub room : new.room ≡ old.room
+  pub floor : new.floor ≡ old.floor
+
+-- Acts of a node were done, and it and whether a run of it is reserved are then so. The others are as they were: whether they have
+-- recorded, and their frozen images.
+pub record NodeActed (Are : List Entry → Type 0) (number : ℕ) (agreement : Agreement) (old new : BookValue) : Type 0 where
+  pub grown : Grown Are old new
+  pub nodes : agreed new.state ≡ set (agreed old.state) number agreement.node
+  pub runs : new.runs ≡ set old.runs number agreement.reserved
+  pub recorded : (other : ℕ) → other ≢ number → has_recorded_in new.state.snapshot other ≡ has_recorded_in old.state.snapshot other
+  pub frozen : (other : ℕ) → other ≢ number → get_or new.frozen other None ≡ get_or old.frozen other None
+
+-- Acts of the host were done. All nodes and reservations are as they were.
+pub record HostActed (Are : List Entry → Type 0) (old new : BookValue) : Type 0 where
+  pub grown : Grown Are old new
+  pub nodes : agreed new.state ≡ agreed old.state
+  pub runs : new.runs ≡ old.runs
+  pub recorded : (process : ℕ) → has_recorded_in new.state.snapshot process ≡ has_recorded_in old.state.snapshot process
+  pub frozen : new.frozen ≡ old.frozen

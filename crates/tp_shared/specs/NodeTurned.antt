@@ -1,0 +1,17 @@
+-- What a turn of a node does to a seat.
+use Rattle.std.specs.Prelude.{◌≡◌, ◌≤◌, ℕ, List}
+use Rattle.tp_model.specs.declared.entry.Entry.{Entry}
+use Rattle.tp_model.specs.NodeState.{NodeState}
+use Rattle.tp_model.specs.Network.{Network}
+use Rattle.tp_shared.specs.Entries.{CountedTakes, run_entries}
+use Rattle.tp_shared.specs.Gains.{Gained}
+use Rattle.tp_shared.specs.declared.node_turn.NodeTurn.{NodeTurn}
+
+-- The node took as many tokens as the turn says, and then ran as many steps as it says, of as many as were asked for. The seat
+-- has the slips of just the turn's entries.
+pub record NodeTurned (start : Network NodeState) (number quantum : ℕ) (turn : NodeTurn) (seat_old seat_new : List (ℕ × Entry)) : Type 0 where
+  pub asked : turn.ran.max ≡ quantum
+  pub few : turn.ran.count ≤ quantum
+  pub between : List (ℕ × Entry)
+  pub took : Gained (CountedTakes start number turn.taken) seat_old between
+  pub ran : Gained (λ entries. entries ≡ run_entries number turn.ran.count) between seat_new

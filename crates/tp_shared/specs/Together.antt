@@ -1,0 +1,50 @@
+-- What lies under the book's lock, and what it keeps together with all that lies elsewhere: the nodes' cells, which have the keys of the
+-- seals; the seats, whose slips are of the roll; the flusher, which has the key of what it was told; and the journal on the device.
+use Rattle.std.specs.Prelude.{◌≡◌, ◌≤◌, ◌+◌, ◌-◌, ◌*◌, ℕ, List, length, Option, None}
+use Rattle.tp_token.specs.declared.roll.Roll.{Roll}
+use Rattle.tp_token.specs.declared.twin.Seal.{Seal}
+use Rattle.tp_model.specs.declared.entry.Entry.{Entry}
+use Rattle.tp_model.specs.NodeState.{NodeState}
+use Rattle.tp_model.specs.Network.{Network}
+use Rattle.tp_model.specs.Runs.{World}
+use Rattle.tp_book.specs.Book.{BookValue}
+use Rattle.tp_shared.specs.Seals.{Sealed, IsTied}
+use Rattle.tp_shared.specs.Thawed.{ThawedAsTold}
+use Rattle.tp_shared.specs.Told.{Since, told_of}
+use Rattle.tp_shared.specs.declared.seal.NodeSeal.{NodeSeal}
+use Rattle.tp_shared.specs.declared.told.Told.{Told}
+
+-- A book, the seals of its nodes, the roll, and the seal of what the flusher was told, whenever nobody holds the lock. The other
+-- arguments say which network, tokens and history they belong to.
+pub record AreTogether (roll_name first : ℕ) (start : Network NodeState) (node : ℕ → ℕ) (flusher : ℕ) (room : Option ℕ) (before : World NodeState)
+    (book : BookValue) (seals : List NodeSeal) (roll : Roll Entry) (told : Seal Told) : Type 0 where
+  -- no take is made ready
+  pub idle : book.ready ≡ None
+  -- there is a seal for each node
+  pub seal_count : length seals ≡ length start.nodes
+  -- the book knows of each node whether a run of it is reserved
+  pub run_count : length book.runs ≡ length start.nodes
+  -- each seal, and so the key in the node's cell, shows the node that the book's entries make, and whether a run of it is reserved
+  pub sealed : Sealed node seals book
+  -- the slips of all seats are of this roll
+  pub roll_is : roll.name ≡ roll_name
+  -- its numbers begin with that of the first entry since the opening
+  pub first_is : roll.first ≡ first
+  -- on it are just the entries since the opening, each under the number that it has in the journal
+  pub tied : IsTied first roll.items book
+  -- the wires are those of the network
+  pub wires_are : book.state.start.wires ≡ start.wires
+  -- there are as many nodes as in the network
+  pub count_is : length book.state.start.nodes ≡ length start.nodes
+  -- the flusher has the key of this seal
+  pub flusher_is : told.name ≡ flusher
+  -- from what the flusher was told, acts that are no trim lead to the book as it is
+  pub since : Since told.value (told_of before first (record { book = book; all = roll.items }))
+  -- the network has a place for a wire at each of four links a node, and at each port
+  pub wire_count : length start.wires ≡ 4 * length start.nodes + length start.ports
+  -- the book counts with the bytes that groups may fill on the device
+  pub room_is : book.room ≡ room
+  -- entries that may lack room there, each in a group of its own, were all made before the opening
+  pub floor : book.floor ≤ first - book.base
+  -- where the flusher was told that the cut is whole and no node's pages are kept, none is kept since
+  pub thawed : ThawedAsTold told.value seals

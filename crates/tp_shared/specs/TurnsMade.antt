@@ -1,0 +1,64 @@
+-- How turns went, in books that nobody sees: each is one of the network.
+use Rattle.std.specs.Prelude.{◌≡◌, ◌≤◌, ℕ, List, length, Some, Result, Ok, Err}
+use Rattle.tp_model.specs.declared.link.Token.{Token}
+use Rattle.tp_model.specs.NodeState.{NodeState}
+use Rattle.tp_model.specs.Network.{Network, steps}
+use Rattle.tp_model.specs.Node.{t414}
+use Rattle.tp_model.specs.NodeWrites.{node_ranges, kept_behind_steps}
+use Rattle.tp_model.specs.SharedPages.{LacksFrames}
+use Rattle.tp_node.specs.NodeContents.{NodeContents, kept_of}
+use Rattle.tp_node.specs.RunEnd.{IsWhy}
+use Rattle.tp_book.specs.declared.refusal.Refusal.{Refusal}
+use Rattle.tp_book.specs.Acts.{run_acts}
+use Rattle.tp_book.specs.Book.{BookValue}
+use Rattle.tp_book.specs.Calls.{without_run}
+use Rattle.tp_turn.specs.Hosted.{HostDone, HostTurns}
+use Rattle.tp_turn.specs.Moments.{moment, IsNodeOf, Added}
+use Rattle.tp_turn.specs.Stages.{Opens}
+use Rattle.tp_shared.specs.declared.node_turn.NodeTurn.{NodeTurn}
+
+-- a book of the network
+pub record IsBookOf (start : Network NodeState) (b : BookValue) : Type 0 where
+  pub wires : b.state.start.wires ≡ start.wires
+  pub nodes : length b.state.start.nodes ≡ length start.nodes
+
+-- A node's turn was opened, with this answer, in a book in which the node was the one that its entries make: all was done that may be.
+pub record TurnOpened (start : Network NodeState) (number : ℕ) (answer : Result ℕ Refusal) (old new : NodeContents) : Type 0 where
+  pub found : BookValue
+  pub left : BookValue
+  pub of : IsBookOf start found
+  pub is : IsNodeOf found number old
+  pub opens : Opens number answer (moment found old) (moment left new)
+
+-- its run was journalled in a book
+pub record RunCommitted (start : Network NodeState) (number count : ℕ) (node : NodeContents) : Type 0 where
+  pub found : BookValue
+  pub left : BookValue
+  pub of : IsBookOf start found
+  pub added : Added number node.live (run_acts number count) (without_run found number) left
+
+-- The whole turn of a node: it was opened, it ran as far as it may, and the run was journalled.
+pub record TurnMade (start : Network NodeState) (number quantum : ℕ) (turn : NodeTurn) : Type 0 where
+  pub found : NodeContents
+  pub settled : NodeContents
+  pub opened : TurnOpened start number (Ok turn.taken) found settled
+  pub ran : NodeContents
+  pub sent : List (ℕ × Token)
+  pub steps : steps t414 turn.ran.count settled.live ≡ Some (ran.live, sent)
+  pub why : IsWhy turn.ran.why quantum turn.ran.count (LacksFrames (kept_of ran) (node_ranges ran.live)) ran.live
+  pub kept : ran.frozen ≡ settled.frozen
+  pub shared : kept_of ran ≡ kept_behind_steps turn.ran.count settled.live (kept_of settled)
+  pub committed : RunCommitted start number turn.ran.count ran
+
+-- A turn of a node was refused, where it was opened.
+pub record TurnBrokenOff (start : Network NodeState) (number : ℕ) (reason : Refusal) : Type 0 where
+  pub found : NodeContents
+  pub left : NodeContents
+  pub opened : TurnOpened start number (Err reason) found left
+
+-- The host's turn, with this answer.
+pub record HostTurnMade (start : Network NodeState) (answer : Result ℕ Refusal) : Type 0 where
+  pub found : BookValue
+  pub left : BookValue
+  pub of : IsBookOf start found
+  pub did : HostDone (HostTurns answer) found left

@@ -1,0 +1,25 @@
+-- A port's input, and what is known of it.
+use Rattle.std.specs.Prelude.{◌≡◌, ◌≤◌, ℕ, List, length, take, drop, Option, Some, None}
+
+-- Where the whole input is known, `bytes` are those from position `at` on, as many as there are.
+abbrev pub AreFrom : Option (List ℕ) → ℕ → List ℕ → Type 0
+AreFrom None at bytes = Unit {0}
+AreFrom (Some all) at bytes = bytes ≡ take (length bytes) (drop at all)
+
+-- Where the whole input is known, it has that many bytes.
+abbrev pub IsLength : Option ℕ → Option (List ℕ) → Type 0
+IsLength n None = Unit {0}
+IsLength n (Some all) = n ≡ Some (length all)
+
+-- Where the whole input is known, it has `n` bytes at least.
+abbrev pub HasAtLeast : ℕ → Option (List ℕ) → Type 0
+HasAtLeast n None = Unit {0}
+HasAtLeast n (Some all) = n ≤ length all
+
+-- An input as it is given: its port, and all of its bytes, where they are known.
+pub record GivenInput : Type 0 where
+  pub port : ℕ
+  pub all : Option (List ℕ)
+
+abbrev pub given_input : ℕ → Option (List ℕ) → GivenInput
+given_input port all = record { port = port; all = all }

@@ -1,0 +1,26 @@
+-- What `try` does.
+use Rattle.std.specs.Prelude.{◌≡◌, ℕ, List, Option, Some, None, IsSome, Result, Ok, Err}
+use Rattle.std.specs.Io.KnownBytes.{Appends}
+use Rattle.tp_model.specs.NodeState.{NodeState}
+use Rattle.tp_trial.specs.Output.{IsOutput}
+use Rattle.tp_turn.specs.Tried.{fresh_image}
+use Rattle.tp_views.specs.declared.refusal.Refusal.{Refusal}
+use Rattle.tp_turn.specs.declared.trial.TryFault.TheVariants.{BadImage, Memory}
+use Rattle.tp_views.specs.declared.refusal.Refusal.TheVariants.{Trial, DeviceFailed}
+use Rattle.tp_views.specs.declared.commands.TheConstants.{TRY_QUANTUM}
+
+-- The node of the image was tried for `turns` turns, and exactly what its port put out was appended.
+pub record Shows (image : List ℕ) (turns : ℕ) (was now : Option (List ℕ)) : Type 0 where
+  pub node : NodeState
+  pub is : fresh_image image ≡ Some node
+  pub output : List ℕ
+  pub tried : IsOutput node turns TRY_QUANTUM output
+  pub shown : Appends was now output
+
+-- The answer: an image that is none is refused, and nothing was written then, nor where memory was wanting.
+abbrev pub Answers : List ℕ → ℕ → Option (List ℕ) → Option (List ℕ) → Result (Unit {0}) Refusal → Type 0
+Answers image turns was now (Ok done) = Shows image turns was now
+Answers image turns was now (Err (Trial BadImage)) = (fresh_image image ≡ None) × (now ≡ was)
+Answers image turns was now (Err DeviceFailed) = IsSome (fresh_image image)
+Answers image turns was now (Err (Trial Memory)) = IsSome (fresh_image image) × (now ≡ was)
+Answers image turns was now (Err other) = ⊥

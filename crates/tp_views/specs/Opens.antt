@@ -1,0 +1,35 @@
+-- What `recover` and `show` do.
+use Rattle.std.specs.Prelude.{◌≡◌, ℕ, List, length, Option, Ok}
+use Rattle.std.specs.Io.KnownBytes.{Appends}
+use Rattle.tp_model.specs.Disk.{Moment, Sync, done}
+use Rattle.tp_model.specs.Opening.{Opened, verdict, next_of}
+use Rattle.tp_views.specs.declared.shown.Front.{Front}
+use Rattle.tp_views.specs.Shown.{shown_text, next_line}
+
+-- what is said of an opened device beside its network
+abbrev pub front_of : Opened → Front
+front_of o = record {
+  area = o.head.area;
+  second = o.second;
+  generation = o.generation;
+  base = o.base;
+  entries = length o.kept;
+  next = next_of o;
+}
+
+-- what is printed of it
+abbrev pub recovered : Opened → List ℕ
+recovered o = next_line (next_of o)
+
+abbrev pub shown : Opened → List ℕ
+shown o = shown_text (front_of o) o.now
+
+-- The device opens, and exactly that is printed of it.
+pub record Prints (text : Opened → List ℕ) (bytes : List ℕ) (was now : Option (List ℕ)) : Type 0 where
+  pub opened : Opened
+  pub is : verdict bytes ≡ Ok opened
+  pub printed : Appends was now (text opened)
+
+-- Nothing was written: where no call of the device failed, a read gives the same bytes as before, and all of them are synced.
+abbrev pub IsUnwritten : ℕ → ℕ → Moment → Moment → Type 0
+IsUnwritten failures_before failures_after old new = failures_after ≡ failures_before → new ≡ done Sync old

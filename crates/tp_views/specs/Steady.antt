@@ -1,0 +1,56 @@
+-- What a look at a device finds, and what is answered of one that another process may write meanwhile.
+use Rattle.std.specs.Prelude.{◌≡◌, ℕ, Bool, true, false, ◌||◌, ◌&&◌, not, nat_lt, if◌then◌else◌, List, Option, Some, None, Result, Ok, Err}
+use Rattle.tp_layout.specs.Fronts.{area_front}
+use Rattle.tp_layout.specs.declared.front.AreaFront.{AreaFront}
+use Rattle.tp_model.specs.Device.{area_start}
+use Rattle.tp_model.specs.Head.{Head}
+use Rattle.tp_model.specs.Opening.{Opened}
+use Rattle.tp_model.specs.declared.opening.OpenFault.{OpenFault}
+use Rattle.tp_recover.specs.declared.unopened.Unopened.{Unopened}
+use Rattle.tp_views.specs.declared.steady.Fronts.{Fronts}
+use Rattle.tp_views.specs.declared.steady.Tried.{Tried}
+use Rattle.tp_views.specs.declared.steady.Tried.TheVariants.{Steady, Changed}
+
+-- the fronts of the areas of a device, which have this length each; the first one's twice, as a look reads it
+abbrev pub fronts_in : ℕ → List ℕ → Fronts
+fronts_in area bytes = record {
+  area = area;
+  first = area_front (area_start area false) bytes;
+  second = area_front (area_start area true) bytes;
+  again = area_front (area_start area false) bytes;
+}
+
+-- what a look finds, where that is what is said of the head
+abbrev pub looked : Result Head OpenFault → List ℕ → Option Fronts
+looked (Ok head) bytes = Some (fronts_in head.area bytes)
+looked (Err fault) bytes = None
+
+-- the first of two areas counts: its gate is open, and the other one's isn't, or has a lower generation
+abbrev pub is_above : AreaFront → AreaFront → Bool
+is_above one other = one.is_open && (not other.is_open || nat_lt other.generation one.generation)
+
+-- Which area counts: whether it is the second one.
+abbrev pub counting : Fronts → Option Bool
+counting fronts =
+    if is_above fronts.first fronts.second then Some false else if is_above fronts.second fronts.first then Some true else None
+
+abbrev pub front_of : Bool → Fronts → AreaFront
+front_of second fronts = if second then fronts.second else fronts.first
+
+-- The area that counted at one look has at another one the gate and the generation that it had; or none counted, and the other look
+-- finds the same.
+abbrev pub HasStayed : Option Bool → Fronts → Fronts → Type 0
+HasStayed (Some second) before after = front_of second after ≡ front_of second before
+HasStayed None before after = after ≡ before
+
+-- What counted at the first look still counts at the second one.
+abbrev pub IsStill : Option Fronts → Option Fronts → Type 0
+IsStill None None = Unit {0}
+IsStill None (Some after) = ⊥
+IsStill (Some before) None = ⊥
+IsStill (Some before) (Some after) = (after.area ≡ before.area) × HasStayed (counting before) before after
+
+-- The answer is one of a moment, and P holds of it.
+abbrev pub OfSteady : (Result Opened Unopened → Type 0) → Tried → Type 0
+OfSteady P (Steady answer) = P answer
+OfSteady P Changed = ⊥

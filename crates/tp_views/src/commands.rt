@@ -1,0 +1,85 @@
+//! What each command does, over bytes and two writers.
+
+ghost use Rattle.std.specs.Prelude.{◌≡◌, ◌≤◌, None, OnOk, IfErr};
+ghost use Rattle.std.specs.Io.KnownBytes.{Appends};
+ghost use Rattle.tp_turn.specs.Tried.{fresh_image};
+ghost use Rattle.tp_views.specs.Attempt.{Shows, Answers};
+ghost use Rattle.tp_views.specs.Front.{AppendsFront};
+
+use crate::refusal::Refusal;
+use std::alloc::Global;
+use std::io::{ErrorKind, Write};
+use tp_trial::try_output;
+
+/// The most steps of a run, where a node is tried.
+pub const TRY_QUANTUM: u16 = 16;
+
+/// Says why a command was not done. A failed write of that is let go.
+pub fn refuse<E: Write>(err: &mut E, refusal: Refusal) -> u8
+    ensures { result ≡ 1 }
+{
+    let _ = write!(err, "tpnet: {refusal}\n");
+    1
+}
+
+/// Writes bytes as they are. A front of them stands on the output, whatever is answered.
+pub fn put<O: Write>(out: &mut O, bytes: &[u8]) -> Result<(), Refusal>
+    ensures written { OnOk result (Appends (O.contents out.old) (O.contents out.new) bytes.now) }
+    ensures refused { IfErr result (λ refusal. refusal ≡ Refusal.DeviceFailed) }
+    ensures front { AppendsFront (O.contents out.old) (O.contents out.new) bytes.now }
+{
+    let mut written = 0;
+    for _ in 0..u64::MAX {
+        if written >= bytes.len() {
+            return Ok(());
+        }
+        match out.write(&bytes[written..]) {
+            Ok(0) => return Err(Refusal::DeviceFailed),
+            Ok(count) => written += count,
+            Err(error) if error.kind() == ErrorKind::Interrupted => {}
+            Err(_) => return Err(Refusal::DeviceFailed),
+        }
+    }
+    Err(Refusal::DeviceFailed)
+}
+
+/// Prints how to call the program. Answers the status.
+pub fn print_help<O: Write, E: Write>(text: &str, out: &mut O, err: &mut E) -> u8
+    ensures status { result ≤ 1 }
+    ensures printed { result ≡ 0 → Appends (O.contents out.old) (O.contents out.new) text.now }
+{
+    match put(out, text.as_bytes()) {
+        Ok(()) => 0,
+        Err(refusal) => refuse(err, refusal),
+    }
+}
+
+/// Runs the node of an image for `turns` turns, its own and the host's in turns, and shows what its port puts out. It takes no
+/// more memory for more turns.
+fn attempt<O: Write>(alloc: Global, image: &[u8], turns: u32, out: &mut O) -> Result<(), Refusal>
+    ensures { Answers image.now turns (O.contents out.old) (O.contents out.new) result }
+{
+    match try_output(alloc, image, turns, TRY_QUANTUM) {
+        Ok(output) => put(out, output.as_slice()),
+        Err(fault) => Err(Refusal::Trial(fault)),
+    }
+}
+
+/// `tpnet try`, on the bytes of the image. Answers the program's status: 0 where exactly what port 0 put out was
+/// written, else 1. An image that is none is refused, and nothing is written then.
+pub fn try_on<O: Write, E: Write>(
+    alloc: Global,
+    image: &[u8],
+    turns: u32,
+    out: &mut O,
+    err: &mut E,
+) -> u8
+    ensures status { result ≤ 1 }
+    ensures done { result ≡ 0 → Shows image.now turns (O.contents out.old) (O.contents out.new) }
+    ensures refused { fresh_image image.now ≡ None → (result ≡ 1) × (O.contents out.new ≡ O.contents out.old) }
+{
+    match attempt(alloc, image, turns, out) {
+        Ok(()) => 0,
+        Err(refusal) => refuse(err, refusal),
+    }
+}

@@ -1,0 +1,27 @@
+//! The commands that write no device, over any device and two writers: what they print, and what is said of a refusal.
+#![tactic(auto)]
+
+mod checking;
+mod commands;
+mod damage;
+mod device_file;
+mod entries;
+mod explaining;
+mod image_rules;
+mod looking;
+mod opening;
+mod places;
+mod refusal;
+mod registers;
+mod shown;
+mod steady;
+mod view;
+
+pub use checking::check_on;
+pub use commands::{TRY_QUANTUM, print_help, put, refuse, try_on};
+pub use device_file::is_device_file;
+pub use explaining::{explain, push_opening};
+pub use looking::{is_special, push_error, push_file};
+pub use opening::{recover_on, show_on};
+pub use refusal::Refusal;
+pub use view::view_on;

@@ -1,0 +1,106 @@
+//! `tpnet recover` and `tpnet show`, over any device.
+
+ghost use Rattle.std.specs.Prelude.{◌≡◌, ◌≤◌, IsErr, OnOk};
+ghost use Rattle.tp_model.specs.Opening.{verdict};
+ghost use Rattle.tp_recover.specs.Reading.{LeavesNothingNew};
+ghost use Rattle.tp_views.specs.Front.{PrintsFront};
+ghost use Rattle.tp_views.specs.Opens.{IsUnwritten, Prints, front_of, recovered, shown};
+
+use crate::commands::{put, refuse};
+use crate::refusal::Refusal;
+use crate::shown::{Front, next_line, shown_text};
+use crate::steady::{Tried, open_steady};
+use std::alloc::Global;
+use std::io::Write;
+use tp_disk::Disk;
+use tp_recover::Opened;
+
+/// What is said of an opened device beside its network.
+fn front_of(opened: &Opened) -> Front
+    ensures { result ≡ front_of opened.now }
+{
+    Front {
+        area: opened.head().area(),
+        second: opened.second(),
+        generation: opened.generation(),
+        base: opened.base(),
+        entries: opened.kept().len(),
+        next: opened.next(),
+    }
+}
+
+fn recover<D: Disk, O: Write>(alloc: Global, disk: &mut D, out: &mut O) -> Result<(), Refusal>
+    ensures done { D.keeps → OnOk result (Prints recovered (D.state disk.old).now.bytes (O.contents out.old) (O.contents out.new)) }
+    ensures leaves { D.keeps → LeavesNothingNew (D.state disk.old) (D.state disk.new) }
+    ensures front { D.keeps → PrintsFront recovered (D.state disk.old).now.bytes (O.contents out.old) (O.contents out.new) }
+    ensures kept { D.keeps → IsUnwritten (D.failures_of disk.old) (D.failures_of disk.new) (D.state disk.old).now (D.state disk.new).now }
+    ensures refused { D.keeps → IsErr (verdict (D.state disk.old).now.bytes) → (IsErr result) × (O.contents out.new ≡ O.contents out.old) }
+{
+    let Tried::Steady(answer) = open_steady(alloc, disk) else {
+        return Err(Refusal::Busy);
+    };
+    let opened = answer?;
+    let Ok(text) = next_line(alloc, opened.next()) else {
+        return Err(Refusal::Memory);
+    };
+    put(out, text.as_bytes())
+}
+
+fn show<D: Disk, O: Write>(alloc: Global, disk: &mut D, out: &mut O) -> Result<(), Refusal>
+    ensures done { D.keeps → OnOk result (Prints shown (D.state disk.old).now.bytes (O.contents out.old) (O.contents out.new)) }
+    ensures leaves { D.keeps → LeavesNothingNew (D.state disk.old) (D.state disk.new) }
+    ensures front { D.keeps → PrintsFront shown (D.state disk.old).now.bytes (O.contents out.old) (O.contents out.new) }
+    ensures kept { D.keeps → IsUnwritten (D.failures_of disk.old) (D.failures_of disk.new) (D.state disk.old).now (D.state disk.new).now }
+    ensures refused { D.keeps → IsErr (verdict (D.state disk.old).now.bytes) → (IsErr result) × (O.contents out.new ≡ O.contents out.old) }
+{
+    let Tried::Steady(answer) = open_steady(alloc, disk) else {
+        return Err(Refusal::Busy);
+    };
+    let opened = answer?;
+    let Ok(text) = shown_text(alloc, front_of(&opened), opened.network()) else {
+        return Err(Refusal::Memory);
+    };
+    put(out, text.as_bytes())
+}
+
+/// `tpnet recover`, on a device. Answers the program's status: 0 where the device opens and exactly its line was printed, else 1.
+/// Nothing is written to the device, and a crash finds nothing that the call made. Of one that doesn't open nothing is printed.
+pub fn recover_on<D: Disk, O: Write, E: Write>(
+    alloc: Global,
+    disk: &mut D,
+    out: &mut O,
+    err: &mut E,
+) -> u8
+    ensures status { result ≤ 1 }
+    ensures done { D.keeps → result ≡ 0 → Prints recovered (D.state disk.old).now.bytes (O.contents out.old) (O.contents out.new) }
+    ensures leaves { D.keeps → LeavesNothingNew (D.state disk.old) (D.state disk.new) }
+    ensures front { D.keeps → PrintsFront recovered (D.state disk.old).now.bytes (O.contents out.old) (O.contents out.new) }
+    ensures kept { D.keeps → IsUnwritten (D.failures_of disk.old) (D.failures_of disk.new) (D.state disk.old).now (D.state disk.new).now }
+    ensures refused { D.keeps → IsErr (verdict (D.state disk.old).now.bytes) → (result ≡ 1) × (O.contents out.new ≡ O.contents out.old) }
+{
+    match recover(alloc, disk, out) {
+        Ok(()) => 0,
+        Err(refusal) => refuse(err, refusal),
+    }
+}
+
+/// `tpnet show`, on a device. Answers the program's status: 0 where the device opens and exactly its lines were printed, else 1.
+/// Nothing is written to the device, and a crash finds nothing that the call made. Of one that doesn't open nothing is printed.
+pub fn show_on<D: Disk, O: Write, E: Write>(
+    alloc: Global,
+    disk: &mut D,
+    out: &mut O,
+    err: &mut E,
+) -> u8
+    ensures status { result ≤ 1 }
+    ensures done { D.keeps → result ≡ 0 → Prints shown (D.state disk.old).now.bytes (O.contents out.old) (O.contents out.new) }
+    ensures leaves { D.keeps → LeavesNothingNew (D.state disk.old) (D.state disk.new) }
+    ensures front { D.keeps → PrintsFront shown (D.state disk.old).now.bytes (O.contents out.old) (O.contents out.new) }
+    ensures kept { D.keeps → IsUnwritten (D.failures_of disk.old) (D.failures_of disk.new) (D.state disk.old).now (D.state disk.new).now }
+    ensures refused { D.keeps → IsErr (verdict (D.state disk.old).now.bytes) → (result ≡ 1) × (O.contents out.new ≡ O.contents out.old) }
+{
+    match show(alloc, disk, out) {
+        Ok(()) => 0,
+        Err(refusal) => refuse(err, refusal),
+    }
+}

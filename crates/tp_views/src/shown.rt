@@ -1,0 +1,110 @@
+//! What is printed of a device.
+
+ghost use Rattle.std.specs.Prelude.{◌≡◌, ◌++◌, IfOk, OnOk, string_bytes, length, map};
+ghost use Rattle.tp_model.specs.Image.{halt_byte};
+ghost use Rattle.tp_views.specs.Shown.{area_number, head_line, next_line, node_line, node_lines, open_line, port_line, port_lines, shown_text};
+
+use std::alloc::{AllocError, Global};
+use std::fmt::Write;
+use tp_node::{Node, halt_byte};
+use tp_port::HostPort;
+use tp_replay::FlatNetwork;
+
+/// What is said of a device beside its network: the bytes of an area, which one is open, its generation, the entries in its
+/// cut and in its groups, and the number of the next entry.
+#[derive(Clone, Copy, Debug, PartialEq, Eq)]
+pub struct Front {
+    pub area: u64,
+    pub second: bool,
+    pub generation: u64,
+    pub base: u64,
+    pub entries: usize,
+    pub next: u64,
+}
+
+fn area_number(second: bool) -> u8
+    ensures { result ≡ area_number second }
+{
+    if second { 1 } else { 0 }
+}
+
+fn push_head(text: &mut String, nodes: usize, ports: usize, area: u64) -> Result<(), AllocError>
+    ensures { OnOk result (string_bytes text.new ≡ string_bytes text.old ++ head_line nodes ports area) }
+{
+    write!(text, "nodes {nodes} ports {ports} area {area}\n")
+}
+
+fn push_open(text: &mut String, front: Front) -> Result<(), AllocError>
+    ensures { OnOk result (string_bytes text.new ≡ string_bytes text.old ++ open_line (area_number front.second) front.generation front.base front.entries front.next) }
+{
+    let open = area_number(front.second);
+    let Front {
+        generation,
+        base,
+        entries,
+        next,
+        ..
+    } = front;
+    write!(
+        text,
+        "open {open} generation {generation} base {base} entries {entries} next {next}\n"
+    )
+}
+
+fn push_node(text: &mut String, number: usize, node: &Node) -> Result<(), AllocError>
+    ensures { OnOk result (string_bytes text.new ≡ string_bytes text.old ++ node_line number (halt_byte node.now.live.cpu.halt)) }
+{
+    let halt = halt_byte(node.halt());
+    write!(text, "node {number} halt {halt}\n")
+}
+
+fn push_port(text: &mut String, number: usize, port: &HostPort) -> Result<(), AllocError>
+    ensures { OnOk result (string_bytes text.new ≡ string_bytes text.old ++ port_line number port.now.port) }
+{
+    let in_base = port.in_base();
+    let pending = port.pending().len();
+    let out_base = port.out_base();
+    let unconfirmed = port.outputs().len();
+    write!(
+        text,
+        "port {number} in {in_base} pending {pending} out {out_base} unconfirmed {unconfirmed}\n"
+    )
+}
+
+fn push_nodes(text: &mut String, nodes: &[Node]) -> Result<(), AllocError>
+    ensures { OnOk result (string_bytes text.new ≡ string_bytes text.old ++ node_lines 0 (map (λ node. node.live) nodes.now)) }
+{
+    for (number, node) in nodes.iter().enumerate() {
+        push_node(text, number, node)?;
+    }
+    Ok(())
+}
+
+fn push_ports(text: &mut String, ports: &[HostPort]) -> Result<(), AllocError>
+    ensures { OnOk result (string_bytes text.new ≡ string_bytes text.old ++ port_lines 0 (map (λ port. port.port) ports.now)) }
+{
+    for (number, port) in ports.iter().enumerate() {
+        push_port(text, number, port)?;
+    }
+    Ok(())
+}
+
+/// All that is shown of a device.
+pub fn shown_text(alloc: Global, front: Front, now: &FlatNetwork) -> Result<String, AllocError>
+    ensures { IfOk result (λ text. string_bytes text ≡ shown_text front now.now) }
+{
+    let (nodes, ports) = (now.nodes(), now.ports());
+    let mut text = String::new(alloc);
+    push_head(&mut text, nodes.len(), ports.len(), front.area)?;
+    push_open(&mut text, front)?;
+    push_nodes(&mut text, nodes)?;
+    push_ports(&mut text, ports)?;
+    Ok(text)
+}
+
+/// What is printed of a device that was recovered.
+pub fn next_line(alloc: Global, next: u64) -> Result<String, AllocError>
+    ensures { IfOk result (λ text. string_bytes text ≡ next_line next) }
+{
+    format!(in alloc; "next {next}\n")
+}

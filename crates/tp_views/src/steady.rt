@@ -1,0 +1,209 @@
+//! Opening a device that another process may be running.
+//!
+//! Such a process writes only the area that doesn't count. A checkpoint closes that area's gate, writes all behind it with a
+//! generation that is higher by 1 than the other area's, and opens its gate: from then on it counts. The area that counted before is
+//! written anew by the next checkpoint alone, which closes its gate first, and opens it with a generation that is higher by 2. So an
+//! area whose gate is open at two moments, with one generation, wasn't written between them but for groups behind its last one.
+//!
+//! **An area counts at the look before.** Where its gate and its generation are at the look behind what they were, no checkpoint
+//! wrote into it between the two, so none opened the other area and then wrote into that one either: what opening read, whichever of
+//! the two it took, is what it was from the look before on, or from when that area was opened on, up to the look behind. Of groups
+//! that are appended meanwhile the gate is opened last, when all behind it, with the next gate closed, is written and synced: what is
+//! read up to the first closed gate is whole, and is what stood at the moment of the last read. So the answer is one of that moment,
+//! and a refusal is true of it.
+//!
+//! **No area counts at the look before.** Of a device that is run one area's gate is open at each moment, and the generations of the
+//! two are never equal. A look that reads one front behind the other may miss that, where a switch comes between its reads. So a look
+//! reads the first area's front again, and what opening said stands where the look behind finds the same three fronts. A running device
+//! has no such history. Where the first front is closed each time, it is so at three moments at least, with the second one closed at
+//! moments between them; but a gate is closed before one generation in two spans of time at most, while that is being written and before
+//! it is written anew. Where the first front read again is open, it was opened behind its first reading, so it can't be closed before
+//! that generation and opened with it once more.
+//!
+//! **No look finds a head**: a device that isn't formatted, or whose head breaks a rule. No run writes a head, and `format` writes it
+//! last, so what opening said stands where the look behind finds none either.
+//!
+//! A read of an area's front is taken to be one of a moment: nine bytes, of which the gate is closed and synced before the others are
+//! written. Who formats a file anew that is read meanwhile isn't found out where the new device's front is what the old one's was.
+
+ghost use Rattle.std.specs.Prelude.{◌≡◌, ◌+◌, ◌*◌, ◌≤◌, ◌<◌, ◌^◌, ◌↔◌, IsTrue, IfErr, IfOk};
+ghost use Rattle.tp_layout.specs.Fronts.{area_front};
+ghost use Rattle.tp_model.specs.Disk.{Sync, done};
+ghost use Rattle.tp_model.specs.DiskHistory.{Counts};
+ghost use Rattle.tp_model.specs.Head.{head_of};
+ghost use Rattle.tp_model.specs.Opening.{verdict};
+ghost use Rattle.tp_model.specs.declared.limits.TheConstants.{HEAD_BYTES};
+ghost use Rattle.tp_views.specs.Steady.{HasStayed, IsStill, OfSteady, counting, front_of, fronts_in, is_above, looked};
+ghost use Rattle.tp_recover.specs.Reading.{has_read, found, Answers, IsKept, LeavesNothingNew};
+
+use std::alloc::Global;
+use tp_disk::Disk;
+use tp_layout::{AREA_FRONT_BYTES, AreaFront, area_front, area_start};
+use tp_recover::{Opened, Unopened, open, read_head};
+
+/// How often a device is opened that another process writes meanwhile.
+pub const MAX_TRIES: u32 = 20;
+
+/// What a look finds: the bytes of an area, and the fronts of both, in the order in which they are read: the first area's, the second
+/// one's, and the first one's again.
+#[derive(Clone, Copy, Debug, PartialEq, Eq)]
+struct Fronts {
+    area: u64,
+    first: AreaFront,
+    second: AreaFront,
+    again: AreaFront,
+}
+
+/// Whether an area counts beside another one.
+fn is_above(one: AreaFront, other: AreaFront) -> bool
+    ensures { result ≡ is_above one other }
+{
+    one.is_open && (!other.is_open || other.generation < one.generation)
+}
+
+impl Fronts {
+    /// Which area counts: whether it is the second one. None does where no gate is open, or both are with one generation.
+    fn counting(&self) -> Option<bool>
+        ensures { result ≡ counting self.now }
+    {
+        if is_above(self.first, self.second) {
+            Some(false)
+        } else if is_above(self.second, self.first) {
+            Some(true)
+        } else {
+            None
+        }
+    }
+
+    /// The front of an area.
+    fn front(&self, second: bool) -> AreaFront
+        ensures { result ≡ front_of second self.now }
+    {
+        if second { self.second } else { self.first }
+    }
+}
+
+/// Reads the front of the area that begins at `start`.
+fn read_front<D: Disk>(disk: &mut D, start: u64) -> Result<AreaFront, Unopened>
+    requires { start + 9 ≤ D.size_of disk.old }
+    ensures counts { Counts (has_read result) (D.size_of disk.old) (D.size_of disk.new) (D.failures_of disk.old) (D.failures_of disk.new) }
+    ensures kept { D.keeps → IsKept result (D.state disk.old).now (D.state disk.new).now }
+    ensures leaves { D.keeps → LeavesNothingNew (D.state disk.old) (D.state disk.new) }
+    ensures refused { IfErr result (λ unopened. unopened ≡ Unopened.ReadFailed) }
+    ensures is { D.keeps → IfOk result (λ front. front ≡ area_front start (D.state disk.old).now.bytes) }
+{
+    let mut bytes = [0; AREA_FRONT_BYTES];
+    match disk.read(start, &mut bytes) {
+        Ok(()) => Ok(area_front(&bytes)),
+        Err(_) => Err(Unopened::ReadFailed),
+    }
+}
+
+/// Reads the fronts of a device whose areas have `area` bytes each.
+fn read_fronts<D: Disk>(disk: &mut D, area: u64) -> Result<Fronts, Unopened>
+    requires some { 9 ≤ area }
+    requires inside { HEAD_BYTES + 2 * area ≤ D.size_of disk.old }
+    requires counted { HEAD_BYTES + area < 2 ^ 64 }
+    ensures counts { Counts (has_read result) (D.size_of disk.old) (D.size_of disk.new) (D.failures_of disk.old) (D.failures_of disk.new) }
+    ensures kept { D.keeps → IsKept result (D.state disk.old).now (D.state disk.new).now }
+    ensures leaves { D.keeps → LeavesNothingNew (D.state disk.old) (D.state disk.new) }
+    ensures refused { IfErr result (λ unopened. unopened ≡ Unopened.ReadFailed) }
+    ensures is { D.keeps → IfOk result (λ fronts. fronts ≡ fronts_in area (D.state disk.old).now.bytes) }
+{
+    let start = area_start(area, false);
+    let first = read_front(disk, start)?;
+    let second = read_front(disk, area_start(area, true))?;
+    let again = read_front(disk, start)?;
+    Ok(Fronts {
+        area,
+        first,
+        second,
+        again,
+    })
+}
+
+/// Looks at a device: finds the fronts of its areas, or none where it has no head, or one that breaks a rule.
+fn look<D: Disk>(disk: &mut D) -> Result<Option<Fronts>, Unopened>
+    ensures counts { Counts (has_read result) (D.size_of disk.old) (D.size_of disk.new) (D.failures_of disk.old) (D.failures_of disk.new) }
+    ensures kept { D.keeps → IsKept result (D.state disk.old).now (D.state disk.new).now }
+    ensures leaves { D.keeps → LeavesNothingNew (D.state disk.old) (D.state disk.new) }
+    ensures refused { IfErr result (λ unopened. unopened ≡ Unopened.ReadFailed) }
+    ensures is { D.keeps → IfOk result (λ found. found ≡ looked (head_of (D.state disk.old).now.bytes) (D.state disk.old).now.bytes) }
+{
+    match read_head(disk) {
+        Ok(head) => Ok(Some(read_fronts(disk, head.area())?)),
+        Err(Unopened::Fault(_)) => Ok(None),
+        Err(_) => Err(Unopened::ReadFailed),
+    }
+}
+
+/// Whether the area that counted at the look `before` has its front at the look `after`; where none counted, whether nothing is otherwise.
+fn has_stayed(second: Option<bool>, before: Fronts, after: Fronts) -> bool
+    ensures { IsTrue result ↔ HasStayed second before after }
+{
+    match second {
+        Some(second) => after.front(second) == before.front(second),
+        None => after == before,
+    }
+}
+
+/// Whether what counted at the look `before` still counts at the look `after`.
+fn is_still(before: Option<Fronts>, after: Option<Fronts>) -> bool
+    ensures { IsTrue result ↔ IsStill before after }
+{
+    match (before, after) {
+        (Some(before), Some(after)) => {
+            after.area == before.area && has_stayed(before.counting(), before, after)
+        }
+        (None, None) => true,
+        _ => false,
+    }
+}
+
+/// What came of opening a device: the answer is one of a moment, or the device was written so that it may not be.
+#[derive(Drop)]
+pub enum Tried {
+    Steady(Result<Opened, Unopened>),
+    Changed,
+}
+
+/// Opens a device between two looks. What a call that failed leaves isn't known, so ReadFailed is answered as it is.
+fn open_once<D: Disk>(alloc: Global, disk: &mut D) -> Tried
+    ensures leaves { D.keeps → LeavesNothingNew (D.state disk.old) (D.state disk.new) }
+    ensures counts { D.keeps → OfSteady (λ answer. Counts (has_read answer) (D.size_of disk.old) (D.size_of disk.new) (D.failures_of disk.old) (D.failures_of disk.new)) result }
+    ensures kept { D.keeps → OfSteady (λ answer. IsKept answer (done Sync (D.state disk.old).now) (D.state disk.new).now) result }
+    ensures is { D.keeps → OfSteady (Answers (λ opened. opened) (verdict (D.state disk.old).now.bytes)) result }
+{
+    let before = match look(disk) {
+        Ok(before) => before,
+        Err(unopened) => return Tried::Steady(Err(unopened)),
+    };
+    let answer = match open(alloc, disk) {
+        Err(Unopened::ReadFailed) => return Tried::Steady(Err(Unopened::ReadFailed)),
+        answer => answer,
+    };
+    match look(disk) {
+        Ok(after) if is_still(before, after) => Tried::Steady(answer),
+        Ok(_) => Tried::Changed,
+        Err(unopened) => Tried::Steady(Err(unopened)),
+    }
+}
+
+/// Opens a device that another process may be running: the answer is what opening it answers of one moment of the call, or `Changed`
+/// where no moment could be read. Of a device that keeps the model, whose bytes nobody else writes, it is what opening answers, and never
+/// `Changed`. Nothing is written.
+pub fn open_steady<D: Disk>(alloc: Global, disk: &mut D) -> Tried
+    ensures leaves { D.keeps → LeavesNothingNew (D.state disk.old) (D.state disk.new) }
+    ensures counts { D.keeps → OfSteady (λ answer. Counts (has_read answer) (D.size_of disk.old) (D.size_of disk.new) (D.failures_of disk.old) (D.failures_of disk.new)) result }
+    ensures kept { D.keeps → OfSteady (λ answer. IsKept answer (done Sync (D.state disk.old).now) (D.state disk.new).now) result }
+    ensures is { D.keeps → OfSteady (Answers (λ opened. opened) (verdict (D.state disk.old).now.bytes)) result }
+{
+    let mut left = MAX_TRIES;
+    while left > 0 {
+        left -= 1;
+        if let Tried::Steady(answer) = open_once(alloc, disk) {
+            return Tried::Steady(answer);
+        }
+    }
+    Tried::Changed
+}

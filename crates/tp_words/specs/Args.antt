@@ -1,0 +1,70 @@
+-- The values of a command line.
+use Rattle.std.specs.Prelude.{◌≡◌, ◌≤◌, ◌<◌, ◌^◌, ℕ, true, List, Option, Some, None, codes, string_bytes}
+use Rattle.std.specs.Fmt.{decimal}
+use Rattle.std.specs.Option.{option_map}
+use Rattle.std.specs.declared.alloc.Global.{Global}
+use Rattle.std.specs.declared.string.String.{String}
+use Rattle.tp_model.specs.declared.limits.TheConstants.{MAX_STEPS}
+use Rattle.tp_words.specs.declared.args.Asked.{Asked}
+use Rattle.tp_words.specs.declared.args.Asked.TheVariants.{Help, Try, Format, Run as Runs, Compact, Recover, Show, Check, View as Views}
+use Rattle.tp_words.specs.declared.args.Run.{Run}
+use Rattle.tp_words.specs.declared.args.TheConstants.{MAX_AREA, MAX_WORKERS}
+use Rattle.tp_words.specs.declared.views.View.{View}
+use Rattle.tp_words.specs.declared.views.View.TheVariants.{Node, Image, Journal, Pending, Outputs}
+use Rattle.tp_words.specs.Given.{given, IsGivenOr}
+use Rattle.tp_words.specs.Typed.{has_word, was_typed}
+
+-- a snapshot begins after a number of entries, where one is given
+abbrev pub IsEvery : Option ℕ → Type 0
+IsEvery None = Unit {0}
+IsEvery (Some every) = (0 < every) × (every < 2 ^ 32)
+
+-- each number of a run is in its range
+unfoldable pub IsRun : Run → Type 0
+IsRun run = (run.turns < 2 ^ 32) × (0 < run.workers) × (run.workers ≤ MAX_WORKERS) × (0 < run.quantum) × (run.quantum ≤ MAX_STEPS) × IsEvery run.every
+
+-- each number is in its range
+abbrev pub IsInRange : Asked → Type 0
+IsInRange (Help text) = Unit {0}
+IsInRange (Try image turns) = turns < 2 ^ 32
+IsInRange (Format new) = new.area ≤ MAX_AREA
+IsInRange (Runs run) = IsRun run
+IsInRange (Compact device wait_lock) = Unit {0}
+IsInRange (Recover device) = Unit {0}
+IsInRange (Show device) = Unit {0}
+IsInRange (Check topology images) = Unit {0}
+IsInRange (Views device view) = Unit {0}
+
+-- the number of a view is a decimal that was typed; a journal is shown from its first entry where none was
+abbrev pub HasTyped : List (String Global) → View → Type 0
+HasTyped words (Node node) = was_typed words (decimal node) ≡ true
+HasTyped words (Image node) = was_typed words (decimal node) ≡ true
+HasTyped words (Journal from) = IsGivenOr 0 from (given (codes "from") words)
+HasTyped words (Pending port) = was_typed words (decimal port) ≡ true
+HasTyped words (Outputs port) = was_typed words (decimal port) ≡ true
+
+-- each option of a run is what was typed for it, and else what docs/PROGRAM.md says
+abbrev pub IsTypedRun : List (String Global) → Run → Type 0
+IsTypedRun words run = (has_word (string_bytes run.device) words ≡ true)
+    × (given (codes "turns") words ≡ Some (decimal run.turns))
+    × IsGivenOr 2 run.workers (given (codes "workers") words)
+    × IsGivenOr 1024 run.quantum (given (codes "quantum") words)
+    × IsGivenOr 4 run.spare (given (codes "spare") words)
+    × (given (codes "every") words ≡ option_map decimal run.every)
+    × IsGivenOr 0 run.port (given (codes "port") words)
+    × (given (codes "in") words ≡ option_map string_bytes run.input)
+    × IsGivenOr 0 run.wait_lock (given (codes "wait-lock") words)
+
+-- each number is a decimal that was typed, and each text a word
+abbrev pub WasTyped : List (String Global) → Asked → Type 0
+WasTyped words (Help text) = Unit {0}
+WasTyped words (Try image turns) = (has_word (string_bytes image) words ≡ true) × (given (codes "turns") words ≡ Some (decimal turns))
+WasTyped words (Format new) = (has_word (string_bytes new.device) words ≡ true) × (has_word (string_bytes new.topology) words ≡ true)
+    × (has_word (string_bytes new.images) words ≡ true) × (was_typed words (decimal new.area) ≡ true)
+    × IsGivenOr 0 new.wait_lock (given (codes "wait-lock") words)
+WasTyped words (Runs run) = IsTypedRun words run
+WasTyped words (Compact device wait_lock) = (has_word (string_bytes device) words ≡ true) × IsGivenOr 0 wait_lock (given (codes "wait-lock") words)
+WasTyped words (Recover device) = has_word (string_bytes device) words ≡ true
+WasTyped words (Show device) = has_word (string_bytes device) words ≡ true
+WasTyped words (Check topology images) = (has_word (string_bytes topology) words ≡ true) × (has_word (string_bytes images) words ≡ true)
+WasTyped words (Views device view) = (has_word (string_bytes device) words ≡ true) × HasTyped words view

@@ -1,0 +1,35 @@
+-- What was typed for an option.
+use Rattle.std.specs.Prelude.{◌≡◌, ◌++◌, ℕ, List, [], ◌∷◌, Option, Some, None, if◌then◌else◌, length, take, drop, codes, string_bytes, nat_eq}
+use Rattle.std.specs.Cmp.Lexicographic.{pointwise}
+use Rattle.std.specs.Fmt.{decimal}
+use Rattle.std.specs.Option.{option_or}
+use Rattle.std.specs.declared.alloc.Global.{Global}
+use Rattle.std.specs.declared.string.String.{String}
+use Rattle.tp_words.specs.Typed.{is_word}
+
+-- what stands behind an ending, where the bytes begin with it
+abbrev pub value_in : List ℕ → List ℕ → Option (List ℕ)
+value_in ending bytes = if pointwise nat_eq (take (length ending) bytes) ending then Some (drop (length ending) bytes) else None
+
+-- the text of the first word
+abbrev pub first_text : List (String Global) → Option (List ℕ)
+first_text [] = None
+first_text (word ∷ words) = Some (string_bytes word)
+
+-- what was typed for the option of a name, whose ending is the name with `=` behind it: the word behind the name, or what stands behind
+-- the ending, whichever comes first; none behind a word `--`
+abbrev pub given_in : List ℕ → List ℕ → List (String Global) → Option (List ℕ)
+given_in name ending [] = None
+given_in name ending (word ∷ words) =
+    if is_word (codes "--") word then None
+    else (if is_word name word then first_text words
+    else option_or (value_in ending (string_bytes word)) (given_in name ending words))
+
+-- what was typed for an option
+abbrev pub given : List ℕ → List (String Global) → Option (List ℕ)
+given id words = given_in (codes "--" ++ id) (codes "--" ++ (id ++ codes "=")) words
+
+-- the number is the decimal that was typed, or that one where none was
+abbrev pub IsGivenOr : ℕ → ℕ → Option (List ℕ) → Type 0
+IsGivenOr fallback number None = number ≡ fallback
+IsGivenOr fallback number (Some text) = text ≡ decimal number

@@ -1,0 +1,316 @@
+//! What the command line asks for.
+
+ghost use Rattle.std.specs.Prelude.{◌≡◌, ◌≤◌, IfOk, codes};
+ghost use Rattle.std.specs.Fmt.{decimal};
+ghost use Rattle.std.specs.Option.{option_map};
+ghost use Rattle.tp_words.specs.Args.{HasTyped, IsEvery, IsInRange, WasTyped};
+ghost use Rattle.tp_words.specs.Given.{given, IsGivenOr};
+
+use crate::found::{area_of, option_number, option_or, option_string, place_of, text_of, turns_of};
+use crate::stream_words::stream_option;
+use crate::views::View;
+use crate::words::command;
+use clap::ArgMatches;
+use std::alloc::{AllocError, AllocFailed, Global};
+use std::fmt;
+use tp_model::limits::MAX_STEPS;
+
+/// What the command line asks for.
+#[derive(Drop)]
+pub enum Asked {
+    /// How to call the program, or which version it is.
+    Help(String),
+    /// Turns of one node, from its image, without a device.
+    Try { image: String, turns: u32 },
+    /// A new device.
+    Format(NewDevice),
+    /// A run of a device's network.
+    Run(Run),
+    /// Makes a device's network, as it is, its cut, behind which the journal is empty.
+    /// `wait_lock`: how many seconds another process is waited for that holds it.
+    Compact { device: String, wait_lock: u32 },
+    /// Opens a device and says what the next entry's number is.
+    Recover { device: String },
+    /// Opens a device and says what it holds.
+    Show { device: String },
+    /// Reads a topology and its images, and says how large an area has to be.
+    Check { topology: String, images: String },
+    /// Opens a device and shows a view of it.
+    View { device: String, view: View },
+}
+
+/// A device that is to be made: its file, the file of its topology, the folder of the images, and the bytes of an area.
+#[derive(Drop)]
+pub struct NewDevice {
+    pub device: String,
+    pub topology: String,
+    pub images: String,
+    pub area: u64,
+    /// Whether a file that is there is refused.
+    pub only_new: bool,
+    /// How many seconds another process is waited for that holds it.
+    pub wait_lock: u32,
+}
+
+/// A run of a device's network: its file, how many turns are made and how, the port that input goes to and output comes from, and the
+/// file of that port's whole input.
+#[derive(Drop)]
+pub struct Run {
+    pub device: String,
+    pub turns: u32,
+    pub workers: u8,
+    /// The most steps of a turn.
+    pub quantum: u16,
+    /// The spare frames of each node.
+    pub spare: u64,
+    /// The entries since the kept cut after which a snapshot begins; `None`: where the journal is half full.
+    pub every: Option<u32>,
+    pub port: u64,
+    pub input: Option<String>,
+    /// How many seconds another process is waited for that holds it.
+    pub wait_lock: u32,
+}
+
+/// The most bytes that an area is made with.
+pub const MAX_AREA: u64 = 1 << 40;
+
+/// The most turns of a trial or a run.
+pub const MAX_TURNS: u64 = 4_294_967_295;
+
+/// The most threads that make the turns of a run.
+pub const MAX_WORKERS: u8 = 16;
+
+/// The most seconds that another process is waited for.
+pub const MAX_WAIT: u64 = 4_294_967;
+
+/// The most words of a command line. Each port has four options at most, each of two words.
+pub const MAX_WORDS: usize = 256;
+
+/// Why the words ask for nothing. Each ends the program with status 2.
+#[derive(Drop)]
+pub enum ArgFault {
+    /// `clap`'s own text, which says what is wrong and how to call.
+    Words(clap::Error),
+    /// What was typed for the option `id` is no decimal in its range.
+    Range {
+        id: &'static str,
+        least: u64,
+        most: u64,
+    },
+    /// The number of bytes of an area is no decimal in its range.
+    Area,
+    /// The number of a node, a port or an entry is no decimal.
+    Number,
+    /// There are more words than any command has.
+    Many,
+    /// This option goes with `--stream`.
+    Stream(&'static str),
+    /// A word is missing. `clap` says so itself, so this doesn't come.
+    Missing,
+    Memory,
+}
+
+impl fmt::Display for ArgFault {
+    fn fmt<W: fmt::Write>(&self, f: &mut fmt::Formatter<W>) -> fmt::Result {
+        match self {
+            ArgFault::Words(error) => write!(f, "{error}"),
+            ArgFault::Range { id, least, most } => {
+                write!(f, "tpnet: --{id} takes a decimal ")?;
+                match *id {
+                    "spare" => write!(f, "from 0 to the pages of the smallest node"),
+                    "port" => write!(f, "from 0 to 7, a port of the device"),
+                    "from" => write!(f, "below 2^64"),
+                    _ => write!(f, "from {least} to {most}"),
+                }?;
+                write!(f, ", without a sign or leading zeros\n")
+            }
+            ArgFault::Area => write!(
+                f,
+                "tpnet: AREA takes a decimal from 0 to 1099511627776, without a sign or leading zeros\n"
+            ),
+            ArgFault::Number => write!(
+                f,
+                "tpnet: a number of a node or a port is a decimal below 2^64, without a sign or leading zeros\n"
+            ),
+            ArgFault::Many => write!(f, "tpnet: there are more than {MAX_WORDS} words\n"),
+            ArgFault::Stream(id) => write!(
+                f,
+                "tpnet: --{id} goes with --stream; see tpnet run --stream --help\n"
+            ),
+            ArgFault::Missing => write!(f, "tpnet: a word is missing; see tpnet --help\n"),
+            ArgFault::Memory => write!(f, "tpnet: Memory\n"),
+        }
+    }
+}
+
+impl From<clap::Error> for ArgFault {
+    fn from(error: clap::Error) -> ArgFault {
+        ArgFault::Words(error)
+    }
+}
+
+impl From<AllocError> for ArgFault {
+    fn from(_error: AllocError) -> ArgFault {
+        ArgFault::Memory
+    }
+}
+
+impl<T: Drop> From<AllocFailed<T>> for ArgFault {
+    fn from(_error: AllocFailed<T>) -> ArgFault {
+        ArgFault::Memory
+    }
+}
+
+fn asked_try(alloc: Global, words: &[String], found: &ArgMatches) -> Result<Asked, ArgFault>
+    ensures range { IfOk result IsInRange }
+    ensures typed { IfOk result (WasTyped words.now) }
+{
+    Ok(Asked::Try {
+        image: text_of(alloc, words, found, "IMAGE")?,
+        turns: turns_of(alloc, words, found)?,
+    })
+}
+
+fn asked_format(alloc: Global, words: &[String], found: &ArgMatches) -> Result<Asked, ArgFault>
+    ensures range { IfOk result IsInRange }
+    ensures typed { IfOk result (WasTyped words.now) }
+{
+    Ok(Asked::Format(NewDevice {
+        device: text_of(alloc, words, found, "DEVICE")?,
+        topology: text_of(alloc, words, found, "TOPOLOGY")?,
+        images: text_of(alloc, words, found, "DIR")?,
+        area: area_of(alloc, words, found)?,
+        only_new: found.get_flag("new"),
+        wait_lock: wait_of(alloc, words, found)?,
+    }))
+}
+
+/// The entries after which a snapshot begins.
+pub fn every_of(
+    alloc: Global,
+    words: &[String],
+    found: &ArgMatches,
+) -> Result<Option<u32>, ArgFault>
+    ensures range { IfOk result IsEvery }
+    ensures typed { IfOk result (λ every. given (codes "every") words.now ≡ option_map decimal every) }
+{
+    match option_number(alloc, words, found, "every", 1, u32::MAX as u64)? {
+        Some(every) => Ok(Some(every as u32)),
+        None => Ok(None),
+    }
+}
+
+/// How many seconds another process is waited for that holds the device.
+pub fn wait_of(alloc: Global, words: &[String], found: &ArgMatches) -> Result<u32, ArgFault>
+    ensures range { IfOk result (λ seconds. seconds ≤ MAX_WAIT) }
+    ensures typed { IfOk result (λ seconds. IsGivenOr 0 seconds (given (codes "wait-lock") words.now)) }
+{
+    Ok(option_or(alloc, words, found, "wait-lock", 0, MAX_WAIT, 0)? as u32)
+}
+
+#[tactic(auto, unfolding(crate::specs::Args::IsRun))]
+fn asked_run(alloc: Global, words: &[String], found: &ArgMatches) -> Result<Asked, ArgFault>
+    ensures range { IfOk result IsInRange }
+    ensures typed { IfOk result (WasTyped words.now) }
+{
+    let (workers, quantum) = (MAX_WORKERS as u64, MAX_STEPS as u64);
+    Ok(Asked::Run(Run {
+        device: text_of(alloc, words, found, "DEVICE")?,
+        turns: turns_of(alloc, words, found)?,
+        workers: option_or(alloc, words, found, "workers", 1, workers, 2)? as u8,
+        quantum: option_or(alloc, words, found, "quantum", 1, quantum, 1024)? as u16,
+        spare: option_or(alloc, words, found, "spare", 0, u64::MAX, 4)?,
+        every: every_of(alloc, words, found)?,
+        port: option_or(alloc, words, found, "port", 0, u64::MAX, 0)?,
+        input: option_string(alloc, words, found, "in")?,
+        wait_lock: wait_of(alloc, words, found)?,
+    }))
+}
+
+/// The first entry of a journal that is shown.
+fn first_of(alloc: Global, words: &[String], found: &ArgMatches) -> Result<View, ArgFault>
+    ensures { IfOk result (HasTyped words.now) }
+{
+    Ok(View::Journal(option_or(alloc, words, found, "from", 0, u64::MAX, 0)?))
+}
+
+/// The bytes of a port that are shown.
+fn port_view(alloc: Global, words: &[String], found: &ArgMatches) -> Result<View, ArgFault>
+    ensures { IfOk result (HasTyped words.now) }
+{
+    let port = place_of(alloc, words, found, "P")?;
+    if found.get_flag("pending") {
+        Ok(View::Pending(port))
+    } else {
+        Ok(View::Outputs(port))
+    }
+}
+
+/// The view of a device that a command of that name shows.
+fn view_of(
+    alloc: Global,
+    words: &[String],
+    name: &str,
+    found: &ArgMatches,
+) -> Result<View, ArgFault>
+    ensures { IfOk result (HasTyped words.now) }
+{
+    match name {
+        "node" => Ok(View::Node(place_of(alloc, words, found, "I")?)),
+        "image" => Ok(View::Image(place_of(alloc, words, found, "I")?)),
+        "journal" => first_of(alloc, words, found),
+        "port" => port_view(alloc, words, found),
+        _ => Err(ArgFault::Missing),
+    }
+}
+
+/// What a command line asks for that names a command.
+fn asked_in(alloc: Global, words: &[String], matches: &ArgMatches) -> Result<Asked, ArgFault>
+    ensures range { IfOk result IsInRange }
+    ensures typed { IfOk result (WasTyped words.now) }
+{
+    match matches.subcommand() {
+        Some(("try", found)) => asked_try(alloc, words, found),
+        Some(("format", found)) => asked_format(alloc, words, found),
+        Some(("run", found)) => asked_run(alloc, words, found),
+        Some(("check", found)) => Ok(Asked::Check {
+            topology: text_of(alloc, words, found, "TOPOLOGY")?,
+            images: text_of(alloc, words, found, "DIR")?,
+        }),
+        Some(("compact", found)) => Ok(Asked::Compact {
+            device: text_of(alloc, words, found, "DEVICE")?,
+            wait_lock: wait_of(alloc, words, found)?,
+        }),
+        Some(("recover", found)) => Ok(Asked::Recover {
+            device: text_of(alloc, words, found, "DEVICE")?,
+        }),
+        Some(("show", found)) => Ok(Asked::Show {
+            device: text_of(alloc, words, found, "DEVICE")?,
+        }),
+        Some((name, found)) => Ok(Asked::View {
+            device: text_of(alloc, words, found, "DEVICE")?,
+            view: view_of(alloc, words, name, found)?,
+        }),
+        None => Err(ArgFault::Missing),
+    }
+}
+
+/// Reads the words of a command line, the program's name first. Each number is the decimal that was typed, and in its range;
+/// each text is one of the words.
+pub fn read_args(alloc: Global, words: &[String]) -> Result<Asked, ArgFault>
+    ensures range { IfOk result IsInRange }
+    ensures typed { IfOk result (WasTyped words.now) }
+{
+    if words.len() > MAX_WORDS {
+        return Err(ArgFault::Many);
+    }
+    let command = command(alloc)?;
+    match command.try_get_matches_from(words) {
+        Ok(matches) => asked_in(alloc, words, &matches),
+        Err(error) if !error.use_stderr() => Ok(Asked::Help(format!(in alloc; "{error}")?)),
+        Err(error) => match stream_option(words) {
+            Some(id) => Err(ArgFault::Stream(id)),
+            None => Err(ArgFault::Words(error)),
+        },
+    }
+}

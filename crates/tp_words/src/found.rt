@@ -1,0 +1,166 @@
+//! What `clap` found among the words, and that it was typed.
+
+ghost use Rattle.std.specs.Prelude.{◌≡◌, ◌≤◌, true, Some, IfOk, IfSome, codes, string_bytes};
+ghost use Rattle.std.specs.Fmt.{decimal};
+ghost use Rattle.std.specs.Option.{option_map};
+ghost use Rattle.tp_words.specs.Given.{given, IsGivenOr};
+ghost use Rattle.tp_words.specs.Typed.{has_word, was_typed};
+
+use crate::args::{ArgFault, MAX_AREA, MAX_TURNS};
+use crate::numbers::{given, has_word, number_of, was_typed};
+use clap::ArgMatches;
+use std::alloc::Global;
+
+/// The number that was typed for `id`, which has to be at most `most`.
+fn number_in(
+    alloc: Global,
+    words: &[String],
+    found: &ArgMatches,
+    id: &str,
+    most: u64,
+) -> Result<Option<u64>, ArgFault>
+    ensures range { IfOk result (λ found. IfSome found (λ number. number ≤ most)) }
+    ensures typed { IfOk result (λ found. IfSome found (λ number. was_typed words.now (decimal number) ≡ true)) }
+{
+    let Some(text) = found.get_str(id) else {
+        return Err(ArgFault::Missing);
+    };
+    if !was_typed(alloc, words, text)? {
+        return Err(ArgFault::Missing);
+    }
+    match number_of(alloc, text)? {
+        Some(number) if number <= most => Ok(Some(number)),
+        _ => Ok(None),
+    }
+}
+
+/// What was typed for an option, by the words themselves. `clap` has to have found the same.
+fn option_text<'a>(
+    alloc: Global,
+    words: &[String],
+    found: &'a ArgMatches,
+    id: &str,
+) -> Result<Option<&'a str>, ArgFault>
+    ensures { IfOk result (λ text. option_map (λ typed. typed.now) text ≡ given id.now words.now) }
+{
+    let name = format!(in alloc; "--{id}")?;
+    let ending = format!(in alloc; "--{id}=")?;
+    match (
+        given(words, name.as_str(), ending.as_str()),
+        found.get_str(id),
+    ) {
+        (Some(typed), Some(text)) if text.as_bytes() == typed => Ok(Some(text)),
+        (None, None) => Ok(None),
+        _ => Err(ArgFault::Missing),
+    }
+}
+
+/// The number that was typed for an option, which has to be in its range.
+pub fn option_number(
+    alloc: Global,
+    words: &[String],
+    found: &ArgMatches,
+    id: &'static str,
+    least: u64,
+    most: u64,
+) -> Result<Option<u64>, ArgFault>
+    ensures range { IfOk result (λ found. IfSome found (λ number. (least ≤ number) × (number ≤ most))) }
+    ensures typed { IfOk result (λ found. given id.now words.now ≡ option_map decimal found) }
+{
+    let Some(text) = option_text(alloc, words, found, id)? else {
+        return Ok(None);
+    };
+    match number_of(alloc, text)? {
+        Some(number) if least <= number && number <= most => Ok(Some(number)),
+        _ => Err(ArgFault::Range { id, least, most }),
+    }
+}
+
+/// The number that was typed for an option, which has to be in its range, or `fallback` where none was.
+pub fn option_or(
+    alloc: Global,
+    words: &[String],
+    found: &ArgMatches,
+    id: &'static str,
+    least: u64,
+    most: u64,
+    fallback: u64,
+) -> Result<u64, ArgFault>
+    requires range { (least ≤ fallback) × (fallback ≤ most) }
+    ensures range { IfOk result (λ number. (least ≤ number) × (number ≤ most)) }
+    ensures typed { IfOk result (λ number. IsGivenOr fallback number (given id.now words.now)) }
+{
+    match option_number(alloc, words, found, id, least, most)? {
+        Some(number) => Ok(number),
+        None => Ok(fallback),
+    }
+}
+
+/// The text that was typed for an option.
+pub fn option_string(
+    alloc: Global,
+    words: &[String],
+    found: &ArgMatches,
+    id: &str,
+) -> Result<Option<String>, ArgFault>
+    ensures { IfOk result (λ text. given id.now words.now ≡ option_map string_bytes text) }
+{
+    match option_text(alloc, words, found, id)? {
+        Some(text) => Ok(Some(String::from_str(alloc, text)?)),
+        None => Ok(None),
+    }
+}
+
+/// How many turns are made.
+pub fn turns_of(alloc: Global, words: &[String], found: &ArgMatches) -> Result<u32, ArgFault>
+    ensures { IfOk result (λ turns. given (codes "turns") words.now ≡ Some (decimal turns)) }
+{
+    match option_number(alloc, words, found, "turns", 0, MAX_TURNS)? {
+        Some(turns) => Ok(turns as u32),
+        None => Err(ArgFault::Missing),
+    }
+}
+
+/// How many bytes an area has.
+pub fn area_of(alloc: Global, words: &[String], found: &ArgMatches) -> Result<u64, ArgFault>
+    ensures range { IfOk result (λ area. area ≤ MAX_AREA) }
+    ensures typed { IfOk result (λ area. was_typed words.now (decimal area) ≡ true) }
+{
+    match number_in(alloc, words, found, "AREA", MAX_AREA)? {
+        Some(area) => Ok(area),
+        None => Err(ArgFault::Area),
+    }
+}
+
+/// The text that was typed for `id`.
+pub fn text_of(
+    alloc: Global,
+    words: &[String],
+    found: &ArgMatches,
+    id: &str,
+) -> Result<String, ArgFault>
+    ensures { IfOk result (λ text. has_word (string_bytes text) words.now ≡ true) }
+{
+    let Some(text) = found.get_str(id) else {
+        return Err(ArgFault::Missing);
+    };
+    if !has_word(words, text) {
+        return Err(ArgFault::Missing);
+    }
+    Ok(String::from_str(alloc, text)?)
+}
+
+/// The number of a node, a port or an entry.
+pub fn place_of(
+    alloc: Global,
+    words: &[String],
+    found: &ArgMatches,
+    id: &str,
+) -> Result<u64, ArgFault>
+    ensures { IfOk result (λ number. was_typed words.now (decimal number) ≡ true) }
+{
+    match number_in(alloc, words, found, id, u64::MAX)? {
+        Some(number) => Ok(number),
+        None => Err(ArgFault::Number),
+    }
+}

@@ -1,0 +1,83 @@
+//! Words and numbers that were typed.
+
+ghost use Rattle.std.specs.Prelude.{◌≡◌, IfOk, IfSome, string_bytes};
+ghost use Rattle.std.specs.Fmt.{decimal};
+ghost use Rattle.std.specs.Option.{option_map};
+ghost use Rattle.tp_words.specs.Given.{given_in, value_in};
+ghost use Rattle.tp_words.specs.Typed.{has_value, has_word, is_value, is_word, was_typed};
+
+use std::alloc::{AllocError, Global};
+
+/// Whether a word is this one.
+fn is_word(word: &String, text: &str) -> bool
+    ensures { result ≡ is_word text.now word.now }
+{
+    word.as_bytes() == text.as_bytes()
+}
+
+/// Whether a word is an option with this value: it ends with `=` and the value.
+fn is_value(word: &String, ending: &str) -> bool
+    ensures { result ≡ is_value ending.now word.now }
+{
+    word.as_bytes().ends_with(ending.as_bytes())
+}
+
+/// Whether one of the words is this one.
+pub fn has_word(words: &[String], text: &str) -> bool
+    ensures { result ≡ has_word text.now words.now }
+{
+    words.iter().any(|word| is_word(word, text))
+}
+
+fn has_value(words: &[String], ending: &str) -> bool
+    ensures { result ≡ has_value ending.now words.now }
+{
+    words.iter().any(|word| is_value(word, ending))
+}
+
+/// Whether this value was typed: a word is it, or ends with `=` and it.
+pub fn was_typed(alloc: Global, words: &[String], text: &str) -> Result<bool, AllocError>
+    ensures { IfOk result (λ typed. typed ≡ was_typed words.now text.now) }
+{
+    let ending = format!(in alloc; "={text}")?;
+    Ok(has_word(words, text) || has_value(words, ending.as_str()))
+}
+
+/// The number whose decimal this text is.
+pub fn number_of(alloc: Global, text: &str) -> Result<Option<u64>, AllocError>
+    ensures { IfOk result (λ found. IfSome found (λ number. text.now ≡ decimal number)) }
+{
+    let Ok(number) = text.parse::<u64>() else {
+        return Ok(None);
+    };
+    let spelt = format!(in alloc; "{number}")?;
+    if spelt.as_bytes() == text.as_bytes() {
+        Ok(Some(number))
+    } else {
+        Ok(None)
+    }
+}
+
+/// What stands behind an ending such as `--turns=`, where a word begins with it.
+fn value_in<'a>(word: &'a String, ending: &str) -> Option<&'a [u8]>
+    ensures { option_map (λ text. text.now) result ≡ value_in ending.now (string_bytes word.now) }
+{
+    word.as_bytes().strip_prefix(ending.as_bytes())
+}
+
+/// What was typed for the option of this name, whose ending is the name with `=` behind it.
+pub fn given<'a>(words: &'a [String], name: &str, ending: &str) -> Option<&'a [u8]>
+    ensures { option_map (λ text. text.now) result ≡ given_in name.now ending.now words.now }
+{
+    let (word, rest) = words.split_first()?;
+    if is_word(word, "--") {
+        return None;
+    }
+    if is_word(word, name) {
+        return Some(rest.first()?.as_bytes());
+    }
+    match value_in(word, ending) {
+        Some(text) => Some(text),
+        None => given(rest, name, ending),
+    }
+}

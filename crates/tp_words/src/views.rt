@@ -1,0 +1,12 @@
+//! What is shown of a device.
+
+/// What is shown of a device that opens: a node's registers, a node's image, the kept entries from a number on, and the bytes
+/// of a port that are pending or not confirmed.
+#[derive(Clone, Copy, Debug, PartialEq, Eq)]
+pub enum View {
+    Node(u64),
+    Image(u64),
+    Journal(u64),
+    Pending(u64),
+    Outputs(u64),
+}
