@@ -152,7 +152,7 @@ fn cycle<J: Naming, D: Disk, S: Sink, I: Source, L: Listener, R: Wait>(
     go_on(rt, alloc, shared, pace, going, mark, streams, listener)
 }
 
-/// All cycles, until nothing more is to be done or one is refused.
+/// All cycles, until nothing more is to be done or one is refused; and whether each process had nothing to do in its last turn.
 fn cycles<J: Naming, D: Disk, S: Sink, I: Source, L: Listener, R: Wait>(
     rt: &R,
     alloc: Global,
@@ -161,7 +161,7 @@ fn cycles<J: Naming, D: Disk, S: Sink, I: Source, L: Listener, R: Wait>(
     first: Flusher<J, D>,
     streams: &mut Streams<S, I>,
     listener: &mut L,
-) -> (Flusher<J, D>, Result<Option<Ending>, StreamFault>)
+) -> (Flusher<J, D>, Result<Option<Ending>, StreamFault>, bool)
     ensures walks { D.keeps → Began J.formatted J.before first.opened → Walked first result.0 }
     ensures process { IsSameProcess first result.0 }
     ensures why { IfOk result.1 (λ ended. IfSome ended (IsWhyEnded J.start pace.task)) }
@@ -191,7 +191,8 @@ fn cycles<J: Naming, D: Disk, S: Sink, I: Source, L: Listener, R: Wait>(
             listener,
         );
     }
-    (flusher, last)
+    let rests = going.turns.is_quiet(shared.nodes());
+    (flusher, last, rests)
 }
 
 /// Makes turns, and lets each stream make its steps, until that ends. Answers the number that the next entry gets, all below
@@ -211,7 +212,7 @@ pub(crate) fn serve<J: Naming, D: Disk, S: Sink, I: Source, L: Listener, R: Wait
     ensures stored { IfOk result.1 (λ ended. ended.next ≤ result.0.world.mark) }
     ensures begun { IfErr result.1 IsBegun }
 {
-    let (mut there, last) = cycles(rt, alloc, shared, pace, flusher, streams, listener);
+    let (mut there, last, rests) = cycles(rt, alloc, shared, pace, flusher, streams, listener);
     let why = match last {
         Ok(Some(why)) => why,
         // The loop goes on as long as nothing is answered.
@@ -220,7 +221,7 @@ pub(crate) fn serve<J: Naming, D: Disk, S: Sink, I: Source, L: Listener, R: Wait
     };
     match finish(rt, alloc, shared, &mut there) {
         Ok(next) => {
-            tell_stopped(rt, shared, why, listener);
+            tell_stopped(rt, shared, why, rests, listener);
             (there, Ok(Ended { next, why }))
         }
         Err(fault) => (there, Err(fault)),

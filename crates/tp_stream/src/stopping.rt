@@ -31,14 +31,15 @@ fn has_pending(book: &Book) -> bool {
     false
 }
 
-/// Whether a stream that ended so left input that no node takes any more.
-fn is_stuck<J: Naming, R: Wait>(rt: &R, shared: &Shared<J>, why: Ending) -> bool {
+/// Whether a stream that ended so left input that no node takes any more. `rests` says whether nothing was left to do: a stream may also
+/// end since whoever read its output has ended, and then a node would have gone on.
+fn is_stuck<J: Naming, R: Wait>(rt: &R, shared: &Shared<J>, why: Ending, rests: bool) -> bool {
     match why {
-        Ending::Quiet | Ending::Gone => {
+        Ending::Quiet | Ending::Gone if rests => {
             let held = shared.book().lock(rt);
             has_pending(held.book())
         }
-        Ending::Turns | Ending::Halted => false,
+        Ending::Quiet | Ending::Gone | Ending::Turns | Ending::Halted => false,
     }
 }
 
@@ -53,14 +54,15 @@ fn stopped(standing: Standing, is_stuck: bool) -> Option<Stopped>
     }
 }
 
-/// Tells of each node that has stopped, in order, where a stream ended so.
+/// Tells of each node that has stopped, in order, where a stream ended so, with nothing left to do where `rests`.
 pub(crate) fn tell_stopped<J: Naming, L: Listener, R: Wait>(
     rt: &R,
     shared: &Shared<J>,
     why: Ending,
+    rests: bool,
     listener: &mut L,
 ) {
-    let is_stuck = is_stuck(rt, shared, why);
+    let is_stuck = is_stuck(rt, shared, why, rests);
     for node in 0..shared.nodes() {
         if let Some(how) = stopped(shared.standing(rt, node), is_stuck) {
             listener.stopped(node, how);
