@@ -1,16 +1,10 @@
 pub mod Possible
 pub mod Leads
-pub mod RefusedSo
 pub mod Grown
-pub mod Ran
-pub mod HostTook
-pub mod Turned
-pub mod Lone
 pub mod Adding
 pub mod Fronted
 pub mod Recording
 pub mod Hosting
 pub mod Lining
 pub mod Staging
-pub mod Formatted
 pub mod Closing

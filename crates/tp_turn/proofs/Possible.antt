@@ -83,3 +83,17 @@ comes_in b K number link line below four to =
         let second : k ≡ link = omega (arith, inside.1, four, is) in
         rw (first, second) refl
     same (AtPort p) at is = absurd (omega (arith, below, four, is))
+
+-- the line that comes back to a port leads to it
+pub comes_to : (b : BookState NodeState) (K : Keeps b) (port line : ℕ)
+    → option_map (line_of (length (agreed b))) (receiver b.start.wires (4 * length (agreed b) + port)) ≡ Some line → receiver b.start.wires line ≡ Some (AtPort port)
+comes_to b K port line to =
+    let again = K.sound.wires.both_ways (4 * length (agreed b) + port) line to in
+    let found = map_some (line_of (length (agreed b))) (receiver b.start.wires line) (4 * length (agreed b) + port) again in
+    found.1 ∙ ap Some (same found.0 found.1 found.2)
+  where
+    same : (e : WireEnd) → receiver b.start.wires line ≡ Some e → line_of (length (agreed b)) e ≡ 4 * length (agreed b) + port → e ≡ AtPort port
+    same (Link i k) at is =
+        let inside = K.sound.wires.links line i k at in
+        absurd (omega (arith, inside.0, inside.1, is))
+    same (AtPort p) at is = let one : p ≡ port = omega (arith, is) in ap AtPort one

@@ -1,10 +1,8 @@
 pub mod Turns
 pub mod Books
-pub mod Nodes
 pub mod Moments
 pub mod Fronts
 pub mod Settled
 pub mod Stages
 pub mod Hosted
-pub mod Tried
 pub mod Over

@@ -2,26 +2,17 @@
 //! came to its ports.
 #![tactic(auto)]
 
-mod back;
 mod front;
-mod host;
-mod law;
 mod left;
 mod over;
 mod ports;
-mod run;
 mod settling;
 mod stages;
 mod take;
-mod trial;
-mod turn;
 
-pub use law::tried_images_are_formatted;
 pub use left::Left;
 pub use over::close_all;
 pub use ports::host_turn;
 pub use settling::{record_asked, settle};
 pub use stages::{Stretch, Turn, commit_turn, node_turn, open_turn, run_node};
 pub use take::TAKES;
-pub use trial::{ONE_WIRE, Tried, TryFault, lone_node, try_turns};
-pub use turn::TURN_ENTRIES;
