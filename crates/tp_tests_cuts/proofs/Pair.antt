@@ -22,7 +22,7 @@ use Rattle.tp_book.specs.Start.{IsFresh, IsNetwork, first_book}
 use Rattle.tp_replay.specs.Flat.{IsFlat}
 use Rattle.tp_tests_cuts.specs.Agrees.{Agrees}
 use Rattle.tp_trial.specs.Tried.{fresh_image}
-use Rattle.tp_trial.proofs.Lone.{fresh_is, node_of_is, first_agreed}
+use Rattle.tp_trial.proofs.Begun.{fresh_is, node_of_is, first_agreed}
 use Rattle.tp_tests_cuts.specs.Nets.{pair_wires, pair_network, HasNodes}
 
 module _ (n m : NodeState) (n_idle : has_idle_links n ≡ true) (m_idle : has_idle_links m ≡ true) where

@@ -9,7 +9,7 @@ use Rattle.tp_book.specs.Book.{BookValue}
 use Rattle.tp_book.specs.Start.{IsNetwork, first_book}
 use Rattle.tp_trial.specs.Output.{OutputAs}
 use Rattle.tp_trial.specs.Tried.{fresh_image, lone_network}
-use Rattle.tp_trial.proofs.Lone.{lone_begins}
+use Rattle.tp_trial.proofs.Begun.{lone_begins}
 use Rattle.tp_tests_refused.specs.Usable.{IsLone, IsUsable}
 
 -- an image that was tried is one of a node whose links are idle

@@ -6,7 +6,7 @@ use Rattle.tp_model.specs.Image.{page_count, node_of, has_idle_links}
 use Rattle.tp_model.specs.CutImage.{only_if}
 use Rattle.tp_model.specs.Format.{fresh_node}
 use Rattle.tp_trial.specs.Tried.{fresh_image}
-use Rattle.tp_trial.proofs.Lone.{fresh_is}
+use Rattle.tp_trial.proofs.Begun.{fresh_is}
 
 pub formatted : (image : List ℕ) (node : NodeState) → fresh_image image ≡ Some node → fresh_node (page_count node.memory) image ≡ Some node
 formatted image node e =

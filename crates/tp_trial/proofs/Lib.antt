@@ -1,4 +1,4 @@
-pub mod Lone
+pub mod Begun
 pub mod Formatted
 pub mod Made
 pub mod Calm

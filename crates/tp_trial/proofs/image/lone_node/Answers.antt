@@ -4,7 +4,7 @@ use Rattle.tp_model.specs.Image.{node_at, node_of, has_idle_links}
 use Rattle.tp_node.specs.FromImage.{ReadsImage}
 use Rattle.tp_node.specs.declared.fault.ImageFault.TheVariants.{Memory}
 use Rattle.tp_node.proofs.Answered.{image_read, image_thawed}
-use Rattle.tp_trial.proofs.Lone.{fresh_some, fresh_none, reads_memory}
+use Rattle.tp_trial.proofs.Begun.{fresh_some, fresh_none, reads_memory}
 use Rattle.tp_trial.proofs.image.lone_node.Goals as goal
 
 pub returns-then-not-has_idle_links : goal.returns-then-not-has_idle_links

@@ -1,7 +1,7 @@
 use Rattle.std.proofs.Common.{refl, arith}
 use Rattle.tp_book.specs.Parts.{network_of}
 use Rattle.tp_law_machine.proofs.Numbers.{are_bytes}
-use Rattle.tp_trial.proofs.Lone.{lone_begins, lone_is_network, lone_starts}
+use Rattle.tp_trial.proofs.Begun.{lone_begins, lone_is_network, lone_starts}
 use Rattle.tp_trial.proofs.lone.Lone.start.Goals as goal
 
 pub start-requires-clause-fresh : goal.start-requires-clause-fresh
