@@ -12,29 +12,17 @@ use tp_tests_fixtures::{ONE_NODE, letter};
 
 /// What four turns make, of the node and the host in turns: the node runs up to the acknowledge that it waits for, the port takes the
 /// letter, and the node takes the acknowledge and goes round.
-const ENTRIES: [Numbered; 4] = [
-    Numbered {
-        number: 0,
-        entry: Entry::Run { node: 0, count: 3 },
+const ENTRIES: [Entry; 4] = [
+    Entry::Run { node: 0, count: 3 },
+    Entry::Take {
+        line: 0,
+        token: Token::Data(b'A'),
     },
-    Numbered {
-        number: 1,
-        entry: Entry::Take {
-            line: 0,
-            token: Token::Data(b'A'),
-        },
+    Entry::Take {
+        line: 4,
+        token: Token::Ack,
     },
-    Numbered {
-        number: 2,
-        entry: Entry::Take {
-            line: 4,
-            token: Token::Ack,
-        },
-    },
-    Numbered {
-        number: 3,
-        entry: Entry::Run { node: 0, count: 16 },
-    },
+    Entry::Run { node: 0, count: 16 },
 ];
 
 fn device(alloc: Global) -> Result<MemDisk, Fail> {
@@ -76,8 +64,8 @@ fn are(entries: &[Numbered], wanted: &[Entry]) -> bool {
 fn the_entries_of_four_turns(rt: HostRuntime) -> Result<(), Fail> {
     let mut disk = device(rt.alloc())?;
     let mut net = Net::of_device(rt.alloc(), &mut disk, 4)?;
-    assert!(rt; net.book().entries().is_empty());
+    assert!(rt; are(net.book().entries(), &[]));
     assert!(rt; plays(&mut net, 4));
-    assert!(rt; net.book().entries() == ENTRIES.as_slice());
+    assert!(rt; are(net.book().entries(), &ENTRIES));
     Ok(())
 }
