@@ -28,3 +28,38 @@ tpnet show device >shown
 starts shown nodes 16 ports 8 area 
 has shown \nnode 15 halt 0\n
 ends shown \nport 7 in 0 pending 0 out 0 unconfirmed 0\n
+# What the first and the last of them are, and one behind it.
+tpnet node device 15 >node
+starts node node 15 pages 256 halt 0 runs\n
+tpnet node device 16 2>err
+tpnet port device 7
+tpnet port device 8 2>err
+tpnet run device --turns 0 --port 7 --spare 4
+tpnet run device --turns 0 --port 8 2>err
+tpnet run device --turns 0 --port 7 --spare 5 2>err
+tpnet compact device
+
+story texts
+# Topologies at their limits, and behind them. A node of 4 pages is the smallest, one of 256 the largest.
+image a.img
+text net.txt node a 3\nport h\n
+tpnet check net.txt .
+text net.txt node a 257\nport h\n
+tpnet check net.txt .
+cut a.img 262316
+set a.img 2 00 01
+text net.txt node a 256\nport h\n
+tpnet check net.txt .
+# A name of 16 letters, and one of 17.
+image abcdefghijklmnop.img
+text net.txt port h\nnode abcdefghijklmnop 4\nwire abcdefghijklmnop.3 h\n
+tpnet check net.txt .
+text net.txt port h\nnode abcdefghijklmnopq 4\n
+tpnet check net.txt .
+# A 17th node, and a 9th port; a malformed line of that comes first.
+text net.txt port z\nnode a 4\nnode b 4\nnode c 4\nnode d 4\nnode e 4\nnode f 4\nnode g 4\nnode h 4\nnode i 4\nnode j 4\nnode k 4\nnode l 4\nnode m 4\nnode n 4\nnode o 4\nnode p 4\nnode q 4\n
+tpnet check net.txt .
+text net.txt port z\nnode a 4\nnode b 4\nnode c 4\nnode d 4\nnode e 4\nnode f 4\nnode g 4\nnode h 4\nnode i 4\nnode j 4\nnode k 4\nnode l 4\nnode m 4\nnode n 4\nnode o 4\nnode p 4\nnode q 3\n
+tpnet check net.txt .
+text net.txt node z 4\nport a\nport b\nport c\nport d\nport e\nport f\nport g\nport h\nport i\n
+tpnet check net.txt .

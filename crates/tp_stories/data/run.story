@@ -125,3 +125,126 @@ image a.img
 tpnet format device net.txt . 13162
 text input ab
 tpnet run device --turns 4 --workers 1 --quantum 16
+
+story steps
+# Turns that end within a round, and runs of one step, of 1024 and of 4096: each run that is opened begins with node 0. No turn makes no
+# entry, and what sixteen workers do in one turn is what one does.
+text net.txt node a 4\nport h\nwire a.0 h\n
+image a.img
+tpnet format device net.txt . 16384
+tpnet run device --turns 1 --workers 1 --quantum 1
+tpnet run device --turns 0 --workers 1 --quantum 1
+tpnet run device --turns 1 --workers 16 --quantum 1
+tpnet run device --turns 3 --workers 1 --quantum 1
+tpnet run device --turns 1 --workers 2
+tpnet run device --turns 1 --workers 16 --quantum 4096
+tpnet journal device
+
+story workers
+# However many workers there are, a node that sends a letter and stops makes these five entries.
+text net.txt node a 4\nport h\nwire a.0 h\n
+image a.img 27 2F 2F 2F 2F 2F 6F 40 24 41 FE 21 F5
+tpnet format one net.txt . 16384
+copy one two
+copy one sixteen
+tpnet run one --turns 5 --workers 1
+tpnet journal one
+# In each run the first two turns are of the node and of the host, in whatever order they end: so behind three runs all five are made.
+tpnet run two --turns 40 >out 2>err
+tpnet run two --turns 40 >out 2>err
+tpnet run two --turns 40 >out 2>err
+tpnet show two
+tpnet run sixteen --turns 40 --workers 16 >out 2>err
+tpnet run sixteen --turns 40 --workers 16 >out 2>err
+tpnet run sixteen --turns 40 --workers 16 >out 2>err
+tpnet show sixteen
+
+story second_port
+# A node hands on what port 0 gets to port 1: the input goes to the port that is named, and its output alone is printed and confirmed.
+text net.txt node a 4\nport from\nport to\nwire a.0 from\nwire a.3 to\n
+image a.img 11 24 F2 54 41 F7 11 24 F2 53 41 FB 60 02
+text in ab
+text more z
+tpnet format device net.txt . 65536
+tpnet run device --turns 3 --workers 1 --in in
+tpnet run device --turns 5 --workers 1 --in in
+tpnet port device 0
+tpnet port device 1
+tpnet run device --turns 0 --port 1
+tpnet run device --turns 0 --port 1 --in more
+tpnet run device --turns 0 --port 2 2>err
+tpnet journal device
+tpnet show device
+tpnet port device 1 --pending
+tpnet port device 0 --pending
+
+story two_wires
+# Two wires between two nodes: one sends B on its link 1 and then A on its link 0, the other hands on what comes on its link 1 and leaves
+# the other byte.
+text net.txt node a 4\nnode b 4\nport h\nwire a.0 b.0\nwire b.1 a.1\nwire b.3 h\n
+image a.img 24 F2 51 24 42 FE 24 F2 24 41 FE 21 F5
+image b.img 11 24 F2 55 41 F7 11 24 F2 53 41 FB 60 02
+tpnet format device net.txt . 65536
+tpnet run device --turns 7 --workers 1
+tpnet journal device
+tpnet node device 0
+tpnet node device 1
+
+story every
+# A snapshot that begins behind each entry changes nothing of what is printed or journalled; nor does one that never begins.
+text net.txt node a 4\nport h\nwire a.0 h\n
+image a.img
+tpnet format often net.txt . 16384
+copy often never
+tpnet run often --turns 40 --workers 1 --quantum 16 --every 1
+tpnet recover often
+tpnet run never --turns 40 --workers 1 --quantum 16 --every 4294967295
+tpnet show never
+
+story spare
+# What the smallest node has is the most, whichever it is; a device that is refused so stays as it is.
+text net.txt node a 8\nnode b 4\nport h\n
+image a.img
+cut a.img 8364
+set a.img 2 08
+image b.img
+tpnet format device net.txt . 65536
+copy device before
+tpnet run device --turns 3 --workers 1 --spare 5 2>err
+tpnet run device --stream --until-quiet --spare 5 2>err
+equal device before
+tpnet run device --turns 3 --workers 1 --spare 0
+tpnet run device --turns 3 --workers 1 --spare 1
+tpnet run device --stream --until-quiet --spare 4
+
+story unconfirmed
+# A node sends 4200 bytes at once. Its port takes 4096 and no more, until they are printed and confirmed; then it takes the rest. A stream
+# goes on from the 4096 by itself, whether it writes them or lets them go.
+text net.txt node a 5\nport h\nport g\nwire a.0 h\n
+image a.img 21 10 24 F2 21 20 26 48 FB 21 F5
+cut a.img 5292
+set a.img 2 05
+set a.img 748 61 62 63
+set a.img 4843 78 79
+set a.img 4947 7A
+part a.img wanted 748 4200
+part a.img first 748 4096
+part a.img rest 4844 104
+tpnet format device net.txt . 300000
+tpnet run device --turns 9000 --workers 1 --every 4294967295 --port 1
+tpnet show device
+tpnet port device 0 >held
+equal held first
+copy device written
+copy device let_go
+tpnet run device --turns 0 >out
+equal out first
+tpnet run device --turns 300 --workers 1 --every 4294967295 >out
+equal out rest
+tpnet run written --stream --until-quiet --out 0=all 2>err
+ends err  quiet\n
+equal all wanted
+tpnet run let_go --stream --until-quiet --discard 0 2>err
+ends err  quiet\n
+tpnet show let_go >shown
+ends shown \nport 0 in 0 pending 0 out 4200 unconfirmed 0\nport 1 in 0 pending 0 out 0 unconfirmed 0\n

@@ -229,3 +229,71 @@ set a.img 428 11 24 F2 54 41 F7
 text in abcdefg
 tpnet format device net.txt . 17546
 tpnet run device --stream --until-quiet --spare 8 --quantum 1 --every 2 --discard 0 --in 0=in
+
+story two_inputs
+# A node hands on what port 0 gets to port 2, and takes nothing of port 1. A stream of both inputs ends once both have come to their end:
+# the node waits, and what is left over stays pending. The next one passes over what each port has accepted.
+text net.txt node a 4\nport x\nport y\nport z\nwire a.0 x\nwire a.1 y\nwire a.3 z\n
+image a.img 11 24 F2 54 41 F7 11 24 F2 53 41 FB 60 02
+tpnet format device net.txt . 65536
+text two ab
+text three xyz
+text four abcd
+tpnet run device --stream --until-quiet --turns 4294967295 --in=0=- --in 1=three --out 2=- --discard 0 --discard 1 <two
+tpnet show device
+tpnet port device 1 --pending
+tpnet node device 0 >node
+has node \nin 0 inputs process 80000201 pointer 80000204 left 00000001\nin 1 idle held 78\nin 2 idle\n
+tpnet run device --stream --until-quiet --in 0=four --in 1=- --out 2=- --discard 0 --discard 1 <three
+# Without input for a port, what it has is still left over.
+tpnet run device --stream --discard 2 --discard 0 --discard 1
+
+story no_room_for_one
+# The same as no_room with two inputs, of which the first has come to its end: the other one hasn't.
+text net.txt node a 8\nport x\nport y\nwire a.0 x\nwire a.1 y\n
+image a.img 11 24 F2 54 41 F7
+cut a.img 8364
+set a.img 2 08
+text none 
+text in abcdefg
+tpnet format device net.txt . 25890
+tpnet run device --stream --until-quiet --spare 8 --quantum 1 --every 2 --discard 0 --discard 1 --in 0=none --in 1=in
+
+story unwired
+# A port without a wire needs no end; one with a wire does, whichever it is.
+text net.txt node a 4\nport x\nport y\nwire a.0 y\n
+image a.img 27 2F 2F 2F 2F 2F 6F 40 24 41 FE 21 F5
+tpnet format device net.txt . 65536
+copy device before
+tpnet run device --stream --until-quiet 2>err
+tpnet run device --stream --until-quiet --discard 0 2>err
+equal device before
+tpnet run device --stream --until-quiet --out 1=- --have 1=18446744073709551615
+tpnet run device --stream --until-quiet --out 1=-
+tpnet run device --stream --until-quiet --out 1=- --have 1=1
+
+story progress
+# How far it has come is said once in 10000 turns, also while nothing is left to do: the journal has room for 1381 entries, and each port
+# with an end is named.
+text net.txt node a 4\nport from\nport to\nwire a.0 from\nwire a.3 to\n
+image a.img 11 24 F2 54 41 F7 11 24 F2 53 41 FB 60 02
+tpnet format device net.txt . 65536
+text given abc
+tpnet run device --stream --turns 20000 --progress --in 0=- --discard 0 --out 1=- <given
+
+story each_entry
+# A snapshot begins behind each entry: the first holds the first run, the second one all, and then none is left to begin.
+text net.txt node a 4\nport h\nwire a.0 h\n
+image a.img 27 2F 2F 2F 2F 2F 6F 40 24 41 FE 21 F5
+tpnet format device net.txt . 16384
+tpnet run device --stream --until-quiet --every 1 --out 0=-
+tpnet show device
+
+story halted_before
+# The second node halted in an earlier run: a stream that stops on that makes no turn.
+text net.txt node a 4\nnode b 4\nport h\nwire a.0 h\n
+image a.img
+image b.img 40 30
+tpnet format device net.txt . 65536
+tpnet run device --turns 3 --workers 1
+tpnet run device --stream --stop-on-halt --turns 9 --discard 0

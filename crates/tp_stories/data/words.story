@@ -108,3 +108,39 @@ tpnet run device --turns=4 --out 0=x
 tpnet run device --stop-on-halt
 tpnet compact device --wait-lock=-1
 tpnet run /dev/null --turns=4
+
+story many
+# 256 words are read, the program's name among them, and 257 are not. (Here neither are words that ask for something.)
+tpnet show a a a a a a a a a a a a a a a a a a a a a a a a a a a a a a a a a a a a a a a a a a a a a a a a a a a a a a a a a a a a a a a a a a a a a a a a a a a a a a a a a a a a a a a a a a a a a a a a a a a a a a a a a a a a a a a a a a a a a a a a a a a a a a a a a a a a a a a a a a a a a a a a a a a a a a a a a a a a a a a a a a a a a a a a a a a a a a a a a a a a a a a a a a a a a a a a a a a a a a a a a a a a a a a a a a a a a a a a a a a a a a a a a a a a a a a a a a a a a a a a a a a a a a a a a a a a a a 2>err
+has err more than 256 words
+tpnet show a a a a a a a a a a a a a a a a a a a a a a a a a a a a a a a a a a a a a a a a a a a a a a a a a a a a a a a a a a a a a a a a a a a a a a a a a a a a a a a a a a a a a a a a a a a a a a a a a a a a a a a a a a a a a a a a a a a a a a a a a a a a a a a a a a a a a a a a a a a a a a a a a a a a a a a a a a a a a a a a a a a a a a a a a a a a a a a a a a a a a a a a a a a a a a a a a a a a a a a a a a a a a a a a a a a a a a a a a a a a a a a a a a a a a a a a a a a a a a a a a a a a a a a a a a a a a a a 2>err
+has err more than 256 words
+
+story stream_options
+# Each option that goes with --stream alone says so without it, however it is written; no device is looked for.
+tpnet run device --turns 4 --out=0=x
+tpnet run device --turns 4 --have 0=1
+tpnet run device --turns 4 --discard=0
+tpnet run device --turns 4 --until-quiet
+tpnet run device --turns 4 --progress
+
+story greatest
+# The greatest numbers that are taken, and one more. A device is there: so an area of 2^40 bytes is refused for that.
+text net.txt node a 4\nport h\nwire a.0 h\n
+image a.img
+tpnet format device net.txt . 16384
+copy device before
+tpnet format --new device net.txt . 1099511627776
+tpnet format --new device net.txt . 1099511627777 2>err
+tpnet journal device --from 18446744073709551615
+tpnet journal device --from 18446744073709551616 2>err
+tpnet run device --stream --turns 0 --out 0=- --have 0=18446744073709551615
+tpnet run device --stream --turns 0 --out 0=- --have 0=18446744073709551616 2>err
+tpnet run device --turns 0 --workers 16 --quantum 4096 --spare 4 --every 4294967295 --wait-lock 4294967
+# One of each that is out of its range with a stream.
+tpnet run device --stream --turns 0 --discard 0 --quantum 4097 2>err
+tpnet run device --stream --turns 0 --discard 0 --quantum 0 2>err
+tpnet run device --stream --turns 0 --discard 0 --every 0 2>err
+tpnet run device --stream --turns 0 --discard 8 2>err
+tpnet run device --stream --turns 0 --out 0= 2>err
+equal device before
