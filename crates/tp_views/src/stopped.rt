@@ -7,7 +7,7 @@ use tp_disk::{Counted, NotedFile, RawFile};
 use tp_model::limits::MAX_NODES;
 use tp_node::{Node, Standing};
 use tp_recover::open;
-use tp_stream::Stopped;
+use tp_stream_ends::Stopped;
 use tp_stream_files::say_stopped;
 use tp_words::Asked;
 
