@@ -13,7 +13,7 @@ use Rattle.tp_book.specs.Book.{BookValue, agreed}
 use Rattle.tp_book.specs.Calls.{front_of, with_run, without_run, after_run, with_journalled, with_ready, after_take, RunIsAgreed, TakeIsAgreed}
 use Rattle.tp_book.specs.Marked.{after_begin, after_record, after_close}
 use Rattle.tp_book.specs.declared.refusal.Refusal.{Refusal}
-use Rattle.tp_turn.specs.Nodes.{Agrees}
+use Rattle.tp_tests_cuts.specs.Agrees.{Agrees}
 use Rattle.tp_turn.proofs.Staging.{set_twice}
 use Rattle.tp_tests_cuts.specs.Nets.{Stepped, Stays}
 

@@ -1,3 +1,4 @@
+pub mod Agreeing
 pub mod Pair
 pub mod Acting
 pub mod Netting

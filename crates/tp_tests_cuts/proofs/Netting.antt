@@ -17,7 +17,7 @@ use Rattle.tp_book.specs.Calls.{HostTook}
 use Rattle.tp_book.specs.Host.{after_input}
 use Rattle.tp_book.specs.Trimmed.{after_trim}
 use Rattle.tp_book.specs.declared.refusal.Refusal.{Refusal}
-use Rattle.tp_turn.specs.Nodes.{Agrees}
+use Rattle.tp_tests_cuts.specs.Agrees.{Agrees}
 use Rattle.tp_tests_cuts.specs.Nets.{HasNodes, Stepped, Stays}
 
 -- ## Acts

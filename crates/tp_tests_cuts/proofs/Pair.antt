@@ -20,9 +20,9 @@ use Rattle.tp_node.specs.NodeContents.{NodeContents}
 use Rattle.tp_book.specs.Book.{BookValue, agreed}
 use Rattle.tp_book.specs.Start.{IsFresh, IsNetwork, first_book}
 use Rattle.tp_replay.specs.Flat.{IsFlat}
-use Rattle.tp_turn.specs.Nodes.{Agrees}
-use Rattle.tp_turn.specs.Tried.{fresh_image}
-use Rattle.tp_turn.proofs.Lone.{fresh_is, node_of_is, first_agreed}
+use Rattle.tp_tests_cuts.specs.Agrees.{Agrees}
+use Rattle.tp_trial.specs.Tried.{fresh_image}
+use Rattle.tp_trial.proofs.Begun.{fresh_is, node_of_is, first_agreed}
 use Rattle.tp_tests_cuts.specs.Nets.{pair_wires, pair_network, HasNodes}
 
 module _ (n m : NodeState) (n_idle : has_idle_links n ≡ true) (m_idle : has_idle_links m ≡ true) where

@@ -7,7 +7,7 @@ use Rattle.tp_model.specs.Network.{Network}
 use Rattle.tp_model.specs.NodeState.{NodeState}
 use Rattle.tp_node.specs.NodeContents.{NodeContents}
 use Rattle.tp_book.specs.Book.{BookValue, agreed}
-use Rattle.tp_turn.specs.Nodes.{Agrees}
+use Rattle.tp_tests_cuts.specs.Agrees.{Agrees}
 
 -- ## The network
 

@@ -4,7 +4,7 @@ ghost use Rattle.std.specs.Prelude.{◌≡◌, ◌≤◌, Some, None, false, sli
 ghost use Rattle.tp_model.specs.Network.{receiver};
 ghost use Rattle.tp_model.specs.declared.limits.TheConstants.{MAX_STEPS};
 ghost use Rattle.tp_model.specs.declared.wire.WireEnd.TheVariants.{Link};
-ghost use Rattle.tp_turn.specs.Nodes.{Agrees};
+ghost use Rattle.tp_tests_cuts.specs.Agrees.{Agrees};
 ghost use Rattle.tp_tests_cuts.specs.Nets.{Stepped, Stays};
 
 use arrayvec::ArrayVec;

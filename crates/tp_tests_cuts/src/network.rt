@@ -18,7 +18,7 @@ use tp_net::Lines;
 use tp_node::Node;
 use tp_port::{PortParts, fresh_ports};
 use tp_replay::FlatNetwork;
-use tp_turn::lone_node;
+use tp_trial::lone_node;
 
 /// How many lines there are, and how many processes; the host is the last one.
 pub(crate) const LINES: usize = 9;

@@ -3,10 +3,11 @@
 use std::io;
 use std::io::Write;
 use std::test::Fail;
-use tp_model::{Entry, Token};
+use tp_model::Fault;
+use tp_node::Standing;
 use tp_program::{TRY_QUANTUM, try_on};
-use tp_tests_fixtures::{letter, place};
-use tp_turn::try_turns;
+use tp_tests_fixtures::{HEAD, letter, place};
+use tp_trial::{try_output, try_standing};
 
 /// Takes nothing.
 #[derive(Drop)]
@@ -23,37 +24,55 @@ impl Write for Shut {
 }
 
 #[test]
-fn the_entries_of_four_turns(rt: HostRuntime) -> Result<(), Fail> {
+fn four_turns_put_the_letter_out(rt: HostRuntime) -> Result<(), Fail> {
     let image = letter(rt.alloc())?;
-    let tried = match try_turns(rt.alloc(), image.as_slice(), 4, TRY_QUANTUM) {
-        Ok(tried) => tried,
+    match try_standing(rt.alloc(), image.as_slice(), 4, TRY_QUANTUM) {
+        Ok(trial) => {
+            assert_eq!(rt; trial.output.as_slice(), b"A".as_slice());
+            assert_eq!(rt; trial.standing, Standing::Free);
+        }
         Err(fault) => panic!(rt; "{fault:?}"),
-    };
-    let want = [
-        Entry::Run { node: 0, count: 3 },
-        Entry::Take {
-            line: 0,
-            token: Token::Data(0x41),
-        },
-        Entry::Take {
-            line: 4,
-            token: Token::Ack,
-        },
-        Entry::Run { node: 0, count: 16 },
-    ];
-    assert_eq!(rt; tried.entries.as_slice(), want.as_slice());
-    assert_eq!(rt; tried.output.as_slice(), b"A".as_slice());
+    }
     Ok(())
 }
 
 #[test]
-fn no_turns_make_no_entries(rt: HostRuntime) -> Result<(), Fail> {
+fn a_node_waits_for_its_acknowledge(rt: HostRuntime) -> Result<(), Fail> {
     let image = letter(rt.alloc())?;
-    match try_turns(rt.alloc(), image.as_slice(), 0, TRY_QUANTUM) {
-        Ok(tried) => {
-            assert!(rt; tried.entries.is_empty());
-            assert!(rt; tried.output.is_empty());
+    match try_standing(rt.alloc(), image.as_slice(), 1, TRY_QUANTUM) {
+        Ok(trial) => {
+            assert!(rt; trial.output.is_empty());
+            assert_eq!(rt; trial.standing, Standing::Waits);
         }
+        Err(fault) => panic!(rt; "{fault:?}"),
+    }
+    Ok(())
+}
+
+#[test]
+fn a_node_halts_at_an_unknown_operation(rt: HostRuntime) -> Result<(), Fail> {
+    let mut image = letter(rt.alloc())?;
+    // ldtimer, which this processor hasn't
+    place(&mut image, HEAD + 0x100, &[0x22, 0xF2]);
+    match try_standing(rt.alloc(), image.as_slice(), 2, TRY_QUANTUM) {
+        Ok(trial) => {
+            assert!(rt; trial.output.is_empty());
+            let halted = Standing::Halted {
+                fault: Fault::UnknownOp,
+                at: 0x8000_0100,
+            };
+            assert_eq!(rt; trial.standing, halted);
+        }
+        Err(fault) => panic!(rt; "{fault:?}"),
+    }
+    Ok(())
+}
+
+#[test]
+fn no_turns_put_nothing_out(rt: HostRuntime) -> Result<(), Fail> {
+    let image = letter(rt.alloc())?;
+    match try_output(rt.alloc(), image.as_slice(), 0, TRY_QUANTUM) {
+        Ok(output) => assert!(rt; output.is_empty()),
         Err(fault) => panic!(rt; "{fault:?}"),
     }
     Ok(())
@@ -71,7 +90,7 @@ fn other_bytes_are_no_image(rt: HostRuntime) -> Result<(), Fail> {
     place(&mut later, 0, &[2]);
     images.push(later)?;
     for image in &images {
-        assert!(rt; try_turns(rt.alloc(), image.as_slice(), 4, TRY_QUANTUM).is_err());
+        assert!(rt; try_output(rt.alloc(), image.as_slice(), 4, TRY_QUANTUM).is_err());
     }
     Ok(())
 }

@@ -3,23 +3,14 @@
 ghost use Rattle.std.specs.Prelude.{◌≡◌, IfOk, IfSome, OnErr};
 ghost use Rattle.tp_model.specs.Image.{node_at};
 ghost use Rattle.tp_book.specs.Parts.{network_of};
-ghost use Rattle.tp_turn.specs.Tried.{lone_network};
+ghost use Rattle.tp_trial.specs.Tried.{lone_network};
 ghost use Rattle.tp_tests_refused.specs.Usable.{IsLone, IsUsable};
 
 use std::alloc::{AllocError, Global};
 use tp_book::{Book, NetParts, Refusal};
 use tp_model::{Token, WireEnd};
 use tp_port::PortParts;
-use tp_turn::try_turns;
-
-/// Line 0 leads to the port, line 4 to the link, and links 1 to 3 have no wire.
-const ONE_WIRE: [Option<WireEnd>; 5] = [
-    Some(WireEnd::Port(0)),
-    None,
-    None,
-    None,
-    Some(WireEnd::Link(0, 0)),
-];
+use tp_trial::{ONE_WIRE, try_output};
 
 /// The network of the node of an image.
 fn parts(alloc: Global, image: &[u8]) -> Result<NetParts, AllocError>
@@ -56,7 +47,7 @@ fn parts(alloc: Global, image: &[u8]) -> Result<NetParts, AllocError>
 pub(crate) fn lone_net(alloc: Global, image: &[u8]) -> Option<NetParts>
     ensures { IfSome result (λ net. IsLone (network_of net)) }
 {
-    let Ok(_tried) = try_turns(alloc, image, 0, 1) else {
+    let Ok(_output) = try_output(alloc, image, 0, 1) else {
         return None;
     };
     let Ok(net) = parts(alloc, image) else {

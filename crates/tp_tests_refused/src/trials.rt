@@ -2,25 +2,11 @@
 
 use std::alloc::{AllocError, Global};
 use std::test::Fail;
-use tp_model::{Entry, Token};
+use tp_node::Standing;
 use tp_tests_fixtures::letter;
-use tp_turn::{Tried, TryFault, try_turns};
+use tp_trial::{Trial, TryFault, try_standing};
 
-/// What four turns make of the node that sends a letter.
-const ENTRIES: [Entry; 4] = [
-    Entry::Run { node: 0, count: 3 },
-    Entry::Take {
-        line: 0,
-        token: Token::Data(b'A'),
-    },
-    Entry::Take {
-        line: 4,
-        token: Token::Ack,
-    },
-    Entry::Run { node: 0, count: 16 },
-];
-
-/// The image of that node.
+/// The image of the node that sends a letter.
 fn image(alloc: Global) -> Result<Vec<u8>, AllocError> {
     match letter(alloc) {
         Ok(image) => Ok(image),
@@ -29,9 +15,9 @@ fn image(alloc: Global) -> Result<Vec<u8>, AllocError> {
 }
 
 /// Four turns, and again where memory was refused.
-fn tried(alloc: Global, image: &[u8]) -> Result<Tried, TryFault> {
-    match try_turns(alloc, image, 4, 16) {
-        Err(TryFault::Memory) => try_turns(alloc, image, 4, 16),
+fn tried(alloc: Global, image: &[u8]) -> Result<Trial, TryFault> {
+    match try_standing(alloc, image, 4, 16) {
+        Err(TryFault::Memory) => try_standing(alloc, image, 4, 16),
         other => other,
     }
 }
@@ -41,7 +27,7 @@ fn a_node_is_tried_again(rt: HostRuntime) -> Result<(), Fail> {
     let alloc = rt.alloc();
     let image = image(alloc)?;
     let tried = tried(alloc, &image)?;
-    assert!(rt; tried.entries.as_slice() == ENTRIES.as_slice());
     assert!(rt; tried.output.as_slice() == b"A".as_slice());
+    assert!(rt; tried.standing == Standing::Free);
     Ok(())
 }

@@ -1,5 +1,10 @@
-pub mod Left
-pub mod Kept
+pub mod Begun
+pub mod Formatted
 pub mod Made
-pub mod Acts
+pub mod Calm
+pub mod Noding
+pub mod Hosting
+pub mod Went
+pub mod Led
 pub mod OneWay
+pub mod Ended

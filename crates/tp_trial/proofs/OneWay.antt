@@ -22,12 +22,15 @@ use Rattle.tp_law_network.proofs.Reorder.{after_one, first_possible}
 use Rattle.tp_replay.proofs.Impossible.{take_behind, take_marker, port_takes_none, steps_fewer}
 use Rattle.tp_replay.proofs.Steps.{node_after, run_step}
 use Rattle.tp_turn.specs.declared.take.TheConstants.{TAKES}
-use Rattle.tp_turn.specs.declared.trial.Tried.{Tried}
-use Rattle.tp_turn.specs.Tried.{lone_network, IsTried}
-use Rattle.tp_turn.specs.Turns.{Then, InOrder, IsLeft, port_there, TookAll, TookBack, TookIn, RanOn, run_entries, IsTurnOf, AreTurns}
+use Rattle.tp_trial.specs.Tried.{lone_network}
+use Rattle.tp_turn.specs.Turns.{Then, InOrder}
+use Rattle.tp_trial.specs.Turns.{IsLeft, port_there, TookAll, TookBack, TookIn, RanOn, run_entries, IsTurnOf, AreTurns}
 use Rattle.tp_book.specs.Refusals.{takeable_of, is_full_for}
 use Rattle.tp_trial.specs.Output.{IsOutput}
-use Rattle.tp_trial.proofs.Left.{not_both}
+
+-- what isn't possible can't be
+not_both : {A : Type 0} (o : Option A) (x : A) → o ≡ None → o ≡ Some x → ⊥
+not_both o x none some = cc
 
 -- an act that makes the same entries from one network, and ends in the same one
 abbrev OneWay : (Network NodeState → List Entry → Network NodeState → Type 0) → Type 0
@@ -214,6 +217,3 @@ one_output node turns quantum output other D E =
     let ports : slice_get D.end.ports 0 ≡ slice_get E.end.ports 0 = ap (λ (s : Network NodeState). slice_get s.ports 0) same in
     let port : D.held.port ≡ E.held.port = cc (ports, D.held.there, E.held.there) in
     D.held.is ∙ ap (λ (p : Port). p.outputs) port ∙ sym E.held.is
-
-pub tried_output : (node : NodeState) (turns quantum : ℕ) (tried : Tried) → IsTried node turns quantum tried → IsOutput node turns quantum tried.output.items
-tried_output node turns quantum tried D = record { entries = tried.entries.items; end = D.end; leads = D.leads; turned = D.turned; held = record { port = D.port; there = D.there; is = D.output } }

@@ -1,2 +1,4 @@
+pub mod Tried
+pub mod Turns
 pub mod Lone
 pub mod Output

@@ -1,13 +1,19 @@
-//! A law of trials. The function does nothing; its contract is the law.
+//! Laws of trials. The functions do nothing; their contracts are the laws.
 
-ghost use Rattle.std.specs.Prelude.{◌≡◌, ℕ, List};
+ghost use Rattle.std.specs.Prelude.{◌≡◌, ℕ, List, Some, None};
 ghost use Rattle.tp_model.specs.NodeState.{NodeState};
+ghost use Rattle.tp_model.specs.Image.{page_count};
+ghost use Rattle.tp_model.specs.Format.{fresh_node};
 ghost use Rattle.tp_trial.specs.Output.{IsOutput};
-ghost use Rattle.tp_turn.specs.Tried.{IsTried};
-ghost use Rattle.tp_turn.specs.declared.trial.Tried.{Tried};
+ghost use Rattle.tp_trial.specs.Tried.{fresh_image};
 
-/// A trial has one output, whatever finds it; and that of `tp_turn::try_turns` is it.
+/// A trial has one output, whatever finds it.
 pub fn trials_have_one_output()
     ensures one { (node : NodeState) (turns quantum : ℕ) (output other : List ℕ) → IsOutput node turns quantum output → IsOutput node turns quantum other → output ≡ other }
-    ensures tried { (node : NodeState) (turns quantum : ℕ) (tried : Tried) → IsTried node turns quantum tried → IsOutput node turns quantum tried.output.items }
+{}
+
+/// The images that can be tried are those with which a device may be formatted, where it has a node of as many pages.
+pub fn tried_images_are_formatted()
+    ensures tried { (image : List ℕ) (node : NodeState) → fresh_image image ≡ Some node → fresh_node (page_count node.memory) image ≡ Some node }
+    ensures refused { (image : List ℕ) (pages : ℕ) → fresh_image image ≡ None → fresh_node pages image ≡ None }
 {}

@@ -1,100 +1,47 @@
-//! The network of one node and one port.
+//! A node and the book of its network.
 
-ghost use Rattle.std.specs.Prelude.{◌≡◌, ◌+◌, ◌^◌, ◌<◌, ◌≤◌, IfOk, IsSome, None, Some, true, slice_get};
-ghost use Rattle.tp_law_machine.specs.NodeOfBytes.{IsNodeOfBytes};
-ghost use Rattle.tp_model.specs.Image.{has_idle_links};
-ghost use Rattle.tp_model.specs.Network.{receiver};
-ghost use Rattle.tp_trial.specs.Lone.{IsLone, IsOutputOf, Made, MadeOne, first_value};
-ghost use Rattle.tp_turn.specs.Tried.{one_wire};
-ghost use Rattle.tp_turn.specs.Turns.{RanOn};
+ghost use Rattle.std.specs.Prelude.{◌≡◌, IfOk, None, Some};
+ghost use Rattle.tp_trial.specs.Lone.{Begins, IsLone, IsOutputOf, StandsAs, lone_of};
+ghost use Rattle.tp_trial.specs.Tried.{fresh_image};
 
+use crate::image::lone_parts;
 use std::alloc::{AllocError, Global};
-use std::marker::Model;
-use tp_model::Entry;
-use tp_model::limits::MAX_STEPS;
-use tp_net::Lines;
-use tp_node::Node;
-use tp_port::fresh_ports;
-use tp_replay::FlatNetwork;
-use tp_turn::ONE_WIRE;
+use tp_book::Book;
+use tp_node::{Node, Standing};
 
-/// A node whose link 0 is wired to port 0, and how many entries a journal of what it did would have. No entry is kept.
+/// A node whose link 0 is wired to port 0, and the book of its network, which has no device. Between turns the book has no
+/// entries.
 #[derive(Drop)]
 pub(crate) struct Lone {
-    network: FlatNetwork,
-    entries: u64,
-}
-
-impl Model for Lone {
-    ghost use Rattle.tp_trial.specs.Lone.{LoneValue, IsLone};
-
-    ghost Value = { LoneValue };
-
-    ghost view = { λ t. record { network = t.network; entries = t.entries } };
-
-    ghost invariant = { λ t. IsLone (record { network = t.network; entries = t.entries }) };
+    pub(crate) book: Book,
+    pub(crate) node: Node,
 }
 
 impl Lone {
-    /// The network of a node, before its first entry.
-    pub(crate) fn start(alloc: Global, node: Node) -> Result<Lone, AllocError>
-        requires idle { has_idle_links node.live ≡ true }
-        requires image { IsNodeOfBytes node.live }
+    /// The network of the node of an image, before its first entry.
+    pub(crate) fn start(alloc: Global, image: &[u8], node: Node) -> Result<Lone, AllocError>
+        requires fresh { fresh_image image.now ≡ Some node.live }
         requires thawed { node.frozen ≡ None }
-        ensures { IfOk result (λ lone. lone ≡ first_value node.live) }
+        ensures { IfOk result (λ lone. Begins node.live lone) }
     {
-        let wires = Vec::from_slice(alloc, &ONE_WIRE)?;
-        let lines = Lines::new(alloc, ONE_WIRE.len())?;
-        let ports = fresh_ports(alloc, 1)?;
-        let nodes = Vec::from_array(alloc, [node])?;
-        Ok(Lone {
-            network: FlatNetwork::new(wires, nodes, lines, ports),
-            entries: 0,
-        })
-    }
-
-    /// What every trial keeps. It does nothing.
-    pub(crate) fn known(&self)
-        ensures { IsLone self.now }
-    {
-        let _entries = self.entries;
-    }
-
-    /// Lets the receiver of a line take the token that comes next, where it can. Answers whether it did.
-    pub(crate) fn take_front(&mut self, line: u16) -> bool
-        requires wired { IsSome (receiver one_wire line) }
-        requires few { self.old.entries < 2 ^ 62 }
-        ensures { MadeOne line self.old self.new result }
-    {
-        self.network.known();
-        let Some(token) = self.network.front(line) else {
-            return false;
-        };
-        match self.network.apply(&Entry::Take { line, token }) {
-            Ok(()) => {
-                self.entries += 1;
-                true
-            }
-            Err(_) => false,
-        }
-    }
-
-    /// Runs the node for at most `quantum` steps; for fewer only where it has no step then.
-    pub(crate) fn run(&mut self, quantum: u16)
-        requires quantum { quantum ≤ MAX_STEPS }
-        requires few { self.old.entries < 2 ^ 62 }
-        ensures { Made (RanOn quantum 0) 1 self.old self.new }
-    {
-        self.network.known();
-        if self.network.run_upto(0, quantum) > 0 {
-            self.entries += 1;
-        }
+        let net = lone_parts(alloc, image)?;
+        let book = Book::start(alloc, &net, None)?;
+        Ok(Lone { book, node })
     }
 
     /// What port 0 has put out.
     pub(crate) fn output(&self, alloc: Global) -> Result<Vec<u8>, AllocError>
-        ensures { IfOk result (λ output. IsOutputOf self.now.network output.items) }
+        requires { IsLone self.now }
+        ensures { IfOk result (λ output. IsOutputOf (lone_of self.now).network output.items) }
     {
-        Vec::from_slice(alloc, self.network.ports()[0].outputs())
+        Vec::from_slice(alloc, self.book.outputs(0))
+    }
+
+    /// How the node stands.
+    pub(crate) fn standing(&self) -> Standing
+        requires { IsLone self.now }
+        ensures { StandsAs (lone_of self.now).network result }
+    {
+        self.node.standing()
     }
 }

@@ -1,17 +1,47 @@
 //! The trial of an image.
 
 ghost use Rattle.std.specs.Prelude.{◌≤◌};
-ghost use Rattle.tp_trial.specs.Output.{OutputAs};
-ghost use Rattle.tp_turn.specs.Tried.{fresh_image};
+ghost use Rattle.tp_trial.specs.Output.{OutputAs, TrialAs};
+ghost use Rattle.tp_trial.specs.Tried.{fresh_image};
 
+use crate::image::{TryFault, lone_node};
 use crate::lone::Lone;
 use std::alloc::Global;
 use tp_model::limits::MAX_STEPS;
-use tp_turn::{TryFault, lone_node};
+use tp_node::Standing;
 
-/// What port 0 holds after `turns` turns of the node of `image` and the host: node, host, node, host .. A run has at most
-/// `quantum` steps. It is the output of `tp_turn::try_turns`, and takes no more memory for more turns. The images that are
-/// refused are those with which no device may be formatted.
+/// What a trial leaves: what port 0 put out, and how the node stands at the end.
+#[derive(Drop)]
+pub struct Trial {
+    pub output: Vec<u8>,
+    pub standing: Standing,
+}
+
+/// What port 0 holds after `turns` turns of the node of `image` and the host, and how the node stands then: node, host, node,
+/// host .. They are the turns that workers make. A run has at most `quantum` steps. It takes no more memory for more turns. The
+/// images that are refused are those with which no device may be formatted.
+pub fn try_standing(
+    alloc: Global,
+    image: &[u8],
+    turns: u32,
+    quantum: u16,
+) -> Result<Trial, TryFault>
+    requires { quantum ≤ MAX_STEPS }
+    ensures { TrialAs (fresh_image image.now) turns quantum result }
+{
+    let node = lone_node(alloc, image)?;
+    let Ok(mut lone) = Lone::start(alloc, image, node) else {
+        return Err(TryFault::Memory);
+    };
+    lone.turns(turns, quantum)?;
+    let standing = lone.standing();
+    match lone.output(alloc) {
+        Ok(output) => Ok(Trial { output, standing }),
+        Err(_) => Err(TryFault::Memory),
+    }
+}
+
+/// The output of the same trial.
 pub fn try_output(
     alloc: Global,
     image: &[u8],
@@ -21,13 +51,6 @@ pub fn try_output(
     requires { quantum ≤ MAX_STEPS }
     ensures { OutputAs (fresh_image image.now) turns quantum result }
 {
-    let node = lone_node(alloc, image)?;
-    let Ok(mut lone) = Lone::start(alloc, node) else {
-        return Err(TryFault::Memory);
-    };
-    lone.turns(turns, quantum);
-    match lone.output(alloc) {
-        Ok(output) => Ok(output),
-        Err(_) => Err(TryFault::Memory),
-    }
+    let Trial { output, .. } = try_standing(alloc, image, turns, quantum)?;
+    Ok(output)
 }

@@ -1,76 +1,81 @@
 //! Turns of the node and the host.
 
-ghost use Rattle.std.specs.Prelude.{◌≡◌, ◌+◌, ◌*◌, ◌%◌, ◌^◌, ◌==◌, ◌<◌, ◌≤◌, IsSome};
-ghost use Rattle.tp_model.specs.Network.{receiver};
-ghost use Rattle.tp_trial.specs.Lone.{Made};
-ghost use Rattle.tp_turn.specs.Tried.{one_wire};
-ghost use Rattle.tp_turn.specs.Turns.{AreTurns, IsHostTurn, IsNodeTurn, IsTurnOf, TookAll};
+ghost use Rattle.std.specs.Prelude.{◌≡◌, ◌+◌, ◌*◌, ◌%◌, ◌<◌, ◌≤◌, ◌==◌, MatchResult};
+ghost use Rattle.tp_book.specs.Book.{next_number};
+ghost use Rattle.tp_trial.specs.Lone.{IsLone, Went};
+ghost use Rattle.tp_trial.specs.Turns.{AreTurns, IsHostTurn, IsNodeTurn, IsTurnOf};
+ghost use Rattle.tp_trial.specs.declared.image.TryFault.TheVariants.{Memory};
 
+use crate::image::TryFault;
 use crate::lone::Lone;
-use tp_model::limits::MAX_STEPS;
-use tp_turn::{TAKES, TURN_ENTRIES};
-
-/// The line that the port receives, and the line that the node receives.
-const TO_PORT: u16 = 0;
-
-const TO_NODE: u16 = 4;
+use tp_book::Refusal;
+use tp_model::limits::{MAX_STEPS, NUMBER_LIMIT};
+use tp_turn::{TURN_ENTRIES, host_turn, node_turn};
 
 impl Lone {
-    /// The receiver of a line takes all that a turn may take.
-    fn take_line(&mut self, line: u16)
-        requires wired { IsSome (receiver one_wire line) }
-        requires few { self.old.entries + TAKES < 2 ^ 62 }
-        ensures { Made (TookAll line) TAKES self.old self.new }
+    /// A turn of the node, as workers make it.
+    fn node_turn(&mut self, quantum: u16) -> Result<(), TryFault>
+        requires quantum { quantum ≤ MAX_STEPS }
+        requires lone { IsLone self.old }
+        requires few { next_number self.old.book + TURN_ENTRIES + 1 < NUMBER_LIMIT }
+        ensures { MatchResult result (λ done. Went (IsNodeTurn quantum 0) TURN_ENTRIES self.old self.new) (λ fault. fault ≡ Memory) }
     {
-        for _taken in 0..TAKES {
-            if !self.take_front(line) {
-                return;
-            }
+        match node_turn(&mut self.book, &mut self.node, 0, quantum) {
+            Ok(_turn) => Ok(()),
+            Err(Refusal::Memory) => Err(TryFault::Memory),
+            Err(_) => unreachable!(),
         }
     }
 
-    /// A turn of the node: it takes what came in on its links, and runs.
-    fn node_turn(&mut self, quantum: u16)
-        requires quantum { quantum ≤ MAX_STEPS }
-        requires few { self.old.entries + TURN_ENTRIES < 2 ^ 62 }
-        ensures { Made (IsNodeTurn quantum 0) TURN_ENTRIES self.old self.new }
+    /// A turn of the host, as workers make it.
+    fn host_turn(&mut self) -> Result<(), TryFault>
+        requires lone { IsLone self.old }
+        requires few { next_number self.old.book + TURN_ENTRIES + 1 < NUMBER_LIMIT }
+        ensures { MatchResult result (λ done. Went IsHostTurn TURN_ENTRIES self.old self.new) (λ fault. fault ≡ Memory) }
     {
-        self.known();
-        self.take_line(TO_NODE);
-        self.known();
-        self.run(quantum);
-    }
-
-    /// A turn of the host: the port takes what came to it.
-    fn host_turn(&mut self)
-        requires few { self.old.entries + TURN_ENTRIES < 2 ^ 62 }
-        ensures { Made IsHostTurn TURN_ENTRIES self.old self.new }
-    {
-        self.known();
-        self.take_line(TO_PORT);
+        match host_turn(&mut self.book) {
+            Ok(_takes) => Ok(()),
+            Err(Refusal::Memory) => Err(TryFault::Memory),
+            Err(_) => unreachable!(),
+        }
     }
 
     /// The turn with this number, of the node and the host in turns.
-    fn turn(&mut self, number: u32, quantum: u16)
+    fn turn_of(&mut self, number: u32, quantum: u16) -> Result<(), TryFault>
         requires quantum { quantum ≤ MAX_STEPS }
-        requires few { self.old.entries + TURN_ENTRIES < 2 ^ 62 }
-        ensures { Made (IsTurnOf quantum (number % 2 == 0)) TURN_ENTRIES self.old self.new }
+        requires lone { IsLone self.old }
+        requires few { next_number self.old.book + TURN_ENTRIES + 1 < NUMBER_LIMIT }
+        ensures { MatchResult result (λ done. Went (IsTurnOf quantum (number % 2 == 0)) TURN_ENTRIES self.old self.new) (λ fault. fault ≡ Memory) }
     {
         if number % 2 == 0 {
-            self.node_turn(quantum);
+            self.node_turn(quantum)
         } else {
-            self.host_turn();
+            self.host_turn()
         }
     }
 
-    /// `turns` turns of the node and the host in turns.
-    pub(crate) fn turns(&mut self, turns: u32, quantum: u16)
+    /// The same, after which the book forgets what it journalled.
+    fn turn(&mut self, number: u32, quantum: u16) -> Result<(), TryFault>
         requires quantum { quantum ≤ MAX_STEPS }
-        requires few { self.old.entries + TURN_ENTRIES * turns < 2 ^ 62 }
-        ensures { Made (AreTurns quantum turns) (TURN_ENTRIES * turns) self.old self.new }
+        requires lone { IsLone self.old }
+        requires few { next_number self.old.book + TURN_ENTRIES + 1 < NUMBER_LIMIT }
+        ensures { MatchResult result (λ done. Went (IsTurnOf quantum (number % 2 == 0)) TURN_ENTRIES self.old self.new) (λ fault. fault ≡ Memory) }
+    {
+        self.turn_of(number, quantum)?;
+        self.book.drop_entries();
+        Ok(())
+    }
+
+    /// `turns` turns of the node and the host in turns.
+    pub(crate) fn turns(&mut self, turns: u32, quantum: u16) -> Result<(), TryFault>
+        requires quantum { quantum ≤ MAX_STEPS }
+        requires lone { IsLone self.old }
+        requires few { next_number self.old.book + TURN_ENTRIES * turns + 1 < NUMBER_LIMIT }
+        ensures { MatchResult result (λ done. Went (AreTurns quantum turns) (TURN_ENTRIES * turns) self.old self.new) (λ fault. fault ≡ Memory) }
     {
         for number in 0..turns {
-            self.turn(number, quantum);
+            self.turn(number, quantum)?;
         }
+        Ok(())
     }
 }

@@ -2,7 +2,7 @@
 
 ghost use Rattle.std.specs.Prelude.{◌≡◌, ◌≤◌, None, OnOk, IfErr};
 ghost use Rattle.std.specs.Io.KnownBytes.{Appends};
-ghost use Rattle.tp_turn.specs.Tried.{fresh_image};
+ghost use Rattle.tp_trial.specs.Tried.{fresh_image};
 ghost use Rattle.tp_views.specs.Attempt.{Shows, Answers};
 ghost use Rattle.tp_views.specs.Front.{AppendsFront};
 

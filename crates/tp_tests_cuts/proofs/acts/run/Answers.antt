@@ -5,7 +5,7 @@ use Rattle.tp_model.specs.Network.{steps}
 use Rattle.tp_model.specs.Node.{t414}
 use Rattle.tp_law_machine.proofs.Nodes.{node_steps}
 use Rattle.tp_node.proofs.Answered.{why_most}
-use Rattle.tp_turn.proofs.Ran.{has_run, run_agrees}
+use Rattle.tp_tests_cuts.proofs.Agreeing.{has_run, run_agrees}
 use Rattle.tp_tests_cuts.specs.Nets.{Stepped}
 use Rattle.tp_tests_cuts.proofs.Acting.{nothing_stepped, run_stepped}
 use Rattle.tp_tests_cuts.proofs.acts.run.Goals as goal

@@ -6,7 +6,8 @@ use Rattle.tp_law_machine.specs.NodeOfBytes.{CarriesByte}
 use Rattle.tp_law_machine.proofs.Nodes.{carries, node_took}
 use Rattle.tp_node.proofs.Answered.{takes_ok}
 use Rattle.tp_turn.proofs.Possible.{can_take}
-use Rattle.tp_turn.proofs.Leads.{takeable_front, ready_some, has_taken, take_agrees}
+use Rattle.tp_turn.proofs.Leads.{takeable_front, ready_some, has_taken}
+use Rattle.tp_tests_cuts.proofs.Agreeing.{take_agrees}
 use Rattle.tp_tests_cuts.specs.Nets.{Stepped}
 use Rattle.tp_tests_cuts.proofs.Acting.{nothing_stepped, take_stepped}
 use Rattle.tp_tests_cuts.proofs.acts.take.Goals as goal
@@ -32,12 +33,11 @@ returns-in-Ok-take-clause-stepped c =
 
 pub returns-in-Ok-take-clause-agrees : goal.returns-in-Ok-take-clause-agrees
 returns-in-Ok-take-clause-agrees c =
-    let some = ready_some c.args.book.now c.args.line c.in-Ok.token c.in-Ok.ensures.answer in
     let did = rw c.in-Ok.ensures.ok.1 at (takes_ok _ _ _ _ _ c.in-Ok-take.sent c.in-Ok-take.ensures.takes) in
     let carried : CarriesByte (front_of c.args.book.now c.args.line) = subst CarriesByte c.in-Ok.ensures.ok.1 (carries c.in-Ok.token c.carries_byte.ensures) in
     record {
       there = take_agrees c.args.book.now c.ready_take.new.self c.commit_take-note.new.self c.args.line c.args.number c.args.link c.args.node.now.live c.take.new.self.live c.in-Ok-take.sent
-          c.known.ensures.keeps c.in-Ok.ensures.ok.0 c.commit_take-note.ensures.book c.requires.goes c.requires.idle c.requires.agrees.there some did c.commit_take-note.ensures.agreed;
+          c.in-Ok.ensures.ok.0 c.requires.goes c.requires.agrees.there did c.commit_take-note.ensures.agreed;
       image = (node_took c.args.node.now.live c.args.link (front_of c.args.book.now c.args.line) (c.take.new.self.live, on_link c.args.link c.in-Ok-take.sent) c.requires.agrees.image carried did).0;
       thawed = c.take.ensures.kept ∙ c.requires.agrees.thawed;
     }

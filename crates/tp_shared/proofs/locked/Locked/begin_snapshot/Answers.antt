@@ -1,4 +1,4 @@
-use Rattle.std.proofs.Common.{◌≡◌, ◌∙◌, List, [], length, ap}
+use Rattle.std.proofs.Common.{◌≡◌, refl, ◌∙◌, List, [], length, ap}
 use Rattle.tp_model.specs.declared.entry.Entry.{Entry}
 use Rattle.tp_shared.proofs.Hosting.{idle_begun, begun_agreed, begun_grown}
 use Rattle.tp_shared.proofs.Sealing.{floor_after, sealed_begun, tied_still}

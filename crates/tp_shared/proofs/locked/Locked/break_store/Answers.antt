@@ -1,4 +1,4 @@
-use Rattle.std.proofs.Common.{◌≡◌, ◌∙◌, List, [], length, ap}
+use Rattle.std.proofs.Common.{◌≡◌, refl, ◌∙◌, List, [], length, ap}
 use Rattle.tp_model.specs.declared.entry.Entry.{Entry}
 use Rattle.tp_shared.proofs.Hosting.{hosted_broken}
 use Rattle.tp_shared.proofs.Sealing.{floor_after, sealed_still, tied_still}

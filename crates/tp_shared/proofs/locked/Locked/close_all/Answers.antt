@@ -1,4 +1,4 @@
-use Rattle.std.proofs.Common.{◌≡◌, ◌∙◌, List, [], length, ap, subst}
+use Rattle.std.proofs.Common.{◌≡◌, refl, ◌∙◌, List, [], length, ap, subst}
 use Rattle.tp_model.specs.declared.entry.Entry.{Entry}
 use Rattle.tp_turn.specs.Hosted.{HostDone}
 use Rattle.tp_turn.specs.Over.{ClosesAll}

@@ -1,4 +1,4 @@
-use Rattle.std.proofs.Common.{◌≡◌, ◌∙◌, ◌+◌, List, ◌++◌, length, map, drop, ap}
+use Rattle.std.proofs.Common.{◌≡◌, refl, ◌∙◌, ◌+◌, List, ◌++◌, length, map, drop, ap}
 use Rattle.std.specs.List.{enumerate_from}
 use Rattle.tp_model.specs.declared.entry.Entry.{Entry}
 use Rattle.tp_model.specs.declared.entry.Entry.TheVariants.{HostIn}

@@ -1,4 +1,4 @@
-use Rattle.std.proofs.Common.{◌∙◌, length, ap, subst}
+use Rattle.std.proofs.Common.{◌∙◌, refl, length, ap, subst}
 use Rattle.tp_turn.specs.Hosted.{HostDone, HostTurns}
 use Rattle.tp_shared.specs.BookActs.{HostActed}
 use Rattle.tp_shared.specs.Entries.{TakesOf}

@@ -1,0 +1,70 @@
+//! One node that sends a letter on link 0, which is wired to a port.
+
+use crate::devices::formatted;
+use crate::network::Net;
+use std::alloc::Global;
+use std::test::Fail;
+use tp_book::Numbered;
+use tp_disk::MemDisk;
+use tp_model::{Entry, Token};
+use tp_net::Topology;
+use tp_tests_fixtures::{ONE_NODE, letter};
+
+/// What four turns make, of the node and the host in turns: the node runs up to the acknowledge that it waits for, the port takes the
+/// letter, and the node takes the acknowledge and goes round.
+const ENTRIES: [Entry; 4] = [
+    Entry::Run { node: 0, count: 3 },
+    Entry::Take {
+        line: 0,
+        token: Token::Data(b'A'),
+    },
+    Entry::Take {
+        line: 4,
+        token: Token::Ack,
+    },
+    Entry::Run { node: 0, count: 16 },
+];
+
+fn device(alloc: Global) -> Result<MemDisk, Fail> {
+    let images = Vec::from_array(alloc, [letter(alloc)?])?;
+    let topology = Topology::read(alloc, ONE_NODE)?;
+    let disk = formatted(alloc, &topology, &images);
+    disk
+}
+
+/// Makes `turns` turns, of the node and the host in turns. Answers whether none was refused.
+fn plays(net: &mut Net, turns: u8) -> bool {
+    for number in 0..turns {
+        let goes = if number % 2 == 0 {
+            matches!(net.node_turn(0, 16), Some(Ok(_)))
+        } else {
+            net.host_turn().is_ok()
+        };
+        if !goes {
+            return false;
+        }
+    }
+    true
+}
+
+/// Whether these are the entries, numbered from 0 on.
+fn are(entries: &[Numbered], wanted: &[Entry]) -> bool {
+    let mut number = 0;
+    for (entry, other) in entries.iter().zip(wanted) {
+        if entry.number != number || entry.entry != *other {
+            return false;
+        }
+        number += 1;
+    }
+    entries.len() == wanted.len()
+}
+
+#[test]
+fn the_entries_of_four_turns(rt: HostRuntime) -> Result<(), Fail> {
+    let mut disk = device(rt.alloc())?;
+    let mut net = Net::of_device(rt.alloc(), &mut disk, 4)?;
+    assert!(rt; are(net.book().entries(), &[]));
+    assert!(rt; plays(&mut net, 4));
+    assert!(rt; are(net.book().entries(), &ENTRIES));
+    Ok(())
+}
