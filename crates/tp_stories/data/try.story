@@ -27,3 +27,14 @@ tpnet try busy.img --turns 4
 tpnet try later.img --turns 4
 # A file that is not there can not be read.
 tpnet try a.img --turns 4
+
+story halted
+# A node that loads a word which isn't there halts. Where it did is said with --explain alone.
+image a.img 40 30
+image b.img
+tpnet try a.img --turns 4
+tpnet try a.img --turns 4 --explain
+# In its first turn it hasn't halted yet where it has none.
+tpnet try a.img --turns 0 --explain
+# One that goes round hasn't halted.
+tpnet try b.img --turns 4 --explain

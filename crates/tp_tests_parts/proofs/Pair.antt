@@ -1,5 +1,5 @@
 -- The parts of the pair do with each entry what the definitions say.
-use Rattle.std.proofs.Common.{◌≡◌, ℕ, suc, zero, ◌+◌, ◌*◌, ◌/◌, ◌<◌, List, [], ◌∷◌, Bool, true, false, cond, inl, inr, refl, sym, ap, ◌∙◌, Option, Some, None, arith, ◌≤◌, ◌≢◌, eq-eqb, ne_eqb, MatchBool}
+use Rattle.std.proofs.Common.{◌≡◌, ℕ, suc, zero, ◌/◌, [], ◌∷◌, Bool, true, false, cond, inl, inr, refl, sym, ap, ◌∙◌, Option, Some, None, arith, eq-eqb, ne_eqb, MatchBool}
 use Rattle.std.specs.Prelude.{◌==◌}
 use Rattle.std.specs.Option.{option_map}
 use Rattle.std.proofs.lemmas.Bool.{cases_Bool, cases_eq, le-ltb, lt-ltb}
@@ -8,7 +8,7 @@ use Rattle.tp_model.specs.declared.link.Token.TheVariants.{Data, Ack, Marker}
 use Rattle.tp_model.specs.declared.entry.Entry.{Entry}
 use Rattle.tp_model.specs.declared.entry.Entry.TheVariants.{Run, Take, HostIn, Confirm}
 use Rattle.tp_model.specs.NodeState.{NodeState}
-use Rattle.tp_model.specs.Network.{◌>>=◌, steps, Network, Own, OfHost, has_wire, own, put, taken, pushed, sent, same_token}
+use Rattle.tp_model.specs.Network.{◌>>=◌, steps, Network, OfHost, has_wire, own, put, taken, pushed, sent, same_token}
 use Rattle.tp_model.specs.Entries.{process, takes, does, of_port, receives}
 use Rattle.tp_model.specs.Step.{step_of}
 use Rattle.tp_model.specs.Node.{t414, node_step, took}
@@ -17,7 +17,7 @@ use Rattle.tp_law_parts.specs.InPiece.{acts, next_in}
 use Rattle.tp_parts.specs.Plays.{IsBlocked}
 use Rattle.tp_tests_parts.specs.declared.side.Side.{Side}
 use Rattle.tp_tests_parts.specs.declared.side.Side.TheVariants.{First, Second}
-use Rattle.tp_tests_parts.specs.Pair.{halted_node, pair_wires, pair_network, number_of, node_piece, host_piece, let_go, hold, node_after, host_goes, host_network}
+use Rattle.tp_tests_parts.specs.Pair.{pair_wires, pair_network, number_of, node_piece, host_piece, node_after, host_goes, host_network}
 
 -- the pair after what became of it
 abbrev pub became : Side → Option (Option ℕ × Option ℕ) → Option (Network NodeState)

@@ -49,14 +49,15 @@ fn plays(net: &mut Net, turns: u8) -> bool {
 
 /// Whether these are the entries, numbered from 0 on.
 fn are(entries: &[Numbered], wanted: &[Entry]) -> bool {
-    let mut number = 0;
-    for (entry, other) in entries.iter().zip(wanted) {
-        if entry.number != number || entry.entry != *other {
+    if entries.len() != wanted.len() {
+        return false;
+    }
+    for at in 0..wanted.len() {
+        if entries[at].number != at as u64 || entries[at].entry != wanted[at] {
             return false;
         }
-        number += 1;
     }
-    entries.len() == wanted.len()
+    true
 }
 
 #[test]

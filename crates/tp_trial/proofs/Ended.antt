@@ -1,19 +1,15 @@
 -- What a turn leaves once its entries are dropped, and what a trial answers after its turns.
 use Rattle.std.proofs.Common.{◌≡◌, ℕ, length, sym, ap, subst, ◌∙◌, arith, Option, Some, None, slice_get}
-use Rattle.std.specs.Prelude.{is_some, Ok, Err}
-use Rattle.tp_law_machine.proofs.Partial.{map_some}
+use Rattle.std.specs.Prelude.{is_some, Ok}
 use Rattle.tp_model.specs.NodeState.{NodeState}
-use Rattle.tp_model.specs.Network.{Port}
 use Rattle.tp_node.specs.NodeContents.{NodeContents}
-use Rattle.tp_book.specs.Book.{BookValue, agreed, next_number, outputs_of}
+use Rattle.tp_book.specs.Book.{BookValue, agreed, next_number}
 use Rattle.tp_book.specs.Dropped.{after_drop, network_now}
 use Rattle.tp_turn.specs.Moments.{IsNodeOf}
 use Rattle.tp_trial.specs.Lone.{Begins, IsLoneBook, IsOutputOf, Made, StandsAs, Went, lone_of, value_of}
-use Rattle.tp_trial.specs.Output.{OutputAs, TrialAs}
+use Rattle.tp_trial.specs.Output.{TrialAs}
 use Rattle.tp_trial.specs.Tried.{lone_network}
 use Rattle.tp_trial.specs.Turns.{AreTurns}
-use Rattle.tp_trial.specs.declared.image.TryFault.{TryFault}
-use Rattle.tp_trial.specs.declared.image.TryFault.TheVariants.{BadImage, Memory}
 use Rattle.tp_trial.specs.declared.lone.Lone.{Lone}
 use Rattle.tp_trial.specs.declared.trial.Trial.{Trial}
 use Rattle.tp_trial.proofs.Led.{turns_lead}
@@ -59,11 +55,6 @@ went_dropped act most a b book is same net W = record {
 
 -- ## The answer
 
-pub output_held : (b : BookValue) (output : _) → Some output ≡ outputs_of b 0 → IsOutputOf (network_now b) output
-output_held b output is =
-    let port = map_some (λ (p : Port). p.outputs) (slice_get b.state.ports 0) output (sym is) in
-    record { port = port.0; there = port.1; is = sym port.2 }
-
 pub trial_is : (o : Option NodeState) (node : NodeState) (a b : Lone) (turns quantum most : ℕ) (trial : Trial) → o ≡ Some node → Begins node a → Went (AreTurns quantum turns) most a b
     → IsOutputOf (lone_of b).network trial.output.items → StandsAs (lone_of b).network trial.standing → TrialAs o turns quantum (Ok trial)
 trial_is o node a b turns quantum most trial fresh B W held stands =
@@ -79,16 +70,3 @@ trial_is o node a b turns quantum most trial fresh B W held stands =
       };
       stands = stands;
     })
-
-pub memory_wants : (o : Option NodeState) (node : NodeState) (turns quantum : ℕ) (e : TryFault) → o ≡ Some node → e ≡ Memory → TrialAs o turns quantum (Err e)
-memory_wants o node turns quantum e fresh is = subst (λ x. TrialAs x turns quantum (Err e)) (sym fresh) (subst (λ x. TrialAs (Some node) turns quantum (Err x)) (sym is) tt)
-
-pub output_of : (o : Option NodeState) (turns quantum : ℕ) (trial : Trial) → TrialAs o turns quantum (Ok trial) → OutputAs o turns quantum (Ok trial.output)
-output_of (Some node) turns quantum trial T = T.output_is
-output_of None turns quantum trial T = absurd T
-
-pub fault_of : (o : Option NodeState) (turns quantum : ℕ) (e : TryFault) → TrialAs o turns quantum (Err e) → OutputAs o turns quantum (Err e)
-fault_of (Some node) turns quantum Memory T = tt
-fault_of (Some node) turns quantum BadImage T = absurd T
-fault_of None turns quantum BadImage T = tt
-fault_of None turns quantum Memory T = absurd T

@@ -1,5 +1,5 @@
-use Rattle.std.proofs.Common.{ap, slice_get}
-use Rattle.tp_trial.proofs.Went.{node_went}
+use Rattle.std.proofs.Common.{ap, rules, slice_get}
+use Rattle.tp_trial.proofs.Went.{node_went, node_wants}
 use Rattle.tp_trial.proofs.lone.Lone.node_turn.Goals as goal
 
 pub node_turn-requires-clause-free : goal.node_turn-requires-clause-free
@@ -13,3 +13,8 @@ node_turn-requires-clause-is c = c.requires.lone.node
 
 pub returns-in-Ok : goal.returns-in-Ok
 returns-in-Ok c = node_went c.args.self.now c.requires.lone c.requires.few c.args.quantum c.in-Ok._turn c.node_turn.new.book c.node_turn.new.node c.in-Ok.ensures.done c.in-Ok.ensures.is
+
+pub unreachable-requires : goal.unreachable-requires
+unreachable-requires c =
+    let so = node_wants c.args.self.now c.requires.lone c.requires.few c.args.quantum c.in-Err.field-0 c.node_turn.new.book c.node_turn.new.node c.in-Err.ensures.done in
+    search (rules, so)

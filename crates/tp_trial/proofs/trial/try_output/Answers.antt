@@ -1,1 +1,0 @@
-use Rattle.tp_trial.proofs.trial.try_output.Goals as goal
