@@ -1,5 +1,6 @@
 //! Which nodes have halted, said after a run or a trial.
 
+use crate::commands::TRY_QUANTUM;
 use std::fs::{self, Files, OpenFile};
 use std::io::Write;
 use std::os::unix::fs::FileExt;
@@ -10,7 +11,6 @@ use tp_recover::open;
 use tp_stream_ends::Stopped;
 use tp_stream_files::say_stopped;
 use tp_trial::try_standing;
-use tp_views::TRY_QUANTUM;
 use tp_words::Asked;
 
 /// Says of a node that has halted where it did. A failed write is let go.
