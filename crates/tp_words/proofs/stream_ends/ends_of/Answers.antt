@@ -1,4 +1,4 @@
-use Rattle.tp_program.proofs.stream_ends.ends_of.Goals as goal
+use Rattle.tp_words.proofs.stream_ends.ends_of.Goals as goal
 
 pub returns-in-None : goal.returns-in-None
 returns-in-None c = record {

@@ -1,7 +1,7 @@
 use Rattle.std.proofs.Common.{◌≡◌, ◌≤◌, ℕ, arith, subst, inl, inr}
 use Rattle.std.proofs.lemmas.Bool.{cases_lt}
-use Rattle.tp_program.specs.Ends.{inputs, places}
-use Rattle.tp_program.proofs.stream_ends.named_twice.Goals as goal
+use Rattle.tp_words.specs.Ends.{inputs, places}
+use Rattle.tp_words.proofs.stream_ends.named_twice.Goals as goal
 
 pub loop-port-preserved : goal.loop-port-preserved
 loop-port-preserved c = λ port below. elim (cases_lt port c.loop-port.port) [

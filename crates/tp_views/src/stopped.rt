@@ -1,5 +1,6 @@
 //! Which nodes have halted, said after a run or a trial.
 
+use crate::commands::TRY_QUANTUM;
 use std::fs::{self, Files, OpenFile};
 use std::io::Write;
 use std::os::unix::fs::FileExt;
@@ -7,10 +8,9 @@ use tp_disk::{Counted, NotedFile, RawFile};
 use tp_model::limits::MAX_NODES;
 use tp_node::{Node, Standing};
 use tp_recover::open;
-use tp_stream::Stopped;
+use tp_stream_ends::Stopped;
 use tp_stream_files::say_stopped;
 use tp_trial::try_standing;
-use tp_views::TRY_QUANTUM;
 use tp_words::Asked;
 
 /// Says of a node that has halted where it did. A failed write is let go.

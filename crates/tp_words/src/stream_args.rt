@@ -4,18 +4,18 @@ ghost use Rattle.std.specs.Prelude.{◌≡◌, IfOk, codes};
 ghost use Rattle.std.specs.Fmt.{decimal};
 ghost use Rattle.std.specs.Option.{option_map};
 ghost use Rattle.tp_words.specs.Given.{given};
-ghost use Rattle.tp_program.specs.Streaming.{IsBound, IsStreamInRange, WasStreamTyped};
+ghost use Rattle.tp_words.specs.StreamArgs.{IsBound, IsStreamInRange, WasStreamTyped};
 
+use crate::args::{ArgFault, MAX_TURNS, MAX_WORDS, every_of, wait_of};
+use crate::found::{option_number, option_or, text_of};
+use crate::numbers::has_word;
 use crate::stream_ends::{EndsFault, ends_of};
+use crate::stream_words::stream_command;
 use clap::ArgMatches;
 use std::alloc::Global;
 use std::fmt;
 use tp_model::limits::MAX_STEPS;
 use tp_stream_files::Ends;
-use tp_words::{
-    ArgFault, MAX_TURNS, MAX_WORDS, every_of, has_word, option_number, option_or, stream_command,
-    text_of, wait_of,
-};
 
 /// What a command line with `--stream` asks for.
 #[derive(Drop)]
@@ -116,7 +116,7 @@ fn turns_of(
 }
 
 /// The stream that was found among the words.
-#[tactic(auto, unfolding(crate::specs::Streaming::IsStreamRun))]
+#[tactic(auto, unfolding(crate::specs::StreamArgs::IsStreamRun))]
 fn run_of(
     alloc: Global,
     words: &[String],

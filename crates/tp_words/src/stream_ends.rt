@@ -1,15 +1,15 @@
 //! What was typed of the ends of a stream's ports.
 
 ghost use Rattle.std.specs.Prelude.{◌≡◌, ◌<◌, ◌≤◌, ◌==◌, All, IfOk, IfSome, None, count_by};
-ghost use Rattle.tp_program.specs.Ends.{AreApart, AreEnds, HavePorts, inputs, places};
+ghost use Rattle.tp_words.specs.Ends.{AreApart, AreEnds, HavePorts, inputs, places};
 ghost use Rattle.tp_model.specs.declared.limits.TheConstants.{MAX_PORTS};
 
+use crate::numbers::number_of;
 use clap::ArgMatches;
 use std::alloc::{AllocError, AllocFailed, Global};
 use std::fmt;
 use tp_model::limits::MAX_PORTS;
 use tp_stream_files::{Ends, PortFile, PortNumber};
-use tp_words::number_of;
 
 /// Why what was typed names no ends. Each ends the program with status 2.
 #[derive(Drop)]
