@@ -67,8 +67,8 @@ tpnet compact nowhere
 there nowhere
 
 story many
-# Sixteen nodes in a chain, the ninth of which has a page more: the letter of the first has gone through all, and an Ack is on each line
-# between them. All of it is in the cut: node by node it is what it was, and the network goes on as the one that wasn't compacted.
+# Sixteen nodes in a chain; the ninth has a page more. The letter of the first has gone through all, and an Ack is on each line between
+# them. All of it is in the cut: node by node it is what it was, and the network goes on as the one that wasn't compacted.
 text net.txt node n0 4\nnode n1 4\nnode n2 4\nnode n3 4\nnode n4 4\nnode n5 4\nnode n6 4\nnode n7 4\nnode n8 5\nnode n9 4\nnode n10 4\nnode n11 4\nnode n12 4\nnode n13 4\nnode n14 4\nnode n15 4\nport h\nwire n0.0 n1.0\nwire n1.3 n2.0\nwire n2.3 n3.0\nwire n3.3 n4.0\nwire n4.3 n5.0\nwire n5.3 n6.0\nwire n6.3 n7.0\nwire n7.3 n8.0\nwire n8.3 n9.0\nwire n9.3 n10.0\nwire n10.3 n11.0\nwire n11.3 n12.0\nwire n12.3 n13.0\nwire n13.3 n14.0\nwire n14.3 n15.0\nwire n15.3 h\n
 image n0.img
 image n1.img 11 24 F2 54 41 F7 11 24 F2 53 41 FB 60 02

@@ -249,7 +249,7 @@ tpnet run device --stream --until-quiet --in 0=four --in 1=- --out 2=- --discard
 tpnet run device --stream --discard 2 --discard 0 --discard 1
 
 story no_room_for_one
-# The same as no_room with two inputs, of which the first has come to its end: the other one hasn't.
+# As no_room, with two inputs: the first has come to its end, and the other one hasn't.
 text net.txt node a 8\nport x\nport y\nwire a.0 x\nwire a.1 y\n
 image a.img 11 24 F2 54 41 F7
 cut a.img 8364
@@ -297,3 +297,18 @@ image b.img 40 30
 tpnet format device net.txt . 65536
 tpnet run device --turns 3 --workers 1
 tpnet run device --stream --stop-on-halt --turns 9 --discard 0
+
+story left_over
+# More input than a port holds, and its node takes nothing of it: 4096 bytes are pending, the rest isn't handed in, and nothing is left
+# to do. The input may end there, but no byte before.
+text net.txt node a 4\nport x\nport y\nwire a.0 x\nwire a.1 y\n
+image a.img 11 24 F2 54 41 F7
+fill in 5000 78
+tpnet format device net.txt . 65536
+tpnet run device --stream --until-quiet --discard 0 --discard 1 --in 1=in
+tpnet show device >shown
+ends shown \nport 0 in 0 pending 0 out 0 unconfirmed 0\nport 1 in 0 pending 4096 out 0 unconfirmed 0\n
+cut in 4096
+tpnet run device --stream --until-quiet --discard 0 --discard 1 --in 1=in
+cut in 4095
+tpnet run device --stream --until-quiet --discard 0 --discard 1 --in 1=in
