@@ -1,4 +1,5 @@
 pub mod ByItself
+pub mod Counted
 pub mod Fine
 pub mod Fronts
 pub mod Reach

@@ -2,7 +2,8 @@
 //! all entries by itself. The functions do nothing; their contracts are the laws.
 #![tactic(auto)]
 
-ghost use Rattle.std.specs.Prelude.{◌≡◌, ◌<◌, ◌≤◌, ◌++◌, ℕ, List, ◌∷◌, Some, length};
+ghost use Rattle.std.specs.Prelude.{◌≡◌, ◌⊎◌, ◌<◌, ◌≤◌, ◌+◌, ◌++◌, ℕ, List, [], ◌∷◌, Some, length};
+ghost use Rattle.tp_model.specs.declared.limits.TheConstants.{NUMBER_LIMIT};
 ghost use Rattle.tp_model.specs.declared.link.Token.{Token};
 ghost use Rattle.tp_model.specs.declared.entry.Entry.{Entry};
 ghost use Rattle.tp_model.specs.declared.entry.Entry.TheVariants.{Take};
@@ -42,9 +43,11 @@ pub fn pieces_make_the_network()
 {}
 
 /// Replaying rows stops where the entries stop that are read of them, at the fault of that row's place; where they don't stop
-/// before the last row, all of them are replayed.
+/// before the last row, all of them are replayed. Either no entry is read, or all are numbered below the limit, so they are fewer
+/// than that.
 pub fn rows_stop_with_entries()
-    ensures { (r : Replay NodeState) (rows : List (ℕ × List ℕ)) → RowsStop t414 r rows (readable r.least r.next rows) (reach (next t414) r.now (bare (readable r.least r.next rows))) }
+    ensures stop { (r : Replay NodeState) (rows : List (ℕ × List ℕ)) → RowsStop t414 r rows (readable r.least r.next rows) (reach (next t414) r.now (bare (readable r.least r.next rows))) }
+    ensures few { (least next : ℕ) (rows : List (ℕ × List ℕ)) → (readable least next rows ≡ []) ⊎ (next + length (readable least next rows) < NUMBER_LIMIT) }
 {}
 
 /// Entries stop at the first that its process can't do with its own entries and their tokens alone, or that names a token which
