@@ -34,10 +34,15 @@ pub fn pieces_stop_first()
         → (stops : ℕ → ℕ) → ((i : ℕ) → i < count → StopsAt t414 (pieces i) (parts i) es (stops i)) → IsLeastOf count stops (reach (next t414) s es) }
 {}
 
-/// Where the whole network goes through all entries and each piece did, what the pieces then hold, put together, is the network
-/// after the entries.
+/// Where the whole network goes through all entries, each piece that agrees with it goes through them too, and agrees with it at
+/// the end. What pieces hold that agree with a network and have all its processes, put together, is that network; so where each
+/// went through, it is the network after the entries.
 pub fn pieces_make_the_network()
-    ensures { (s t w : Network NodeState) (es : List Entry) → after t414 s es ≡ Some t
+    ensures each { (s t : Network NodeState) (es : List Entry) → after t414 s es ≡ Some t → (has : Piece) (part : Network NodeState) → Agrees has s part
+        → (end : Network NodeState) × (after_by (next_in t414 has) part es ≡ Some end) × Agrees has t end }
+    ensures joined { (count : ℕ) (pieces : ℕ → Piece) → Covers count pieces → (t w : Network NodeState) (ends : ℕ → Network NodeState) → ((i : ℕ) → i < count → Agrees (pieces i) t (ends i))
+        → IsTogether count pieces ends w → w ≡ t }
+    ensures whole { (s t w : Network NodeState) (es : List Entry) → after t414 s es ≡ Some t
         → (count : ℕ) (pieces : ℕ → Piece) (parts ends : ℕ → Network NodeState) → Covers count pieces → ((i : ℕ) → i < count → Agrees (pieces i) s (parts i))
         → ((i : ℕ) → i < count → after_by (next_in t414 (pieces i)) (parts i) es ≡ Some (ends i)) → IsTogether count pieces ends w → w ≡ t }
 {}
