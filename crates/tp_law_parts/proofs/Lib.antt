@@ -1,6 +1,6 @@
 pub mod ByItself
+pub mod CanFollow
 pub mod Counted
-pub mod Fine
 pub mod Fronts
 pub mod Reach
 pub mod Rows
