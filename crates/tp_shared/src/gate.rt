@@ -1,35 +1,6 @@
-//! Points of a turn that a test can hold.
+//! Points of a turn that a test can hold, and what is called there.
 
-/// A process took its number from the ready queue.
-pub const NUMBER_TAKEN: u8 = 1;
-
-/// A node is locked.
-pub const NODE_LOCKED: u8 = 2;
-
-/// A node has run, and its run isn't journalled yet. Its lock is held, the book's isn't.
-pub const RUN_DONE: u8 = 3;
-
-/// A node's run is journalled. The book's lock isn't held.
-pub const COMMITTED: u8 = 4;
-
-/// The flusher has copied the entries that it will append. No lock is held.
-pub const BACKLOG_COPIED: u8 = 5;
-
-/// The flusher has copied a page of a frozen node. No lock is held.
-pub const PAGE_COPIED: u8 = 6;
-
-/// A piece of a recovery begins.
-pub const PIECE_BEGUN: u8 = 7;
-
-/// What is called at each point of a turn, with the number of the process. A test waits there; what runs does nothing.
-pub trait Gate {
-    fn at(&self, process: u8, point: u8);
-}
-
-/// A gate that does nothing.
-#[derive(Drop)]
-pub struct NoGate;
-
-impl Gate for NoGate {
-    fn at(&self, _process: u8, _point: u8) {}
-}
+pub use tp_gate::{
+    BACKLOG_COPIED, COMMITTED, NODE_LOCKED, NUMBER_TAKEN, PAGE_COPIED, PIECE_BEGUN, RUN_DONE,
+};
+pub use tp_gate::{Gate, NoGate};

@@ -1,0 +1,10 @@
+pub mod Arrivals
+pub mod ByItself
+pub mod Fine
+pub mod InPiece
+pub mod Piece
+pub mod Reach
+pub mod Readable
+pub mod RowsStop
+pub mod Stops
+pub mod Together

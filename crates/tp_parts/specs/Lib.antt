@@ -1,0 +1,2 @@
+pub mod Plays
+pub mod Whole
