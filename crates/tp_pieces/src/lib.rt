@@ -1,0 +1,8 @@
+//! The parts of a real network: runs of neighbouring nodes, and the host with its ports, each with the lines as it has them.
+#![tactic(auto)]
+
+mod front;
+mod lanes;
+mod nodes;
+
+pub use nodes::NodesPart;
