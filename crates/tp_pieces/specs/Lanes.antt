@@ -9,6 +9,11 @@ pub record LanesValue : Type 0 where
   pub wires : List (Option WireEnd)
   pub lines : List (List Token)
 
+-- as many lines, on the same wires
+pub record SameLanes (was now : LanesValue) : Type 0 where
+  pub wires : now.wires ≡ was.wires
+  pub count : length now.lines ≡ length was.lines
+
 -- no line has more than two tokens
 abbrev pub AreShort : List (List Token) → Type 0
 AreShort lines = (line : ℕ) → length (on_line lines line) ≤ 2

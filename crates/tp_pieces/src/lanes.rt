@@ -4,7 +4,7 @@ ghost use Rattle.std.specs.Prelude.{◌≡◌, ◌<◌, ◌≤◌, [], ◌∷◌
 ghost use Rattle.tp_model.specs.Network.{has_wire, pushed, receiver, sent, taken};
 ghost use Rattle.tp_port.specs.Room.{from_line};
 ghost use Rattle.tp_port.specs.Sends.{sends_on};
-ghost use Rattle.tp_pieces.specs.Lanes.{AreShort, LanesValue, Overfills};
+ghost use Rattle.tp_pieces.specs.Lanes.{Overfills, SameLanes};
 
 use crate::front::is_front;
 use std::marker::Model;
@@ -45,7 +45,7 @@ impl Lanes {
 
     /// Takes a token off a line where it stands in front there. Answers whether it does.
     pub(crate) fn take_off(&mut self, line: usize, token: Token) -> bool
-        ensures wires { self.new.wires ≡ self.old.wires }
+        ensures same { SameLanes self.old self.new }
         ensures takes { MatchBool result (taken self.old.lines ((line, token) ∷ []) ≡ Some self.new.lines) (taken self.old.lines ((line, token) ∷ []) ≡ None) }
     {
         if line >= self.lines.count() {
@@ -60,7 +60,7 @@ impl Lanes {
 
     /// Sends a token on a line, if that has a wire. Answers whether it has room.
     fn send(&mut self, line: usize, token: Token) -> bool
-        ensures wires { self.new.wires ≡ self.old.wires }
+        ensures same { SameLanes self.old self.new }
         ensures sends { MatchBool result (self.new.lines ≡ pushed (has_wire self.old.wires) self.old.lines line token)
             (Overfills (has_wire self.old.wires) self.old.lines ((line, token) ∷ [])) }
     {
@@ -81,7 +81,7 @@ impl Lanes {
     /// have room.
     pub(crate) fn send_all(&mut self, first: usize, tokens: &[(u8, Token)]) -> bool
         requires { first ≤ 1024 }
-        ensures wires { self.new.wires ≡ self.old.wires }
+        ensures same { SameLanes self.old self.new }
         ensures sends { MatchBool result (self.new.lines ≡ sent (has_wire self.old.wires) self.old.lines (from_line first tokens.now))
             (Overfills (has_wire self.old.wires) self.old.lines (from_line first tokens.now)) }
     {
@@ -95,7 +95,7 @@ impl Lanes {
 
     /// Sends a token on a line, if there is one. Answers whether it has room.
     pub(crate) fn send_some(&mut self, line: usize, token: Option<Token>) -> bool
-        ensures wires { self.new.wires ≡ self.old.wires }
+        ensures same { SameLanes self.old self.new }
         ensures sends { MatchBool result (self.new.lines ≡ sent (has_wire self.old.wires) self.old.lines (sends_on line token))
             (Overfills (has_wire self.old.wires) self.old.lines (sends_on line token)) }
     {
