@@ -1,13 +1,14 @@
 //! What is asked before an entry is done.
 
-ghost use Rattle.std.specs.Prelude.{◌≡◌, ◌<◌, ◌≤◌, ◌+◌, ◌&&◌, IsTrue, List, MatchOption, Some, false, nat_lt, nat_le, slice_get};
+ghost use Rattle.std.specs.Prelude.{◌≡◌, ◌<◌, ◌≤◌, ◌+◌, ◌&&◌, IsTrue, ℕ, List, MatchOption, Some, false, nat_lt, nat_le, slice_get};
 ghost use Rattle.tp_model.specs.declared.link.Token.{Token};
+ghost use Rattle.tp_model.specs.declared.wire.WireEnd.TheVariants.{Link};
 ghost use Rattle.tp_model.specs.declared.limits.TheConstants.{MAX_STEPS};
 ghost use Rattle.tp_model.specs.Network.{is_first};
 ghost use Rattle.tp_pieces.specs.Whose.{whose};
 
-use tp_model::Token;
 use tp_model::limits::MAX_STEPS;
+use tp_model::{Token, WireEnd};
 
 /// Whether a token stands in front of a line, whose front this is.
 pub(crate) fn is_front(front: Option<Token>, token: Token) -> bool
@@ -40,4 +41,14 @@ pub(crate) fn place(first: usize, len: usize, number: u8) -> Option<usize>
         return None;
     }
     Some(number - first)
+}
+
+/// The node and the link at an end of a wire, if a node has it.
+pub(crate) fn link_at(end: Option<WireEnd>) -> Option<(u8, u8)>
+    ensures { MatchOption result ((node link : ℕ) → end ≡ Some (Link node link) → ⊥) (λ at. end ≡ Some (Link at.0 at.1)) }
+{
+    match end {
+        Some(WireEnd::Link(node, link)) => Some((node, link)),
+        Some(WireEnd::Port(_)) | None => None,
+    }
 }

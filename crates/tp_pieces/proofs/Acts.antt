@@ -1,0 +1,148 @@
+-- What is left of an entry, done or not by the process of a part.
+use Rattle.std.proofs.Common.{◌≡◌, ℕ, ◌+◌, ◌*◌, ◌<◌, ◌≤◌, Bool, true, false, cond, inl, inr, List, [], ◌∷◌, length, map, set, refl, sym, ap, subst, ◌∙◌, arith, Option, Some, None, slice_get}
+use Rattle.std.specs.Prelude.{MatchBool, nat_lt, nat_le, ◌&&◌, is_some}
+use Rattle.std.specs.Option.{option_map}
+use Rattle.std.proofs.lemmas.Bool.{cases_eq, true≢false}
+use Rattle.tp_model.specs.declared.link.Token.{Token}
+use Rattle.tp_model.specs.declared.wire.WireEnd.{WireEnd}
+use Rattle.tp_model.specs.declared.wire.WireEnd.TheVariants.{Link, Port as AtPort}
+use Rattle.tp_model.specs.declared.entry.Entry.{Entry}
+use Rattle.tp_model.specs.declared.entry.Entry.TheVariants.{Run, Take, HostIn, Confirm}
+use Rattle.tp_model.specs.declared.limits.TheConstants.{MAX_STEPS}
+use Rattle.tp_model.specs.NodeState.{NodeState}
+use Rattle.tp_model.specs.Network.{◌>>=◌, steps, Port, Network, Own, OfNode, OfHost, own, put, receiver, process_at, has_wire, on_line, sent}
+use Rattle.tp_model.specs.Entries.{process, of_node, does, receives}
+use Rattle.tp_model.specs.Sound.{owner}
+use Rattle.tp_model.specs.Node.{t414, took}
+use Rattle.tp_law_network.proofs.Lines.{for_line-elsewhere, on_sent_none}
+use Rattle.tp_law_network.proofs.Local.{put-length, put-lines, sends_own}
+use Rattle.tp_law_machine.proofs.LinkLaws.{has_four_links}
+use Rattle.tp_law_parts.specs.Piece.{Piece, sends}
+use Rattle.tp_law_parts.specs.InPiece.{acts}
+use Rattle.tp_law_parts.specs.Stops.{IsOverfull}
+use Rattle.tp_law_parts.proofs.Steps.{Act, acts_from}
+use Rattle.tp_port.specs.Sends.{on_lines}
+use Rattle.tp_port.proofs.Owns.{own_there}
+use Rattle.tp_pieces.specs.Held.{Held, has}
+use Rattle.tp_pieces.specs.Lanes.{Overfills}
+use Rattle.tp_pieces.specs.Behind.{behind, IsStuck, SameProcesses, GoesOn, DoesRest}
+
+-- ## Any process
+
+behind-own : (piece : Piece) (s : Network NodeState) (e : Entry) → piece (process s e) ≡ true → behind piece s e ≡ acts t414 s s.lines e
+behind-own piece s e mine = ap (λ b. cond b (acts t414 s s.lines e) (Some s)) mine
+
+-- another part's entry
+pub other_rests : (was : Held) (e : Entry) → has was (process was.network e) ≡ false → DoesRest was e true was
+other_rests was e other = record {
+  same = record { first = refl; past = refl };
+  goes = ap (λ b. cond b (acts t414 was.network was.network.lines e) (Some was.network)) other;
+}
+
+-- the process that isn't there, or can't do it
+pub nobody : (was now : Held) (e : Entry) → SameProcesses was now → has was (process was.network e) ≡ true → own was.network (process was.network e) ≡ None → DoesRest was e false now
+unfolding acts
+nobody was now e same mine none = record { same = same; goes = inl (behind-own (has was) was.network e mine ∙ rw none) }
+
+pub refuses : (was now : Held) (e : Entry) (state : Own NodeState) → SameProcesses was now → has was (process was.network e) ≡ true → own was.network (process was.network e) ≡ Some state
+    → does t414 was.network.wires (length was.network.nodes) e state ≡ None → DoesRest was e false now
+unfolding acts
+refuses was now e state same mine there none = record { same = same; goes = inl (behind-own (has was) was.network e mine ∙ rw (there, none)) }
+
+-- A third token on a line: it is a line that the process sends.
+overfull : (piece : Piece) (s : Network NodeState) (e : Entry) (v : Network NodeState) (A : Act t414 s s.lines e v) → piece (process s e) ≡ true → Overfills (has_wire s.wires) s.lines A.sends → IsOverfull piece v
+overfull piece s e v A mine O = record { line = O.line; its = its; long = subst (λ ls. 2 < length (on_line ls O.line)) (sym lines) O.long }
+  where
+    nodes : length v.nodes ≡ length s.nodes
+    nodes = ap (λ u. length u.nodes) (sym A.makes) ∙ put-length (record s { lines = sent (has_wire s.wires) s.lines A.sends }) (process s e) A.now
+
+    lines : v.lines ≡ sent (has_wire s.wires) s.lines A.sends
+    lines = ap (λ u. u.lines) (sym A.makes) ∙ put-lines (record s { lines = sent (has_wire s.wires) s.lines A.sends }) (process s e) A.now
+
+    its : sends piece (length v.nodes) O.line ≡ true
+    its = elim (cases_eq (owner (length s.nodes) O.line) (process s e)) [
+      | inl same ↦ ap (λ N. piece (owner N O.line)) nodes ∙ ap piece same ∙ mine
+      | inr apart ↦ (let none = for_line-elsewhere (owner (length s.nodes)) (process s e) O.line A.sends (sends_own t414 has_four_links s e A.was (A.now, A.sends) A.own_was A.change) apart in
+          let still = ap length (on_sent_none (has_wire s.wires) s.lines A.sends O.line none) in
+          absurd (omega (arith, still, O.short, O.long)))
+    ]
+
+-- The process does it: the part goes on, or would have a third token on a line.
+pub settled : (was now : Held) (e : Entry) (v : Network NodeState) (could : Bool) (lines : List (List Token)) (A : Act t414 was.network was.network.lines e v) → SameProcesses was now
+    → has was (process was.network e) ≡ true → (lines ≡ sent (has_wire was.network.wires) was.network.lines A.sends → now.network ≡ v)
+    → MatchBool could (lines ≡ sent (has_wire was.network.wires) was.network.lines A.sends) (Overfills (has_wire was.network.wires) was.network.lines A.sends) → DoesRest was e could now
+settled was now e v could lines A same mine net sends = record { same = same; goes = go could sends }
+  where
+    did : behind (has was) was.network e ≡ Some v
+    did = behind-own (has was) was.network e mine ∙ acts_from t414 was.network was.network.lines e v A
+
+    go : (b : Bool) → MatchBool b (lines ≡ sent (has_wire was.network.wires) was.network.lines A.sends) (Overfills (has_wire was.network.wires) was.network.lines A.sends)
+        → MatchBool b (behind (has was) was.network e ≡ Some now.network) (IsStuck (has was) (behind (has was) was.network e))
+    go true on = did ∙ ap Some (sym (net on))
+    go false O = inr (v, did, overfull (has was) was.network e v A mine O)
+
+-- ## A node
+
+-- the node after it, with the lines that it sent
+pub node_settled : (was now : Held) (e : Entry) (could : Bool) (i : ℕ) (node after : NodeState) (tokens : List (ℕ × Token)) (lines : List (List Token)) → SameProcesses was now
+    → now.network ≡ record was.network { nodes = set was.network.nodes i after; lines = lines } → process was.network e ≡ i → has was i ≡ true → slice_get was.network.nodes i ≡ Some node
+    → does t414 was.network.wires (length was.network.nodes) e (OfNode node) ≡ Some (of_node i (after, tokens))
+    → MatchBool could (lines ≡ sent (has_wire was.network.wires) was.network.lines (on_lines i tokens)) (Overfills (has_wire was.network.wires) was.network.lines (on_lines i tokens)) → DoesRest was e could now
+unfolding put
+node_settled was now e could i node after tokens lines same net mine has_it at change sends =
+    settled was now e v could lines act same (ap (has was) mine ∙ has_it) (λ on. net ∙ ap (λ ls. record was.network { nodes = set was.network.nodes i after; lines = ls }) on) sends
+  where
+    v : Network NodeState
+    v = record was.network { nodes = set was.network.nodes i after; lines = sent (has_wire was.network.wires) was.network.lines (on_lines i tokens) }
+
+    act : Act t414 was.network was.network.lines e v
+    act = record {
+      was = OfNode node;
+      own_was = ap (own was.network) mine ∙ own_there was.network i node at;
+      now = OfNode after;
+      sends = on_lines i tokens;
+      change = change;
+      makes = ap (λ p. put (record was.network { lines = sent (has_wire was.network.wires) was.network.lines (on_lines i tokens) }) p (OfNode after)) mine;
+    }
+
+pub run_does : (wires : List (Option WireEnd)) (N i k : ℕ) (node after : NodeState) (tokens : List (ℕ × Token)) → (nat_lt 0 k && nat_le k MAX_STEPS) ≡ true → steps t414 k node ≡ Some (after, tokens)
+    → does t414 wires N (Run i k) (OfNode node) ≡ Some (of_node i (after, tokens))
+unfolding does
+run_does wires N i k node after tokens counts ran = rw (counts, ran)
+
+pub run_uncounted : (wires : List (Option WireEnd)) (N i k : ℕ) (node : NodeState) → (nat_lt 0 k && nat_le k MAX_STEPS) ≡ false → does t414 wires N (Run i k) (OfNode node) ≡ None
+unfolding does
+run_uncounted wires N i k node none = rw none
+
+pub run_short : (wires : List (Option WireEnd)) (N i k : ℕ) (node : NodeState) → (nat_lt 0 k && nat_le k MAX_STEPS) ≡ true → steps t414 k node ≡ None → does t414 wires N (Run i k) (OfNode node) ≡ None
+unfolding does
+run_short wires N i k node counts none = rw (counts, none)
+
+pub node_takes : (wires : List (Option WireEnd)) (N line i k : ℕ) (token : Token) (node after : NodeState) (tokens : List (ℕ × Token)) → receiver wires line ≡ Some (Link i k)
+    → took node k token ≡ Some (after, tokens) → does t414 wires N (Take line token) (OfNode node) ≡ Some (of_node i (after, tokens))
+unfolding does receives
+node_takes wires N line i k token node after tokens to did = rw (to, did)
+
+pub node_refuses : (wires : List (Option WireEnd)) (N line i k : ℕ) (token : Token) (node : NodeState) → receiver wires line ≡ Some (Link i k) → took node k token ≡ None
+    → does t414 wires N (Take line token) (OfNode node) ≡ None
+unfolding does receives
+node_refuses wires N line i k token node to none = rw (to, none)
+
+-- ## The host's entries
+
+-- an end that no node has is the host's
+pub end_of_host : (N : ℕ) (end : Option WireEnd) → ((node link : ℕ) → end ≡ Some (Link node link) → ⊥) → process_at N end ≡ N
+end_of_host N None h = refl
+end_of_host N (Some (AtPort p)) h = refl
+end_of_host N (Some (Link i k)) h = absurd (h i k refl)
+
+-- ## Options
+
+-- what isn't there
+pub none_is : {A : Type 0} (o : Option A) → is_some o ≡ false → o ≡ None
+none_is None h = refl
+none_is (Some x) h = absurd (true≢false h)
+
+-- an element that is read twice
+pub same_item : {A : Type 0} (xs : List A) (i : ℕ) (x y : A) → slice_get xs i ≡ Some x → slice_get xs i ≡ Some y → x ≡ y
+same_item xs i x y first second = cc
