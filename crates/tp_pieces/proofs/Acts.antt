@@ -3,6 +3,7 @@ use Rattle.std.proofs.Common.{◌≡◌, ℕ, ◌+◌, ◌*◌, ◌<◌, ◌≤�
 use Rattle.std.specs.Prelude.{MatchBool, nat_lt, nat_le, ◌&&◌, is_some}
 use Rattle.std.specs.Option.{option_map}
 use Rattle.std.proofs.lemmas.Bool.{cases_eq, true≢false}
+use Rattle.std.proofs.lemmas.Option.{slice_get_past}
 use Rattle.tp_model.specs.declared.link.Token.{Token}
 use Rattle.tp_model.specs.declared.wire.WireEnd.{WireEnd}
 use Rattle.tp_model.specs.declared.wire.WireEnd.TheVariants.{Link, Port as AtPort}
@@ -11,11 +12,11 @@ use Rattle.tp_model.specs.declared.entry.Entry.TheVariants.{Run, Take, HostIn, C
 use Rattle.tp_model.specs.declared.limits.TheConstants.{MAX_STEPS}
 use Rattle.tp_model.specs.NodeState.{NodeState}
 use Rattle.tp_model.specs.Network.{◌>>=◌, steps, Port, Network, Own, OfNode, OfHost, own, put, receiver, process_at, has_wire, on_line, sent}
-use Rattle.tp_model.specs.Entries.{process, of_node, does, receives}
+use Rattle.tp_model.specs.Entries.{process, of_node, of_port, does, receives, port_took, handed_in, confirmed}
 use Rattle.tp_model.specs.Sound.{owner}
 use Rattle.tp_model.specs.Node.{t414, took}
 use Rattle.tp_law_network.proofs.Lines.{for_line-elsewhere, on_sent_none}
-use Rattle.tp_law_network.proofs.Local.{put-length, put-lines, sends_own}
+use Rattle.tp_law_network.proofs.Local.{put-length, put-lines, sends_own, own-host, own-node}
 use Rattle.tp_law_machine.proofs.LinkLaws.{has_four_links}
 use Rattle.tp_law_parts.specs.Piece.{Piece, sends}
 use Rattle.tp_law_parts.specs.InPiece.{acts}
@@ -146,3 +147,78 @@ none_is (Some x) h = absurd (true≢false h)
 -- an element that is read twice
 pub same_item : {A : Type 0} (xs : List A) (i : ℕ) (x y : A) → slice_get xs i ≡ Some x → slice_get xs i ≡ Some y → x ≡ y
 same_item xs i x y first second = cc
+
+-- ## The host
+
+-- a process behind the nodes is the host, or isn't there
+pub host_cannot : (was now : Held) (e : Entry) → SameProcesses was now → length was.network.nodes ≤ process was.network e → has was (process was.network e) ≡ true
+    → does t414 was.network.wires (length was.network.nodes) e (OfHost was.network.ports) ≡ None → DoesRest was e false now
+host_cannot was now e same past mine none = elim (cases_eq (process was.network e) (length was.network.nodes)) [
+  | inl host ↦ refuses was now e (OfHost was.network.ports) same mine (ap (own was.network) host ∙ own-host was.network) none
+  | inr apart ↦ nobody was now e same mine (own-node was.network (process was.network e) apart ∙ ap (option_map OfNode) (slice_get_past was.network.nodes (process was.network e) past))
+]
+
+pub port_settled : (was now : Held) (e : Entry) (could : Bool) (p : ℕ) (after : Port) (sends : List (ℕ × Token)) (lines : List (List Token)) → SameProcesses was now
+    → now.network ≡ record was.network { ports = set was.network.ports p after; lines = lines } → process was.network e ≡ length was.network.nodes → has was (length was.network.nodes) ≡ true
+    → does t414 was.network.wires (length was.network.nodes) e (OfHost was.network.ports) ≡ Some (OfHost (set was.network.ports p after), sends)
+    → MatchBool could (lines ≡ sent (has_wire was.network.wires) was.network.lines sends) (Overfills (has_wire was.network.wires) was.network.lines sends) → DoesRest was e could now
+unfolding put
+port_settled was now e could p after sends lines same net mine has_it change sent_so =
+    settled was now e v could lines act same (ap (has was) mine ∙ has_it) (λ on. net ∙ ap (λ ls. record was.network { ports = set was.network.ports p after; lines = ls }) on) sent_so
+  where
+    v : Network NodeState
+    v = record was.network { ports = set was.network.ports p after; lines = sent (has_wire was.network.wires) was.network.lines sends }
+
+    act : Act t414 was.network was.network.lines e v
+    act = record {
+      was = OfHost was.network.ports;
+      own_was = ap (own was.network) mine ∙ own-host was.network;
+      now = OfHost (set was.network.ports p after);
+      sends = sends;
+      change = change;
+      makes = refl;
+    }
+
+pub port_takes : (wires : List (Option WireEnd)) (N line p : ℕ) (token : Token) (ports : List Port) → receiver wires line ≡ Some (AtPort p)
+    → ◌≡◌ {A = Option (Own NodeState × List (ℕ × Token))} (does t414 wires N (Take line token) (OfHost ports)) (of_port N p ports (port_took token))
+unfolding does receives
+port_takes wires N line p token ports to = rw to
+
+pub unwired_takes : (wires : List (Option WireEnd)) (N line : ℕ) (token : Token) (ports : List Port) → receiver wires line ≡ None
+    → ◌≡◌ {A = Option (Own NodeState × List (ℕ × Token))} (does t414 wires N (Take line token) (OfHost ports)) None
+unfolding does receives
+unwired_takes wires N line token ports to = rw to
+
+pub linked_takes : (wires : List (Option WireEnd)) (N line i k : ℕ) (token : Token) (ports : List Port) → receiver wires line ≡ Some (Link i k)
+    → ◌≡◌ {A = Option (Own NodeState × List (ℕ × Token))} (does t414 wires N (Take line token) (OfHost ports)) None
+unfolding does receives
+linked_takes wires N line i k token ports to = rw to
+
+pub host_runs : (wires : List (Option WireEnd)) (N i k : ℕ) (ports : List Port) → ◌≡◌ {A = Option (Own NodeState × List (ℕ × Token))} (does t414 wires N (Run i k) (OfHost ports)) None
+unfolding does
+host_runs wires N i k ports = refl
+
+pub port_hands : (wires : List (Option WireEnd)) (N p x : ℕ) (ports : List Port)
+    → ◌≡◌ {A = Option (Own NodeState × List (ℕ × Token))} (does t414 wires N (HostIn p x) (OfHost ports)) (of_port N p ports (handed_in x))
+unfolding does
+port_hands wires N p x ports = refl
+
+pub port_confirms : (wires : List (Option WireEnd)) (N p upto : ℕ) (ports : List Port)
+    → ◌≡◌ {A = Option (Own NodeState × List (ℕ × Token))} (does t414 wires N (Confirm p upto) (OfHost ports)) (of_port N p ports (confirmed upto))
+unfolding does
+port_confirms wires N p upto ports = refl
+
+-- a port that isn't there changes in no way, nor does one that can't
+pub of_port-nowhere : (N p : ℕ) (ports : List Port) (change : Port → Option (Port × List Token)) → length ports ≤ p → ◌≡◌ {A = Option (Own NodeState × List (ℕ × Token))} (of_port N p ports change) None
+unfolding of_port
+of_port-nowhere N p ports change past = rw (slice_get_past ports p past)
+
+pub of_port-cannot : (N p : ℕ) (ports : List Port) (port : Port) (change : Port → Option (Port × List Token)) → slice_get ports p ≡ Some port → is_some (change port) ≡ false
+    → ◌≡◌ {A = Option (Own NodeState × List (ℕ × Token))} (of_port N p ports change) None
+unfolding of_port
+of_port-cannot N p ports port change there isnt = rw (there, none_is (change port) isnt)
+
+-- what an option is that is there
+pub there_is : {A : Type 0} (o : Option A) → is_some o ≡ true → (x : A) × (o ≡ Some x)
+there_is None is = absurd (true≢false (sym is))
+there_is (Some x) is = (x, refl)

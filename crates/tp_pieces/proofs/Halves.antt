@@ -99,3 +99,7 @@ takes_none s (Run i k) h = refl
 takes_none s (Take line token) h = absurd (h line token refl)
 takes_none s (HostIn p x) h = refl
 takes_none s (Confirm p upto) h = refl
+
+-- it has what it had
+pub same_all : (was mid now : Held) → SameProcesses was mid → SameProcesses mid now → SameProcesses was now
+same_all was mid now a b = record { first = b.first ∙ a.first; past = b.past ∙ a.past }

@@ -1,5 +1,6 @@
 pub mod Acts
 pub mod Among
+pub mod AtPorts
 pub mod Changed
 pub mod Fewer
 pub mod Halves

@@ -1,6 +1,6 @@
 //! What is asked before an entry is done.
 
-ghost use Rattle.std.specs.Prelude.{◌≡◌, ◌<◌, ◌≤◌, ◌+◌, ◌&&◌, IsTrue, ℕ, List, MatchOption, Some, false, nat_lt, nat_le, slice_get};
+ghost use Rattle.std.specs.Prelude.{◌≡◌, ◌<◌, ◌≤◌, ◌+◌, ◌&&◌, IsTrue, ℕ, List, MatchBool, MatchOption, Some, false, nat_lt, nat_le, slice_get};
 ghost use Rattle.tp_model.specs.declared.link.Token.{Token};
 ghost use Rattle.tp_model.specs.declared.wire.WireEnd.TheVariants.{Link};
 ghost use Rattle.tp_model.specs.declared.limits.TheConstants.{MAX_STEPS};
@@ -51,4 +51,11 @@ pub(crate) fn link_at(end: Option<WireEnd>) -> Option<(u8, u8)>
         Some(WireEnd::Link(node, link)) => Some((node, link)),
         Some(WireEnd::Port(_)) | None => None,
     }
+}
+
+/// Whether a node of this number is among `count` nodes.
+pub(crate) fn is_there(node: u8, count: usize) -> bool
+    ensures { MatchBool result (node < count) (count ≤ node) }
+{
+    usize::from(node) < count
 }

@@ -2,7 +2,10 @@
 #![tactic(auto)]
 
 mod front;
+mod host;
 mod lanes;
 mod nodes;
+mod ports;
 
+pub use host::HostPart;
 pub use nodes::NodesPart;
