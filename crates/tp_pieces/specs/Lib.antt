@@ -5,4 +5,5 @@ pub mod Held
 pub mod HostInside
 pub mod Inside
 pub mod Lanes
+pub mod Parts
 pub mod Whose

@@ -4,8 +4,10 @@
 mod front;
 mod host;
 mod lanes;
+mod net_part;
 mod nodes;
 mod ports;
 
 pub use host::HostPart;
+pub use net_part::NetPart;
 pub use nodes::NodesPart;
