@@ -1,4 +1,4 @@
-use Rattle.std.proofs.Common.{◌≡◌, ◌-◌, ◌+◌, ℕ, length, arith, sym, ap, ◌∙◌, subst}
+use Rattle.std.proofs.Common.{◌≡◌, ◌-◌, ◌+◌, arith, sym, ap, ◌∙◌, subst}
 use Rattle.std.specs.List.{AllZip, range_with_len}
 use Rattle.rayon.specs.Lists.{filter_by_mask}
 use Rattle.std.specs.List.{slice_get}

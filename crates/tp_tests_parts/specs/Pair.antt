@@ -1,0 +1,104 @@
+-- Two halted nodes, whose first links are wired to each other, and a host without ports.
+use Rattle.std.specs.Prelude.{ℕ, zero, suc, ◌+◌, Bool, true, false, ◌&&◌, ◌==◌, nat_lt, if◌then◌else◌, List, [], ◌∷◌, Option, Some, None}
+use Rattle.tp_model.specs.declared.link.Token.{Token}
+use Rattle.tp_model.specs.declared.link.Token.TheVariants.{Data}
+use Rattle.tp_model.specs.declared.link.OutEnd.TheVariants.{Idle as NoOutput}
+use Rattle.tp_model.specs.declared.link.InEnd.TheVariants.{Idle}
+use Rattle.tp_model.specs.declared.wire.WireEnd.{WireEnd}
+use Rattle.tp_model.specs.declared.wire.WireEnd.TheVariants.{Link}
+use Rattle.tp_model.specs.declared.processor.Fault.TheVariants.{UnknownOp}
+use Rattle.tp_model.specs.declared.entry.Entry.{Entry}
+use Rattle.tp_model.specs.declared.entry.Entry.TheVariants.{Run, Take, HostIn, Confirm}
+use Rattle.tp_model.specs.NodeState.{NodeState}
+use Rattle.tp_model.specs.Network.{Network, same_token}
+use Rattle.tp_law_machine.specs.Start.{resting, blank}
+use Rattle.tp_law_parts.specs.Piece.{Piece}
+use Rattle.tp_tests_parts.specs.declared.side.Side.{Side}
+use Rattle.tp_tests_parts.specs.declared.side.Side.TheVariants.{First, Second}
+
+-- a node that has halted, whose first link holds a byte that came in, or none
+abbrev pub halted_node : Option ℕ → NodeState
+halted_node held = record {
+  cpu = record resting { halt = Some UnknownOp };
+  memory = blank;
+  outputs = NoOutput ∷ NoOutput ∷ NoOutput ∷ NoOutput ∷ [];
+  inputs = Idle held ∷ Idle None ∷ Idle None ∷ Idle None ∷ [];
+}
+
+abbrev pub pair_wires : List (Option WireEnd)
+pair_wires = Some (Link 1 0) ∷ None ∷ None ∷ None ∷ Some (Link 0 0) ∷ None ∷ None ∷ None ∷ []
+
+-- what stands on a line: a byte, or nothing
+abbrev pub byte_on : Option ℕ → List Token
+byte_on None = []
+byte_on (Some byte) = Data byte ∷ []
+
+-- The pair as one of its nodes' parts has it: `out` is on the line that its node sends, and `held` came in there. The other node
+-- is as it was at first, and sends nothing.
+abbrev pub pair_network : Side → Option ℕ → Option ℕ → Network NodeState
+pair_network First out held = record {
+  wires = pair_wires;
+  nodes = halted_node held ∷ halted_node None ∷ [];
+  ports = [];
+  lines = byte_on out ∷ [] ∷ [] ∷ [] ∷ [] ∷ [] ∷ [] ∷ [] ∷ [];
+}
+pair_network Second out held = record {
+  wires = pair_wires;
+  nodes = halted_node None ∷ halted_node held ∷ [];
+  ports = [];
+  lines = [] ∷ [] ∷ [] ∷ [] ∷ byte_on out ∷ [] ∷ [] ∷ [] ∷ [];
+}
+
+-- the number of a node, the first line that it sends, which has the wire, and the line that comes in
+abbrev pub number_of : Side → ℕ
+number_of First = 0
+number_of Second = 1
+
+abbrev pub line_out : Side → ℕ
+line_out First = 0
+line_out Second = 4
+
+abbrev pub line_in : Side → ℕ
+line_in First = 4
+line_in Second = 0
+
+-- the part of a node, and that of the host, which has every other number
+abbrev pub node_piece : Side → Piece
+node_piece side = λ p. p == number_of side
+
+abbrev pub host_piece : Piece
+host_piece zero = false
+host_piece (suc zero) = false
+host_piece (suc (suc p)) = true
+
+-- the host's part of the pair: no line of its own has anything
+abbrev pub host_network : Network NodeState
+host_network = pair_network First None None
+
+-- the byte on the line is taken, if it is the one that the entry names
+abbrev pub let_go : Option ℕ → Option ℕ → Token → Option (Option ℕ × Option ℕ)
+let_go None held token = None
+let_go (Some byte) held token = if same_token (Data byte) token then Some (None, held) else None
+
+-- a byte comes in and is held, if none is
+abbrev pub hold : Option ℕ → Option ℕ → Token → Option (Option ℕ × Option ℕ)
+hold out None (Data byte) = Some (out, Some byte)
+hold out held token = None
+
+-- What is out and what is held in a node's part after an entry; none where the part stops.
+abbrev pub node_after : Side → Option ℕ → Option ℕ → Entry → Option (Option ℕ × Option ℕ)
+node_after side out held (Run i count) = if i == number_of side then None else Some (out, held)
+node_after side out held (Take line token) =
+    if line == line_out side then let_go out held token
+    else if nat_lt (line_out side) line && nat_lt line (line_out side + 4) then None
+    else if line == line_in side then hold out held token
+    else Some (out, held)
+node_after side out held (HostIn port byte) = Some (out, held)
+node_after side out held (Confirm port upto) = Some (out, held)
+
+-- whether the host's part goes on with an entry
+abbrev pub host_goes : Entry → Bool
+host_goes (Run i count) = nat_lt i 2
+host_goes (Take line token) = if line == 0 then true else line == 4
+host_goes (HostIn port byte) = false
+host_goes (Confirm port upto) = false

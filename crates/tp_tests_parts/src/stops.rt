@@ -1,0 +1,153 @@
+//! Where parts stop, and which of their stops is answered.
+
+use crate::host::Host;
+use crate::member::Member;
+use crate::node::HaltedNode;
+use crate::side::Side;
+use std::test::Fail;
+use tp_gate::NoGate;
+use tp_model::{Entry, Token};
+use tp_parts::play_whole;
+
+/// Entries, where the parts of the two nodes and of the host stop, and what is answered.
+struct Row {
+    entries: &'static [Entry],
+    stops: [usize; 3],
+    first: Option<usize>,
+}
+
+/// The byte that the first node's line has, and the one that the second one's has, each taken by the other node.
+const TO_SECOND: Entry = Entry::Take {
+    line: 0,
+    token: Token::Data(65),
+};
+
+const TO_FIRST: Entry = Entry::Take {
+    line: 4,
+    token: Token::Data(66),
+};
+
+/// Other tokens than the line has.
+const ANOTHER_BYTE: Entry = Entry::Take {
+    line: 0,
+    token: Token::Data(66),
+};
+
+const AN_ACK: Entry = Entry::Take {
+    line: 0,
+    token: Token::Ack,
+};
+
+/// Lines without a wire, and that aren't there.
+const UNWIRED: Entry = Entry::Take {
+    line: 5,
+    token: Token::Data(65),
+};
+
+const NO_LINE: Entry = Entry::Take {
+    line: 263,
+    token: Token::Data(65),
+};
+
+const RUN_FIRST: Entry = Entry::Run { node: 0, count: 1 };
+
+const RUN_SECOND: Entry = Entry::Run { node: 1, count: 1 };
+
+const RUN_THIRD: Entry = Entry::Run { node: 2, count: 1 };
+
+const INPUT: Entry = Entry::HostIn { port: 0, byte: 1 };
+
+/// At first the byte 65 is on the first node's line, and 66 on the second one's.
+const ROWS: [Row; 12] = [
+    Row {
+        entries: &[],
+        stops: [0, 0, 0],
+        first: None,
+    },
+    Row {
+        entries: &[TO_SECOND, TO_FIRST],
+        stops: [2, 2, 2],
+        first: None,
+    },
+    // Another byte than the one on the line: its sender sees that, and its receiver goes on.
+    Row {
+        entries: &[ANOTHER_BYTE],
+        stops: [0, 1, 1],
+        first: Some(0),
+    },
+    Row {
+        entries: &[TO_FIRST, ANOTHER_BYTE, RUN_SECOND],
+        stops: [1, 2, 3],
+        first: Some(1),
+    },
+    // The line is empty, and a byte is held.
+    Row {
+        entries: &[TO_SECOND, TO_SECOND],
+        stops: [1, 1, 2],
+        first: Some(1),
+    },
+    Row {
+        entries: &[TO_FIRST, RUN_SECOND, RUN_FIRST],
+        stops: [2, 1, 3],
+        first: Some(1),
+    },
+    Row {
+        entries: &[TO_FIRST, RUN_FIRST, RUN_SECOND],
+        stops: [1, 2, 3],
+        first: Some(1),
+    },
+    // No such node, line or port: that is the host's to see.
+    Row {
+        entries: &[TO_SECOND, RUN_THIRD],
+        stops: [2, 2, 1],
+        first: Some(1),
+    },
+    Row {
+        entries: &[NO_LINE],
+        stops: [1, 1, 0],
+        first: Some(0),
+    },
+    Row {
+        entries: &[INPUT, RUN_FIRST],
+        stops: [1, 2, 0],
+        first: Some(0),
+    },
+    // A line without a wire is its sender's and has nothing; an Ack is not on the line, and nobody waits for it.
+    Row {
+        entries: &[UNWIRED, RUN_FIRST],
+        stops: [1, 0, 0],
+        first: Some(0),
+    },
+    Row {
+        entries: &[AN_ACK],
+        stops: [0, 0, 1],
+        first: Some(0),
+    },
+];
+
+#[test]
+fn the_least_stop_is_answered(rt: HostRuntime) -> Result<(), Fail> {
+    let alloc = rt.alloc();
+    for row in &ROWS {
+        let first = HaltedNode {
+            side: Side::First,
+            out: Some(65),
+            held: None,
+        };
+        let second = HaltedNode {
+            side: Side::Second,
+            out: Some(66),
+            held: None,
+        };
+        let parts = vec![in alloc;
+            Member::Node(first),
+            Member::Node(second),
+            Member::Host(Host),
+        ]?;
+        let (played, stop) = play_whole(&rt, alloc, parts, row.entries, &NoGate)?;
+        assert_eq!(rt; played.len(), 3);
+        assert_eq!(rt; [played[0].stop, played[1].stop, played[2].stop], row.stops);
+        assert_eq!(rt; stop, row.first);
+    }
+    Ok(())
+}
