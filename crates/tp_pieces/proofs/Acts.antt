@@ -1,5 +1,5 @@
 -- What is left of an entry, done or not by the process of a part.
-use Rattle.std.proofs.Common.{◌≡◌, ℕ, ◌+◌, ◌*◌, ◌<◌, ◌≤◌, Bool, true, false, cond, inl, inr, List, [], ◌∷◌, length, map, set, refl, sym, ap, subst, ◌∙◌, arith, Option, Some, None, slice_get}
+use Rattle.std.proofs.Common.{◌≡◌, ℕ, ◌<◌, ◌≤◌, Bool, true, false, cond, inl, inr, List, length, set, refl, sym, ap, subst, ◌∙◌, arith, Option, Some, None, slice_get}
 use Rattle.std.specs.Prelude.{MatchBool, nat_lt, nat_le, ◌&&◌, is_some}
 use Rattle.std.specs.Option.{option_map}
 use Rattle.std.proofs.lemmas.Bool.{cases_eq, true≢false}
@@ -11,7 +11,7 @@ use Rattle.tp_model.specs.declared.entry.Entry.{Entry}
 use Rattle.tp_model.specs.declared.entry.Entry.TheVariants.{Run, Take, HostIn, Confirm}
 use Rattle.tp_model.specs.declared.limits.TheConstants.{MAX_STEPS}
 use Rattle.tp_model.specs.NodeState.{NodeState}
-use Rattle.tp_model.specs.Network.{◌>>=◌, steps, Port, Network, Own, OfNode, OfHost, own, put, receiver, process_at, has_wire, on_line, sent}
+use Rattle.tp_model.specs.Network.{steps, Port, Network, Own, OfNode, OfHost, own, put, receiver, process_at, has_wire, on_line, sent}
 use Rattle.tp_model.specs.Entries.{process, of_node, of_port, does, receives, port_took, handed_in, confirmed}
 use Rattle.tp_model.specs.Sound.{owner}
 use Rattle.tp_model.specs.Node.{t414, took}
@@ -26,7 +26,7 @@ use Rattle.tp_port.specs.Sends.{on_lines}
 use Rattle.tp_port.proofs.Owns.{own_there}
 use Rattle.tp_pieces.specs.Held.{Held, has}
 use Rattle.tp_pieces.specs.Lanes.{Overfills}
-use Rattle.tp_pieces.specs.Behind.{behind, IsStuck, SameProcesses, GoesOn, DoesRest}
+use Rattle.tp_pieces.specs.Behind.{behind, IsStuck, SameProcesses, DoesRest}
 
 -- ## Any process
 

@@ -1,5 +1,5 @@
 -- Nodes with others before them and behind them.
-use Rattle.std.proofs.Common.{◌≡◌, ℕ, zero, suc, ◌+◌, ◌-◌, ◌<◌, ◌≤◌, List, [], ◌∷◌, ◌++◌, length, set, replicate, refl, sym, ap, ◌∙◌, arith, Some, length-append, slice_get}
+use Rattle.std.proofs.Common.{◌≡◌, ℕ, zero, suc, ◌+◌, ◌-◌, ◌<◌, List, [], ◌∷◌, ◌++◌, length, set, replicate, refl, ap, ◌∙◌, arith, length-append, slice_get}
 use Rattle.std.proofs.lemmas.List.{length-replicate, set-append_left, set-append_right}
 use Rattle.tp_model.specs.NodeState.{NodeState}
 use Rattle.tp_pieces.specs.Blank.{blank_node, among}

@@ -1,15 +1,14 @@
 -- The fields of a run of nodes, behind an entry.
-use Rattle.std.proofs.Common.{◌≡◌, ℕ, ◌+◌, ◌*◌, ◌<◌, ◌≤◌, Bool, true, false, inl, inr, List, [], ◌∷◌, ◌++◌, length, map, set, refl, sym, ap, subst, ◌∙◌, arith, Option, Some, None, slice_get, length-set}
+use Rattle.std.proofs.Common.{◌≡◌, ℕ, ◌+◌, ◌*◌, ◌<◌, Bool, true, false, inl, inr, List, length, map, set, refl, sym, ap, subst, ◌∙◌, arith, Some, None, slice_get, length-set}
 use Rattle.std.specs.Prelude.{MatchBool, nat_le, ◌&&◌}
 use Rattle.std.specs.Option.{option_map}
 use Rattle.std.specs.Vec.{with_item}
 use Rattle.std.proofs.lemmas.Bool.{cases_eq, lt-ltb, le-ltb, le-leb}
 use Rattle.std.proofs.lemmas.List.{length-map, map-set}
 use Rattle.std.proofs.lemmas.Option.{slice_get-map, slice_get_within}
-use Rattle.tp_model.specs.NodeState.{NodeState}
 use Rattle.tp_model.specs.declared.link.Token.{Token}
 use Rattle.tp_model.specs.declared.entry.Entry.{Entry}
-use Rattle.tp_model.specs.Network.{Network, OfNode, own, has_wire, sent}
+use Rattle.tp_model.specs.Network.{OfNode, own, has_wire, sent}
 use Rattle.tp_model.specs.Entries.{process, of_node, does}
 use Rattle.tp_model.specs.Node.{t414}
 use Rattle.tp_law_network.proofs.Partial.{slice_get-set_same, slice_get-set_other}

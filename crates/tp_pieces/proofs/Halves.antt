@@ -1,5 +1,5 @@
 -- An entry in its two halves: its tokens are taken off, and what is left of it is done.
-use Rattle.std.proofs.Common.{◌≡◌, ℕ, Bool, true, false, cond, inl, inr, List, [], ◌∷◌, length, refl, sym, ap, subst, ◌∙◌, Option, Some, None}
+use Rattle.std.proofs.Common.{◌≡◌, ℕ, Bool, true, false, cond, inl, List, [], ◌∷◌, length, refl, sym, ap, subst, ◌∙◌, Option, Some, None}
 use Rattle.std.specs.Prelude.{MatchBool}
 use Rattle.tp_model.specs.declared.link.Token.{Token}
 use Rattle.tp_model.specs.declared.entry.Entry.{Entry}
@@ -14,7 +14,7 @@ use Rattle.tp_law_parts.specs.InPiece.{acts, next_in}
 use Rattle.tp_parts.specs.Plays.{IsBlocked}
 use Rattle.tp_pieces.specs.Whose.{whose}
 use Rattle.tp_pieces.specs.Held.{Held, has}
-use Rattle.tp_pieces.specs.Behind.{behind, without_tokens, IsStuck, SameProcesses, GoesOn, DoesRest, TakesOff}
+use Rattle.tp_pieces.specs.Behind.{behind, without_tokens, IsStuck, SameProcesses, DoesRest, TakesOff}
 
 -- ## Both halves
 

@@ -1,9 +1,9 @@
 -- A part's lines, once tokens were taken off or sent.
-use Rattle.std.proofs.Common.{◌≡◌, ℕ, ◌+◌, ◌<◌, ◌≤◌, Bool, true, false, cond, inl, inr, List, [], ◌∷◌, ◌++◌, length, set, take, drop, map, get_or, refl, sym, ap, subst, ◌∙◌, arith, Some, None, length-append}
+use Rattle.std.proofs.Common.{◌≡◌, ℕ, ◌+◌, ◌<◌, ◌≤◌, Bool, true, false, cond, inl, inr, List, [], ◌∷◌, ◌++◌, length, set, take, drop, get_or, refl, sym, ap, subst, ◌∙◌, arith, Some, None, length-append}
 use Rattle.std.proofs.lemmas.Bool.{cases_eq, cases_lt}
 use Rattle.std.proofs.lemmas.List.{get_or_past, set_past, take_more, take-append-drop, drop_more, map_push, map-append}
 use Rattle.tp_model.specs.declared.link.Token.{Token}
-use Rattle.tp_model.specs.Network.{on_line, is_first, taken, pushed, sent, for_line}
+use Rattle.tp_model.specs.Network.{on_line, is_first, taken, pushed, sent}
 use Rattle.tp_law_network.proofs.Lines.{cons_taken, on_set_same, on_set_other, for_line-here, on_sent_open, sent_behind, sent-append}
 use Rattle.tp_port.specs.Room.{from_line}
 use Rattle.tp_pieces.specs.Lanes.{AreShort, Overfills}
@@ -58,7 +58,7 @@ pub overfilled : (on : ℕ → Bool) (lines : List (List Token)) (line : ℕ) (t
     → Overfills on lines ((line, t) ∷ [])
 overfilled on lines line t wired there short full =
     let is : on_line (sent on lines ((line, t) ∷ [])) line ≡ on_line lines line ++ t ∷ [] =
-        on_sent_open on lines ((line, t) ∷ []) line wired there ∙ ap (λ ts. on_line lines line ++ ts) (for_line-here line t []) in
+    on_sent_open on lines ((line, t) ∷ []) line wired there ∙ ap (λ ts. on_line lines line ++ ts) (for_line-here line t []) in
     let long = ap length is ∙ length-append (on_line lines line) (t ∷ []) in
     record { line = line; short = short line; long = omega (arith, long, full) }
 

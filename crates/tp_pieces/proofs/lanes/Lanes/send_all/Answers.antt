@@ -1,9 +1,8 @@
-use Rattle.std.proofs.Common.{◌+◌, length, drop, take, get_or, refl, sym, ap, ◌∙◌}
+use Rattle.std.proofs.Common.{◌+◌, drop, take, refl, ap, ◌∙◌}
 use Rattle.std.proofs.lemmas.List.{take_all}
 use Rattle.tp_model.specs.declared.link.Token.TheVariants.{Data}
 use Rattle.tp_model.specs.Network.{has_wire, sent}
 use Rattle.tp_port.specs.Room.{from_line}
-use Rattle.tp_pieces.specs.Lanes.{Overfills}
 use Rattle.tp_pieces.proofs.Room.{overfilled_among, sent_more, split_at}
 use Rattle.tp_pieces.proofs.lanes.Lanes.send_all.Goals as goal
 
