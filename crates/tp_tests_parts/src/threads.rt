@@ -46,17 +46,18 @@ fn both_nodes_meet_at_the_gate(rt: HostRuntime) -> Result<(), Fail> {
     Ok(())
 }
 
+/// Three parts of each node.
 fn three_each(alloc: Global) -> Result<Vec<HaltedNode>, AllocError>
     ensures { IfOk result (λ nodes. vec_len nodes ≡ 6) }
 {
-    vec![in alloc;
+    Ok(vec![in alloc;
         node(Side::First),
         node(Side::Second),
         node(Side::First),
         node(Side::Second),
         node(Side::First),
         node(Side::Second),
-    ]
+    ]?)
 }
 
 /// Six parts meet, as two do: each has a thread of its own.
