@@ -15,9 +15,10 @@ use Rattle.tp_law_network.proofs.Lines.{on_taken, taken_from}
 use Rattle.tp_law_network.proofs.Local.{Step, SameShape, step_of, next_from, process_same, takes_same, own-host, own_host, own_node, own-node}
 use Rattle.tp_law_network.proofs.Reorder.{after_last, after_shape}
 use Rattle.tp_law_parts.specs.Reach.{after_by, reach}
-use Rattle.tp_law_parts.specs.ByItself.{Alone, alone, doing}
+use Rattle.tp_law_parts.specs.ByItself.{Alone, doing_all, doing}
 use Rattle.tp_law_parts.specs.Arrivals.{arrivals, came, named}
-use Rattle.tp_law_parts.specs.Fine.{IsFine, StopsAtFault}
+use Rattle.tp_law_parts.specs.Becomes.{BecomesByItself}
+use Rattle.tp_law_parts.specs.CanFollow.{CanFollow, StopsAtFault}
 use Rattle.tp_law_parts.proofs.Reach.{is_there, reach-goes, reach-stops, after-same, after_by-goes}
 use Rattle.tp_law_parts.proofs.ByItself.{GoesOn, arriving, doing-own, goes_on, node_there, owner_there}
 
@@ -39,23 +40,30 @@ own_still {Node} s t shape p y h = elim (cases_eq p (length s.nodes)) [
         (OfNode N.0, own-node s p apart ∙ ap (option_map OfNode) N.1)
     node (OfHost ports) h apart = absurd (apart ((own_host t p ports h).0 ∙ shape.nodes))
 
-alone-append : {Node : Type 0} (M : Machine Node) (s : Network Node) (p : ℕ) (a : Alone Node) (xs ys : List Entry) → alone M s p a (xs ++ ys) ≡ (alone M s p a xs >>= λ b. alone M s p b ys)
-unfolding alone
-alone-append M s p a [] ys = refl
-alone-append {Node} M s p a (x ∷ xs) ys = go (doing M s p a x) (λ b. alone-append M s p b xs ys)
+doing_all-append : {Node : Type 0} (M : Machine Node) (s : Network Node) (p : ℕ) (a : Alone Node) (xs ys : List Entry) → doing_all M s p a (xs ++ ys) ≡ (doing_all M s p a xs >>= λ b. doing_all M s p b ys)
+unfolding doing_all
+doing_all-append M s p a [] ys = refl
+doing_all-append {Node} M s p a (x ∷ xs) ys = go (doing M s p a x) (λ b. doing_all-append M s p b xs ys)
   where
-    go : (first : Option (Alone Node)) → ((b : Alone Node) → alone M s p b (xs ++ ys) ≡ (alone M s p b xs >>= λ c. alone M s p c ys))
-        → (first >>= λ b. alone M s p b (xs ++ ys)) ≡ ((first >>= λ b. alone M s p b xs) >>= λ c. alone M s p c ys)
+    go : (first : Option (Alone Node)) → ((b : Alone Node) → doing_all M s p b (xs ++ ys) ≡ (doing_all M s p b xs >>= λ c. doing_all M s p c ys))
+        → (first >>= λ b. doing_all M s p b (xs ++ ys)) ≡ ((first >>= λ b. doing_all M s p b xs) >>= λ c. doing_all M s p c ys)
     go None h = refl
     go (Some b) h = h b
 
-alone-one : {Node : Type 0} (M : Machine Node) (s : Network Node) (p : ℕ) (a : Alone Node) (e : Entry) (b : Alone Node) → alone M s p a (e ∷ []) ≡ Some b → doing M s p a e ≡ Some b
-unfolding alone
-alone-one {Node} M s p a e b h = go (doing M s p a e) h
+doing_all-one : {Node : Type 0} (M : Machine Node) (s : Network Node) (p : ℕ) (a : Alone Node) (e : Entry) (b : Alone Node) → doing_all M s p a (e ∷ []) ≡ Some b → doing M s p a e ≡ Some b
+unfolding doing_all
+doing_all-one {Node} M s p a e b h = go (doing M s p a e) h
   where
     go : (o : Option (Alone Node)) → (o >>= λ c. Some c) ≡ Some b → o ≡ Some b
     go None h = h
     go (Some c) h = h
+
+-- a process of a network: each up to the host's
+process_there : {Node : Type 0} (s : Network Node) (process : ℕ) → process ≤ length s.nodes → (x : Own Node) × (own s process ≡ Some x)
+process_there s process there = elim (cases_eq process (length s.nodes)) [
+  | inl same ↦ (OfHost s.ports, ap (own s) same ∙ own-host s)
+  | inr apart ↦ (let N = node_there s.nodes process (omega (arith, there, apart)) in (OfNode N.0, own-node s process apart ∙ ap (option_map OfNode) N.1))
+]
 
 module _ {Node : Type 0} (M : Machine Node) (four : HasFourLinks M) (s : Network Node) (there : (l : ℕ) → has_wire s.wires l ≡ true → l < length s.lines) (t : Network Node) (xs : List Entry) (leads : after M s xs ≡ Some t) where
   -- a process by itself, over the entries
@@ -67,7 +75,7 @@ module _ {Node : Type 0} (M : Machine Node) (four : HasFourLinks M) (s : Network
   came_there l =
       let x = owner_there s l in
       let G = follows (owner (length s.nodes) l) x.0 x.1 in
-      ap (λ o. (o >>= λ y. alone M s (owner (length s.nodes) l) (y, []) xs) >>= λ a. Some (arrivals s l a)) x.1
+      ap (λ o. (o >>= λ y. doing_all M s (owner (length s.nodes) l) (y, []) xs) >>= λ a. Some (arrivals s l a)) x.1
       ∙ ap (λ o. o >>= λ a. Some (arrivals s l a)) G.leads
       ∙ ap (λ ms. Some (on_line s.lines l ++ arriving (has_wire s.wires l) l ms)) G.sent
       ∙ ap Some (G.lines l refl)
@@ -75,7 +83,19 @@ module _ {Node : Type 0} (M : Machine Node) (four : HasFourLinks M) (s : Network
   shape : SameShape s t
   shape = after_shape M four s t xs leads
 
-  -- ## A possible entry is fine
+  -- a process that is there becomes by itself what it is in the network
+  pub becomes_by_itself : (process : ℕ) → process ≤ length s.nodes → BecomesByItself M s process xs t
+  becomes_by_itself process there =
+      let x = process_there s process there in
+      let G = follows process x.0 x.1 in
+      record {
+        last = G.to;
+        leads = ap (λ o. o >>= λ y. doing_all M s process (y, []) xs) x.1 ∙ G.leads;
+        stands = G.stands;
+        lines = λ l of. ap (λ ms. on_line s.lines l ++ arriving (has_wire s.wires l) l ms) G.sent ∙ G.lines l of;
+      }
+
+  -- ## A possible entry can follow
 
   module _ (e : Entry) (u : Network Node) (h : next M t e ≡ Some u) where
     S : Step M t e u
@@ -84,30 +104,30 @@ module _ {Node : Type 0} (M : Machine Node) (four : HasFourLinks M) (s : Network
     whose : process t e ≡ process s e
     whose = process_same s t shape.wires shape.nodes e
 
-    pub fine_of : IsFine M s xs e
-    fine_of =
+    pub follows_possible : CanFollow M s xs e
+    follows_possible =
         let x = own_still s t shape (process s e) S.was (ap (own t) (sym whose) ∙ S.own_was) in
         let G = goes_on M four s there (process s e) (x.0, []) s u (same_shape s) x.1 (xs ++ e ∷ []) (after_last M s t xs e leads ∙ h) in
         record {
           last = G.to;
-          does = ap (λ o. o >>= λ y. alone M s (process s e) (y, []) (xs ++ e ∷ [])) x.1 ∙ G.leads;
+          does = ap (λ o. o >>= λ y. doing_all M s (process s e) (y, []) (xs ++ e ∷ [])) x.1 ∙ G.leads;
           next = λ l. (on_line S.out l, came_there l ∙ ap (λ ts. Some (named s l xs ++ ts)) (on_taken t.lines (takes t e) S.out S.takes_out l ∙ ap (λ ms. for_line l ms ++ on_line S.out l) (takes_same s t e)));
         }
 
-  -- ## A fine entry is possible
+  -- ## An entry that can follow is possible
 
-  module _ (e : Entry) (F : IsFine M s xs e) where
-    whose_fine : process t e ≡ process s e
-    whose_fine = process_same s t shape.wires shape.nodes e
+  module _ (e : Entry) (F : CanFollow M s xs e) where
+    whose_following : process t e ≡ process s e
+    whose_following = process_same s t shape.wires shape.nodes e
 
-    its : (x : Own Node) × (own s (process s e) ≡ Some x) × (alone M s (process s e) (x, []) (xs ++ e ∷ []) ≡ Some F.last)
-    its = bind_some (own s (process s e)) (λ x. alone M s (process s e) (x, []) (xs ++ e ∷ [])) F.last F.does
+    its : (x : Own Node) × (own s (process s e) ≡ Some x) × (doing_all M s (process s e) (x, []) (xs ++ e ∷ []) ≡ Some F.last)
+    its = bind_some (own s (process s e)) (λ x. doing_all M s (process s e) (x, []) (xs ++ e ∷ [])) F.last F.does
 
     goes : GoesOn M s (process s e) (its.0, []) s t xs
     goes = follows (process s e) its.0 its.1
 
     doing_it : doing M s (process s e) goes.to e ≡ Some F.last
-    doing_it = alone-one M s (process s e) goes.to e F.last (sym (alone-append M s (process s e) (its.0, []) xs (e ∷ []) ∙ ap (λ o. o >>= λ b. alone M s (process s e) b (e ∷ [])) goes.leads) ∙ its.2)
+    doing_it = doing_all-one M s (process s e) goes.to e F.last (sym (doing_all-append M s (process s e) (its.0, []) xs (e ∷ []) ∙ ap (λ o. o >>= λ b. doing_all M s (process s e) b (e ∷ [])) goes.leads) ∙ its.2)
 
     change : (c : Own Node × List (ℕ × Token)) × (does M s.wires (length s.nodes) e goes.to.0 ≡ Some c) × (Some (c.0, goes.to.1 ++ c.1) ≡ Some F.last)
     change = bind_some (does M s.wires (length s.nodes) e goes.to.0) (λ c. Some (c.0, goes.to.1 ++ c.1)) F.last (sym (doing-own M s (process s e) goes.to e refl) ∙ doing_it)
@@ -128,7 +148,7 @@ module _ {Node : Type 0} (M : Machine Node) (four : HasFourLinks M) (s : Network
             out = T.0;
             takes_out = T.1;
             was = goes.to.0;
-            own_was = ap (own t) whose_fine ∙ goes.stands;
+            own_was = ap (own t) whose_following ∙ goes.stands;
             now = change.0.0;
             sends = change.0.1;
             change = ap (λ wires. does M wires (length t.nodes) e goes.to.0) shape.wires ∙ ap (λ N. does M s.wires N e goes.to.0) shape.nodes ∙ change.1;
@@ -151,20 +171,20 @@ front_or_stop step s (x ∷ xs) zs = elim (is_there (step s x)) [
   | inr n ↦ (let is = reach-stops step s x (xs ++ zs) n in inr (omega (arith, is)))
 ]
 
--- The entries are fine before the place where they stop, and the one there isn't.
+-- The entries before the place where they stop can each follow those before them, and the one there can't.
 pub stops_at_fault : {Node : Type 0} (M : Machine Node) → HasFourLinks M → (s : Network Node) → ((l : ℕ) → has_wire s.wires l ≡ true → l < length s.lines) → (es : List Entry) → StopsAtFault M s es (reach (next M) s es)
 stops_at_fault {Node} M four s there es = record { before = before; at = at }
   where
-    before : (xs ys : List Entry) (e : Entry) → es ≡ xs ++ e ∷ ys → length xs < reach (next M) s es → IsFine M s xs e
+    before : (xs ys : List Entry) (e : Entry) → es ≡ xs ++ e ∷ ys → length xs < reach (next M) s es → CanFollow M s xs e
     before xs ys e is h = elim (front_or_stop (next M) s xs (e ∷ ys)) [
       | inl f ↦ elim (is_there (next M f.0 e)) [
-        | inl y ↦ fine_of M four s there f.0 xs (after-same M s xs ∙ f.1) e y.0 y.1
+        | inl y ↦ follows_possible M four s there f.0 xs (after-same M s xs ∙ f.1) e y.0 y.1
         | inr n ↦ (let stop = reach-stops (next M) f.0 e ys n in let whole = f.2 in let same = ap (reach (next M) s) is in absurd (omega (arith, h, stop, whole, same)))
       ]
       | inr less ↦ (let same = ap (reach (next M) s) is in absurd (omega (arith, h, less, same)))
     ]
 
-    at : (xs ys : List Entry) (e : Entry) → es ≡ xs ++ e ∷ ys → length xs ≡ reach (next M) s es → IsFine M s xs e → ⊥
+    at : (xs ys : List Entry) (e : Entry) → es ≡ xs ++ e ∷ ys → length xs ≡ reach (next M) s es → CanFollow M s xs e → ⊥
     at xs ys e is h F = elim (front_or_stop (next M) s xs (e ∷ ys)) [
       | inl f ↦ (let P = possible_of M four s there f.0 xs (after-same M s xs ∙ f.1) e F in
           let on = reach-goes (next M) f.0 P.0 e ys P.1 in let whole = f.2 in let same = ap (reach (next M) s) is in omega (arith, h, on, whole, same))
