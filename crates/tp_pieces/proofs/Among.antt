@@ -1,5 +1,6 @@
 -- Nodes with others before them and behind them.
-use Rattle.std.proofs.Common.{◌≡◌, ℕ, zero, suc, ◌+◌, ◌-◌, ◌<◌, List, [], ◌∷◌, ◌++◌, length, set, replicate, refl, ap, ◌∙◌, arith, length-append, slice_get}
+use Rattle.std.proofs.Common.{◌≡◌, ℕ, zero, suc, ◌+◌, ◌-◌, ◌<◌, List, [], ◌∷◌, ◌++◌, length, set, replicate, refl, ap, ◌∙◌, arith, length-append, slice_get, false, nat_le}
+use Rattle.std.proofs.lemmas.Bool.{lt-leb}
 use Rattle.std.proofs.lemmas.List.{length-replicate, set-append_left, set-append_right}
 use Rattle.tp_model.specs.NodeState.{NodeState}
 use Rattle.tp_pieces.specs.Blank.{blank_node, among}
@@ -30,3 +31,7 @@ among_set before nodes behind i node below =
     set-append_right (replicate before blank_node) (nodes ++ replicate behind blank_node) before (before + i) node (length-replicate before blank_node) (omega arith)
     ∙ ap (λ k. replicate before blank_node ++ set (nodes ++ replicate behind blank_node) k node) e
     ∙ ap (λ ns. replicate before blank_node ++ ns) (set-append_left nodes (replicate behind blank_node) i node below)
+
+-- Whoever has all that is no node's has none of the nodes.
+pub no_node : (nodes n : ℕ) → n < length (replicate nodes blank_node) → nat_le nodes n ≡ false
+no_node nodes n below = let many = length-replicate nodes blank_node in lt-leb nodes n (omega (arith, below, many))

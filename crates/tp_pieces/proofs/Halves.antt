@@ -11,7 +11,7 @@ use Rattle.tp_model.specs.Node.{t414}
 use Rattle.tp_law_network.proofs.Local.{process_same}
 use Rattle.tp_law_parts.specs.Piece.{Piece, from_piece, sends}
 use Rattle.tp_law_parts.specs.InPiece.{acts, next_in}
-use Rattle.tp_parts.specs.Plays.{IsBlocked}
+use Rattle.tp_parts.specs.Blocked.{IsBlocked}
 use Rattle.tp_pieces.specs.Whose.{whose}
 use Rattle.tp_pieces.specs.Held.{Held, has}
 use Rattle.tp_pieces.specs.Behind.{behind, without_tokens, IsStuck, SameProcesses, DoesRest, TakesOff}

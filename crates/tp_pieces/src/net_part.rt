@@ -1,12 +1,12 @@
 //! A part of either kind.
 
-ghost use Rattle.tp_pieces.specs.Behind.{Applies};
-ghost use Rattle.tp_pieces.specs.Counts.{CanCount};
-ghost use Rattle.tp_pieces.specs.Parts.{held_of};
+ghost use Rattle.tp_pieces.specs.Held.{has};
+ghost use Rattle.tp_pieces.specs.Parts.{held_of, net_room};
 
 use crate::host::HostPart;
 use crate::nodes::NodesPart;
 use tp_model::Entry;
+use tp_parts::Part;
 
 /// A part of a network: some of its nodes, or the host.
 #[derive(Drop)]
@@ -15,23 +15,24 @@ pub enum NetPart {
     Host(HostPart),
 }
 
-impl NetPart {
-    /// Its first node; none where it has no node.
-    pub fn first_node(&self) -> Option<u8> {
+impl Part for NetPart {
+    ghost has = { λ part. has (held_of part) };
+
+    ghost network = { λ part. (held_of part).network };
+
+    ghost room = { net_room };
+
+    fn first_node(&self) -> Option<u8> {
         match self {
-            NetPart::Nodes(part) => Some(part.first()),
-            NetPart::Host(_) => None,
+            NetPart::Nodes(part) => part.first_node(),
+            NetPart::Host(part) => part.first_node(),
         }
     }
 
-    /// Goes on with an entry, whichever process's it is; answers whether it could. After a false answer nothing is known of it.
-    pub fn go_on(&mut self, entry: &Entry) -> bool
-        requires { CanCount (held_of self.old).network }
-        ensures { Applies (held_of self.old) entry.now result (held_of self.new) }
-    {
+    fn apply(&mut self, entry: &Entry) -> bool {
         match self {
-            NetPart::Nodes(part) => part.go_on(entry),
-            NetPart::Host(part) => part.go_on(entry),
+            NetPart::Nodes(part) => part.apply(entry),
+            NetPart::Host(part) => part.apply(entry),
         }
     }
 }
