@@ -2,7 +2,7 @@
 use Rattle.std.specs.Prelude.{◌≡◌, ◌<◌, ℕ, false, true}
 use Rattle.tp_law_parts.specs.Piece.{Piece}
 
--- Of the processes that are nodes, of which there are `count`, the part has this one and none before it.
+-- The first `count` processes are nodes: of these the part has this one, and none before it.
 pub record IsFirstNode (has : Piece) (count node : ℕ) : Type 0 where
   pub there : node < count
   pub its : has node ≡ true

@@ -1,5 +1,5 @@
 -- The pair's parts as they are replayed.
-use Rattle.std.proofs.Common.{◌≡◌, ℕ, suc, zero, ◌<◌, List, [], ◌∷◌, refl, sym, subst, arith, Option, Some, None, slice_index_or, IfOk, length}
+use Rattle.std.proofs.Common.{◌≡◌, ℕ, suc, zero, ◌<◌, List, [], ◌∷◌, refl, sym, subst, arith, Option, Some, None, slice_index_or, IfOk}
 use Rattle.std.specs.Prelude.{Result, Ok, Err}
 use Rattle.tp_model.specs.declared.entry.Entry.{Entry}
 use Rattle.tp_model.specs.NodeState.{NodeState}
@@ -10,7 +10,7 @@ use Rattle.tp_tests_parts.specs.declared.member.Member.{Member}
 use Rattle.tp_tests_parts.specs.declared.member.Member.TheVariants.{Node, Host as OfHost}
 use Rattle.tp_tests_parts.specs.declared.side.Side.TheVariants.{First, Second}
 use Rattle.tp_tests_parts.specs.Member.{member_piece, member_network}
-use Rattle.tp_tests_parts.specs.Pair.{pair_whole, whole_pieces, whole_parts}
+use Rattle.tp_tests_parts.specs.Pair.{pair_whole, whole_pieces}
 use Rattle.tp_tests_parts.proofs.PairWhole.{pair_is_whole}
 
 -- the first of them, where any is asked for

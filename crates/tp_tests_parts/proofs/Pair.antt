@@ -1,5 +1,5 @@
 -- The parts of the pair do with each entry what the definitions say.
-use Rattle.std.proofs.Common.{◌≡◌, ℕ, suc, zero, ◌/◌, ◌<◌, [], ◌∷◌, length, Bool, true, false, cond, inl, inr, refl, sym, ap, ◌∙◌, Option, Some, None, arith, eq-eqb, ne_eqb, MatchBool}
+use Rattle.std.proofs.Common.{◌≡◌, ℕ, suc, zero, ◌/◌, [], ◌∷◌, length, Bool, true, false, cond, inl, inr, refl, sym, ap, ◌∙◌, Option, Some, None, arith, eq-eqb, ne_eqb, MatchBool}
 use Rattle.std.specs.Prelude.{◌==◌}
 use Rattle.std.specs.Option.{option_map}
 use Rattle.std.proofs.lemmas.Bool.{cases_Bool, cases_eq, le-ltb, lt-ltb}

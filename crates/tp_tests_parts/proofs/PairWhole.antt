@@ -1,11 +1,9 @@
 -- The pair is a sound network, and its parts are the whole of it.
-use Rattle.std.proofs.Common.{◌≡◌, ℕ, suc, zero, ◌+◌, ◌<◌, ◌/◌, [], ◌∷◌, Bool, true, false, cond, refl, sym, ap, subst, ◌∙◌, Option, Some, None, arith, eqb-true}
+use Rattle.std.proofs.Common.{◌≡◌, ℕ, suc, zero, ◌+◌, ◌<◌, ◌/◌, [], ◌∷◌, true, false, cond, refl, sym, ap, subst, Some, None, arith}
 use Rattle.std.specs.Prelude.{◌==◌}
-use Rattle.std.specs.Option.{option_map}
-use Rattle.std.proofs.lemmas.Bool.{le-ltb, true≢false}
+use Rattle.std.proofs.lemmas.Bool.{le-ltb}
 use Rattle.tp_model.specs.declared.wire.WireEnd.TheVariants.{Link}
-use Rattle.tp_model.specs.NodeState.{NodeState}
-use Rattle.tp_model.specs.Network.{Network, own, put, taken, sent, has_wire, receiver, back, on_line}
+use Rattle.tp_model.specs.Network.{own, put, taken, sent, has_wire, receiver, back, on_line}
 use Rattle.tp_model.specs.declared.link.Token.TheVariants.{Data}
 use Rattle.tp_model.specs.declared.entry.Entry.TheVariants.{Take}
 use Rattle.tp_model.specs.Entries.{process, takes, does, receives, next}
@@ -14,7 +12,7 @@ use Rattle.tp_model.specs.Node.{t414, t414_ends, took}
 use Rattle.tp_model.specs.Order.{after}
 use Rattle.tp_model.specs.Sound.{Sound, Wired, holds_at, end_holds, end_waits, datas, acks, owner}
 use Rattle.tp_model.specs.Word.{bit}
-use Rattle.tp_law_parts.specs.Piece.{Agrees, Covers, Piece, sends}
+use Rattle.tp_law_parts.specs.Piece.{Agrees, Covers, sends}
 use Rattle.tp_law_parts.specs.Reach.{reach}
 use Rattle.tp_parts.specs.Whole.{IsWhole}
 use Rattle.tp_tests_parts.specs.declared.side.Side.TheVariants.{First, Second}

@@ -1,4 +1,3 @@
-use Rattle.std.proofs.Common.{ap, sym}
 use Rattle.tp_model.specs.Node.{t414}
 use Rattle.tp_law_machine.proofs.LinkLaws.{has_four_links}
 use Rattle.tp_model.specs.declared.entry.Entry.TheVariants.{Take}
