@@ -14,7 +14,7 @@ use Rattle.tp_model.specs.Sound.{owner}
 use Rattle.tp_law_network.proofs.Partial.{bind_some}
 use Rattle.tp_law_network.proofs.Lines.{for_line-append, for_line-elsewhere, on_taken, length_taken, on_sent}
 use Rattle.tp_law_network.proofs.Local.{Step, SameShape, step_of, process_same, takes_same, step_sends, step_shape, step_lines, step_own_same, step_own_other, own-host, own-node}
-use Rattle.tp_law_parts.specs.ByItself.{Alone, alone, doing}
+use Rattle.tp_law_parts.specs.ByItself.{Alone, doing_all, doing}
 use Rattle.tp_law_parts.specs.Arrivals.{named}
 
 -- what is sent on a line that has a wire
@@ -59,7 +59,7 @@ owner_there {Node} s l = elim (cases_lt l (4 * length s.nodes)) [
 -- The process goes on from `a` to `b`; on its lines, what was there and what it then sent is what was taken and what is there.
 pub record GoesOn {Node : Type 0} (M : Machine Node) (s : Network Node) (p : ℕ) (a : Alone Node) (t v : Network Node) (es : List Entry) : Type 0 where
   pub to : Alone Node
-  pub leads : alone M s p a es ≡ Some to
+  pub leads : doing_all M s p a es ≡ Some to
   pub stands : own v p ≡ Some to.0
   pub more : List (ℕ × Token)
   pub sent : to.1 ≡ a.1 ++ more
@@ -118,10 +118,10 @@ module _ {Node : Type 0} (M : Machine Node) (four : HasFourLinks M) (s : Network
       stands_done same = ap (own u) (same ∙ sym whose) ∙ step_own_same M four t e u S
 
       further_own : p ≡ process s e → GoesOn M s p done u v es → GoesOn M s p a t v (e ∷ es)
-      unfolding alone named
+      unfolding doing_all named
       further_own same R = record {
         to = R.to;
-        leads = ap (λ o. o >>= λ b. alone M s p b es) (does_it same) ∙ R.leads;
+        leads = ap (λ o. o >>= λ b. doing_all M s p b es) (does_it same) ∙ R.leads;
         stands = R.stands;
         more = S.sends ++ R.more;
         sent = R.sent ∙ append_assoc a.1 S.sends R.more;
@@ -137,10 +137,10 @@ module _ {Node : Type 0} (M : Machine Node) (four : HasFourLinks M) (s : Network
           (λ same. apart (sym of ∙ ap (λ N. owner N l) (sym shape.nodes) ∙ same ∙ whose)))
 
       further_other : p ≢ process s e → GoesOn M s p a u v es → GoesOn M s p a t v (e ∷ es)
-      unfolding alone named
+      unfolding doing_all named
       further_other apart R = record {
         to = R.to;
-        leads = ap (λ o. o >>= λ b. alone M s p b es) (doing-other M s p a e apart) ∙ R.leads;
+        leads = ap (λ o. o >>= λ b. doing_all M s p b es) (doing-other M s p a e apart) ∙ R.leads;
         stands = R.stands;
         more = R.more;
         sent = R.sent;
@@ -148,7 +148,7 @@ module _ {Node : Type 0} (M : Machine Node) (four : HasFourLinks M) (s : Network
       }
 
   pub goes_on : (a : Alone Node) (t v : Network Node) → SameShape s t → own t p ≡ Some a.0 → (es : List Entry) → after M t es ≡ Some v → GoesOn M s p a t v es
-  unfolding after alone named
+  unfolding after doing_all named
   goes_on a t v shape at [] h =
       let same : t ≡ v = cc in
       record {

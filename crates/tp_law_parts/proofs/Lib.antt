@@ -1,5 +1,6 @@
 pub mod ByItself
-pub mod Fine
+pub mod CanFollow
+pub mod Counted
 pub mod Fronts
 pub mod Reach
 pub mod Rows

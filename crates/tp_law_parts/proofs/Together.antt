@@ -6,7 +6,7 @@ use Rattle.std.proofs.lemmas.Option.{slice_get_past}
 use Rattle.tp_model.specs.declared.entry.Entry.{Entry}
 use Rattle.tp_model.specs.Entries.{HasFourLinks}
 use Rattle.tp_model.specs.Order.{after}
-use Rattle.tp_law_parts.proofs.Reach.{pieces_end}
+use Rattle.tp_law_parts.proofs.Reach.{ends_agree}
 use Rattle.tp_model.specs.Network.{Machine, Network, Port, Own, OfNode, OfHost, own, on_line}
 use Rattle.tp_model.specs.Sound.{owner}
 use Rattle.tp_law_network.proofs.Lines.{same_lines}
@@ -62,9 +62,8 @@ same_network {Node} s t wires nodes lines owns line =
 pub together_is : {Node : Type 0} (count : ℕ) (pieces : ℕ → Piece) → Covers count pieces → (t w : Network Node) (v : ℕ → Network Node) → ((i : ℕ) → i < count → Agrees (pieces i) t (v i))
     → IsTogether count pieces v w → w ≡ t
 together_is {Node} count pieces covers t w v A T =
-    let first = covers 0 in
-    let B = A first.0 first.1 in
-    let C = T.shape first.0 first.1 in
+    let B = A T.shape.0 T.shape.1 in
+    let C = T.shape.2 in
     same_network w t (C.wires ∙ B.wires) (C.nodes ∙ B.nodes) (C.count ∙ B.count)
     (λ p. (let i = covers p in T.own i.0 i.1 p i.2 ∙ (A i.0 i.1).own p i.2))
     (λ l. (let i = covers (owner (length t.nodes) l) in
@@ -74,10 +73,5 @@ together_is {Node} count pieces covers t w v A T =
 pub pieces_together : {Node : Type 0} (M : Machine Node) → HasFourLinks M → (s t w : Network Node) (es : List Entry) → after M s es ≡ Some t
     → (count : ℕ) (pieces : ℕ → Piece) (parts ends : ℕ → Network Node) → Covers count pieces → ((i : ℕ) → i < count → Agrees (pieces i) s (parts i))
     → ((i : ℕ) → i < count → after_by (next_in M (pieces i)) (parts i) es ≡ Some (ends i)) → IsTogether count pieces ends w → w ≡ t
-pieces_together M four s t w es leads count pieces parts ends covers A go T = together_is count pieces covers t w ends agree T
-  where
-    agree : (i : ℕ) → i < count → Agrees (pieces i) t (ends i)
-    agree i below =
-        let P = pieces_end M four (pieces i) s (parts i) (A i below) es t leads in
-        let same : P.0 ≡ ends i = (let both = sym P.1 ∙ go i below in cc) in
-        subst (Agrees (pieces i) t) same P.2
+pieces_together M four s t w es leads count pieces parts ends covers A go T =
+    together_is count pieces covers t w ends (λ i below. ends_agree M four (pieces i) s t (parts i) (ends i) es (A i below) leads (go i below)) T

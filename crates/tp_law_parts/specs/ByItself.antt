@@ -17,10 +17,10 @@ doing M s p a e =
     else Some a
 
 -- after the entries in order: none where one of its own isn't possible
-unfoldable pub alone : {Node : Type 0} → Machine Node → Network Node → ℕ → Alone Node → List Entry → Option (Alone Node)
-alone M s p a [] = Some a
-alone M s p a (e ∷ es) = doing M s p a e >>= λ b. alone M s p b es
+unfoldable pub doing_all : {Node : Type 0} → Machine Node → Network Node → ℕ → Alone Node → List Entry → Option (Alone Node)
+doing_all M s p a [] = Some a
+doing_all M s p a (e ∷ es) = doing M s p a e >>= λ b. doing_all M s p b es
 
 -- from its state in the network on. No line is looked at.
 abbrev pub by_itself : {Node : Type 0} → Machine Node → Network Node → ℕ → List Entry → Option (Alone Node)
-by_itself M s p es = own s p >>= λ x. alone M s p (x, []) es
+by_itself M s p es = own s p >>= λ x. doing_all M s p (x, []) es

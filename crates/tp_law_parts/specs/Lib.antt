@@ -1,6 +1,7 @@
 pub mod Arrivals
+pub mod Becomes
 pub mod ByItself
-pub mod Fine
+pub mod CanFollow
 pub mod InPiece
 pub mod Piece
 pub mod Reach

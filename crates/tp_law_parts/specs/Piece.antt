@@ -1,4 +1,5 @@
--- A piece of a network: some of its processes, and the lines that these send.
+-- A piece of a network: some of its processes, and the lines that these send. A part is a piece with its state: a network, where
+-- only what belongs to the piece's own processes and lines counts.
 use Rattle.std.specs.Prelude.{◌≡◌, ◌<◌, ℕ, Bool, true, if◌then◌else◌, List, [], ◌∷◌, length}
 use Rattle.tp_model.specs.declared.link.Token.{Token}
 use Rattle.tp_model.specs.Network.{Network, own, on_line}

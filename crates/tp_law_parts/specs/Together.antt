@@ -10,8 +10,8 @@ pub record IsShapedAs {Node : Type 0} (v w : Network Node) : Type 0 where
   pub count : length w.lines ≡ length v.lines
 
 -- In w, each process and each line that it sends is as the pieces have it in which the process is; `v` gives the network of
--- each piece.
+-- each piece. Wires and counts are those of one of them.
 pub record IsTogether {Node : Type 0} (count : ℕ) (pieces : ℕ → Piece) (v : ℕ → Network Node) (w : Network Node) : Type 0 where
-  pub shape : (i : ℕ) → i < count → IsShapedAs (v i) w
+  pub shape : (i : ℕ) × (i < count) × IsShapedAs (v i) w
   pub own : (i : ℕ) → i < count → (p : ℕ) → pieces i p ≡ true → own w p ≡ own (v i) p
   pub lines : (i : ℕ) → i < count → (l : ℕ) → sends (pieces i) (length w.nodes) l ≡ true → on_line w.lines l ≡ on_line (v i).lines l

@@ -42,7 +42,7 @@ first_is stops a (suc n) (false ∷ bs) h =
     further stops a (a + suc n) (λ is. false≢true (h.0.2.1 (subst (Contains stops) (sym h.0.1) is))) (slice_get (filter_by_mask (range_with_len (a + 1) n) bs) 0)
     (subst (λ e. IsFirst stops (a + 1) e (slice_get (filter_by_mask (range_with_len (a + 1) n) bs) 0)) end (first_is stops (a + 1) n bs h.1))
 
--- what is read at a place that is there is the same, whatever stands past the end
+-- what is read at a place that is there doesn't rest on what is read past the end
 pub same_read : (xs : List ℕ) (i a b : ℕ) → i < length xs → slice_index_or xs i a ≡ slice_index_or xs i b
 same_read [] i a b below = absurd (omega (arith, below))
 same_read (x ∷ xs) zero a b below = refl

@@ -1,3 +1,3 @@
 pub mod Dealt
 pub mod First
-pub mod Plays
+pub mod GoesUpTo

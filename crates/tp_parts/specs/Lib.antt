@@ -1,3 +1,5 @@
+pub mod Blocked
 pub mod Dealt
-pub mod Plays
+pub mod FirstNode
+pub mod GoesUpTo
 pub mod Whole

@@ -10,7 +10,6 @@ use Rattle.tp_model.specs.Order.{after}
 use Rattle.tp_model.specs.Sound.{Sound}
 use Rattle.tp_law_parts.specs.Piece.{Agrees, Covers, Piece}
 use Rattle.tp_law_parts.specs.Reach.{reach}
-use Rattle.tp_law_parts.specs.Together.{IsTogether}
 
 -- These parts are the whole of s, which is sound and has no Markers: each process is in at least one of them, and each has
 -- its own as s has it.
@@ -20,12 +19,13 @@ pub record IsWhole (s : Network NodeState) (count : ℕ) (pieces : ℕ → Piece
   pub covers : Covers count pieces
   pub agree : (i : ℕ) → i < count → Agrees (pieces i) s (parts i)
 
--- how many entries come before the first that isn't possible; none where all are possible
+-- how many entries come before the first that isn't possible; `None` where all are possible
 abbrev pub IsStop : Network NodeState → List Entry → Option ℕ → Type 0
 IsStop s es None = reach (next t414) s es ≡ length es
 IsStop s es (Some k) = (reach (next t414) s es ≡ k) × (k < length es)
 
--- where all are possible, what the parts are at the end is together the network after the entries
-abbrev pub IsJoined : Network NodeState → List Entry → Option ℕ → ℕ → (ℕ → Piece) → (ℕ → Network NodeState) → Type 0
-IsJoined s es stop count pieces ends =
-    stop ≡ None → (w : Network NodeState) → IsTogether count pieces ends w → after t414 s es ≡ Some w
+-- Where all are possible, each part has its own at the end as the network after the entries has it. So what the parts have then,
+-- put together, is that network (`pieces_make_the_network`).
+abbrev pub EndsAgree : Network NodeState → List Entry → Option ℕ → ℕ → (ℕ → Piece) → (ℕ → Network NodeState) → Type 0
+EndsAgree s es stop count pieces ends =
+    stop ≡ None → (t : Network NodeState) × (after t414 s es ≡ Some t) × ((i : ℕ) → i < count → Agrees (pieces i) t (ends i))

@@ -1,5 +1,4 @@
 pub mod Formats
 pub mod Running
 pub mod Compacting
-pub mod Ends
 pub mod Streaming

@@ -1,10 +1,5 @@
 -- What `run --stream` does.
-use Rattle.std.specs.Prelude.{◌≡◌, ◌≤◌, ◌<◌, ◌^◌, ℕ, true, List, Option, Some, None, Result, Ok, Err, if◌then◌else◌, min, codes, string_bytes}
-use Rattle.std.specs.Fmt.{decimal}
-use Rattle.std.specs.Option.{option_map}
-use Rattle.std.specs.declared.alloc.Global.{Global}
-use Rattle.std.specs.declared.string.String.{String}
-use Rattle.tp_model.specs.declared.limits.TheConstants.{MAX_STEPS}
+use Rattle.std.specs.Prelude.{◌≡◌, ℕ, Result, Ok, Err, if◌then◌else◌, min}
 use Rattle.tp_model.specs.NodeState.{NodeState}
 use Rattle.tp_model.specs.Network.{Network}
 use Rattle.tp_model.specs.DiskHistory.{State}
@@ -21,40 +16,7 @@ use Rattle.tp_stream_files.specs.declared.ends.EndFault.{EndFault}
 use Rattle.tp_stream_files.specs.declared.ends.EndFault.TheVariants.{ReadFailed, DeviceFailed, SameFile, Twice, Memory as NoMemory}
 use Rattle.tp_program.specs.declared.streaming.FilesFault.{FilesFault}
 use Rattle.tp_program.specs.declared.streaming.FilesFault.TheVariants.{End, Stream}
-use Rattle.tp_program.specs.declared.stream_args.StreamAsked.{StreamAsked}
-use Rattle.tp_program.specs.declared.stream_args.StreamAsked.TheVariants.{Help, Run}
-use Rattle.tp_program.specs.declared.stream_args.StreamRun.{StreamRun}
-use Rattle.tp_words.specs.Args.{IsEvery}
-use Rattle.tp_program.specs.Ends.{AreEnds}
-use Rattle.tp_words.specs.Given.{given, IsGivenOr}
-use Rattle.tp_words.specs.Typed.{has_word}
-
--- turns have no bound, or one in its range
-abbrev pub IsBound : Option ℕ → Type 0
-IsBound None = Unit {0}
-IsBound (Some turns) = turns < 2 ^ 32
-
--- each number of a stream is in its range
-unfoldable pub IsStreamRun : StreamRun → Type 0
-IsStreamRun run = IsBound run.turns × (0 < run.quantum) × (run.quantum ≤ MAX_STEPS) × IsEvery run.every
-
--- and each port
-abbrev pub IsStreamInRange : StreamAsked → Type 0
-IsStreamInRange (Help text) = Unit {0}
-IsStreamInRange (Run run) = IsStreamRun run × AreEnds run.ends
-
--- Each number of a stream is what was typed for it, and else what docs/PROGRAM.md says; its turns have a bound just where one was typed.
-abbrev pub IsTypedStream : List (String Global) → StreamRun → Type 0
-IsTypedStream words run = (has_word (string_bytes run.device) words ≡ true)
-    × (given (codes "turns") words ≡ option_map decimal run.turns)
-    × IsGivenOr 1024 run.quantum (given (codes "quantum") words)
-    × IsGivenOr 4 run.spare (given (codes "spare") words)
-    × (given (codes "every") words ≡ option_map decimal run.every)
-    × IsGivenOr 0 run.wait_lock (given (codes "wait-lock") words)
-
-abbrev pub WasStreamTyped : List (String Global) → StreamAsked → Type 0
-WasStreamTyped words (Help text) = Unit {0}
-WasStreamTyped words (Run run) = IsTypedStream words run
+use Rattle.tp_words.specs.declared.stream_args.StreamRun.{StreamRun}
 
 -- what a network is asked: a number of frames that no node has is the greatest of its kind
 abbrev pub task_of : StreamRun → Task

@@ -7,9 +7,6 @@ mod formatting;
 mod in_use;
 mod program;
 mod running;
-mod stopped;
-mod stream_args;
-mod stream_ends;
 mod stream_explain;
 mod stream_program;
 mod streaming;
@@ -19,11 +16,10 @@ pub use formatting::format_on;
 pub use in_use::refuse_in_use;
 pub use program::answer;
 pub use running::run_on;
-pub use stream_args::{
-    StreamArgFault, StreamAsked, StreamRun, is_stream, read_stream_args, wants_input,
-};
-pub use stream_ends::EndsFault;
 pub use stream_program::answer_stream;
 pub use streaming::{FilesFault, Streamed, stream_on};
 pub use tp_views::{TRY_QUANTUM, check_on, is_device_file, recover_on, show_on, try_on, view_on};
-pub use tp_words::{ArgFault, Asked, NewDevice, Run, View, read_args};
+pub use tp_words::{
+    ArgFault, Asked, EndsFault, NewDevice, Run, StreamArgFault, StreamAsked, StreamRun, View,
+    is_stream, read_args, read_stream_args, wants_input,
+};

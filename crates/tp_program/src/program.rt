@@ -6,7 +6,6 @@ ghost use Rattle.tp_words.specs.Args.{IsInRange};
 use crate::files::{
     check_file, compact_file, format_file, recover_file, run_file, show_file, try_file, view_file,
 };
-use crate::stopped::tell_halted;
 use std::fs::{Files, OpenFile};
 use std::io;
 use std::io::Write;
@@ -14,7 +13,7 @@ use std::os::unix::fs::FileExt;
 use std::sync::Wait;
 use std::thread::Threads;
 use tp_stream_files::is_one_file;
-use tp_views::{explain, print_help};
+use tp_views::{explain, print_help, tell_halted};
 use tp_words::{Asked, has_word, read_args};
 
 /// Does what was asked for. Answers the program's status: 0 where it was done, 1 where it was refused, 2 where a node or port

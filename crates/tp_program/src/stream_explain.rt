@@ -1,6 +1,5 @@
 //! What `--explain` says of a stream that was refused: which end, why, and the way out.
 
-use crate::stream_args::StreamRun;
 use crate::streaming::FilesFault;
 use std::alloc::AllocError;
 use std::fmt::Write as Push;
@@ -11,6 +10,7 @@ use std::os::unix::fs::FileExt;
 use tp_stream::StreamFault;
 use tp_stream_files::{EndFault, FileSink, PortFile};
 use tp_views::{is_special, push_error, push_file, push_opening};
+use tp_words::StreamRun;
 
 /// The path that was typed for a port.
 fn path_of<'a>(files: &'a [PortFile], port: u8) -> &'a str {

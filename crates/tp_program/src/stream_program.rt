@@ -1,10 +1,9 @@
 //! What the program does for the words of a command line with `--stream`.
 
 ghost use Rattle.std.specs.Prelude.{◌≡◌, ◌≤◌};
-ghost use Rattle.tp_program.specs.Streaming.{IsStreamRun};
+ghost use Rattle.tp_words.specs.StreamArgs.{IsStreamRun};
 
 use crate::files::said_again;
-use crate::stream_args::{StreamAsked, StreamRun, read_stream_args};
 use crate::stream_explain::explain_stream;
 use crate::streaming::{FilesFault, Streamed, stream_on};
 use std::fs::{Files, OpenFile};
@@ -15,7 +14,7 @@ use std::sync::Wait;
 use tp_disk::Counted;
 use tp_stream_files::Feed;
 use tp_views::{Refusal, is_device_file, print_help, refuse};
-use tp_words::has_word;
+use tp_words::{StreamAsked, StreamRun, has_word, read_stream_args};
 
 /// What came of a command: its status, why a stream ended early, and what the system said of a call on the device that failed.
 #[derive(Drop)]

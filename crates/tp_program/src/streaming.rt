@@ -8,9 +8,9 @@ ghost use Rattle.tp_recover.specs.Reading.{LeavesNothingNew};
 ghost use Rattle.tp_recover.specs.declared.unopened.Unopened.{Unopened};
 ghost use Rattle.tp_run.specs.Ran.{History};
 ghost use Rattle.tp_stream.specs.Streamed.{IsUnbegun, Streamed as StreamLeft};
-ghost use Rattle.tp_program.specs.Streaming.{IsStreamRun, IsUnopened, IsUnwritten, StreamedOn, end_status, ending_status, fault_status, stream_status, task_of};
+ghost use Rattle.tp_program.specs.Streaming.{IsUnopened, IsUnwritten, StreamedOn, end_status, ending_status, fault_status, stream_status, task_of};
+ghost use Rattle.tp_words.specs.StreamArgs.{IsStreamRun};
 
-use crate::stream_args::StreamRun;
 use std::fs::{Files, OpenFile};
 use std::io::Write;
 use std::os::unix::fs::FileExt;
@@ -19,6 +19,7 @@ use thiserror::Error;
 use tp_disk::Disk;
 use tp_stream::{Ended, Ending, Sink, Source, StreamFault, Streams, Task, stream};
 use tp_stream_files::{EndFault, Ends, Feed, Teller, open_ends, say_end};
+use tp_words::StreamRun;
 
 /// After how many turns it is said again how far a stream has come.
 const TURNS_TOLD: u32 = 10_000;
@@ -42,7 +43,7 @@ pub struct Streamed {
 }
 
 /// What the network is asked. A number of frames that no node has is the greatest of its kind.
-#[tactic(auto, unfolding(crate::specs::Streaming::IsStreamRun))]
+#[tactic(auto, unfolding(tp_words::specs::StreamArgs::IsStreamRun))]
 fn task_of(asked: &StreamRun) -> Task
     requires { IsStreamRun asked.now }
     ensures value { result ≡ task_of asked.now }

@@ -279,7 +279,7 @@ text net.txt node a 4\nport from\nport to\nwire a.0 from\nwire a.3 to\n
 image a.img 11 24 F2 54 41 F7 11 24 F2 53 41 FB 60 02
 tpnet format device net.txt . 65536
 text given abc
-tpnet run device --stream --turns 20000 --progress --in 0=- --discard 0 --out 1=- <given
+tpnet run device --stream --turns 10100 --progress --in 0=- --discard 0 --out 1=- <given
 
 story each_entry
 # A snapshot begins behind each entry: the first holds the first run, the second one all, and then none is left to begin.

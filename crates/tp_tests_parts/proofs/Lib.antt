@@ -1,1 +1,3 @@
+pub mod Members
 pub mod Pair
+pub mod PairWhole

@@ -1,5 +1,5 @@
 -- The parts of the pair do with each entry what the definitions say.
-use Rattle.std.proofs.Common.{◌≡◌, ℕ, suc, zero, ◌/◌, [], ◌∷◌, Bool, true, false, cond, inl, inr, refl, sym, ap, ◌∙◌, Option, Some, None, arith, eq-eqb, ne_eqb, MatchBool}
+use Rattle.std.proofs.Common.{◌≡◌, ℕ, suc, zero, ◌/◌, [], ◌∷◌, length, Bool, true, false, cond, inl, inr, refl, sym, ap, ◌∙◌, Option, Some, None, arith, eq-eqb, ne_eqb, MatchBool}
 use Rattle.std.specs.Prelude.{◌==◌}
 use Rattle.std.specs.Option.{option_map}
 use Rattle.std.proofs.lemmas.Bool.{cases_Bool, cases_eq, le-ltb, lt-ltb}
@@ -14,7 +14,8 @@ use Rattle.tp_model.specs.Step.{step_of}
 use Rattle.tp_model.specs.Node.{t414, node_step, took}
 use Rattle.tp_law_parts.specs.Piece.{Piece, from_piece}
 use Rattle.tp_law_parts.specs.InPiece.{acts, next_in}
-use Rattle.tp_parts.specs.Plays.{IsBlocked}
+use Rattle.tp_parts.specs.Blocked.{IsBlocked}
+use Rattle.tp_parts.specs.FirstNode.{HasNoNode, IsFirstNode}
 use Rattle.tp_tests_parts.specs.declared.side.Side.{Side}
 use Rattle.tp_tests_parts.specs.declared.side.Side.TheVariants.{First, Second}
 use Rattle.tp_tests_parts.specs.Pair.{pair_wires, pair_network, number_of, node_piece, host_piece, node_after, host_goes, host_network}
@@ -169,3 +170,14 @@ pub host_part_goes : (e : Entry) (result : Bool) → result ≡ host_goes e
     → MatchBool result (next_in t414 host_piece host_network e ≡ Some host_network) (IsBlocked host_piece host_network e)
 host_part_goes e true h = next_in-host e ∙ ap (λ b. cond b (Some host_network) None) (sym h)
 host_part_goes e false h = inl (next_in-host e ∙ ap (λ b. cond b (Some host_network) None) (sym h))
+
+-- ## The first node of a part
+
+pub node_is_first : (side : Side) (out held : Option ℕ) → IsFirstNode (node_piece side) (length (pair_network side out held).nodes) (number_of side)
+node_is_first First out held = record { there = omega arith; its = refl; first = λ n below. absurd (omega (arith, below)) }
+node_is_first Second out held = record { there = omega arith; its = refl; first = λ n below. ne_eqb n 1 (λ e. omega (arith, e, below)) }
+
+pub host_has_no_node : HasNoNode host_piece (length host_network.nodes)
+host_has_no_node zero below = refl
+host_has_no_node (suc zero) below = refl
+host_has_no_node (suc (suc n)) below = absurd (omega (arith, below))

@@ -1,8 +1,8 @@
--- Two halted nodes, whose first links are wired to each other, and a host without ports.
-use Rattle.std.specs.Prelude.{ℕ, zero, suc, ◌+◌, Bool, true, false, ◌&&◌, ◌==◌, nat_lt, if◌then◌else◌, List, [], ◌∷◌, Option, Some, None}
+-- Two halted nodes, whose first links are wired to each other, and a host without ports: the whole, and its parts.
+use Rattle.std.specs.Prelude.{ℕ, zero, suc, ◌+◌, ◌^◌, Bool, true, false, ◌&&◌, ◌==◌, nat_lt, if◌then◌else◌, List, [], ◌∷◌, Option, Some, None}
 use Rattle.tp_model.specs.declared.link.Token.{Token}
 use Rattle.tp_model.specs.declared.link.Token.TheVariants.{Data}
-use Rattle.tp_model.specs.declared.link.OutEnd.TheVariants.{Idle as NoOutput}
+use Rattle.tp_model.specs.declared.link.OutEnd.TheVariants.{Waits, Idle as NoOutput}
 use Rattle.tp_model.specs.declared.link.InEnd.TheVariants.{Idle}
 use Rattle.tp_model.specs.declared.wire.WireEnd.{WireEnd}
 use Rattle.tp_model.specs.declared.wire.WireEnd.TheVariants.{Link}
@@ -11,17 +11,18 @@ use Rattle.tp_model.specs.declared.entry.Entry.{Entry}
 use Rattle.tp_model.specs.declared.entry.Entry.TheVariants.{Run, Take, HostIn, Confirm}
 use Rattle.tp_model.specs.NodeState.{NodeState}
 use Rattle.tp_model.specs.Network.{Network, same_token}
-use Rattle.tp_law_machine.specs.Start.{resting, blank}
+use Rattle.tp_law_machine.specs.Start.{resting, blank, transfer}
 use Rattle.tp_law_parts.specs.Piece.{Piece}
 use Rattle.tp_tests_parts.specs.declared.side.Side.{Side}
 use Rattle.tp_tests_parts.specs.declared.side.Side.TheVariants.{First, Second}
 
--- a node that has halted, whose first link holds a byte that came in, or none
+-- A node that has halted. Its first link holds a byte that came in, or none, and waits for the acknowledge of a byte that it sent,
+-- behind which another one would have to go out, from an address where no memory is; so it can't take the acknowledge.
 abbrev pub halted_node : Option ℕ → NodeState
 halted_node held = record {
   cpu = record resting { halt = Some UnknownOp };
   memory = blank;
-  outputs = NoOutput ∷ NoOutput ∷ NoOutput ∷ NoOutput ∷ [];
+  outputs = Waits (transfer 0 0 2) ∷ NoOutput ∷ NoOutput ∷ NoOutput ∷ [];
   inputs = Idle held ∷ Idle None ∷ Idle None ∷ Idle None ∷ [];
 }
 
@@ -47,6 +48,24 @@ pair_network Second out held = record {
   nodes = halted_node None ∷ halted_node held ∷ [];
   ports = [];
   lines = [] ∷ [] ∷ [] ∷ [] ∷ byte_on out ∷ [] ∷ [] ∷ [] ∷ [];
+}
+
+-- The whole pair, with the byte 65 on the first node's line, and 66 on the second one's: each node waits for the acknowledge of its
+-- byte, so the network is sound. And once each node has taken the other's byte.
+abbrev pub pair_whole : Network NodeState
+pair_whole = record {
+  wires = pair_wires;
+  nodes = halted_node None ∷ halted_node None ∷ [];
+  ports = [];
+  lines = byte_on (Some 65) ∷ [] ∷ [] ∷ [] ∷ byte_on (Some 66) ∷ [] ∷ [] ∷ [] ∷ [];
+}
+
+abbrev pub pair_end : Network NodeState
+pair_end = record {
+  wires = pair_wires;
+  nodes = halted_node (Some 66) ∷ halted_node (Some 65) ∷ [];
+  ports = [];
+  lines = [] ∷ [] ∷ [] ∷ [] ∷ [] ∷ [] ∷ [] ∷ [] ∷ [];
 }
 
 -- the number of a node, the first line that it sends, which has the wire, and the line that comes in
@@ -75,6 +94,17 @@ host_piece (suc (suc p)) = true
 abbrev pub host_network : Network NodeState
 host_network = pair_network First None None
 
+-- the parts of the whole pair: the nodes' and the host's
+abbrev pub whole_pieces : ℕ → Piece
+whole_pieces zero = node_piece First
+whole_pieces (suc zero) = node_piece Second
+whole_pieces (suc (suc i)) = host_piece
+
+abbrev pub whole_parts : ℕ → Network NodeState
+whole_parts zero = pair_network First (Some 65) None
+whole_parts (suc zero) = pair_network Second (Some 66) None
+whole_parts (suc (suc i)) = host_network
+
 -- the byte on the line is taken, if it is the one that the entry names
 abbrev pub let_go : Option ℕ → Option ℕ → Token → Option (Option ℕ × Option ℕ)
 let_go None held token = None
@@ -102,3 +132,7 @@ host_goes (Run i count) = nat_lt i 2
 host_goes (Take line token) = if line == 0 then true else line == 4
 host_goes (HostIn port byte) = false
 host_goes (Confirm port upto) = false
+
+-- with how many entries a part can go on: no slice has more
+abbrev pub most_entries : ℕ
+most_entries = 2 ^ 64

@@ -1,10 +1,11 @@
 //! The part of a host without ports.
 
-ghost use Rattle.std.specs.Prelude.{◌≡◌, MatchBool, Some};
+ghost use Rattle.std.specs.Prelude.{◌≡◌, ◌<◌, ◌≤◌, ◌+◌, IsTrue, MatchBool, MatchOption, Some, length};
 ghost use Rattle.tp_model.specs.Node.{t414};
 ghost use Rattle.tp_law_parts.specs.InPiece.{next_in};
-ghost use Rattle.tp_parts.specs.Plays.{IsBlocked};
-ghost use Rattle.tp_tests_parts.specs.Pair.{host_goes, host_network, host_piece};
+ghost use Rattle.tp_parts.specs.Blocked.{IsBlocked};
+ghost use Rattle.tp_parts.specs.FirstNode.{HasNoNode, IsFirstNode};
+ghost use Rattle.tp_tests_parts.specs.Pair.{most_entries, host_goes, host_network, host_piece};
 
 use tp_model::Entry;
 use tp_parts::Part;
@@ -29,6 +30,9 @@ impl Part for Host {
 
     ghost network = { λ p. host_network };
 
+    ghost room = { λ p. most_entries };
+
+    #[tactic(auto, using(crate::proofs::Pair::host_has_no_node))]
     fn first_node(&self) -> Option<u8> {
         None
     }

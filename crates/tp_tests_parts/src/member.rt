@@ -1,9 +1,11 @@
 //! A node's part or the host's.
 
-ghost use Rattle.std.specs.Prelude.{◌≡◌, MatchBool, Some};
+ghost use Rattle.std.specs.Prelude.{◌≡◌, ◌<◌, ◌≤◌, ◌+◌, IsTrue, MatchBool, MatchOption, Some, length};
 ghost use Rattle.tp_model.specs.Node.{t414};
 ghost use Rattle.tp_law_parts.specs.InPiece.{next_in};
-ghost use Rattle.tp_parts.specs.Plays.{IsBlocked};
+ghost use Rattle.tp_parts.specs.Blocked.{IsBlocked};
+ghost use Rattle.tp_parts.specs.FirstNode.{HasNoNode, IsFirstNode};
+ghost use Rattle.tp_tests_parts.specs.Pair.{most_entries};
 ghost use Rattle.tp_tests_parts.specs.Member.{member_network, member_piece};
 
 use crate::host::Host;
@@ -22,6 +24,8 @@ impl Part for Member {
     ghost has = { member_piece };
 
     ghost network = { member_network };
+
+    ghost room = { λ p. most_entries };
 
     fn first_node(&self) -> Option<u8> {
         match self {

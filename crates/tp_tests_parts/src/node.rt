@@ -1,11 +1,12 @@
 //! The part of a halted node.
 
-ghost use Rattle.std.specs.Prelude.{◌≡◌, MatchBool, Some, None};
+ghost use Rattle.std.specs.Prelude.{◌≡◌, ◌<◌, ◌≤◌, ◌+◌, IsTrue, MatchBool, MatchOption, Some, None, length};
 ghost use Rattle.tp_model.specs.declared.entry.Entry.TheVariants.{Take};
 ghost use Rattle.tp_model.specs.Node.{t414};
 ghost use Rattle.tp_law_parts.specs.InPiece.{next_in};
-ghost use Rattle.tp_parts.specs.Plays.{IsBlocked};
-ghost use Rattle.tp_tests_parts.specs.Pair.{hold, let_go, node_after, node_piece, pair_network};
+ghost use Rattle.tp_parts.specs.Blocked.{IsBlocked};
+ghost use Rattle.tp_parts.specs.FirstNode.{HasNoNode, IsFirstNode};
+ghost use Rattle.tp_tests_parts.specs.Pair.{most_entries, hold, let_go, node_after, node_piece, pair_network};
 
 use crate::side::Side;
 use tp_model::{Entry, Token};
@@ -83,6 +84,9 @@ impl Part for HaltedNode {
 
     ghost network = { λ p. pair_network p.side p.out p.held };
 
+    ghost room = { λ p. most_entries };
+
+    #[tactic(auto, using(crate::proofs::Pair::node_is_first))]
     fn first_node(&self) -> Option<u8> {
         Some(self.side.number())
     }

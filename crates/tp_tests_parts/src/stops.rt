@@ -1,13 +1,8 @@
 //! Where parts stop, and which of their stops is answered.
 
-use crate::host::Host;
-use crate::member::Member;
-use crate::node::HaltedNode;
-use crate::side::Side;
+use crate::whole::replay_pair;
 use std::test::Fail;
-use tp_gate::NoGate;
 use tp_model::{Entry, Token};
-use tp_parts::play_whole;
 
 /// Entries, where the parts of the two nodes and of the host stop, and what is answered.
 struct Row {
@@ -127,27 +122,27 @@ const ROWS: [Row; 12] = [
 
 #[test]
 fn the_least_stop_is_answered(rt: HostRuntime) -> Result<(), Fail> {
-    let alloc = rt.alloc();
     for row in &ROWS {
-        let first = HaltedNode {
-            side: Side::First,
-            out: Some(65),
-            held: None,
-        };
-        let second = HaltedNode {
-            side: Side::Second,
-            out: Some(66),
-            held: None,
-        };
-        let parts = vec![in alloc;
-            Member::Node(first),
-            Member::Node(second),
-            Member::Host(Host),
-        ]?;
-        let (played, stop) = play_whole(&rt, alloc, parts, row.entries, &NoGate)?;
+        let (played, stop) = replay_pair(&rt, rt.alloc(), row.entries)?;
         assert_eq!(rt; played.len(), 3);
         assert_eq!(rt; [played[0].stop, played[1].stop, played[2].stop], row.stops);
         assert_eq!(rt; stop, row.first);
+    }
+    Ok(())
+}
+
+/// What each node sent is taken, once and as it was sent; another byte, and an acknowledge that nobody sent, stop the pair.
+#[test]
+fn only_what_was_sent_is_taken(rt: HostRuntime) -> Result<(), Fail> {
+    let rows: [(&[Entry], Option<usize>); 4] = [
+        (&[TO_FIRST, TO_SECOND], None),
+        (&[TO_FIRST, ANOTHER_BYTE], Some(1)),
+        (&[TO_SECOND, TO_FIRST, TO_SECOND], Some(2)),
+        (&[AN_ACK, TO_SECOND], Some(0)),
+    ];
+    for row in &rows {
+        let (_, stop) = replay_pair(&rt, rt.alloc(), row.0)?;
+        assert_eq!(rt; stop, row.1);
     }
     Ok(())
 }

@@ -1,10 +1,11 @@
 //! A part that says what it has done, and a gate that looks.
 
-ghost use Rattle.std.specs.Prelude.{◌≡◌, MatchBool, Some};
+ghost use Rattle.std.specs.Prelude.{◌≡◌, ◌<◌, ◌≤◌, ◌+◌, IsTrue, MatchBool, MatchOption, Some, length};
 ghost use Rattle.tp_model.specs.Node.{t414};
 ghost use Rattle.tp_law_parts.specs.InPiece.{next_in};
-ghost use Rattle.tp_parts.specs.Plays.{IsBlocked};
-ghost use Rattle.tp_tests_parts.specs.Pair.{node_piece, pair_network};
+ghost use Rattle.tp_parts.specs.Blocked.{IsBlocked};
+ghost use Rattle.tp_parts.specs.FirstNode.{HasNoNode, IsFirstNode};
+ghost use Rattle.tp_tests_parts.specs.Pair.{most_entries, node_piece, pair_network};
 
 use crate::node::HaltedNode;
 use std::sync::atomic::{AtomicU32, Ordering};
@@ -54,6 +55,8 @@ impl<'a> Part for Watched<'a> {
     ghost has = { λ p. node_piece p.node.side };
 
     ghost network = { λ p. pair_network p.node.side p.node.out p.node.held };
+
+    ghost room = { λ p. most_entries };
 
     fn first_node(&self) -> Option<u8> {
         self.node.first_node()

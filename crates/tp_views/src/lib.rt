@@ -15,6 +15,7 @@ mod refusal;
 mod registers;
 mod shown;
 mod steady;
+mod stopped;
 mod view;
 
 pub use checking::check_on;
@@ -24,4 +25,5 @@ pub use explaining::{explain, push_opening};
 pub use looking::{is_special, push_error, push_file};
 pub use opening::{recover_on, show_on};
 pub use refusal::Refusal;
+pub use stopped::tell_halted;
 pub use view::view_on;

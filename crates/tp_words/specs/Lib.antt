@@ -1,3 +1,5 @@
 pub mod Typed
 pub mod Given
 pub mod Args
+pub mod Ends
+pub mod StreamArgs

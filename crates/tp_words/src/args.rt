@@ -77,7 +77,7 @@ pub const MAX_AREA: u64 = 1 << 40;
 /// The most turns of a trial or a run.
 pub const MAX_TURNS: u64 = 4_294_967_295;
 
-/// The most threads that make the turns of a run.
+/// The most threads that make the turns of a run, as many as `tp_run` takes.
 pub const MAX_WORKERS: u8 = 16;
 
 /// The most seconds that another process is waited for.

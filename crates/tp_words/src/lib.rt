@@ -5,15 +5,16 @@ mod args;
 mod found;
 mod help;
 mod numbers;
+mod stream_args;
+mod stream_ends;
 mod stream_words;
 mod views;
 mod words;
 
-pub use args::{
-    ArgFault, Asked, MAX_AREA, MAX_TURNS, MAX_WORDS, MAX_WORKERS, NewDevice, Run, every_of,
-    read_args, wait_of,
+pub use args::{ArgFault, Asked, MAX_AREA, MAX_WORKERS, NewDevice, Run, read_args};
+pub use numbers::has_word;
+pub use stream_args::{
+    StreamArgFault, StreamAsked, StreamRun, is_stream, read_stream_args, wants_input,
 };
-pub use found::{option_number, option_or, text_of};
-pub use numbers::{has_word, number_of};
-pub use stream_words::stream_command;
+pub use stream_ends::EndsFault;
 pub use views::View;

@@ -1,0 +1,105 @@
+-- An entry in its two halves: its tokens are taken off, and what is left of it is done.
+use Rattle.std.proofs.Common.{◌≡◌, ℕ, Bool, true, false, cond, inl, List, [], ◌∷◌, length, refl, sym, ap, subst, ◌∙◌, Option, Some, None}
+use Rattle.std.specs.Prelude.{MatchBool}
+use Rattle.tp_model.specs.declared.link.Token.{Token}
+use Rattle.tp_model.specs.declared.entry.Entry.{Entry}
+use Rattle.tp_model.specs.declared.entry.Entry.TheVariants.{Run, Take, HostIn, Confirm}
+use Rattle.tp_model.specs.NodeState.{NodeState}
+use Rattle.tp_model.specs.Network.{◌>>=◌, Network, own, taken}
+use Rattle.tp_model.specs.Entries.{process, takes}
+use Rattle.tp_model.specs.Node.{t414}
+use Rattle.tp_law_network.proofs.Local.{process_same}
+use Rattle.tp_law_parts.specs.Piece.{Piece, from_piece, sends}
+use Rattle.tp_law_parts.specs.InPiece.{acts, next_in}
+use Rattle.tp_parts.specs.Blocked.{IsBlocked}
+use Rattle.tp_pieces.specs.Whose.{whose}
+use Rattle.tp_pieces.specs.Held.{Held, has}
+use Rattle.tp_pieces.specs.Behind.{behind, without_tokens, IsStuck, SameProcesses, DoesRest, TakesOff}
+
+-- ## Both halves
+
+-- what a process does rests on the lines that are given alone
+acts-lines : (s : Network NodeState) (xs ys : List (List Token)) (e : Entry) → acts t414 (record s { lines = xs }) ys e ≡ acts t414 s ys e
+unfolding acts process own
+acts-lines s xs ys (Run i k) = refl
+acts-lines s xs ys (Take line token) = refl
+acts-lines s xs ys (HostIn p x) = refl
+acts-lines s xs ys (Confirm p upto) = refl
+
+pub in_two : (piece : Piece) (s : Network NodeState) (e : Entry) → next_in t414 piece s e ≡ (without_tokens piece s e >>= λ u. behind piece u e)
+unfolding next_in
+in_two piece s e = go (taken s.lines (from_piece piece (length s.nodes) (takes s e)))
+  where
+    go : (o : Option (List (List Token))) → (o >>= λ lines. cond (piece (process s e)) (acts t414 s lines e) (Some (record s { lines = lines })))
+        ≡ ((o >>= λ lines. Some (record s { lines = lines })) >>= λ u. behind piece u e)
+    go None = refl
+    go (Some lines) =
+        ap (λ a. cond (piece (process s e)) a (Some (record s { lines = lines }))) (sym (acts-lines s lines lines e))
+        ∙ ap (λ p. cond (piece p) (acts t414 (record s { lines = lines }) lines e) (Some (record s { lines = lines }))) (sym (process_same s (record s { lines = lines }) refl refl e))
+
+pub same_has : (was now : Held) → SameProcesses was now → has now ≡ has was
+same_has was now S = ap (λ first. whose first now.past) S.first ∙ ap (whose was.first) S.past
+
+pub both_halves : (was mid now : Held) (e : Entry) (could : Bool) → TakesOff was e true mid → DoesRest mid e could now
+    → MatchBool could (next_in t414 (has was) was.network e ≡ Some now.network) (IsBlocked (has was) was.network e)
+both_halves was mid now e could T D = go could D.goes
+  where
+    same : has mid ≡ has was
+    same = same_has was mid T.same
+
+    whole : next_in t414 (has was) was.network e ≡ behind (has mid) mid.network e
+    whole = in_two (has was) was.network e ∙ ap (λ o. o >>= λ u. behind (has was) u e) T.goes ∙ ap (λ piece. behind piece mid.network e) (sym same)
+
+    go : (b : Bool) → MatchBool b (behind (has mid) mid.network e ≡ Some now.network) (IsStuck (has mid) (behind (has mid) mid.network e))
+        → MatchBool b (next_in t414 (has was) was.network e ≡ Some now.network) (IsBlocked (has was) was.network e)
+    go true goes = whole ∙ goes
+    go false stuck = subst (λ o. IsStuck (has was) o) (sym whole) (subst (λ piece. IsStuck piece (behind (has mid) mid.network e)) same stuck)
+
+-- where the tokens can't be taken off, nothing is possible
+pub first_half : (was mid : Held) (e : Entry) → TakesOff was e false mid → IsBlocked (has was) was.network e
+first_half was mid e T = inl (in_two (has was) was.network e ∙ ap (λ o. o >>= λ u. behind (has was) u e) T.goes)
+
+-- ## Tokens
+
+-- an entry takes none
+pub none_taken : (was : Held) (e : Entry) → takes was.network e ≡ [] → TakesOff was e true was
+unfolding taken from_piece
+none_taken was e none = record {
+  same = record { first = refl; past = refl };
+  goes = ap (λ ms. taken was.network.lines (from_piece (has was) (length was.network.nodes) ms) >>= λ lines. Some (record was.network { lines = lines })) none;
+}
+
+-- another part sends the line
+pub taken_elsewhere : (was : Held) (line : ℕ) (token : Token) → sends (has was) (length was.network.nodes) line ≡ false → TakesOff was (Take line token) true was
+unfolding taken from_piece takes
+taken_elsewhere was line token other = record {
+  same = record { first = refl; past = refl };
+  goes = ap (λ b. taken was.network.lines (cond b ((line, token) ∷ []) []) >>= λ lines. Some (record was.network { lines = lines })) other;
+}
+
+-- the part sends it
+pub taken_here : (was now : Held) (line : ℕ) (token : Token) (could : Bool) (lines : List (List Token)) → SameProcesses was now → now.network ≡ record was.network { lines = lines }
+    → sends (has was) (length was.network.nodes) line ≡ true
+    → MatchBool could (taken was.network.lines ((line, token) ∷ []) ≡ Some lines) (taken was.network.lines ((line, token) ∷ []) ≡ None) → TakesOff was (Take line token) could now
+unfolding from_piece takes
+taken_here was now line token could lines same net mine took = record { same = same; goes = go could took }
+  where
+    its : without_tokens (has was) was.network (Take line token) ≡ (taken was.network.lines ((line, token) ∷ []) >>= λ lines. Some (record was.network { lines = lines }))
+    its = ap (λ b. taken was.network.lines (cond b ((line, token) ∷ []) []) >>= λ lines. Some (record was.network { lines = lines })) mine
+
+    go : (b : Bool) → MatchBool b (taken was.network.lines ((line, token) ∷ []) ≡ Some lines) (taken was.network.lines ((line, token) ∷ []) ≡ None)
+        → MatchBool b (without_tokens (has was) was.network (Take line token) ≡ Some now.network) (without_tokens (has was) was.network (Take line token) ≡ None)
+    go true all = its ∙ ap (λ o. o >>= λ lines. Some (record was.network { lines = lines })) all ∙ ap Some (sym net)
+    go false none = its ∙ ap (λ o. o >>= λ lines. Some (record was.network { lines = lines })) none
+
+-- an entry that is no Take takes none
+pub takes_none : (s : Network NodeState) (e : Entry) → ((line : ℕ) (token : Token) → e ≡ Take line token → ⊥) → takes s e ≡ []
+unfolding takes
+takes_none s (Run i k) h = refl
+takes_none s (Take line token) h = absurd (h line token refl)
+takes_none s (HostIn p x) h = refl
+takes_none s (Confirm p upto) h = refl
+
+-- it has what it had
+pub same_all : (was mid now : Held) → SameProcesses was mid → SameProcesses mid now → SameProcesses was now
+same_all was mid now a b = record { first = b.first ∙ a.first; past = b.past ∙ a.past }

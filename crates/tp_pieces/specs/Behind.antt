@@ -1,0 +1,45 @@
+-- What a call leaves that does an entry, or a half of one.
+use Rattle.std.specs.Prelude.{◌≡◌, ◌⊎◌, Bool, if◌then◌else◌, MatchBool, length, Option, Some, None}
+use Rattle.tp_model.specs.declared.entry.Entry.{Entry}
+use Rattle.tp_model.specs.NodeState.{NodeState}
+use Rattle.tp_model.specs.Network.{◌>>=◌, Network, taken}
+use Rattle.tp_model.specs.Entries.{process, takes}
+use Rattle.tp_model.specs.Node.{t414}
+use Rattle.tp_law_parts.specs.Piece.{Piece, from_piece}
+use Rattle.tp_law_parts.specs.InPiece.{acts, next_in}
+use Rattle.tp_law_parts.specs.Stops.{IsOverfull}
+use Rattle.tp_pieces.specs.Held.{Held, has}
+
+-- what is left to do of an entry in a piece, once the tokens that it takes are off the piece's lines
+abbrev pub behind : Piece → Network NodeState → Entry → Option (Network NodeState)
+behind piece s e = if piece (process s e) then acts t414 s s.lines e else Some s
+
+-- the network with the lines that are left where the entry's tokens, of those that the piece sends, are taken off
+abbrev pub without_tokens : Piece → Network NodeState → Entry → Option (Network NodeState)
+without_tokens piece s e = taken s.lines (from_piece piece (length s.nodes) (takes s e)) >>= λ lines. Some (record s { lines = lines })
+
+-- there is no such network, or a line that the piece sends would be overfull in it
+abbrev pub IsStuck : Piece → Option (Network NodeState) → Type 0
+IsStuck piece wanted = (wanted ≡ None) ⊎ ((v : Network NodeState) × (wanted ≡ Some v) × IsOverfull piece v)
+
+-- the part has the processes that it had
+pub record SameProcesses (was now : Held) : Type 0 where
+  pub first : now.first ≡ was.first
+  pub past : now.past ≡ was.past
+
+-- It went on to the network that is wanted, or is stuck.
+pub record GoesOn (was : Held) (wanted : Option (Network NodeState)) (could : Bool) (now : Held) : Type 0 where
+  pub same : SameProcesses was now
+  pub goes : MatchBool could (wanted ≡ Some now.network) (IsStuck (has was) wanted)
+
+-- It does an entry; and what is left of one behind its tokens.
+abbrev pub Applies : Held → Entry → Bool → Held → Type 0
+Applies was e could now = GoesOn was (next_in t414 (has was) was.network e) could now
+
+abbrev pub DoesRest : Held → Entry → Bool → Held → Type 0
+DoesRest was e could now = GoesOn was (behind (has was) was.network e) could now
+
+-- It took the entry's tokens off its lines, where they were in front.
+pub record TakesOff (was : Held) (e : Entry) (could : Bool) (now : Held) : Type 0 where
+  pub same : SameProcesses was now
+  pub goes : MatchBool could (without_tokens (has was) was.network e ≡ Some now.network) (without_tokens (has was) was.network e ≡ None)

@@ -1,0 +1,31 @@
+-- What stands in a part for nodes and ports that it hasn't: nothing is ever asked of them.
+use Rattle.std.specs.Prelude.{ℕ, List, [], ◌++◌, replicate, false, None}
+use Rattle.tp_model.specs.declared.processor.State.TheVariants.{Idle}
+use Rattle.tp_model.specs.NodeState.{NodeState}
+use Rattle.tp_model.specs.Network.{Port}
+
+-- a node without memory and links
+abbrev pub blank_node : NodeState
+blank_node = record {
+  cpu = record {
+    iptr = 0;
+    wptr = 0;
+    regs = record { a = 0; b = 0; c = 0; error = false };
+    high = record { front = 0; back = 0 };
+    low = record { front = 0; back = 0 };
+    state = Idle;
+    slice = 0;
+    halt = None;
+  };
+  memory = [];
+  outputs = [];
+  inputs = [];
+}
+
+-- a port at which nothing has happened
+abbrev pub blank_port : Port
+blank_port = record { pending = []; in_base = 0; outputs = []; out_base = 0 }
+
+-- nodes with as many before them, and behind them
+abbrev pub among : ℕ → List NodeState → ℕ → List NodeState
+among before nodes behind = replicate before blank_node ++ (nodes ++ replicate behind blank_node)

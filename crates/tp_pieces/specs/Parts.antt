@@ -1,0 +1,16 @@
+-- Parts of both kinds.
+use Rattle.std.specs.Prelude.{ℕ}
+use Rattle.tp_pieces.specs.declared.net_part.NetPart.{NetPart}
+use Rattle.tp_pieces.specs.declared.net_part.NetPart.TheVariants.{Nodes, Host}
+use Rattle.tp_pieces.specs.Counts.{most_entries, room_of}
+use Rattle.tp_pieces.specs.Held.{Held}
+
+-- what contracts see of it
+abbrev pub held_of : NetPart → Held
+held_of (Nodes held) = held
+held_of (Host held) = held
+
+-- with how many entries it can go on
+abbrev pub net_room : NetPart → ℕ
+net_room (Nodes held) = most_entries
+net_room (Host held) = room_of held.network.ports

@@ -1,0 +1,68 @@
+//! Which nodes have halted, said after a run or a trial.
+
+use crate::commands::TRY_QUANTUM;
+use std::fs::{self, Files, OpenFile};
+use std::io::Write;
+use std::os::unix::fs::FileExt;
+use tp_disk::{Counted, NotedFile, RawFile};
+use tp_model::limits::MAX_NODES;
+use tp_node::{Node, Standing};
+use tp_recover::open;
+use tp_stream_ends::Stopped;
+use tp_stream_files::say_stopped;
+use tp_trial::try_standing;
+use tp_words::Asked;
+
+/// Says of a node that has halted where it did. A failed write is let go.
+fn say_halted<E: Write>(number: u8, standing: Standing, err: &mut E) {
+    if let Standing::Halted { fault, at } = standing {
+        say_stopped(err, number, Stopped::Halted { fault, at });
+    }
+}
+
+/// Says which of these nodes have halted, and where, a line each.
+fn say_each_halted<E: Write>(nodes: &[Node], err: &mut E) {
+    for (node, number) in nodes.iter().zip(0..MAX_NODES as u8) {
+        say_halted(number, node.standing(), err);
+    }
+}
+
+/// Says of a device that was run which of its nodes have halted: it is opened again, to be read alone. Of one that doesn't open
+/// nothing is said.
+fn tell_run<R: Files<File = F> + AllocGlobal, F: FileExt + OpenFile + Drop, E: Write>(
+    rt: &R,
+    device: &str,
+    err: &mut E,
+) {
+    let opened: Result<Counted<RawFile<NotedFile<F>>>, _> = Counted::open_to_read(rt, device);
+    let Ok(mut disk) = opened else {
+        return;
+    };
+    if let Ok(opened) = open(rt.alloc(), &mut disk) {
+        say_each_halted(opened.network().nodes(), err);
+    }
+}
+
+/// Says of a node that was tried whether it has halted: it is tried again. Of an image that isn't read, or for which memory is wanting,
+/// nothing is said.
+fn tell_trial<R: Files + AllocGlobal, E: Write>(rt: &R, image: &str, turns: u32, err: &mut E) {
+    let Ok(bytes) = fs::read(rt, image) else {
+        return;
+    };
+    if let Ok(trial) = try_standing(rt.alloc(), bytes.as_slice(), turns, TRY_QUANTUM) {
+        say_halted(0, trial.standing, err);
+    }
+}
+
+/// Says which nodes have halted of those that were run or tried.
+pub fn tell_halted<R: Files<File = F> + AllocGlobal, F: FileExt + OpenFile + Drop, E: Write>(
+    rt: &R,
+    asked: &Asked,
+    err: &mut E,
+) {
+    match asked {
+        Asked::Run(run) => tell_run(rt, run.device.as_str(), err),
+        Asked::Try { image, turns } => tell_trial(rt, image.as_str(), *turns, err),
+        _ => {}
+    }
+}

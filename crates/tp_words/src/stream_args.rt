@@ -1,0 +1,167 @@
+//! What a command line with `--stream` asks for.
+
+ghost use Rattle.std.specs.Prelude.{◌≡◌, IfOk, codes};
+ghost use Rattle.std.specs.Fmt.{decimal};
+ghost use Rattle.std.specs.Option.{option_map};
+ghost use Rattle.tp_words.specs.Given.{given};
+ghost use Rattle.tp_words.specs.StreamArgs.{IsBound, IsStreamInRange, WasStreamTyped};
+
+use crate::args::{ArgFault, MAX_TURNS, MAX_WORDS, every_of, wait_of};
+use crate::found::{option_number, option_or, text_of};
+use crate::numbers::has_word;
+use crate::stream_ends::{EndsFault, ends_of};
+use crate::stream_words::stream_command;
+use clap::ArgMatches;
+use std::alloc::Global;
+use std::fmt;
+use tp_model::limits::MAX_STEPS;
+use tp_stream_files::Ends;
+
+/// What a command line with `--stream` asks for.
+#[derive(Drop)]
+pub enum StreamAsked {
+    /// How to call it.
+    Help(String),
+    /// A stream of a device's network.
+    Run(StreamRun),
+}
+
+/// A stream of a device's network: its file, how many turns are made and how, when it ends, and the ends of its ports.
+#[derive(Drop)]
+pub struct StreamRun {
+    pub device: String,
+    /// How many turns are made at most; `None`: there is no bound.
+    pub turns: Option<u32>,
+    /// Whether it ends once nothing is left to do.
+    pub until_quiet: bool,
+    /// Whether it ends once a node halts.
+    pub stop_on_halt: bool,
+    /// Whether it says how far it has come.
+    pub has_progress: bool,
+    /// The most steps of a turn.
+    pub quantum: u16,
+    /// The spare frames of each node.
+    pub spare: u64,
+    /// The entries since the kept cut after which a snapshot begins; `None`: where the journal is half full.
+    pub every: Option<u32>,
+    pub ends: Ends,
+    /// How many seconds another process is waited for that holds the device.
+    pub wait_lock: u32,
+}
+
+/// Why the words ask for no stream. Each ends the program with status 2.
+#[derive(Drop)]
+pub enum StreamArgFault {
+    Arg(ArgFault),
+    Ends(EndsFault),
+}
+
+impl fmt::Display for StreamArgFault {
+    fn fmt<W: fmt::Write>(&self, f: &mut fmt::Formatter<W>) -> fmt::Result {
+        match self {
+            StreamArgFault::Arg(fault) => write!(f, "{fault}"),
+            StreamArgFault::Ends(fault) => write!(f, "{fault}"),
+        }
+    }
+}
+
+impl From<ArgFault> for StreamArgFault {
+    fn from(fault: ArgFault) -> StreamArgFault {
+        StreamArgFault::Arg(fault)
+    }
+}
+
+impl From<EndsFault> for StreamArgFault {
+    fn from(fault: EndsFault) -> StreamArgFault {
+        StreamArgFault::Ends(fault)
+    }
+}
+
+/// Whether the words ask for a stream: they are those of `run`, and `--stream` is one of them.
+pub fn is_stream(words: &[String]) -> bool {
+    let is_run = words.get(1).is_some_and(|word| word.as_str() == "run");
+    is_run && has_word(words, "--stream")
+}
+
+/// Whether a word, behind the one before it, says that a port's input comes from standard input.
+fn is_standard_input(before: &str, word: &str) -> bool {
+    word.ends_with("=-") && (before == "--in" || word.starts_with("--in="))
+}
+
+/// Whether the words of a stream say that a port's input comes from standard input.
+pub fn wants_input(words: &[String]) -> bool {
+    let mut before = "";
+    for word in words {
+        if is_standard_input(before, word.as_str()) {
+            return true;
+        }
+        before = word.as_str();
+    }
+    false
+}
+
+/// How many turns are made at most: there is a bound just where one was typed.
+fn turns_of(
+    alloc: Global,
+    words: &[String],
+    found: &ArgMatches,
+) -> Result<Option<u32>, StreamArgFault>
+    ensures range { IfOk result IsBound }
+    ensures typed { IfOk result (λ turns. given (codes "turns") words.now ≡ option_map decimal turns) }
+{
+    match option_number(alloc, words, found, "turns", 0, MAX_TURNS)? {
+        Some(turns) => Ok(Some(turns as u32)),
+        None => Ok(None),
+    }
+}
+
+/// The stream that was found among the words.
+#[tactic(auto, unfolding(crate::specs::StreamArgs::IsStreamRun))]
+fn run_of(
+    alloc: Global,
+    words: &[String],
+    found: &ArgMatches,
+) -> Result<StreamAsked, StreamArgFault>
+    ensures range { IfOk result IsStreamInRange }
+    ensures typed { IfOk result (WasStreamTyped words.now) }
+{
+    let quantum = MAX_STEPS as u64;
+    Ok(StreamAsked::Run(StreamRun {
+        device: text_of(alloc, words, found, "DEVICE")?,
+        turns: turns_of(alloc, words, found)?,
+        until_quiet: found.get_flag("until-quiet"),
+        stop_on_halt: found.get_flag("stop-on-halt"),
+        has_progress: found.get_flag("progress"),
+        quantum: option_or(alloc, words, found, "quantum", 1, quantum, 1024)? as u16,
+        spare: option_or(alloc, words, found, "spare", 0, u64::MAX, 4)?,
+        every: every_of(alloc, words, found)?,
+        ends: ends_of(alloc, found)?,
+        wait_lock: wait_of(alloc, words, found)?,
+    }))
+}
+
+/// Reads the words of a command line with `--stream`, the program's name first. Each number is the decimal that was typed, and in its
+/// range, and the device is one of the words.
+pub fn read_stream_args(alloc: Global, words: &[String]) -> Result<StreamAsked, StreamArgFault>
+    ensures range { IfOk result IsStreamInRange }
+    ensures typed { IfOk result (WasStreamTyped words.now) }
+{
+    if words.len() > MAX_WORDS {
+        return Err(StreamArgFault::Arg(ArgFault::Many));
+    }
+    let command = match stream_command(alloc) {
+        Ok(command) => command,
+        Err(_) => return Err(StreamArgFault::Arg(ArgFault::Memory)),
+    };
+    match command.try_get_matches_from(words) {
+        Ok(matches) => match matches.subcommand() {
+            Some((_, found)) => run_of(alloc, words, found),
+            None => Err(StreamArgFault::Arg(ArgFault::Missing)),
+        },
+        Err(error) if !error.use_stderr() => match format!(in alloc; "{error}") {
+            Ok(text) => Ok(StreamAsked::Help(text)),
+            Err(_) => Err(StreamArgFault::Arg(ArgFault::Memory)),
+        },
+        Err(error) => Err(StreamArgFault::Arg(ArgFault::Words(error))),
+    }
+}
