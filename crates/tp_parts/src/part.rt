@@ -16,7 +16,7 @@ pub trait Part {
     /// Which processes it has.
     ghost has: { Self → Piece };
 
-    /// The network with the part's processes and lines as they are now, and all else as it was at first.
+    /// The network with the part's processes and lines as they are now. What else stands there is never looked at.
     ghost network: { Self → Network NodeState };
 
     /// With how many entries it can go on yet, for its counters.

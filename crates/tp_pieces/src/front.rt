@@ -31,7 +31,7 @@ pub(crate) fn is_count(count: u16) -> bool
     0 < count && count as usize <= MAX_STEPS
 }
 
-/// Which of `len` nodes the node `number` is, of which the first has the number `first`; none where it is none of them.
+/// The place of node `number` among `len` neighbours that begin with node `first`; `None` where it is none of them.
 pub(crate) fn place(first: usize, len: usize, number: u8) -> Option<usize>
     requires { first + len ≤ 1024 }
     ensures { MatchOption result (whose first (Some (first + len)) number ≡ false) (λ i. (number ≡ first + i) × (i < len)) }
