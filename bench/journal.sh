@@ -15,7 +15,15 @@ rustc -O --edition 2021 -o "$work/raw" "$top/bench/raw.rs"
 tar -C "$top" -c --exclude=incremental crates crates.txt HANDLES | tar -C "$work" -x
 mkdir -p "$work/crates/bench_journal/src"
 cp "$top/bench/journal.rattle" "$work/crates/bench_journal/src/main.rt"
-echo "bench_journal: tp_area tp_disk tp_model tp_recover" >> "$work/crates.txt"
+# two of its functions stand in tp_tests_opening, too, with their proofs
+for file in Numbered devices/number_from/Invariants devices/number_from/Answers devices/append_numbered/Answers; do
+    proof=$work/crates/bench_journal/proofs/${file#devices/}.antt
+    mkdir -p "$(dirname "$proof")"
+    sed 's/tp_tests_opening\.proofs\.devices/bench_journal.proofs/; s/tp_tests_opening/bench_journal/; s/^\(append_group[^ ]*\) c =/\1 g c =/' \
+        "$top/crates/tp_tests_opening/proofs/$file.antt" > "$proof"
+done
+echo "mod Numbered" > "$work/crates/bench_journal/proofs/Lib.antt"
+echo "bench_journal: tp_area tp_disk tp_entry tp_model tp_recover" >> "$work/crates.txt"
 (cd "$work/crates/bench_journal" && rt run > "$work/build.log" 2>&1) || true
 proved=$work/crates/bench_journal/out/bench_journal
 [ -x "$proved" ] || { tail -20 "$work/build.log"; exit 1; }

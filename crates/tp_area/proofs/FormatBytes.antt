@@ -8,6 +8,7 @@ use Rattle.std.proofs.lemmas.Option.{cond_some}
 use Rattle.std.proofs.lemmas.List.{take_at, drop-drop, length-replicate, replicate-append-replicate, get_or-drop}
 use Rattle.std.proofs.Math.Seq.{take-append-add}
 use Rattle.std.proofs.lemmas.List.Sums.{sum_by-cons}
+use Rattle.tp_model.specs.declared.areas.TwoAreas.{TwoAreas}
 use Rattle.tp_model.specs.declared.limits.TheConstants.{GATE_OPEN, GATE_CLOSED, HEAD_BYTES}
 use Rattle.tp_model.specs.Bytes.{u16_bytes, u32_bytes, u64_bytes, zeros}
 use Rattle.tp_model.specs.NodeState.{NodeState}
@@ -16,7 +17,7 @@ use Rattle.tp_model.specs.Topology.{Topology, line_count}
 use Rattle.tp_model.specs.Journal.{image_length, cut_length, is_roomy, room, reserve, entry_room}
 use Rattle.tp_model.specs.Disk.{Moment, SameOutside, Write, Sync, written}
 use Rattle.tp_model.specs.DiskHistory.{State, IsSynced, LeavesOnly}
-use Rattle.tp_model.specs.Device.{fits}
+use Rattle.tp_model.specs.Device.{areas_end, fits}
 use Rattle.tp_model.specs.Head.{head_bytes}
 use Rattle.tp_model.specs.Image.{page_count, image, node_of, has_idle_links}
 use Rattle.tp_model.specs.CutImage.{line_bytes, port_bytes, cut_bytes, only_if}
@@ -149,111 +150,114 @@ length-area t images nodes cut rest fresh is_cut is_rest =
 
 -- ## What stands on the device
 
-pub record IsRoomy (size : ℕ) (t : Topology) (area : ℕ) : Type 0 where
-  pub areas : 512 + 2 * area ≤ size
-  pub cut : cut_length t + 14 < area
+pub record IsRoomy (size : ℕ) (t : Topology) (areas : TwoAreas) : Type 0 where
+  pub both : areas_end areas ≤ size
+  pub cut : cut_length t + 14 < areas.length
 
-pub roomy : (size : ℕ) (t : Topology) (area : ℕ) → fits size t area ≡ true → IsRoomy size t area
-roomy size t area h =
-    let parts = and_parts (nat_le (512 + 2 * area) size) (is_roomy t area) h in
-    let most = leb-true (reserve (line_count t) + entry_room) (room t area) parts.1 in
-    record { areas = leb-true (512 + 2 * area) size parts.0; cut = omega arith }
+pub roomy : (size : ℕ) (t : Topology) (areas : TwoAreas) → fits size t areas ≡ true → IsRoomy size t areas
+roomy size t areas h =
+    let parts = and_parts (nat_le (areas_end areas) size) (is_roomy t areas.length) h in
+    let most = leb-true (reserve (line_count t) + entry_room) (room t areas.length) parts.1 in
+    record { both = leb-true (areas_end areas) size parts.0; cut = omega arith }
 
-formatted_is : (t : Topology) (area : ℕ) (s : Network NodeState) (old new : List ℕ) → length (head_bytes t area) ≡ 512 → 512 + 2 * area ≤ length old → length (first_area t s) ≤ area
-    → new ≡ written (written (written old 512 (first_area t s)) (512 + area) (GATE_CLOSED ∷ [])) 0 (head_bytes t area) → IsFormatted t area s new
-formatted_is t area s old new size room most is =
+formatted_is : (t : Topology) (areas : TwoAreas) (s : Network NodeState) (old new : List ℕ) → areas.first ≡ HEAD_BYTES → length (head_bytes t areas) ≡ areas.first → areas_end areas ≤ length old
+    → length (first_area t s) ≤ areas.length → new ≡ written (with_areas (first_area t s) areas old) 0 (head_bytes t areas) → IsFormatted t areas s new
+formatted_is t areas s old new begins size room most is =
     let front = front_bytes t 1 0 s in
     let whole = first_area t s in
-    let head = head_bytes t area in
-    let one = written old 512 whole in
-    let two = written one (512 + area) (GATE_CLOSED ∷ []) in
+    let head = head_bytes t areas in
+    let start = areas.first in
+    let behind_first = areas.first + areas.length in
+    let one = written old start whole in
+    let two = written one behind_first (GATE_CLOSED ∷ []) in
     let three = written two 0 head in
     let long : length whole ≡ 1 + (length front + 1) = ap (λ n. suc n) (length-append front (GATE_CLOSED ∷ [])) ∙ (omega arith) in
-    let fit_one : 512 + length whole ≤ length old = omega arith in
-    let size_one : length one ≡ length old = length-written old 512 whole fit_one in
-    let fit_two : (512 + area) + 1 ≤ length one = omega arith in
-    let size_two : length two ≡ length one = length-written one (512 + area) (GATE_CLOSED ∷ []) fit_two in
+    let fit_one : start + length whole ≤ length old = omega arith in
+    let size_one : length one ≡ length old = length-written old start whole fit_one in
+    let fit_two : behind_first + 1 ≤ length one = omega arith in
+    let size_two : length two ≡ length one = length-written one behind_first (GATE_CLOSED ∷ []) fit_two in
     let fit_three : 0 + length head ≤ length two = omega arith in
-    let same_two : SameOutside (512 + area) 1 one two = written_same_outside one (512 + area) (GATE_CLOSED ∷ []) fit_two in
+    let same_two : SameOutside behind_first 1 one two = written_same_outside one behind_first (GATE_CLOSED ∷ []) fit_two in
     let same_three : SameOutside 0 (length head) two three = written_same_outside two 0 head fit_three in
-    let behind = drop (512 + length whole) old in
-    let first : drop 512 one ≡ whole ++ behind = drop_written old 512 whole (omega arith) in
-    let second : drop (512 + area) two ≡ GATE_CLOSED ∷ drop (512 + area + 1) one = drop_written one (512 + area) (GATE_CLOSED ∷ []) (omega arith) in
-    let k : ℕ = area - 1 - (length front + 1) in
-    let parts : area - 1 ≡ length (front ++ GATE_CLOSED ∷ []) + k = omega (arith, length-append front (GATE_CLOSED ∷ [])) in
-    let there : IsFormatted t area s three = record {
-      head = take_at head (drop (0 + length head) two) 512 size;
-      open_gate = same_three.same 512 (inr (omega arith)) ∙ same_two.same 512 (inl (omega arith))
-          ∙ sym (get_or-drop 512 one 0 0) ∙ ap (λ xs. get_or xs 0 0) first;
-      closed_gate = same_three.same (512 + area) (inr (omega arith)) ∙ ap (λ n. get_or two n 0) (sym (add-zero (512 + area)))
-          ∙ sym (get_or-drop (512 + area) two 0 0) ∙ ap (λ xs. get_or xs 0 0) second;
+    let behind = drop (start + length whole) old in
+    let first : drop start one ≡ whole ++ behind = drop_written old start whole (omega arith) in
+    let second : drop behind_first two ≡ GATE_CLOSED ∷ drop (behind_first + 1) one = drop_written one behind_first (GATE_CLOSED ∷ []) (omega arith) in
+    let k : ℕ = areas.length - 1 - (length front + 1) in
+    let parts : areas.length - 1 ≡ length (front ++ GATE_CLOSED ∷ []) + k = omega (arith, length-append front (GATE_CLOSED ∷ [])) in
+    let there : IsFormatted t areas s three = record {
+      first = begins;
+      head = take_at head (drop (0 + length head) two) start size;
+      open_gate = same_three.same start (inr (omega arith)) ∙ same_two.same start (inl (omega arith))
+          ∙ ap (λ n. get_or one n 0) (sym (add-zero start)) ∙ sym (get_or-drop start one 0 0) ∙ ap (λ xs. get_or xs 0 0) first;
+      closed_gate = same_three.same behind_first (inr (omega arith)) ∙ ap (λ n. get_or two n 0) (sym (add-zero behind_first))
+          ∙ sym (get_or-drop behind_first two 0 0) ∙ ap (λ xs. get_or xs 0 0) second;
       rest = take k behind;
-      content = same_apart 0 (length head) two three 513 (area - 1) same_three (inr (omega arith))
-          ∙ same_apart (512 + area) 1 one two 513 (area - 1) same_two (inl (omega arith))
-          ∙ ap (take (area - 1)) (sym (drop-drop 1 512 one) ∙ ap (drop 1) first)
+      content = same_apart 0 (length head) two three (start + 1) (areas.length - 1) same_three (inr (omega arith))
+          ∙ same_apart behind_first 1 one two (start + 1) (areas.length - 1) same_two (inl (omega arith))
+          ∙ ap (take (areas.length - 1)) (sym (drop-drop 1 start one) ∙ ap (drop 1) first)
           ∙ ap (λ n. take n ((front ++ GATE_CLOSED ∷ []) ++ behind)) parts
           ∙ take-append-add (front ++ GATE_CLOSED ∷ []) behind k
           ∙ append_assoc front (GATE_CLOSED ∷ []) (take k behind);
     } in
-    subst (IsFormatted t area s) (sym is) there
+    subst (IsFormatted t areas s) (sym is) there
 
 -- ## The whole
 
-synced_after : (first head : List ℕ) (area : ℕ) (old new : State) → Wrote first head area old new → IsSynced new
-synced_after first head area old new wrote =
+synced_after : (first head : List ℕ) (areas : TwoAreas) (old new : State) → Wrote first head areas old new → IsSynced new
+synced_after first head areas old new wrote =
     ap (λ (m : Moment). m.unsynced) (wrote.called.now ∙ all_done-append (put_calls wrote.pieces) (Sync ∷ Write 0 head ∷ Sync ∷ []) old.now)
 
--- images that were accepted, an area that is large enough, and what was written
-pub formatted_by : {X : Type 0} (f : X → List ℕ) (t : Topology) (xs : List X) (pages head : List ℕ) (area size cut rest : ℕ) (old new : State)
-    → pages ≡ t.pages → Checks (fresh_nodes pages (map f xs)) (Ok tt) → fits size t area ≡ true → length old.now.bytes ≡ size
-    → head ≡ head_bytes t area → length head ≡ 512 → cut ≡ cut_length t → rest ≡ 4 * line_count t + 8212 * t.ports + 1
-    → Wrote ((area_front cut ++ flat_map f xs) ++ zeros rest) head area old new → Formatted t (map f xs) area old new
-formatted_by f t xs pages head area size cut rest old new is_pages checked large whole is_head long is_cut is_rest wrote =
+-- images that were accepted, areas that are large enough, and what was written
+pub formatted_by : {X : Type 0} (f : X → List ℕ) (t : Topology) (xs : List X) (pages head : List ℕ) (areas : TwoAreas) (size cut rest : ℕ) (old new : State)
+    → pages ≡ t.pages → Checks (fresh_nodes pages (map f xs)) (Ok tt) → fits size t areas ≡ true → areas.first ≡ HEAD_BYTES → length old.now.bytes ≡ size
+    → head ≡ head_bytes t areas → length head ≡ areas.first → cut ≡ cut_length t → rest ≡ 4 * line_count t + 8212 * t.ports + 1
+    → Wrote ((area_front cut ++ flat_map f xs) ++ zeros rest) head areas old new → Formatted t (map f xs) areas old new
+formatted_by f t xs pages head areas size cut rest old new is_pages checked large begins whole is_head long is_cut is_rest wrote =
     let images = map f xs in
     let nodes = checked_some (fresh_nodes t.pages images) (subst (λ ps. Checks (fresh_nodes ps images) (Ok tt)) is_pages checked) in
     let start = start_with t nodes.0 in
     let same : (area_front cut ++ flat_map f xs) ++ zeros rest ≡ first_area t start =
     ap (λ ys. (area_front cut ++ ys) ++ zeros rest) (sym (concat-map f xs)) ∙ area_is t images nodes.0 cut rest nodes.1 is_cut is_rest in
-    let first : Wrote (first_area t start) head area old new = subst (λ ys. Wrote ys head area old new) same wrote in
-    let both : Wrote (first_area t start) (head_bytes t area) area old new = subst (λ ys. Wrote (first_area t start) ys area old new) is_head first in
-    let fit = roomy size t area large in
-    let areas = fit.areas in
+    let first : Wrote (first_area t start) head areas old new = subst (λ ys. Wrote ys head areas old new) same wrote in
+    let both : Wrote (first_area t start) (head_bytes t areas) areas old new = subst (λ ys. Wrote (first_area t start) ys areas old new) is_head first in
+    let fit = roomy size t areas large in
+    let both_fit = fit.both in
     let room = fit.cut in
     let most = length-area t images nodes.0 cut rest nodes.1 is_cut is_rest in
     record {
       start = start;
       is = ap (option_map (λ ns. start_with t ns)) nodes.1;
       wrote = both;
-      synced = synced_after (first_area t start) (head_bytes t area) area old new both;
-      formatted = λ left may. subst (IsFormatted t area start) (sym (synced_stands new left (synced_after (first_area t start) (head_bytes t area) area old new both) may))
-          (formatted_is t area start old.now.bytes new.now.bytes (ap length (sym is_head) ∙ long) (omega arith) (omega arith) both.bytes);
+      synced = synced_after (first_area t start) (head_bytes t areas) areas old new both;
+      formatted = λ left may. subst (IsFormatted t areas start) (sym (synced_stands new left (synced_after (first_area t start) (head_bytes t areas) areas old new both) may))
+          (formatted_is t areas start old.now.bytes new.now.bytes begins (ap length (sym is_head) ∙ long) (omega arith) (omega arith) both.bytes);
     }
 
--- the same images and area, whatever came of the calls: what a crash leaves
-pub format_leaves : {X : Type 0} (f : X → List ℕ) (t : Topology) (xs : List X) (pages : List ℕ) (area cut rest : ℕ) (old new : State)
+-- the same images and areas, whatever came of the calls: what a crash leaves
+pub format_leaves : {X : Type 0} (f : X → List ℕ) (t : Topology) (xs : List X) (pages : List ℕ) (areas : TwoAreas) (cut rest : ℕ) (old new : State)
     → pages ≡ t.pages → Checks (fresh_nodes pages (map f xs)) (Ok tt) → cut ≡ cut_length t → rest ≡ 4 * line_count t + 8212 * t.ports + 1
-    → LeavesOnly old new (λ left. ButFor HEAD_BYTES (2 * area) old.now left ⊎ SameOutside 0 HEAD_BYTES (with_areas ((area_front cut ++ flat_map f xs) ++ zeros rest) area old.now.bytes) left)
-    → LeavesOnly old new (IsOldOrNew t (map f xs) area old)
-format_leaves f t xs pages area cut rest old new is_pages checked is_cut is_rest only =
+    → LeavesOnly old new (λ left. ButFor areas.first (2 * areas.length) old.now left ⊎ SameOutside 0 areas.first (with_areas ((area_front cut ++ flat_map f xs) ++ zeros rest) areas old.now.bytes) left)
+    → LeavesOnly old new (IsOldOrNew t (map f xs) areas old)
+format_leaves f t xs pages areas cut rest old new is_pages checked is_cut is_rest only =
     let images = map f xs in
     let nodes = checked_some (fresh_nodes t.pages images) (subst (λ ps. Checks (fresh_nodes ps images) (Ok tt)) is_pages checked) in
     let start = start_with t nodes.0 in
     let same : (area_front cut ++ flat_map f xs) ++ zeros rest ≡ first_area t start =
     ap (λ ys. (area_front cut ++ ys) ++ zeros rest) (sym (concat-map f xs)) ∙ area_is t images nodes.0 cut rest nodes.1 is_cut is_rest in
-    weaker old new (λ left. ButFor HEAD_BYTES (2 * area) old.now left ⊎ SameOutside 0 HEAD_BYTES (with_areas ((area_front cut ++ flat_map f xs) ++ zeros rest) area old.now.bytes) left)
-    (IsOldOrNew t images area old)
+    weaker old new (λ left. ButFor areas.first (2 * areas.length) old.now left ⊎ SameOutside 0 areas.first (with_areas ((area_front cut ++ flat_map f xs) ++ zeros rest) areas old.now.bytes) left)
+    (IsOldOrNew t images areas old)
     (λ left either. elim either [
       | inl before ↦ inl before
-      | inr areas ↦ inr (record {
+      | inr complete ↦ inr (record {
         start = start;
         is = ap (option_map (λ ns. start_with t ns)) nodes.1;
-        same = subst (λ first. SameOutside 0 HEAD_BYTES (with_areas first area old.now.bytes) left) same areas;
+        same = subst (λ first. SameOutside 0 areas.first (with_areas first areas old.now.bytes) left) same complete;
       })
     ]) only
 
 -- no call yet
-pub early_leaves : (t : Topology) (images : List (List ℕ)) (area : ℕ) (s : State) → LeavesOnly s s (IsOldOrNew t images area s)
-early_leaves t images area s = started s (IsOldOrNew t images area s) (λ left may. inl (but_for_may HEAD_BYTES (2 * area) s.now left may))
+pub early_leaves : (t : Topology) (images : List (List ℕ)) (areas : TwoAreas) (s : State) → LeavesOnly s s (IsOldOrNew t images areas s)
+early_leaves t images areas s = started s (IsOldOrNew t images areas s) (λ left may. inl (but_for_may areas.first (2 * areas.length) s.now left may))
 
 -- the answers
 pub answers_done : {A B : Type 0} (o : Option A) (f : A → B) (large : Bool) → Checks o (Ok tt) → large ≡ true → Answers (option_map f o) large (Ok tt)

@@ -1,7 +1,9 @@
 -- The calls of formatting: what they write, and in which order.
-use Rattle.std.proofs.Common.{◌≡◌, ℕ, ◌+◌, ◌*◌, ◌≤◌, ◌⊎◌, inl, inr, Result, OnOk, OnErr, List, [], ◌∷◌, ◌++◌, length, refl, sym, ap, subst, ◌∙◌, arith}
+use Rattle.std.proofs.Common.{◌≡◌, ℕ, ◌*◌, ◌≤◌, ◌⊎◌, inl, inr, true, Result, OnOk, OnErr, List, [], ◌∷◌, ◌++◌, length, refl, sym, ap, subst, ◌∙◌, arith}
 use Rattle.std.specs.List.{AllByRecursion}
-use Rattle.tp_model.specs.declared.limits.TheConstants.{GATE_CLOSED, HEAD_BYTES}
+use Rattle.tp_model.specs.declared.areas.TwoAreas.{TwoAreas}
+use Rattle.tp_model.specs.declared.limits.TheConstants.{GATE_CLOSED}
+use Rattle.tp_model.specs.Device.{area_start}
 use Rattle.tp_model.specs.Disk.{Moment, MayBe, IsWithin, SameOutside, Write, Sync, written, done, within}
 use Rattle.tp_model.specs.DiskHistory.{State, Goes, Fails, LeavesOnly}
 use Rattle.tp_model.specs.StoreCalls.{Called, put_calls}
@@ -25,9 +27,9 @@ both_on from [] second one two = two
 both_on from (piece ∷ first) second one two = (one.0, both_on from first second one.1 two)
 
 -- both areas, a sync, the head, and a sync
-pub wrote_all : (first head : List ℕ) (area : ℕ) (s t u v w : State) → Puts HEAD_BYTES first s t → Puts (HEAD_BYTES + area) (GATE_CLOSED ∷ []) t u
-    → v.now ≡ done Sync u.now → Goes u v → Called (Write 0 head ∷ Sync ∷ []) v w → Wrote first head area s w
-wrote_all first head area s t u v w one two synced goes last =
+pub wrote_all : (first head : List ℕ) (areas : TwoAreas) (s t u v w : State) → Puts areas.first first s t → Puts (area_start areas true) (GATE_CLOSED ∷ []) t u
+    → v.now ≡ done Sync u.now → Goes u v → Called (Write 0 head ∷ Sync ∷ []) v w → Wrote first head areas s w
+wrote_all first head areas s t u v w one two synced goes last =
     let pieces = one.pieces ++ two.pieces in
     let put : Called (put_calls pieces) s u =
     subst (λ calls. Called calls s u) (sym (put_calls-append one.pieces two.pieces)) (called_then (put_calls one.pieces) (put_calls two.pieces) s t u one.called two.called) in
@@ -35,24 +37,24 @@ wrote_all first head area s t u v w one two synced goes last =
     let rest : Called (Sync ∷ Write 0 head ∷ Sync ∷ []) u w = called_then (Sync ∷ []) (Write 0 head ∷ Sync ∷ []) u v w sync last in
     record {
       pieces = pieces;
-      behind_head = both_on HEAD_BYTES one.pieces two.pieces
-          (from_on HEAD_BYTES HEAD_BYTES (length first) one.pieces (omega arith) one.within)
-          (from_on HEAD_BYTES (HEAD_BYTES + area) 1 two.pieces (omega arith) two.within);
+      behind_head = both_on areas.first one.pieces two.pieces
+          (from_on areas.first areas.first (length first) one.pieces (omega arith) one.within)
+          (from_on areas.first (area_start areas true) 1 two.pieces (omega arith) two.within);
       called = called_then (put_calls pieces) (Sync ∷ Write 0 head ∷ Sync ∷ []) s u w put rest;
       bytes = (written_through 0 head v w last).0 ∙ ap (λ (m : Moment). written m.bytes 0 head) synced
-          ∙ ap (λ bytes. written bytes 0 head) (two.are ∙ ap (λ bytes. written bytes (HEAD_BYTES + area) (GATE_CLOSED ∷ [])) one.are);
+          ∙ ap (λ bytes. written bytes 0 head) (two.are ∙ ap (λ bytes. written bytes (area_start areas true) (GATE_CLOSED ∷ [])) one.are);
     }
 
 -- ## What a crash leaves on the way
 
 -- the first area
-pub first_leaves : (area part : ℕ) (s t : State) → part ≤ area → LeavesOnly s t (ButFor HEAD_BYTES part s.now) → LeavesOnly s t (ButFor HEAD_BYTES (2 * area) s.now)
-first_leaves area part s t low only = wider_leaves (HEAD_BYTES, 2 * area) (HEAD_BYTES, part) s t (omega arith, omega arith) only
+pub first_leaves : (areas : TwoAreas) (part : ℕ) (s t : State) → part ≤ areas.length → LeavesOnly s t (ButFor areas.first part s.now) → LeavesOnly s t (ButFor areas.first (2 * areas.length) s.now)
+first_leaves areas part s t low only = wider_leaves (areas.first, 2 * areas.length) (areas.first, part) s t (omega arith, omega arith) only
 
 -- the second one's gate
-pub second_leaves : (area : ℕ) (s t u : State) → 1 ≤ area → LeavesOnly s t (ButFor HEAD_BYTES (2 * area) s.now) → LeavesOnly t u (ButFor (HEAD_BYTES + area) 1 t.now)
-    → LeavesOnly s u (ButFor HEAD_BYTES (2 * area) s.now)
-second_leaves area s t u some one two = then_leaves (HEAD_BYTES, 2 * area) (HEAD_BYTES + area, 1) s t u (omega arith, omega arith) one two
+pub second_leaves : (areas : TwoAreas) (s t u : State) → 1 ≤ areas.length → LeavesOnly s t (ButFor areas.first (2 * areas.length) s.now) → LeavesOnly t u (ButFor (area_start areas true) 1 t.now)
+    → LeavesOnly s u (ButFor areas.first (2 * areas.length) s.now)
+second_leaves areas s t u some one two = then_leaves (areas.first, 2 * areas.length) (area_start areas true, 1) s t u (omega arith, omega arith) one two
 
 -- a sync
 pub sync_leaves : {E : Type 0} (r : Result Unit E) (s t u : State) (P : List ℕ → Type 0) → LeavesOnly s t P → Goes t u → OnOk r (u.now ≡ done Sync t.now) → OnErr r (Fails Sync t u)
@@ -61,21 +63,21 @@ sync_leaves r s t u P one goes was failed =
     and_then s t u P one (weaker t u (MayBe t.now) P (λ left may. one.each left (inr may)) (call_leaves r Sync t u tt goes was failed))
 
 -- the areas aren't complete yet
-pub areas_leave : (area : ℕ) (areas : List ℕ) (s t : State) → LeavesOnly s t (ButFor HEAD_BYTES (2 * area) s.now)
-    → LeavesOnly s t (λ left. ButFor HEAD_BYTES (2 * area) s.now left ⊎ SameOutside 0 HEAD_BYTES areas left)
-areas_leave area areas s t only =
-    weaker s t (ButFor HEAD_BYTES (2 * area) s.now) (λ left. ButFor HEAD_BYTES (2 * area) s.now left ⊎ SameOutside 0 HEAD_BYTES areas left) (λ left b. inl b) only
+pub areas_leave : (areas : TwoAreas) (complete : List ℕ) (s t : State) → LeavesOnly s t (ButFor areas.first (2 * areas.length) s.now)
+    → LeavesOnly s t (λ left. ButFor areas.first (2 * areas.length) s.now left ⊎ SameOutside 0 areas.first complete left)
+areas_leave areas complete s t only =
+    weaker s t (ButFor areas.first (2 * areas.length) s.now) (λ left. ButFor areas.first (2 * areas.length) s.now left ⊎ SameOutside 0 areas.first complete left) (λ left b. inl b) only
 
 -- they are complete and synced, and the head is written
-pub head_leaves : (first head : List ℕ) (area : ℕ) (s t u v w : State) → length head ≡ HEAD_BYTES → Puts HEAD_BYTES first s t → Puts (HEAD_BYTES + area) (GATE_CLOSED ∷ []) t u
-    → v.now ≡ done Sync u.now → LeavesOnly s v (ButFor HEAD_BYTES (2 * area) s.now) → LeavesOnly v w (MayBe (within (Write 0 head) v.now))
-    → LeavesOnly s w (λ left. ButFor HEAD_BYTES (2 * area) s.now left ⊎ SameOutside 0 HEAD_BYTES (with_areas first area s.now.bytes) left)
-head_leaves first head area s t u v w long one two synced before within_head =
-    let areas : v.now.bytes ≡ with_areas first area s.now.bytes =
-    ap (λ (m : Moment). m.bytes) synced ∙ two.are ∙ ap (λ bytes. written bytes (HEAD_BYTES + area) (GATE_CLOSED ∷ [])) one.are in
-    let P : List ℕ → Type 0 = λ left. ButFor HEAD_BYTES (2 * area) s.now left ⊎ SameOutside 0 HEAD_BYTES (with_areas first area s.now.bytes) left in
-    and_then s v w P (areas_leave area (with_areas first area s.now.bytes) s v before)
+pub head_leaves : (first head : List ℕ) (areas : TwoAreas) (s t u v w : State) → length head ≡ areas.first → Puts areas.first first s t → Puts (area_start areas true) (GATE_CLOSED ∷ []) t u
+    → v.now ≡ done Sync u.now → LeavesOnly s v (ButFor areas.first (2 * areas.length) s.now) → LeavesOnly v w (MayBe (within (Write 0 head) v.now))
+    → LeavesOnly s w (λ left. ButFor areas.first (2 * areas.length) s.now left ⊎ SameOutside 0 areas.first (with_areas first areas s.now.bytes) left)
+head_leaves first head areas s t u v w long one two synced before within_head =
+    let complete : v.now.bytes ≡ with_areas first areas s.now.bytes =
+    ap (λ (m : Moment). m.bytes) synced ∙ two.are ∙ ap (λ bytes. written bytes (area_start areas true) (GATE_CLOSED ∷ [])) one.are in
+    let P : List ℕ → Type 0 = λ left. ButFor areas.first (2 * areas.length) s.now left ⊎ SameOutside 0 areas.first (with_areas first areas s.now.bytes) left in
+    and_then s v w P (areas_leave areas (with_areas first areas s.now.bytes) s v before)
     (weaker v w (MayBe (within (Write 0 head) v.now)) P
-    (λ left may. inr (subst (λ bytes. SameOutside 0 HEAD_BYTES bytes left) areas
+    (λ left may. inr (subst (λ bytes. SameOutside 0 areas.first bytes left) complete
     (subst (λ (n : ℕ). SameOutside 0 n v.now.bytes left) long
     (same_outside_write v.now 0 head left (ap (λ (m : Moment). m.unsynced) synced) may)))) within_head)

@@ -2,6 +2,7 @@
 use Rattle.std.proofs.Common.{◌≡◌, ℕ, ◌+◌, ◌-◌, ◌≤◌, inl, inr, Bool, true, false, List, [], ◌∷◌, ◌++◌, length, take, drop, ap, ◌∙◌, arith, append_assoc, length-append}
 use Rattle.std.proofs.lemmas.List.{drop_at, length-take-le}
 use Rattle.std.proofs.Math.Seq.{take-append-add}
+use Rattle.tp_model.specs.declared.areas.TwoAreas.{TwoAreas}
 use Rattle.tp_model.specs.declared.limits.TheConstants.{GATE_OPEN}
 use Rattle.tp_model.specs.Disk.{SameOutside, written}
 use Rattle.tp_model.specs.Device.{area_start, gate_of, content_of, is_open, generation_of}
@@ -55,51 +56,51 @@ taken_gate m body rest le =
 -- ## The areas
 
 -- where a range lies that holds none of the areas' gates and generations: in the groups of this area
-pub record InGroups (area : ℕ) (second : Bool) (at count : ℕ) : Type 0 where
-  pub behind : area_start area second + 21 ≤ at
-  pub inside : at + count ≤ area_start area second + area
+pub record InGroups (areas : TwoAreas) (second : Bool) (at count : ℕ) : Type 0 where
+  pub behind : area_start areas second + 21 ≤ at
+  pub inside : at + count ≤ area_start areas second + areas.length
 
-gate_stays : (area at count : ℕ) (second which : Bool) (old new : List ℕ) → InGroups area second at count → SameOutside at count old new
-    → gate_of area which new ≡ gate_of area which old
-gate_stays area at count false false old new lies same = same.same 512 (inl (let low = lies.behind in omega arith))
-gate_stays area at count false true old new lies same = same.same (512 + area) (inr (let high = lies.inside in omega arith))
-gate_stays area at count true false old new lies same = same.same 512 (inl (let low = lies.behind in omega arith))
-gate_stays area at count true true old new lies same = same.same (512 + area) (inl (let low = lies.behind in omega arith))
+gate_stays : (areas : TwoAreas) (at count : ℕ) (second which : Bool) (old new : List ℕ) → InGroups areas second at count → SameOutside at count old new
+    → gate_of areas which new ≡ gate_of areas which old
+gate_stays areas at count false false old new lies same = same.same areas.first (inl (let low = lies.behind in omega arith))
+gate_stays areas at count false true old new lies same = same.same (areas.first + areas.length) (inr (let high = lies.inside in omega arith))
+gate_stays areas at count true false old new lies same = same.same areas.first (inl (let low = lies.behind in omega arith))
+gate_stays areas at count true true old new lies same = same.same (areas.first + areas.length) (inl (let low = lies.behind in omega arith))
 
 -- the area's own content, from its own first byte on
-pub own_content_same : (area at count : ℕ) (second : Bool) (old new : List ℕ) → InGroups area second at count → SameOutside at count old new
-    → SameFront (at - (area_start area second + 1)) (content_of area second old) (content_of area second new)
-own_content_same area at count second old new lies same =
-    let from = area_start area second + 1 in
+pub own_content_same : (areas : TwoAreas) (at count : ℕ) (second : Bool) (old new : List ℕ) → InGroups areas second at count → SameOutside at count old new
+    → SameFront (at - (area_start areas second + 1)) (content_of areas second old) (content_of areas second new)
+own_content_same areas at count second old new lies same =
+    let from = area_start areas second + 1 in
     let low = lies.behind in
-    front_of_range (at - from) count (content_of area second old) (content_of area second new)
-    (same_in at count old new from (area - 1) same (omega arith))
+    front_of_range (at - from) count (content_of areas second old) (content_of areas second new)
+    (same_in at count old new from (areas.length - 1) same (omega arith))
 
-own_generation : (area at count : ℕ) (second : Bool) (old new : List ℕ) → InGroups area second at count → SameOutside at count old new
-    → generation_of (content_of area second new) ≡ generation_of (content_of area second old)
-own_generation area at count second old new lies same =
+own_generation : (areas : TwoAreas) (at count : ℕ) (second : Bool) (old new : List ℕ) → InGroups areas second at count → SameOutside at count old new
+    → generation_of (content_of areas second new) ≡ generation_of (content_of areas second old)
+own_generation areas at count second old new lies same =
     let low = lies.behind in
-    u64_same 0 (at - (area_start area second + 1)) (content_of area second old) (content_of area second new) (omega arith) (own_content_same area at count second old new lies same)
+    u64_same 0 (at - (area_start areas second + 1)) (content_of areas second old) (content_of areas second new) (omega arith) (own_content_same areas at count second old new lies same)
 
-generation_stays : (area at count : ℕ) (second which : Bool) (old new : List ℕ) → InGroups area second at count → SameOutside at count old new
-    → generation_of (content_of area which new) ≡ generation_of (content_of area which old)
-generation_stays area at count false false old new lies same = own_generation area at count false old new lies same
-generation_stays area at count false true old new lies same =
-    ap generation_of (same_apart at count old new (512 + area + 1) (area - 1) same (inr (let high = lies.inside in omega arith)))
-generation_stays area at count true false old new lies same =
-    ap generation_of (same_apart at count old new (512 + 1) (area - 1) same (inl (let low = lies.behind in omega arith)))
-generation_stays area at count true true old new lies same = own_generation area at count true old new lies same
+generation_stays : (areas : TwoAreas) (at count : ℕ) (second which : Bool) (old new : List ℕ) → InGroups areas second at count → SameOutside at count old new
+    → generation_of (content_of areas which new) ≡ generation_of (content_of areas which old)
+generation_stays areas at count false false old new lies same = own_generation areas at count false old new lies same
+generation_stays areas at count false true old new lies same =
+    ap generation_of (same_apart at count old new (areas.first + areas.length + 1) (areas.length - 1) same (inr (let high = lies.inside in omega arith)))
+generation_stays areas at count true false old new lies same =
+    ap generation_of (same_apart at count old new (areas.first + 1) (areas.length - 1) same (inl (let low = lies.behind in omega arith)))
+generation_stays areas at count true true old new lies same = own_generation areas at count true old new lies same
 
-pub chosen_stays : (area at count : ℕ) (second : Bool) (old new : List ℕ) → InGroups area second at count → SameOutside at count old new
-    → chosen_area area new ≡ chosen_area area old
+pub chosen_stays : (areas : TwoAreas) (at count : ℕ) (second : Bool) (old new : List ℕ) → InGroups areas second at count → SameOutside at count old new
+    → chosen_area areas new ≡ chosen_area areas old
 unfolding chosen_area
-chosen_stays area at count second old new lies same =
-    let other = area_start area true in
-    let g0 = gate_stays area at count second false old new lies same in
-    let g1 = gate_stays area at count second true old new lies same in
-    let n0 = generation_stays area at count second false old new lies same in
-    let n1 = generation_stays area at count second true old new lies same in
-    ap (λ g. choice other (is_open g) (is_open (gate_of area true new)) (generation_of (content_of area false new)) (generation_of (content_of area true new))) g0
-    ∙ ap (λ g. choice other (is_open (gate_of area false old)) (is_open g) (generation_of (content_of area false new)) (generation_of (content_of area true new))) g1
-    ∙ ap (λ n. choice other (is_open (gate_of area false old)) (is_open (gate_of area true old)) n (generation_of (content_of area true new))) n0
-    ∙ ap (λ n. choice other (is_open (gate_of area false old)) (is_open (gate_of area true old)) (generation_of (content_of area false old)) n) n1
+chosen_stays areas at count second old new lies same =
+    let other = area_start areas true in
+    let g0 = gate_stays areas at count second false old new lies same in
+    let g1 = gate_stays areas at count second true old new lies same in
+    let n0 = generation_stays areas at count second false old new lies same in
+    let n1 = generation_stays areas at count second true old new lies same in
+    ap (λ g. choice other (is_open g) (is_open (gate_of areas true new)) (generation_of (content_of areas false new)) (generation_of (content_of areas true new))) g0
+    ∙ ap (λ g. choice other (is_open (gate_of areas false old)) (is_open g) (generation_of (content_of areas false new)) (generation_of (content_of areas true new))) g1
+    ∙ ap (λ n. choice other (is_open (gate_of areas false old)) (is_open (gate_of areas true old)) n (generation_of (content_of areas true new))) n0
+    ∙ ap (λ n. choice other (is_open (gate_of areas false old)) (is_open (gate_of areas true old)) (generation_of (content_of areas false old)) n) n1

@@ -1,5 +1,4 @@
 pub mod Results
-pub mod Numbered
 pub mod SameFront
 pub mod Placed
 pub mod Frames

@@ -1,15 +1,17 @@
 -- The area that isn't open may hold anything, as long as its gate is closed.
-use Rattle.std.proofs.Common.{◌≡◌, ℕ, ◌+◌, ◌-◌, ◌*◌, ◌<◌, ◌≤◌, inl, inr, Bool, true, false, List, [], ◌∷◌, length, take, drop, get_or, refl, sym, ap, subst, ◌∙◌, arith, add-zero, Some, None, Result, Ok, Err, OnOk, OnErr}
+use Rattle.std.proofs.Common.{◌≡◌, ℕ, ◌+◌, ◌-◌, ◌<◌, ◌≤◌, inl, inr, Bool, true, false, List, [], ◌∷◌, length, take, drop, get_or, refl, sym, ap, subst, ◌∙◌, arith, add-zero, Some, None, Result, Ok, Err, OnOk, OnErr}
 use Rattle.std.specs.Prelude.{not, nat_lt, if◌then◌else◌}
 use Rattle.std.proofs.lemmas.Bool.{cond-false, ne_eqb, eq-eqb}
 use Rattle.std.proofs.lemmas.Option.{cond_some, same_Some}
 use Rattle.std.proofs.lemmas.List.{drop_more, get_or-drop}
 use Rattle.tp_model.specs.declared.opening.OpenFault.{OpenFault}
+use Rattle.tp_model.specs.declared.areas.TwoAreas.{TwoAreas}
 use Rattle.tp_model.specs.declared.limits.TheConstants.{GATE_CLOSED}
 use Rattle.tp_model.specs.Bytes.{u8_at}
 use Rattle.tp_model.specs.NodeState.{NodeState}
 use Rattle.tp_model.specs.Node.{t414, t414_ends}
-use Rattle.tp_model.specs.Device.{area_start, gate_of, content_of, is_open, generation_of}
+use Rattle.tp_model.specs.Device.{area_start, areas_end, gate_of, content_of, is_open, generation_of}
+use Rattle.tp_model.specs.Head.{areas_of_length}
 use Rattle.tp_model.specs.Disk.{Moment, MayBe, Write, Sync, Read, SameOutside, IsWithin, written, done, within}
 use Rattle.tp_model.specs.DiskHistory.{State, Goes, Fails, IsSynced, LeavesOnly}
 use Rattle.tp_model.specs.StoreCalls.{all_done, Called, Broke, clear_calls, switch_calls}
@@ -28,7 +30,7 @@ use Rattle.tp_area.specs.Crashes.{OpensTo, OpensToEither, RestsAs}
 use Rattle.tp_area.proofs.SameFront.{front_of_range, u64_same}
 use Rattle.tp_area.proofs.Behind.{head_ends}
 use Rattle.tp_area.proofs.Frames.{drop_written}
-use Rattle.tp_area.proofs.Placed.{content_at, found_at, is_placed, place_is}
+use Rattle.tp_area.proofs.Placed.{content_at, found_at, head_long, is_placed, place_is}
 use Rattle.tp_area.proofs.OpenedPlace.{opening_place}
 use Rattle.tp_area.proofs.StoreCrashes.{keep, held_ok, rests_cleared, within_clear, within_switch}
 
@@ -59,42 +61,43 @@ alone at false false true first other own shut = cc
 -- a range in the other area
 pub record InOther (place : Place) (at count : ℕ) : Type 0 where
   pub from : other_gate place ≤ at
-  pub upto : at + count ≤ other_gate place + place.area
+  pub upto : at + count ≤ other_gate place + place.areas.length
 
-pub own_gate_same : (area : ℕ) (second : Bool) (at count : ℕ) (old new : List ℕ) → 1 ≤ area → area_start area (not second) ≤ at → at + count ≤ area_start area (not second) + area
-    → SameOutside at count old new → gate_of area second new ≡ gate_of area second old
-own_gate_same area false at count old new some low high same = same.same 512 (inl (omega arith))
-own_gate_same area true at count old new some low high same = same.same (512 + area) (inr (omega arith))
+pub own_gate_same : (areas : TwoAreas) (second : Bool) (at count : ℕ) (old new : List ℕ) → 1 ≤ areas.length → area_start areas (not second) ≤ at → at + count ≤ area_start areas (not second) + areas.length
+    → SameOutside at count old new → gate_of areas second new ≡ gate_of areas second old
+own_gate_same areas false at count old new some low high same = same.same areas.first (inl (omega arith))
+own_gate_same areas true at count old new some low high same = same.same (areas.first + areas.length) (inr (omega arith))
 
-pub own_content_stays : (area : ℕ) (second : Bool) (at count : ℕ) (old new : List ℕ) → 1 ≤ area → area_start area (not second) ≤ at → at + count ≤ area_start area (not second) + area
-    → SameOutside at count old new → content_of area second new ≡ content_of area second old
-own_content_stays area false at count old new some low high same = same_apart at count old new (512 + 1) (area - 1) same (inl (omega arith))
-own_content_stays area true at count old new some low high same = same_apart at count old new (512 + area + 1) (area - 1) same (inr (omega arith))
+pub own_content_stays : (areas : TwoAreas) (second : Bool) (at count : ℕ) (old new : List ℕ) → 1 ≤ areas.length → area_start areas (not second) ≤ at → at + count ≤ area_start areas (not second) + areas.length
+    → SameOutside at count old new → content_of areas second new ≡ content_of areas second old
+own_content_stays areas false at count old new some low high same = same_apart at count old new (areas.first + 1) (areas.length - 1) same (inl (omega arith))
+own_content_stays areas true at count old new some low high same = same_apart at count old new (areas.first + areas.length + 1) (areas.length - 1) same (inr (omega arith))
 
-pub own_open : (area : ℕ) (second : Bool) (bytes : List ℕ) → chosen_area area bytes ≡ Ok second → is_open (gate_of area second bytes) ≡ true
+pub own_open : (areas : TwoAreas) (second : Bool) (bytes : List ℕ) → chosen_area areas bytes ≡ Ok second → is_open (gate_of areas second bytes) ≡ true
 unfolding chosen_area
-own_open area false bytes h = own_is_open (area_start area true) (is_open (gate_of area false bytes)) (is_open (gate_of area true bytes)) false _ _ h
-own_open area true bytes h = own_is_open (area_start area true) (is_open (gate_of area false bytes)) (is_open (gate_of area true bytes)) true _ _ h
+own_open areas false bytes h = own_is_open (area_start areas true) (is_open (gate_of areas false bytes)) (is_open (gate_of areas true bytes)) false _ _ h
+own_open areas true bytes h = own_is_open (area_start areas true) (is_open (gate_of areas false bytes)) (is_open (gate_of areas true bytes)) true _ _ h
 
-chosen_alone : (area : ℕ) (second : Bool) (bytes : List ℕ) → is_open (gate_of area second bytes) ≡ true → is_open (gate_of area (not second) bytes) ≡ false → chosen_area area bytes ≡ Ok second
+chosen_alone : (areas : TwoAreas) (second : Bool) (bytes : List ℕ) → is_open (gate_of areas second bytes) ≡ true → is_open (gate_of areas (not second) bytes) ≡ false → chosen_area areas bytes ≡ Ok second
 unfolding chosen_area
-chosen_alone area false bytes own shut = alone (area_start area true) (is_open (gate_of area false bytes)) (is_open (gate_of area true bytes)) false _ _ own shut
-chosen_alone area true bytes own shut = alone (area_start area true) (is_open (gate_of area false bytes)) (is_open (gate_of area true bytes)) true _ _ own shut
+chosen_alone areas false bytes own shut = alone (area_start areas true) (is_open (gate_of areas false bytes)) (is_open (gate_of areas true bytes)) false _ _ own shut
+chosen_alone areas true bytes own shut = alone (area_start areas true) (is_open (gate_of areas false bytes)) (is_open (gate_of areas true bytes)) true _ _ own shut
 
 -- the place stays, whatever is written there, while that gate is closed
-pub place_stays : (place : Place) (bytes new : List ℕ) (at count : ℕ) → 1 ≤ place.area → place_in bytes ≡ Some place → InOther place at count → SameOutside at count bytes new
-    → is_open (gate_of place.area (not place.second) new) ≡ false → place_in new ≡ Some place
+pub place_stays : (place : Place) (bytes new : List ℕ) (at count : ℕ) → 1 ≤ place.areas.length → place_in bytes ≡ Some place → InOther place at count → SameOutside at count bytes new
+    → is_open (gate_of place.areas (not place.second) new) ≡ false → place_in new ≡ Some place
 place_stays place bytes new at count some said lies same shut =
     let is = is_placed bytes place said in
     let low = lies.from in
-    let start = head_ends place.area (not place.second) in
-    let content = own_content_stays place.area place.second at count bytes new some lies.from lies.upto same in
-    let gate = own_gate_same place.area place.second at count bytes new some lies.from lies.upto same in
-    let found : found_at place new ≡ found_at place bytes = ap (listed (area_start place.area place.second + 1)) content in
+    let start = head_ends place.areas (not place.second) in
+    let long = head_long place bytes is in
+    let content = own_content_stays place.areas place.second at count bytes new some lies.from lies.upto same in
+    let gate = own_gate_same place.areas place.second at count bytes new some lies.from lies.upto same in
+    let found : found_at place new ≡ found_at place bytes = ap (listed (area_start place.areas place.second + 1)) content in
     place_is place new (record {
-      area = u64_same 16 at bytes new (omega arith) (front_of_range at count bytes new same) ∙ is.area;
-      room = subst (λ n. 512 + (place.area + place.area) ≤ n) (sym same.same_length) is.room;
-      second = chosen_alone place.area place.second new (ap is_open gate ∙ own_open place.area place.second bytes is.second) shut;
+      areas = ap areas_of_length (u64_same 16 at bytes new (omega arith) (front_of_range at count bytes new same)) ∙ is.areas;
+      room = subst (λ n. areas_end place.areas ≤ n) (sym same.same_length) is.room;
+      second = chosen_alone place.areas place.second new (ap is_open gate ∙ own_open place.areas place.second bytes is.second) shut;
       closed = ap (λ l. l.is_closed) found ∙ is.closed;
       cut = subst (λ xs. 8 ≤ cut_field xs) (sym content) is.cut;
       generation = ap generation_of content ∙ is.generation;
@@ -104,26 +107,22 @@ place_stays place bytes new at count some said lies same shut =
 
 -- ## Inside the device
 
-pub starts_low : (area : ℕ) (second : Bool) → area_start area second ≤ 512 + area
-starts_low area false = omega arith
-starts_low area true = omega arith
+pub areas_fit : (areas : TwoAreas) (size : ℕ) (second : Bool) → areas_end areas ≤ size → area_start areas second + areas.length ≤ size
+areas_fit areas size false room = omega arith
+areas_fit areas size true room = omega arith
 
-pub areas_fit : (area size : ℕ) (second : Bool) → 512 + 2 * area ≤ size → area_start area second + area ≤ size
-areas_fit area size false room = omega arith
-areas_fit area size true room = omega arith
+pub some_area : (areas : TwoAreas) (end : ℕ) (second : Bool) → area_start areas second + 13 ≤ end → end < area_start areas second + areas.length → 1 ≤ areas.length
+some_area areas end second low high = omega arith
 
-pub some_area : (area end : ℕ) (second : Bool) → area_start area second + 13 ≤ end → end < area_start area second + area → 1 ≤ area
-some_area area end second low high = omega arith
-
-pub gate_inside : (area size gate end : ℕ) (second : Bool) → gate ≡ area_start area (not second) → 512 + 2 * area ≤ size → area_start area second + 13 ≤ end → end < area_start area second + area
+pub gate_inside : (areas : TwoAreas) (size gate end : ℕ) (second : Bool) → gate ≡ area_start areas (not second) → areas_end areas ≤ size → area_start areas second + 13 ≤ end → end < area_start areas second + areas.length
     → gate + 1 ≤ size
-gate_inside area size gate end second is room low high =
-    let some = some_area area end second low high in
-    let fit = areas_fit area size (not second) room in
+gate_inside areas size gate end second is room low high =
+    let some = some_area areas end second low high in
+    let fit = areas_fit areas size (not second) room in
     omega arith
 
-pub piece_inside : (place : Place) (size at count : ℕ) → 512 + 2 * place.area ≤ size → at + count < place.area → other_gate place + 1 + at + count ≤ size
-piece_inside place size at count room small = let fit = areas_fit place.area size (not place.second) room in omega arith
+pub piece_inside : (place : Place) (size at count : ℕ) → areas_end place.areas ≤ size → at + count < place.areas.length → other_gate place + 1 + at + count ≤ size
+piece_inside place size at count room small = let fit = areas_fit place.areas size (not place.second) room in omega arith
 
 -- ## Closing the gate
 
@@ -207,7 +206,7 @@ clear_leaves r place old new said called broke h rests =
     calls_leave r (clear_calls found) old new (OpensTo h) called broke
     (within_clear t414 device_areas keep h old.now rests found (open_other_is place old.now.bytes said o.0 o.1))
 
-pub cleared_place : (place : Place) (old new : State) → 1 ≤ place.area → place_in old.now.bytes ≡ Some place → other_gate place < length old.now.bytes
+pub cleared_place : (place : Place) (old new : State) → 1 ≤ place.areas.length → place_in old.now.bytes ≡ Some place → other_gate place < length old.now.bytes
     → Called (clear_calls (if_open (other_gate place) old.now.bytes)) old new → place_in new.now.bytes ≡ Some place
 cleared_place place old new some said inside called =
     let t = gate_then (other_gate place) (is_open (u8_at old.now.bytes (other_gate place))) old new refl inside called in
@@ -226,29 +225,29 @@ stays_closed place at bytes old new room was shut =
     let same = put_same place at bytes old new room was in
     ap is_open (same.same (other_gate place) (inl (omega arith))) ∙ shut
 
-spare_is : (o : Opened) (bytes : List ℕ) → other_is_open o bytes ≡ false → spare_of (Ok o) bytes ≡ (other_start o + 1, o.head.area - 1)
+spare_is : (o : Opened) (bytes : List ℕ) → other_is_open o bytes ≡ false → spare_of (Ok o) bytes ≡ (other_start o + 1, o.head.areas.length - 1)
 unfolding spare_of
-spare_is o bytes shut = cond-false (other_is_open o bytes) (0, 0) (other_start o + 1, o.head.area - 1) shut
+spare_is o bytes shut = cond-false (other_is_open o bytes) (0, 0) (other_start o + 1, o.head.areas.length - 1) shut
 
 -- where the areas of an open device have room to spare
-lies_spare : (place : Place) (at : ℕ) (bytes : List ℕ) (old : State) → place_in old.now.bytes ≡ Some place → at + length bytes < place.area → OtherIsClosed place old
+lies_spare : (place : Place) (at : ℕ) (bytes : List ℕ) (old : State) → place_in old.now.bytes ≡ Some place → at + length bytes < place.areas.length → OtherIsClosed place old
     → (o : Opened) → opening t414 t414_ends old.now.bytes ≡ Ok o → IsWithin (device_areas.spare old.now.bytes) (other_gate place + 1 + at, length bytes)
 lies_spare place at bytes old said inside shut o is =
     let here : place_at o ≡ place = same_Some (place_at o) place (sym (opening_place t414 t414_ends old.now.bytes o is) ∙ said) in
-    let P : Place → Type 0 = λ p. OtherIsClosed p old → at + length bytes < p.area → IsWithin (spare_of (Ok o) old.now.bytes) (other_gate p + 1 + at, length bytes) in
+    let P : Place → Type 0 = λ p. OtherIsClosed p old → at + length bytes < p.areas.length → IsWithin (spare_of (Ok o) old.now.bytes) (other_gate p + 1 + at, length bytes) in
     let own : P (place_at o) = λ closed small. subst (λ range. IsWithin range (other_gate (place_at o) + 1 + at, length bytes)) (sym (spare_is o old.now.bytes closed)) (omega arith, omega arith) in
     subst (λ r. IsWithin (spare_of r old.now.bytes) (other_gate place + 1 + at, length bytes)) (sym is) (subst P here own shut inside)
 
 pub spare_at : (place : Place) (old : State) → place_in old.now.bytes ≡ Some place → OtherIsClosed place old → (o : Opened) → opening t414 t414_ends old.now.bytes ≡ Ok o
-    → device_areas.spare old.now.bytes ≡ (other_gate place + 1, place.area - 1)
+    → device_areas.spare old.now.bytes ≡ (other_gate place + 1, place.areas.length - 1)
 spare_at place old said shut o is =
     let here : place_at o ≡ place = same_Some (place_at o) place (sym (opening_place t414 t414_ends old.now.bytes o is) ∙ said) in
-    let P : Place → Type 0 = λ p. OtherIsClosed p old → spare_of (Ok o) old.now.bytes ≡ (other_gate p + 1, p.area - 1) in
+    let P : Place → Type 0 = λ p. OtherIsClosed p old → spare_of (Ok o) old.now.bytes ≡ (other_gate p + 1, p.areas.length - 1) in
     let own : P (place_at o) = λ closed. spare_is o old.now.bytes closed in
     ap (λ r. spare_of r old.now.bytes) is ∙ subst P here own shut
 
 pub put_by : (place : Place) (at : ℕ) (bytes : List ℕ) (old new : State) → place_in old.now.bytes ≡ Some place → other_gate place + 1 + at + length bytes ≤ length old.now.bytes
-    → at + length bytes < place.area → OtherIsClosed place old → new.now ≡ done (Write (other_gate place + 1 + at) bytes) old.now → Goes old new → PutBehind place at bytes old new
+    → at + length bytes < place.areas.length → OtherIsClosed place old → new.now ≡ done (Write (other_gate place + 1 + at) bytes) old.now → Goes old new → PutBehind place at bytes old new
 unfolding verdict
 put_by place at bytes old new said room inside shut was goes = record {
   called = called_one (Write (other_gate place + 1 + at) bytes) old new was goes;
@@ -262,7 +261,7 @@ put_by place at bytes old new said room inside shut was goes = record {
 
 -- Whatever came of the write, a crash since it began leaves what opens to what was held.
 pub put_leaves : {E : Type 0} (r : Result Unit E) (place : Place) (at : ℕ) (bytes : List ℕ) (old new : State) → place_in old.now.bytes ≡ Some place
-    → other_gate place + 1 + at + length bytes ≤ length old.now.bytes → at + length bytes < place.area → OtherIsClosed place old → Goes old new
+    → other_gate place + 1 + at + length bytes ≤ length old.now.bytes → at + length bytes < place.areas.length → OtherIsClosed place old → Goes old new
     → OnOk r (new.now ≡ done (Write (other_gate place + 1 + at) bytes) old.now) → OnErr r (Fails (Write (other_gate place + 1 + at) bytes) old new)
     → (h : Held NodeState) → RestsAs h old → LeavesOnly old new (OpensTo h)
 put_leaves r place at bytes old new said room inside shut goes was failed h rests =
@@ -273,7 +272,7 @@ put_leaves r place at bytes old new said room inside shut goes was failed h rest
     (call_leaves r (Write there bytes) old new room goes was failed)
 
 pub put_place : (place : Place) (at : ℕ) (bytes : List ℕ) (old new : State) → place_in old.now.bytes ≡ Some place → other_gate place + 1 + at + length bytes ≤ length old.now.bytes
-    → at + length bytes < place.area → OtherIsClosed place old → new.now ≡ done (Write (other_gate place + 1 + at) bytes) old.now → place_in new.now.bytes ≡ Some place
+    → at + length bytes < place.areas.length → OtherIsClosed place old → new.now ≡ done (Write (other_gate place + 1 + at) bytes) old.now → place_in new.now.bytes ≡ Some place
 put_place place at bytes old new said room inside shut was =
     place_stays place old.now.bytes new.now.bytes (other_gate place + 1 + at) (length bytes) (omega arith) said (record { from = omega arith; upto = omega arith })
     (put_same place at bytes old new room was) (stays_closed place at bytes old new room was shut)
@@ -328,7 +327,7 @@ switch_leaves r place old new said called broke h k gate rests synced other =
 
 -- ## Of a device that opens, whatever becomes of the calls
 
-pub spare_asked : (place : Place) (at : ℕ) (bytes : List ℕ) (old : State) → place_in old.now.bytes ≡ Some place → at + length bytes < place.area → OtherIsClosed place old
+pub spare_asked : (place : Place) (at : ℕ) (bytes : List ℕ) (old : State) → place_in old.now.bytes ≡ Some place → at + length bytes < place.areas.length → OtherIsClosed place old
     → (o : Opened) → verdict old.now.bytes ≡ Ok o → IsWithin (device_areas.spare old.now.bytes) (other_gate place + 1 + at, length bytes)
 unfolding verdict
 spare_asked place at bytes old said inside shut o is = lies_spare place at bytes old said inside shut o is

@@ -1,11 +1,13 @@
 -- What formatting a device answers, and what it writes.
-use Rattle.std.specs.Prelude.{◌≡◌, ◌≤◌, ◌⊎◌, ℕ, ◌+◌, ◌*◌, Bool, true, false, List, [], ◌∷◌, ◌++◌, Option, Some, None, Result, Ok, Err}
+use Rattle.std.specs.Prelude.{◌≡◌, ◌≤◌, ◌⊎◌, ℕ, ◌*◌, Bool, true, false, List, [], ◌∷◌, ◌++◌, Option, Some, None, Result, Ok, Err}
 use Rattle.std.specs.List.{AllByRecursion}
-use Rattle.tp_model.specs.declared.limits.TheConstants.{HEAD_BYTES, GATE_OPEN, GATE_CLOSED}
+use Rattle.tp_model.specs.declared.areas.TwoAreas.{TwoAreas}
+use Rattle.tp_model.specs.declared.limits.TheConstants.{GATE_OPEN, GATE_CLOSED}
 use Rattle.tp_model.specs.Bytes.{u32_bytes, u64_bytes}
 use Rattle.tp_model.specs.NodeState.{NodeState}
 use Rattle.tp_model.specs.Network.{Network}
 use Rattle.tp_model.specs.Topology.{Topology}
+use Rattle.tp_model.specs.Device.{area_start}
 use Rattle.tp_model.specs.Disk.{MayBe, Write, Sync, SameOutside, written}
 use Rattle.tp_model.specs.DiskHistory.{State, IsSynced}
 use Rattle.tp_model.specs.StoreCalls.{Called, put_calls}
@@ -36,35 +38,35 @@ abbrev pub first_area : Topology → Network NodeState → List ℕ
 first_area t s = GATE_OPEN ∷ (front_bytes t 1 0 s ++ GATE_CLOSED ∷ [])
 
 -- a content with both areas in it, as far as they are written: this first area, and the second one's closed gate
-abbrev pub with_areas : List ℕ → ℕ → List ℕ → List ℕ
-with_areas first area old = written (written old HEAD_BYTES first) (HEAD_BYTES + area) gate_closed
+abbrev pub with_areas : List ℕ → TwoAreas → List ℕ → List ℕ
+with_areas first areas old = written (written old areas.first first) (area_start areas true) gate_closed
 
 -- Both areas were written and synced before the head was, and that is synced too. All other bytes are as they were.
-pub record Wrote (first head : List ℕ) (area : ℕ) (old new : State) : Type 0 where
+pub record Wrote (first head : List ℕ) (areas : TwoAreas) (old new : State) : Type 0 where
   pub pieces : List (ℕ × List ℕ)
-  pub behind_head : AllByRecursion (λ piece. HEAD_BYTES ≤ piece.0) pieces
+  pub behind_head : AllByRecursion (λ piece. areas.first ≤ piece.0) pieces
   pub called : Called (put_calls pieces ++ (Sync ∷ Write 0 head ∷ Sync ∷ [])) old new
-  pub bytes : new.now.bytes ≡ written (with_areas first area old.now.bytes) 0 head
+  pub bytes : new.now.bytes ≡ written (with_areas first areas old.now.bytes) 0 head
 
 -- The device was formatted for the network of the images, before its first entry, and so is whatever a crash leaves from
 -- then on.
-pub record Formatted (t : Topology) (images : List (List ℕ)) (area : ℕ) (old new : State) : Type 0 where
+pub record Formatted (t : Topology) (images : List (List ℕ)) (areas : TwoAreas) (old new : State) : Type 0 where
   pub start : Network NodeState
   pub is : start_of t images ≡ Some start
-  pub wrote : Wrote (first_area t start) (head_bytes t area) area old new
+  pub wrote : Wrote (first_area t start) (head_bytes t areas) areas old new
   pub synced : IsSynced new
-  pub formatted : (left : List ℕ) → MayBe new.now left → IsFormatted t area start left
+  pub formatted : (left : List ℕ) → MayBe new.now left → IsFormatted t areas start left
 
 -- Both areas are complete, whatever the head is: all outside it is as at the end of formatting.
-pub record HasNewAreas (t : Topology) (images : List (List ℕ)) (area : ℕ) (old left : List ℕ) : Type 0 where
+pub record HasNewAreas (t : Topology) (images : List (List ℕ)) (areas : TwoAreas) (old left : List ℕ) : Type 0 where
   pub start : Network NodeState
   pub is : start_of t images ≡ Some start
-  pub same : SameOutside 0 HEAD_BYTES (with_areas (first_area t start) area old) left
+  pub same : SameOutside 0 areas.first (with_areas (first_area t start) areas old) left
 
 -- What a crash since formatting began leaves: all outside the areas, the head too, as a crash before it might have left
 -- that; or both areas complete.
-abbrev pub IsOldOrNew : Topology → List (List ℕ) → ℕ → State → List ℕ → Type 0
-IsOldOrNew t images area old left = ButFor HEAD_BYTES (2 * area) old.now left ⊎ HasNewAreas t images area old.now.bytes left
+abbrev pub IsOldOrNew : Topology → List (List ℕ) → TwoAreas → State → List ℕ → Type 0
+IsOldOrNew t images areas old left = ButFor areas.first (2 * areas.length) old.now left ⊎ HasNewAreas t images areas old.now.bytes left
 
 -- What is answered: images that don't fit the topology before a device that is too small, and both before any call of the
 -- device. Want of memory may come before both.

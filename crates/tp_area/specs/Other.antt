@@ -16,7 +16,7 @@ use Rattle.tp_area.specs.Crashes.{OpensTo, RestsAs}
 
 -- where its gate stands
 abbrev pub other_gate : Place → ℕ
-other_gate place = area_start place.area (not place.second)
+other_gate place = area_start place.areas (not place.second)
 
 -- a gate, where it is open
 abbrev pub if_open : ℕ → List ℕ → Option ℕ
@@ -24,10 +24,10 @@ if_open gate bytes = if is_open (u8_at bytes gate) then Some gate else None
 
 -- why nothing is put there whose end stands at this place of its content, before any call of the device
 abbrev pub put_refusal : Bool → Place → ℕ → Option StoreFault
-put_refusal broken place end = if broken then Some StoreBroken else if nat_lt end place.area then None else Some AreaFull
+put_refusal broken place end = if broken then Some StoreBroken else if nat_lt end place.areas.length then None else Some AreaFull
 
 abbrev pub OtherIsClosed : Place → State → Type 0
-OtherIsClosed place s = is_open (gate_of place.area (not place.second) s.now.bytes) ≡ false
+OtherIsClosed place s = is_open (gate_of place.areas (not place.second) s.now.bytes) ≡ false
 
 -- Its gate was looked at, and closed where it was open, which is where the areas of the device say that it is.
 pub record Cleared (place : Place) (old new : State) : Type 0 where

@@ -1,12 +1,13 @@
 //! Formatting a device.
 
 ghost use Rattle.std.specs.Prelude.{◌≡◌, ◌⊎◌, ◌+◌, ◌*◌, ◌^◌, ◌<◌, ◌≤◌, ◌++◌, true, map, flat_map, drop, length, is_ok, OnOk};
-ghost use Rattle.tp_model.specs.declared.limits.TheConstants.{HEAD_BYTES, LINE_BYTES, PORT_BYTES};
+ghost use Rattle.tp_model.specs.declared.limits.TheConstants.{LINE_BYTES, PORT_BYTES};
 ghost use Rattle.tp_model.specs.Bytes.{zeros};
-ghost use Rattle.tp_model.specs.Device.{fits};
+ghost use Rattle.tp_model.specs.Device.{areas_end, fits};
 ghost use Rattle.tp_model.specs.Disk.{SameOutside};
 ghost use Rattle.tp_model.specs.DiskHistory.{Counts, LeavesOnly};
 ghost use Rattle.tp_model.specs.Format.{start_of};
+ghost use Rattle.tp_model.specs.Head.{areas_of_length};
 ghost use Rattle.tp_model.specs.Journal.{cut_length, images_length};
 ghost use Rattle.tp_model.specs.Topology.{line_count};
 ghost use Rattle.tp_area.specs.Formatting.{Answers, Formatted, IsOldOrNew, Wrote, area_front, failed_calls, is_early, with_areas};
@@ -18,9 +19,10 @@ use crate::puts::{put_images, put_piece, put_zeros};
 use std::alloc::Global;
 use tp_disk::{DeviceFailed, Disk, write_through};
 use tp_layout::{
-    CutFront, FIELDS_BYTES, area_start, cut_length, fits, head_bytes, images_length, put_fields,
-    records_length,
+    CutFront, FIELDS_BYTES, area_start, areas_of_length, cut_length, fits, head_bytes,
+    images_length, put_fields, records_length,
 };
+use tp_model::TwoAreas;
 use tp_model::limits::{GATE_CLOSED, GATE_OPEN};
 use tp_net::Topology;
 
@@ -64,26 +66,27 @@ fn put_front(cut: u32, out: &mut [u8])
     put_fields(front, cut, &mut out[1..]);
 }
 
-/// Puts the first area, as far as it is written: its lines and ports are empty, so they are zeros, as the closed gate is.
+/// Puts the first area, which begins at `at`, as far as it is written: its lines and ports are empty, so they are zeros, as
+/// the closed gate is.
 fn put_first_area<D: Disk>(
     disk: &mut D,
+    at: u64,
     images: &[Vec<u8>],
     lengths: Lengths,
 ) -> Result<(), DeviceFailed>
     requires images { lengths.images ≡ length (flat_map (λ image. image.items) images.now) }
     requires cut { lengths.cut < 2 ^ 32 }
-    requires inside { HEAD_BYTES + FRONT_BYTES + lengths.images + lengths.rest ≤ D.size_of disk.old }
+    requires inside { at + FRONT_BYTES + lengths.images + lengths.rest ≤ D.size_of disk.old }
     requires fits { D.size_of disk.old < 2 ^ 64 }
     ensures counts { Counts (is_ok result) (D.size_of disk.old) (D.size_of disk.new) (D.failures_of disk.old) (D.failures_of disk.new) }
-    ensures put { D.keeps → OnOk result (Puts HEAD_BYTES ((area_front lengths.cut ++ flat_map (λ image. image.items) images.now) ++ zeros lengths.rest)
+    ensures put { D.keeps → OnOk result (Puts at ((area_front lengths.cut ++ flat_map (λ image. image.items) images.now) ++ zeros lengths.rest)
         (D.state disk.old) (D.state disk.new)) }
-    ensures leaves { D.keeps → LeavesOnly (D.state disk.old) (D.state disk.new) (ButFor HEAD_BYTES (FRONT_BYTES + lengths.images + lengths.rest) (D.state disk.old).now) }
+    ensures leaves { D.keeps → LeavesOnly (D.state disk.old) (D.state disk.new) (ButFor at (FRONT_BYTES + lengths.images + lengths.rest) (D.state disk.old).now) }
 {
     let mut front = [0; FRONT_BYTES];
     put_front(lengths.cut as u32, &mut front);
-    let start = area_start(0, false);
-    let behind = start + FRONT_BYTES as u64;
-    put_piece(disk, start, &front)?;
+    let behind = at + FRONT_BYTES as u64;
+    put_piece(disk, at, &front)?;
     put_images(disk, behind, images)?;
     put_zeros(disk, behind + lengths.images, lengths.rest)
 }
@@ -92,25 +95,25 @@ fn put_first_area<D: Disk>(
 fn write_all<D: Disk>(
     disk: &mut D,
     head: &[u8],
-    area: u64,
+    areas: TwoAreas,
     images: &[Vec<u8>],
     lengths: Lengths,
 ) -> Result<(), DeviceFailed>
     requires images { lengths.images ≡ length (flat_map (λ image. image.items) images.now) }
     requires cut { lengths.cut < 2 ^ 32 }
-    requires inside { FRONT_BYTES + lengths.images + lengths.rest ≤ area }
-    requires room { HEAD_BYTES + 2 * area ≤ D.size_of disk.old }
-    requires head { length head.now ≡ HEAD_BYTES }
+    requires inside { FRONT_BYTES + lengths.images + lengths.rest ≤ areas.length }
+    requires room { areas_end areas ≤ D.size_of disk.old }
+    requires head { length head.now ≡ areas.first }
     requires fits { D.size_of disk.old < 2 ^ 64 }
     ensures counts { Counts (is_ok result) (D.size_of disk.old) (D.size_of disk.new) (D.failures_of disk.old) (D.failures_of disk.new) }
     ensures wrote { D.keeps → OnOk result (Wrote ((area_front lengths.cut ++ flat_map (λ image. image.items) images.now) ++ zeros lengths.rest)
-        head.now area (D.state disk.old) (D.state disk.new)) }
-    ensures leaves { D.keeps → LeavesOnly (D.state disk.old) (D.state disk.new) (λ left. ButFor HEAD_BYTES (2 * area) (D.state disk.old).now left
-        ⊎ SameOutside 0 HEAD_BYTES (with_areas ((area_front lengths.cut ++ flat_map (λ image. image.items) images.now) ++ zeros lengths.rest)
-        area (D.state disk.old).now.bytes) left) }
+        head.now areas (D.state disk.old) (D.state disk.new)) }
+    ensures leaves { D.keeps → LeavesOnly (D.state disk.old) (D.state disk.new) (λ left. ButFor areas.first (2 * areas.length) (D.state disk.old).now left
+        ⊎ SameOutside 0 areas.first (with_areas ((area_front lengths.cut ++ flat_map (λ image. image.items) images.now) ++ zeros lengths.rest)
+        areas (D.state disk.old).now.bytes) left) }
 {
-    put_first_area(disk, images, lengths)?;
-    put_piece(disk, area_start(area, true), &[GATE_CLOSED])?;
+    put_first_area(disk, areas.first, images, lengths)?;
+    put_piece(disk, area_start(areas, true), &[GATE_CLOSED])?;
     disk.sync()?;
     write_through(disk, 0, head)
 }
@@ -124,20 +127,21 @@ pub fn format<D: Disk>(
     images: &[Vec<u8>],
     area: u64,
 ) -> Result<(), FormatFault>
-    ensures answer { Answers (start_of topology.now (map (λ image. image.items) images.now)) (fits (D.size_of disk.old) topology.now area) result }
+    ensures answer { Answers (start_of topology.now (map (λ image. image.items) images.now)) (fits (D.size_of disk.old) topology.now (areas_of_length area)) result }
     ensures early { is_early result ≡ true → disk.new ≡ disk.old }
     ensures failures { D.failures_of disk.new ≡ D.failures_of disk.old + failed_calls result }
     ensures size { D.size_of disk.new ≡ D.size_of disk.old }
-    ensures formatted { D.keeps → OnOk result (Formatted topology.now (map (λ image. image.items) images.now) area (D.state disk.old) (D.state disk.new)) }
-    ensures leaves { D.keeps → LeavesOnly (D.state disk.old) (D.state disk.new) (IsOldOrNew topology.now (map (λ image. image.items) images.now) area (D.state disk.old)) }
+    ensures formatted { D.keeps → OnOk result (Formatted topology.now (map (λ image. image.items) images.now) (areas_of_length area) (D.state disk.old) (D.state disk.new)) }
+    ensures leaves { D.keeps → LeavesOnly (D.state disk.old) (D.state disk.new) (IsOldOrNew topology.now (map (λ image. image.items) images.now) (areas_of_length area) (D.state disk.old)) }
 {
     check_images(alloc, topology.pages(), images)?;
     let lengths = lengths_of(topology);
-    if !fits(disk.size(), topology, area) {
+    let areas = areas_of_length(area);
+    if !fits(disk.size(), topology, areas) {
         return Err(FormatFault::AreaFull);
     }
-    let head = head_bytes(topology, area);
-    let Ok(()) = write_all(disk, head.as_slice(), area, images, lengths) else {
+    let head = head_bytes(topology, areas);
+    let Ok(()) = write_all(disk, head.as_slice(), areas, images, lengths) else {
         return Err(FormatFault::DeviceFailed);
     };
     Ok(())

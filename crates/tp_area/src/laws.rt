@@ -42,9 +42,9 @@ pub fn resting_devices_open_alike()
 /// ones that a device holds, and the tail of a checkpoint.
 pub fn entries_with_room_fit()
     ensures appended { (bytes : List ℕ) (o : Opened) (count : ℕ) → AllByRecursion (λ byte. byte < 256) bytes → verdict bytes ≡ Ok o → 1 ≤ count
-        → entry_room * (length o.kept + count) ≤ room o.head.topology o.head.area → append_refusal false (place_at o) count ≡ None }
-    ensures put { (t : Topology) (place : Place) (entries : List (Entry × ℕ)) → is_roomy t place.area ≡ true → AllByRecursion (λ e. IsSpelt e.0 e.1) entries
-        → entry_room * length entries ≤ room t place.area → tail_refusal false place t entries ≡ None }
+        → entry_room * (length o.kept + count) ≤ room o.head.topology o.head.areas.length → append_refusal false (place_at o) count ≡ None }
+    ensures put { (t : Topology) (place : Place) (entries : List (Entry × ℕ)) → is_roomy t place.areas.length ≡ true → AllByRecursion (λ e. IsSpelt e.0 e.1) entries
+        → entry_room * length entries ≤ room t place.areas.length → tail_refusal false place t entries ≡ None }
 {}
 
 /// One behind the other, the calls of a checkpoint are a piece of a run without an opening, from a world on in which the flusher

@@ -1,7 +1,6 @@
 //! The store on a device: its two areas, and the calls that write them.
 #![tactic(auto)]
 
-mod body;
 mod fault;
 mod formatting;
 mod gate;

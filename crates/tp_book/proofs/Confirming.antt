@@ -1,11 +1,12 @@
 -- Outputs confirmed, journalled.
 use Rattle.std.proofs.Common.{◌≡◌, ℕ, ◌+◌, ◌-◌, ◌<◌, ◌≤◌, cond, List, [], ◌∷◌, ◌++◌, length, map, set, drop, refl, sym, ap, subst, ◌∙◌, arith, Some, slice_get, length-set}
-use Rattle.std.specs.Prelude.{Vec, vec_len, vec_capacity, nat_lt, nat_le, ◌&&◌}
+use Rattle.std.specs.Prelude.{Vec, vec_len, vec_capacity, nat_lt, nat_le, ◌&&◌, length}
 use Rattle.std.specs.Option.{option_map}
 use Rattle.std.specs.declared.alloc.Global.{Global}
 use Rattle.std.proofs.lemmas.Bool.{lt-leb}
 use Rattle.std.proofs.lemmas.List.{map-set, length-drop}
 use Rattle.std.proofs.lemmas.Option.{slice_get-map, get_or_from_slice_get}
+use Rattle.tp_model.specs.declared.entry.Entry.{Entry}
 use Rattle.tp_model.specs.declared.link.Token.{Token}
 use Rattle.tp_model.specs.declared.entry.Entry.TheVariants.{Confirm}
 use Rattle.tp_model.specs.declared.limits.TheConstants.{NUMBER_LIMIT}
@@ -14,7 +15,6 @@ use Rattle.tp_model.specs.Network.{Port, OfHost, put, has_wire, taken, sent}
 use Rattle.tp_model.specs.Entries.{process, takes, confirmed, does}
 use Rattle.tp_model.specs.Halves.{BookState, without, with_entry}
 use Rattle.tp_law_network.proofs.Partial.{cond_some}
-use Rattle.tp_book.specs.declared.note.Numbered.{Numbered}
 use Rattle.tp_port.specs.declared.port.HostPort.{HostPort}
 use Rattle.tp_book.specs.declared.journal.Journal.TheInside.{Inside}
 use Rattle.tp_book.specs.Kept.{Keeps}
@@ -64,7 +64,7 @@ port_found b p was at = get_or_from_slice_get (state_of b).ports p was.port fres
 module _ (b : Inside) (B : IsJournal b) (p upto : ℕ) (was after : PortValue) (at : slice_get b.ports.items p ≡ Some was) (did : confirmed upto was.port ≡ Some (after.port, []))
     (marks : after.marks ≡ drop (upto - was.port.out_base) was.marks) (past : was.port.out_base < upto) (held : upto ≤ was.port.out_base + length was.port.outputs)
     (ports : Vec HostPort Global) (put_in : ports.items ≡ set b.ports.items p after)
-    (entries : Vec Numbered Global) (items : entries.items ≡ b.entries.items ++ record { number = b.base + vec_len b.entries; entry = Confirm p upto } ∷ []) where
+    (entries : Vec (Entry × ℕ) Global) (items : entries.items ≡ b.entries.items ++ (Confirm p upto, b.base + vec_len b.entries) ∷ []) where
   abbrev fields : Inside
   fields = record b { ports = ports; entries = entries }
 
@@ -77,7 +77,7 @@ module _ (b : Inside) (B : IsJournal b) (p upto : ℕ) (was after : PortValue) (
   made : Change (state_of b) (Confirm p upto) (map (λ q. q.port) ports.items) (agreed (state_of b)) []
   made = subst (λ given. Change (state_of b) (Confirm p upto) given (agreed (state_of b)) []) (sym these_ports) (confirm_change (state_of b) B.keeps p upto was.port after.port port_there did)
 
-  on : b.lines ≡ sent (has_wire b.wires.items) (without b.lines (takes (state_of b).start (Confirm p upto))) []
+  on : b.lines ≡ sent (has_wire b.wires.items) (without b.lines (takes (state_of b).start.wires (length (state_of b).start.nodes) (Confirm p upto))) []
   unfolding takes without sent
   on = refl
 
@@ -113,8 +113,8 @@ module _ (b : Inside) (B : IsJournal b) (p upto : ℕ) (was after : PortValue) (
       ap (map (λ q. q.marks)) put_in ∙ map-set (λ q. q.marks) b.ports.items p after ∙ ap (set (value_of b).marks p) (marks ∙ ap (drop (upto - was.port.out_base)) (sym old)) in
       ap (λ given. record (value_of fields) { state = given }) (state_after b B (Confirm p upto) ports _ [] made entries b.lines items on)
       ∙ ap (λ given. record (value_of fields) { state = with_entry (state_of b) (Confirm p upto) (map (λ q. q.port) ports.items) []; numbers = given }) (numbers_after b B (Confirm p upto) ports _ [] made entries b.lines items on)
-      ∙ ap (λ given. record (value_of b) { state = with_entry (state_of b) (Confirm p upto) given []; numbers = map (λ n. n.number) b.entries.items ++ next_number (value_of b) ∷ []; marks = map (λ q. q.marks) ports.items })
+      ∙ ap (λ given. record (value_of b) { state = with_entry (state_of b) (Confirm p upto) given []; numbers = map (λ (e : Entry × ℕ). e.1) b.entries.items ++ next_number (value_of b) ∷ []; marks = map (λ q. q.marks) ports.items })
       (these_ports ∙ ap (set (state_of b).ports p) (confirmed_is upto was.port after.port did))
-      ∙ ap (λ given. record (value_of b) { state = with_entry (state_of b) (Confirm p upto) (set (state_of b).ports p (confirmed_port was.port upto)) []; numbers = map (λ n. n.number) b.entries.items ++ next_number (value_of b) ∷ []; marks = given }) marks_are
-      ∙ ap (λ port. record (value_of b) { state = with_entry (state_of b) (Confirm p upto) (set (state_of b).ports p (confirmed_port port upto)) []; numbers = map (λ n. n.number) b.entries.items ++ next_number (value_of b) ∷ []; marks = set (value_of b).marks p (drop (upto - port.out_base) (marks_of (value_of b) p)) }) (sym found)
+      ∙ ap (λ given. record (value_of b) { state = with_entry (state_of b) (Confirm p upto) (set (state_of b).ports p (confirmed_port was.port upto)) []; numbers = map (λ (e : Entry × ℕ). e.1) b.entries.items ++ next_number (value_of b) ∷ []; marks = given }) marks_are
+      ∙ ap (λ port. record (value_of b) { state = with_entry (state_of b) (Confirm p upto) (set (state_of b).ports p (confirmed_port port upto)) []; numbers = map (λ (e : Entry × ℕ). e.1) b.entries.items ++ next_number (value_of b) ∷ []; marks = set (value_of b).marks p (drop (upto - port.out_base) (marks_of (value_of b) p)) }) (sym found)
       ∙ sym (ap (λ test. bare (cond test (value_of b) (with_confirmed (value_of b) p upto))) (lt-leb upto (port_in (value_of b) p).out_base (subst (λ port. port.out_base < upto) (sym found) past)))

@@ -3,6 +3,7 @@ use Rattle.std.proofs.Common.{◌≡◌, ℕ, zero, suc, ◌+◌, ◌≤◌, fal
 use Rattle.std.specs.Prelude.{vec_len, count_by}
 use Rattle.std.proofs.lemmas.List.{length-map, length-replicate}
 use Rattle.std.proofs.lemmas.List.Sums.{sum_by-cons}
+use Rattle.tp_model.specs.declared.entry.Entry.{Entry}
 use Rattle.tp_model.specs.NodeState.{NodeState}
 use Rattle.tp_model.specs.Node.{t414_ends}
 use Rattle.tp_model.specs.declared.link.Token.{Token}
@@ -94,7 +95,7 @@ module _ (b : Inside) (parts : NetParts) (start : b.start.network ≡ network_of
   first_state : state_of fields ≡ (first_book s None).state
   first_state =
       ap (λ given. record (state_of fields) { start = given }) start
-      ∙ ap (λ given. record (state_of fields) { start = s; entries = map (λ n. n.entry) given }) entries
+      ∙ ap (λ given. record (state_of fields) { start = s; entries = map (λ (e : Entry × ℕ). e.0) given }) entries
       ∙ ap (λ given. record (state_of fields) { start = s; entries = []; ports = given }) these_ports
       ∙ ap (λ given. record (state_of fields) { start = s; entries = []; ports = s.ports; lines = given }) these_lines
 
@@ -113,15 +114,15 @@ module _ (b : Inside) (parts : NetParts) (start : b.start.network ≡ network_of
     space = omega (arith, no_entries);
     numbers = omega (arith, no_entries);
     counted = λ p port at. fresh_counted (0 + vec_len b.entries) (length s.ports) p port (ap (λ given. slice_get given p) (sym (these_ports ∙ F.ports)) ∙ at);
-    numbered = subst (λ given. AreNumbered 0 0 (map (λ n. n.number) given)) (sym entries) tt;
-    ranged = subst (λ given. AreInRange (map (λ n. n.entry) given)) (sym entries) tt;
+    numbered = subst (λ given. AreNumbered 0 0 (map (λ (e : Entry × ℕ). e.1) given)) (sym entries) tt;
+    ranged = subst (λ given. AreInRange (map (λ (e : Entry × ℕ). e.0) given)) (sym entries) tt;
     rising = λ p ns at. fresh_rising (0 + vec_len b.entries) (vec_len parts.ports) p ns (ap (λ given. slice_get given p) (sym (ap (map (λ q. q.marks)) ports ∙ map-replicate (λ q. q.marks) (vec_len parts.ports) fresh_port)) ∙ at);
   }
 
   pub first_value : value_of fields ≡ bare (first_book s b.room)
   first_value =
       ap (λ given. record (value_of fields) { state = given }) first_state
-      ∙ ap (λ given. record (value_of fields) { state = (first_book s None).state; numbers = map (λ n. n.number) given }) entries
+      ∙ ap (λ given. record (value_of fields) { state = (first_book s None).state; numbers = map (λ (e : Entry × ℕ). e.1) given }) entries
       ∙ ap (λ given. record (value_of fields) { state = (first_book s None).state; numbers = []; runs = given }) (runs ∙ ap (λ n. replicate n false) node_count)
       ∙ ap (λ given. record (value_of fields) { state = (first_book s None).state; numbers = []; runs = replicate (length s.nodes) false; marks = given })
       (ap (map (λ p. p.marks)) ports ∙ map-replicate (λ p. p.marks) (vec_len parts.ports) fresh_port ∙ ap (λ n. replicate n []) port_count)

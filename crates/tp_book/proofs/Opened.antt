@@ -7,6 +7,7 @@ use Rattle.std.specs.declared.alloc.Global.{Global}
 use Rattle.std.proofs.lemmas.Option.{slice_get-map, slice_get-get_or, get_or_from_slice_get}
 use Rattle.std.proofs.lemmas.Bool.{cases_Bool}
 use Rattle.std.proofs.lemmas.List.{length-map, length-replicate}
+use Rattle.tp_model.specs.declared.entry.Entry.{Entry}
 use Rattle.tp_model.specs.NodeState.{NodeState}
 use Rattle.tp_model.specs.Node.{t414, t414_ends}
 use Rattle.tp_model.specs.declared.link.Token.{Token}
@@ -108,7 +109,7 @@ module _ (b : Inside) (s : NetState) (O : IsOpened s) (cut : b.start.network ≡
   starts = cut
 
   these_entries : (state_of b).entries ≡ kept_of s
-  these_entries = ap (map (λ n. n.entry)) entries
+  these_entries = ap (map (λ (e : Entry × ℕ). e.0)) entries
 
   these_ports : (state_of b).ports ≡ (now_of s).ports
   these_ports = ap (map (λ p. p.port)) ports ∙ opened_ports s.net.ports.items
@@ -144,7 +145,7 @@ module _ (b : Inside) (s : NetState) (O : IsOpened s) (cut : b.start.network ≡
     numbers = omega (arith, entry_count, base, O.next, O.few);
     counted = subst (λ given. AreCounted (b.base + vec_len b.entries) given) (sym these_ports)
         (subst (λ n. AreCounted n (now_of s).ports) (omega (arith, entry_count, base, O.next)) O.counted);
-    numbered = subst (λ given. AreNumbered 0 given (map (λ n. n.number) b.entries.items)) (sym base) (subst (λ given. AreNumbered 0 s.base (map (λ n. n.number) given)) (sym entries) O.numbered);
+    numbered = subst (λ given. AreNumbered 0 given (map (λ (e : Entry × ℕ). e.1) b.entries.items)) (sym base) (subst (λ given. AreNumbered 0 s.base (map (λ (e : Entry × ℕ). e.1) given)) (sym entries) O.numbered);
     ranged = subst AreInRange (sym these_entries) O.ranged;
     rising = λ p ns at. opened_rising (b.base + vec_len b.entries) (now_of s).ports p ns (ap (λ given. slice_get given p) (sym these_marks) ∙ at);
   }
@@ -155,7 +156,7 @@ module _ (b : Inside) (s : NetState) (O : IsOpened s) (cut : b.start.network ≡
       ∙ ap (λ given. record (value_of fields) { state = record (state_of fields) { start = cut_of s; entries = given } }) these_entries
       ∙ ap (λ given. record (value_of fields) { state = record (state_of fields) { start = cut_of s; entries = kept_of s; ports = given } }) these_ports
       ∙ ap (λ given. record (value_of fields) { state = record (opened_book s b.room).state { lines = given } }) lines
-      ∙ ap (λ given. record (value_of fields) { state = (opened_book s b.room).state; numbers = map (λ n. n.number) given }) entries
+      ∙ ap (λ given. record (value_of fields) { state = (opened_book s b.room).state; numbers = map (λ (e : Entry × ℕ). e.1) given }) entries
       ∙ ap (λ given. record (value_of fields) { state = (opened_book s b.room).state; numbers = numbers_of s; base = given }) base
       ∙ ap (λ given. bare (record (opened_book s b.room) { runs = given; marks = map (λ p. p.marks) b.ports.items })) (runs ∙ ap (λ n. replicate n false) node_count)
       ∙ ap (λ given. bare (record (opened_book s b.room) { marks = given })) these_marks

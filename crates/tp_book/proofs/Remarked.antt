@@ -1,6 +1,6 @@
 -- Markers that are sent and taken leave what every book keeps.
 use Rattle.std.proofs.Common.{◌≡◌, ℕ, ◌+◌, ◌<◌, ◌≤◌, Bool, true, false, List, [], ◌∷◌, ◌++◌, length, map, set, get_or, replicate, zero, suc, drop, refl, sym, ap, subst, ◌∙◌, arith, length-set, Option, Some, None, slice_get}
-use Rattle.std.specs.Prelude.{is_some, not}
+use Rattle.std.specs.Prelude.{is_some, not, length}
 use Rattle.std.specs.Option.{option_map}
 use Rattle.tp_model.specs.declared.link.Token.{Token}
 use Rattle.tp_model.specs.declared.link.Token.TheVariants.{Marker}
@@ -72,7 +72,7 @@ module _ (j : BookValue) (s : SnapshotsValue) (g : ℕ) (B : Stands j s g) (K : 
 
   module _ (node : ℕ) (snap : Snapshot) (runs : s.snapshot ≡ Some snap) (below : node < length j.state.start.nodes) (new : has_recorded snap node ≡ false) where
     record_is : after_record (joined j s g) node ≡ record (joined j s g) { state = with_record st snap node; frozen = set s.frozen node (slice_get (agreed st) node) }
-    record_is = ap (λ given. record (after_record (joined j s g) node) { state = record (after_record (joined j s g) node).state { snapshot = option_map (λ x. with_count x node (made (process st.start) node st.entries)) given } }) runs
+    record_is = ap (λ given. record (after_record (joined j s g) node) { state = record (after_record (joined j s g) node).state { snapshot = option_map (λ x. with_count x node (made (process st.start.wires (length st.start.nodes)) node st.entries)) given } }) runs
 
     pub record_act : happens t414 (world_of (joined j s g)) (Record node) ≡ Some (world_of (after_record (joined j s g) node))
     unfolding agreed
@@ -218,13 +218,13 @@ module _ (j : BookValue) (s : SnapshotsValue) (g : ℕ) (B : Stands j s g) (K : 
     abbrev begun_by : ℕ → ℕ → SnapshotsValue
     begun_by n h = record s { snapshot = Some (first_snapshot n (length j.state.lines) h j.state.ports (length j.state.entries)); frozen = replicate n None }
 
-    own : get_or s.made (length j.runs) 0 ≡ made (process j.state.start) (length j.state.start.nodes) j.state.entries
-    own = B.counted.each (length j.runs) (omega (arith, shaped.count, B.counted.count)) ∙ ap (λ n. made (process j.state.start) n j.state.entries) (sym shaped.count)
+    own : get_or s.made (length j.runs) 0 ≡ made (process j.state.start.wires (length j.state.start.nodes)) (length j.state.start.nodes) j.state.entries
+    own = B.counted.each (length j.runs) (omega (arith, shaped.count, B.counted.count)) ∙ ap (λ n. made (process j.state.start.wires (length j.state.start.nodes)) n j.state.entries) (sym shaped.count)
 
     pub begun_value : joined j_begun (begun_by (length j.runs) (get_or s.made (length j.runs) 0)) g ≡ after_begin (joined j s g)
     begun_value =
         ap (λ h. joined j_begun (begun_by (length j.runs) h) g) own
-        ∙ ap (λ n. joined j_begun (begun_by n (made (process j.state.start) (length j.state.start.nodes) j.state.entries)) g) (sym shaped.count)
+        ∙ ap (λ n. joined j_begun (begun_by n (made (process j.state.start.wires (length j.state.start.nodes)) (length j.state.start.nodes) j.state.entries)) g) (sym shaped.count)
 
     floor_before : s.floor ≤ length j.state.entries
     floor_before = subst (λ given. HasFloor given s.floor (length j.state.entries)) idle B.low
@@ -259,7 +259,7 @@ module _ (j : BookValue) (s : SnapshotsValue) (g : ℕ) (B : Stands j s g) (K : 
     unfolding agreed
     recorded_value =
         ap (λ h. joined j_recorded (recorded_by h image) g) (B.counted.each node (omega (arith, below, B.counted.count)))
-        ∙ ap (λ given. joined j_recorded (recorded_by (made (process j.state.start) node j.state.entries) given) g) image_is
+        ∙ ap (λ given. joined j_recorded (recorded_by (made (process j.state.start.wires (length j.state.start.nodes)) node j.state.entries) given) g) image_is
 
     pub recorded_stands : Stands j_recorded (recorded_by (get_or s.made node 0) image) g
     recorded_stands = record {

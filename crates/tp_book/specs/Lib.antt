@@ -2,7 +2,6 @@ pub mod Parts
 pub mod Book
 pub mod Kept
 pub mod Bare
-pub mod Owned
 pub mod Inside
 pub mod Joined
 pub mod Whole

@@ -23,7 +23,7 @@ abbrev pub after_begin : BookValue → BookValue
 after_begin b = record b {
   state = record b.state {
     lines = sent (has_wire b.state.start.wires) b.state.lines (host_markers (length b.state.start.nodes) (length b.state.ports));
-    snapshot = Some (first_snapshot (length b.state.start.nodes) (length b.state.lines) (made (process b.state.start) (length b.state.start.nodes) b.state.entries) b.state.ports (length b.state.entries));
+    snapshot = Some (first_snapshot (length b.state.start.nodes) (length b.state.lines) (made (process b.state.start.wires (length b.state.start.nodes)) (length b.state.start.nodes) b.state.entries) b.state.ports (length b.state.entries));
   };
   frozen = replicate (length b.state.start.nodes) None;
 }
@@ -33,7 +33,7 @@ abbrev pub after_record : BookValue → ℕ → BookValue
 after_record b node = record b {
   state = record b.state {
     lines = sent (has_wire b.state.start.wires) b.state.lines (node_markers node);
-    snapshot = option_map (λ snap. with_count snap node (made (process b.state.start) node b.state.entries)) b.state.snapshot;
+    snapshot = option_map (λ snap. with_count snap node (made (process b.state.start.wires (length b.state.start.nodes)) node b.state.entries)) b.state.snapshot;
   };
   frozen = set b.frozen node (slice_get (agreed b.state) node);
 }

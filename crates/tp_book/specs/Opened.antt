@@ -27,10 +27,10 @@ now_of s = network_of s.net
 
 -- the kept entries, and their numbers
 abbrev pub kept_of : NetState → List Entry
-kept_of s = map (λ n. n.entry) s.kept.items
+kept_of s = map (λ (e : Entry × ℕ). e.0) s.kept.items
 
 abbrev pub numbers_of : NetState → List ℕ
-numbers_of s = map (λ n. n.number) s.kept.items
+numbers_of s = map (λ (e : Entry × ℕ). e.1) s.kept.items
 
 -- What opening leaves: the kept entries are in the range of their bytes, and lead from the kept cut's network to the one that is
 -- there, which is sound and has no Markers under way; each node's image spells it; each port holds what it has room for, and has counted no more than there are

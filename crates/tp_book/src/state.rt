@@ -1,8 +1,8 @@
 //! The state that opening a device leaves.
 
 use crate::cut::CutNetwork;
-use crate::note::Numbered;
 use crate::parts::NetParts;
+use tp_entry::Numbered;
 
 /// What an opened device stands for. It is written once, by opening.
 #[derive(Drop)]

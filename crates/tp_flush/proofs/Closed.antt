@@ -5,7 +5,8 @@ use Rattle.std.proofs.lemmas.Bool.Decides.{eqb_tells}
 use Rattle.std.specs.List.{AllByRecursion}
 use Rattle.std.proofs.lemmas.Bool.{ltb-true, true≢false}
 use Rattle.tp_model.specs.declared.entry.Entry.{Entry}
-use Rattle.tp_model.specs.declared.limits.TheConstants.{AREA_HEAD_BYTES, HEAD_BYTES, MAX_NODES}
+use Rattle.tp_model.specs.declared.areas.TwoAreas.{TwoAreas}
+use Rattle.tp_model.specs.declared.limits.TheConstants.{AREA_HEAD_BYTES, MAX_NODES}
 use Rattle.tp_model.specs.Bytes.{u8_at}
 use Rattle.tp_model.specs.NodeState.{NodeState}
 use Rattle.tp_model.specs.Node.{t414}
@@ -14,7 +15,7 @@ use Rattle.tp_model.specs.FrozenAs.{IsFrozenAs}
 use Rattle.tp_model.specs.Acts.{Act, acted, happens}
 use Rattle.tp_model.specs.Runs.{World, is_trim}
 use Rattle.tp_model.specs.Areas.{gate_closed}
-use Rattle.tp_model.specs.Device.{area_start, content_of, is_open}
+use Rattle.tp_model.specs.Device.{area_start, areas_end, content_of, is_open}
 use Rattle.tp_model.specs.Disk.{Moment, SameOutside}
 use Rattle.tp_model.specs.DiskHistory.{State}
 use Rattle.tp_model.specs.StoreCalls.{Called, clear_calls, group_calls, put_calls}
@@ -48,42 +49,42 @@ use Rattle.tp_flush.proofs.Standing.{other_kept}
 -- ## A group
 
 -- it lies apart from the other area
-apart : (area : ℕ) (second : Bool) (end size : ℕ) → area_start area second + AREA_HEAD_BYTES ≤ end → end + size < area_start area second + area
-    → (area_start area (not second) + area ≤ end) ⊎ (end + (1 + size) ≤ area_start area (not second))
-apart area false end size low high = inr (omega (arith, high))
-apart area true end size low high = inl (omega (arith, low))
+apart : (areas : TwoAreas) (second : Bool) (end size : ℕ) → area_start areas second + AREA_HEAD_BYTES ≤ end → end + size < area_start areas second + areas.length
+    → (area_start areas (not second) + areas.length ≤ end) ⊎ (end + (1 + size) ≤ area_start areas (not second))
+apart areas false end size low high = inr (omega (arith, high))
+apart areas true end size low high = inl (omega (arith, low))
 
-ends_inside : (area : ℕ) (second : Bool) (end size long : ℕ) → end + size < area_start area second + area → HEAD_BYTES + 2 * area ≤ long → end + 1 + size ≤ long
-ends_inside area false end size long high whole = omega (arith, high, whole)
-ends_inside area true end size long high whole = omega (arith, high, whole)
+ends_inside : (areas : TwoAreas) (second : Bool) (end size long : ℕ) → end + size < area_start areas second + areas.length → areas_end areas ≤ long → end + 1 + size ≤ long
+ends_inside areas false end size long high whole = omega (arith, high, whole)
+ends_inside areas true end size long high whole = omega (arith, high, whole)
 
 module _ (place : Place) (s new : State) (es : List Entry) (can : CanBeAppended place.next es) (fits : has_room place (length es) ≡ true)
-    (low : area_start place.area place.second + AREA_HEAD_BYTES ≤ place.end) (whole : HEAD_BYTES + 2 * place.area ≤ length s.now.bytes)
+    (low : area_start place.areas place.second + AREA_HEAD_BYTES ≤ place.end) (whole : areas_end place.areas ≤ length s.now.bytes)
     (called : Called (group_calls place.end (body_of place.next es)) s new) where
   size : length (body_of place.next es) ≡ group_length (length es)
   size = length-body place.next es can
 
-  high : place.end + group_length (length es) < area_start place.area place.second + place.area
-  high = ltb-true (place.end + group_length (length es)) (area_start place.area place.second + place.area) fits
+  high : place.end + group_length (length es) < area_start place.areas place.second + place.areas.length
+  high = ltb-true (place.end + group_length (length es)) (area_start place.areas place.second + place.areas.length) fits
 
   pub group_outside : SameOutside place.end (1 + length (body_of place.next es)) s.now.bytes new.now.bytes
   group_outside =
-      let fit = ends_inside place.area place.second place.end (group_length (length es)) (length s.now.bytes) high whole in
+      let fit = ends_inside place.areas place.second place.end (group_length (length es)) (length s.now.bytes) high whole in
       subst (SameOutside place.end (1 + length (body_of place.next es)) s.now.bytes) (sym (ap (λ (m : Moment). m.bytes) called.now))
       (gate_same s.now.bytes place.end (body_of place.next es) (omega (arith, fit, size)))
 
-  group_apart : (other_gate place + place.area ≤ place.end) ⊎ (place.end + (1 + length (body_of place.next es)) ≤ other_gate place)
+  group_apart : (other_gate place + place.areas.length ≤ place.end) ⊎ (place.end + (1 + length (body_of place.next es)) ≤ other_gate place)
   group_apart =
-      subst (λ n. (other_gate place + place.area ≤ place.end) ⊎ (place.end + (1 + n) ≤ other_gate place)) (sym size)
-      (apart place.area place.second place.end (group_length (length es)) low high)
+      subst (λ n. (other_gate place + place.areas.length ≤ place.end) ⊎ (place.end + (1 + n) ≤ other_gate place)) (sym size)
+      (apart place.areas place.second place.end (group_length (length es)) low high)
 
-  some : 1 ≤ place.area
+  some : 1 ≤ place.areas.length
   some = omega (arith, low, high)
 
   pub closed_behind : OtherIsClosed place s → OtherIsClosed (behind place (length es)) new
   closed_behind shut = ap is_open (group_outside.same (other_gate place) (side group_apart)) ∙ shut
     where
-      side : (other_gate place + place.area ≤ place.end) ⊎ (place.end + (1 + length (body_of place.next es)) ≤ other_gate place)
+      side : (other_gate place + place.areas.length ≤ place.end) ⊎ (place.end + (1 + length (body_of place.next es)) ≤ other_gate place)
           → (other_gate place < place.end) ⊎ (place.end + (1 + length (body_of place.next es)) ≤ other_gate place)
       side (inl front) = inl (omega (arith, front, some))
       side (inr from) = inr from
@@ -91,18 +92,18 @@ module _ (place : Place) (s new : State) (es : List Entry) (can : CanBeAppended 
   pub content_behind : content_beside place new ≡ content_beside place s
   content_behind = content_kept place place.end (1 + length (body_of place.next es)) s new group_outside (side group_apart) some
     where
-      side : (other_gate place + place.area ≤ place.end) ⊎ (place.end + (1 + length (body_of place.next es)) ≤ other_gate place)
-          → (place.end + (1 + length (body_of place.next es)) ≤ other_gate place + 1) ⊎ (other_gate place + place.area ≤ place.end)
+      side : (other_gate place + place.areas.length ≤ place.end) ⊎ (place.end + (1 + length (body_of place.next es)) ≤ other_gate place)
+          → (place.end + (1 + length (body_of place.next es)) ≤ other_gate place + 1) ⊎ (other_gate place + place.areas.length ≤ place.end)
       side (inl front) = inr front
       side (inr from) = inl (omega (arith, from))
 
 -- what the flusher keeps for a snapshot's copy, behind a group that was appended or failed
 pub append_copies : (keeps : Type 0) (net : MarkedNetwork NodeState) (s new : State) (place to : Place) (t : Topology) (p : Progress) (es : List Entry) (r : Result Unit StoreFault) (broke : Bool) (filled : Option Place) (failures_old failures_new : ℕ)
     → Copies keeps net s place false t p → Answered r es place to broke filled failures_old failures_new → CanBeAppended place.next es → has_room place (length es) ≡ true
-    → area_start place.area place.second + AREA_HEAD_BYTES ≤ place.end → (keeps → HEAD_BYTES + 2 * place.area ≤ length s.now.bytes) → (keeps → OnOk r (Appended es place s new))
+    → area_start place.areas place.second + AREA_HEAD_BYTES ≤ place.end → (keeps → areas_end place.areas ≤ length s.now.bytes) → (keeps → OnOk r (Appended es place s new))
     → Copies keeps net new to broke t p
 append_copies keeps net s new place to t p es (Ok x) broke filled failures_old failures_new C A can fits low whole did = record {
-  roomy = ap (λ (q : Place). is_roomy t q.area) A.done.0 ∙ C.roomy;
+  roomy = ap (λ (q : Place). is_roomy t q.areas.length) A.done.0 ∙ C.roomy;
   closed = λ k unbroken cleared.
       subst (λ (q : Place). OtherIsClosed q new) (sym A.done.0)
       (let D = did k in closed_behind place s new es can fits low (whole k) D.called (C.closed k refl cleared));
@@ -112,7 +113,7 @@ append_copies keeps net s new place to t p es (Ok x) broke filled failures_old f
       (subst (λ xs. IsPartOut t net xs i (get_or t.pages i 0)) (sym (content_behind place s new es can fits low (whole k) D.called)) (C.images k refl i there out));
 }
 append_copies keeps net s new place to t p es (Err e) broke filled failures_old failures_new C A can fits low whole did = record {
-  roomy = ap (λ (q : Place). is_roomy t q.area) A.failed.1 ∙ C.roomy;
+  roomy = ap (λ (q : Place). is_roomy t q.areas.length) A.failed.1 ∙ C.roomy;
   closed = λ k unbroken cleared. let no = A.failed.2 in cc;
   images = λ k unbroken. let no = A.failed.2 in cc;
 }
@@ -128,10 +129,10 @@ closed_when (Ok x) broke failures_old failures_new A X is unbroken = is
 closed_when (Err e) broke failures_old failures_new A X is unbroken = let no = A.failed.0 in cc
 
 pub put_copies : (keeps : Type 0) (net : MarkedNetwork NodeState) (new : State) (place to : Place) (t : Topology) (p : Progress) (r : Result Unit StoreFault) (broke : Bool) (failures_old failures_new : ℕ)
-    → is_roomy t place.area ≡ true → PutAnswered r broke failures_old failures_new → to ≡ place → (keeps → OnOk r (OtherIsClosed place new))
+    → is_roomy t place.areas.length ≡ true → PutAnswered r broke failures_old failures_new → to ≡ place → (keeps → OnOk r (OtherIsClosed place new))
     → (keeps → OnOk r ((i : ℕ) → i < length t.pages → is_out p i ≡ true → IsPartOut t net (content_beside place new) i (get_or t.pages i 0))) → Copies keeps net new to broke t p
 put_copies keeps net new place to t p r broke failures_old failures_new roomy A same shut images = record {
-  roomy = ap (λ (q : Place). is_roomy t q.area) same ∙ roomy;
+  roomy = ap (λ (q : Place). is_roomy t q.areas.length) same ∙ roomy;
   closed = λ k unbroken cleared. subst (λ (q : Place). OtherIsClosed q new) (sym same) (closed_when r broke failures_old failures_new A (OtherIsClosed place new) (shut k) unbroken);
   images = λ k unbroken i there out.
       subst (λ (q : Place). IsPartOut t net (content_beside q new) i (get_or t.pages i 0)) (sym same)
@@ -139,27 +140,27 @@ put_copies keeps net new place to t p r broke failures_old failures_new roomy A 
 }
 
 -- the other area's gate is closed, or was closed: its content stays
-pub clear_content : (place : Place) (s new : State) → HEAD_BYTES + 2 * place.area ≤ length s.now.bytes → 1 ≤ place.area
+pub clear_content : (place : Place) (s new : State) → areas_end place.areas ≤ length s.now.bytes → 1 ≤ place.areas.length
     → Called (clear_calls (if_open (other_gate place) s.now.bytes)) s new → content_beside place new ≡ content_beside place s
 clear_content place s new whole some called = go (is_open (u8_at s.now.bytes (other_gate place))) called
   where
     go : (found : Bool) → Called (clear_calls (if found then Some (other_gate place) else None)) s new → content_beside place new ≡ content_beside place s
-    go false did = ap (λ (m : Moment). content_of place.area (not place.second) m.bytes) did.now
+    go false did = ap (λ (m : Moment). content_of place.areas (not place.second) m.bytes) did.now
     go true did =
-        let room = areas_fit place.area (length s.now.bytes) (not place.second) whole in
+        let room = areas_fit place.areas (length s.now.bytes) (not place.second) whole in
         content_kept place (other_gate place) 1 s new
         (subst (SameOutside (other_gate place) 1 s.now.bytes) (sym (ap (λ (m : Moment). m.bytes) did.now)) (written_same_outside s.now.bytes (other_gate place) gate_closed (omega (arith, room, some))))
         (inl (omega arith)) some
 
 -- a piece that was put leaves the images of other nodes
-pub piece_images : (t : Topology) (net : MarkedNetwork NodeState) (place : Place) (s new : State) (node piece : ℕ) (bytes : List ℕ) (p : Progress) → HEAD_BYTES + 2 * place.area ≤ length s.now.bytes
-    → is_roomy t place.area ≡ true → node < length t.pages → piece ≤ get_or t.pages node 0 → length bytes ≡ piece_length piece → is_out p node ≡ false
+pub piece_images : (t : Topology) (net : MarkedNetwork NodeState) (place : Place) (s new : State) (node piece : ℕ) (bytes : List ℕ) (p : Progress) → areas_end place.areas ≤ length s.now.bytes
+    → is_roomy t place.areas.length ≡ true → node < length t.pages → piece ≤ get_or t.pages node 0 → length bytes ≡ piece_length piece → is_out p node ≡ false
     → Called (put_calls ((other_gate place + 1 + piece_place t node piece, bytes) ∷ [])) s new
     → ((i : ℕ) → i < length t.pages → is_out p i ≡ true → IsPartOut t net (content_beside place s) i (get_or t.pages i 0))
     → (i : ℕ) → i < length t.pages → is_out p i ≡ true → IsPartOut t net (content_beside place new) i (get_or t.pages i 0)
 piece_images t net place s new node piece bytes p whole roomy there low long free called images i i_there out =
-    let inside : piece_place t node piece + piece_length piece < place.area = piece_inside t place.area node piece roomy there low in
-    let size : length (content_beside place s) ≡ place.area - 1 = length-content_of place.area (not place.second) s.now.bytes (areas_fit place.area (length s.now.bytes) (not place.second) whole) in
+    let inside : piece_place t node piece + piece_length piece < place.areas.length = piece_inside t place.areas.length node piece roomy there low in
+    let size : length (content_beside place s) ≡ place.areas.length - 1 = length-content_of place.areas (not place.second) s.now.bytes (areas_fit place.areas (length s.now.bytes) (not place.second) whole) in
     let other : i ≢ node = λ same. true≢false (sym out ∙ ap (is_out p) same ∙ free) in
     subst (λ xs. IsPartOut t net xs i (get_or t.pages i 0)) (sym (put_content place (piece_place t node piece) bytes s new whole (omega (arith, inside, long)) called))
     (other_kept t net (content_beside place s) node piece bytes long (omega (arith, inside, size)) i other i_there there low (images i i_there out))
@@ -208,5 +209,5 @@ out_more keeps net s place broken t p node C stands = record {
 }
 
 -- a place in the content of the other area
-pub piece_room : (place : Place) (s : State) (end : ℕ) → HEAD_BYTES + 2 * place.area ≤ length s.now.bytes → end < place.area → end ≤ length (content_beside place s)
-piece_room place s end whole inside = omega (arith, inside, length-content_of place.area (not place.second) s.now.bytes (areas_fit place.area (length s.now.bytes) (not place.second) whole))
+pub piece_room : (place : Place) (s : State) (end : ℕ) → areas_end place.areas ≤ length s.now.bytes → end < place.areas.length → end ≤ length (content_beside place s)
+piece_room place s end whole inside = omega (arith, inside, length-content_of place.areas (not place.second) s.now.bytes (areas_fit place.areas (length s.now.bytes) (not place.second) whole))

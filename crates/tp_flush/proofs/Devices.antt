@@ -3,7 +3,8 @@ use Rattle.std.proofs.Common.{◌≡◌, ℕ, ◌+◌, ◌*◌, ◌≤◌, ◌<�
 use Rattle.std.specs.Prelude.{not, if◌then◌else◌}
 use Rattle.std.specs.List.{AllByRecursion}
 use Rattle.tp_model.specs.declared.entry.Entry.{Entry}
-use Rattle.tp_model.specs.declared.limits.TheConstants.{AREA_HEAD_BYTES, HEAD_BYTES}
+use Rattle.tp_model.specs.declared.areas.TwoAreas.{TwoAreas}
+use Rattle.tp_model.specs.declared.limits.TheConstants.{AREA_HEAD_BYTES}
 use Rattle.tp_model.specs.Bytes.{u8_at}
 use Rattle.tp_model.specs.NodeState.{NodeState}
 use Rattle.tp_model.specs.Node.{t414, t414_ends}
@@ -12,7 +13,7 @@ use Rattle.tp_model.specs.Snapshot.{MarkedNetwork}
 use Rattle.tp_model.specs.Acts.{Act, acted, happens}
 use Rattle.tp_model.specs.Areas.{gate_closed}
 use Rattle.tp_model.specs.Runs.{World, is_trim}
-use Rattle.tp_model.specs.Device.{area_start, is_open}
+use Rattle.tp_model.specs.Device.{area_start, areas_end, is_open}
 use Rattle.tp_model.specs.Disk.{Moment, SameOutside}
 use Rattle.tp_model.specs.DiskHistory.{State}
 use Rattle.tp_model.specs.StoreCalls.{Called, clear_calls, put_calls}
@@ -42,28 +43,28 @@ use Rattle.tp_flush.proofs.Puts.{Answered as PutAnswered, after_put}
 
 -- what the head says
 abbrev pub says : Topology → Place → Head
-says t place = record { topology = t; area = place.area }
+says t place = record { topology = t; areas = place.areas }
 
--- over a world of the same kept cut, in areas as long
-pub same_device : (keeps : Type 0) (most : Option ℕ) (w v : World NodeState) (s new : State) (place to : Place) (broken broke : Bool) (t : Topology) → v.base ≡ w.base → v.net.start ≡ w.net.start → to.area ≡ place.area
+-- over a world of the same kept cut, in the same areas
+pub same_device : (keeps : Type 0) (most : Option ℕ) (w v : World NodeState) (s new : State) (place to : Place) (broken broke : Bool) (t : Topology) → v.base ≡ w.base → v.net.start ≡ w.net.start → to.areas ≡ place.areas
     → (keeps → broke ≡ false → head_of new.now.bytes ≡ Ok (says t place)) → IsOfDevice keeps most w s place broken t → IsOfDevice keeps most v new to broke t
-same_device keeps most w v s new place to broken broke t base start area head D = record {
+same_device keeps most w v s new place to broken broke t base start areas head D = record {
   spelt = subst (λ (n : ℕ). CutSpelt t n v.net.start) (sym base) (subst (λ (net : Network NodeState). CutSpelt t w.base net) (sym start) D.spelt);
-  bound = D.bound ∙ ap (λ n. Some (room t n)) (sym area);
-  head = λ k unbroken. head k unbroken ∙ ap (λ n. Ok (record { topology = t; area = n })) (sym area);
+  bound = D.bound ∙ ap (λ (a : TwoAreas). Some (room t a.length)) (sym areas);
+  head = λ k unbroken. head k unbroken ∙ ap (λ a. Ok (record { topology = t; areas = a })) (sym areas);
 }
 
 -- ## The opening
 
-pub first_device : (keeps : Type 0) (most : Option ℕ) (w : World NodeState) (s : State) (place : Place) (broken : Bool) (t : Topology) (o : Opened) → t ≡ o.head.topology → place.area ≡ o.head.area → w.base ≡ o.base → w.net.start ≡ o.cut
-    → CutSpelt o.head.topology o.base o.cut → most ≡ Some (room o.head.topology o.head.area) → (keeps → verdict s.now.bytes ≡ Ok o) → IsOfDevice keeps most w s place broken t
+pub first_device : (keeps : Type 0) (most : Option ℕ) (w : World NodeState) (s : State) (place : Place) (broken : Bool) (t : Topology) (o : Opened) → t ≡ o.head.topology → place.areas ≡ o.head.areas → w.base ≡ o.base → w.net.start ≡ o.cut
+    → CutSpelt o.head.topology o.base o.cut → most ≡ Some (room o.head.topology o.head.areas.length) → (keeps → verdict s.now.bytes ≡ Ok o) → IsOfDevice keeps most w s place broken t
 unfolding verdict
-first_device keeps most w s place broken t o topology area base start spelt bound reads = record {
+first_device keeps most w s place broken t o topology areas base start spelt bound reads = record {
   spelt =
       subst (λ (u : Topology). CutSpelt u w.base w.net.start) (sym topology) (subst (λ (n : ℕ). CutSpelt o.head.topology n w.net.start) (sym base)
       (subst (λ (net : Network NodeState). CutSpelt o.head.topology o.base net) (sym start) spelt));
-  bound = bound ∙ (λ i. Some (room (sym topology i) (sym area i)));
-  head = λ k unbroken. (reads_of t414 t414_ends s.now.bytes o (reads k)).head ∙ (λ i. Ok (record { topology = sym topology i; area = sym area i }));
+  bound = bound ∙ (λ i. Some (room (sym topology i) (sym areas i).length));
+  head = λ k unbroken. (reads_of t414 t414_ends s.now.bytes o (reads k)).head ∙ (λ i. Ok (record { topology = sym topology i; areas = sym areas i }));
 }
 
 -- ## A look at the book
@@ -100,15 +101,15 @@ group_start false next w disk = refl
 
 pub append_device : (keeps : Type 0) (most : Option ℕ) (w : World NodeState) (s new : State) (place to : Place) (t : Topology) (es : List Entry) (r : Result Unit StoreFault) (broke : Bool) (filled : Option Place) (failures_old failures_new : ℕ)
     → IsOfDevice keeps most w s place false t → Answered r es place to broke filled failures_old failures_new → CanBeAppended place.next es → has_room place (length es) ≡ true
-    → area_start place.area place.second + AREA_HEAD_BYTES ≤ place.end → (keeps → HEAD_BYTES + 2 * place.area ≤ length s.now.bytes) → (keeps → OnOk r (Appended es place s new))
+    → area_start place.areas place.second + AREA_HEAD_BYTES ≤ place.end → (keeps → areas_end place.areas ≤ length s.now.bytes) → (keeps → OnOk r (Appended es place s new))
     → IsOfDevice keeps most (after_group broke to.next w new.now) new to broke t
 append_device keeps most w s new place to t es (Ok x) broke filled failures_old failures_new D A can fits low whole did =
-    same_device keeps most w (after_group broke to.next w new.now) s new place to false broke t (group_base broke to.next w new.now) (group_start broke to.next w new.now) (ap (λ (q : Place). q.area) A.done.0)
+    same_device keeps most w (after_group broke to.next w new.now) s new place to false broke t (group_base broke to.next w new.now) (group_start broke to.next w new.now) (ap (λ (q : Place). q.areas) A.done.0)
     (λ k unbroken.
     head_kept place.end (1 + length (body_of place.next es)) s.now.bytes new.now.bytes (says t place) (group_outside place s new es can fits low (whole k) (did k).called)
-    (omega (arith, low, head_first place.area place.second)) (D.head k refl)) D
+    (omega (arith, low, head_first place.areas place.second)) (D.head k refl)) D
 append_device keeps most w s new place to t es (Err e) broke filled failures_old failures_new D A can fits low whole did =
-    same_device keeps most w (after_group broke to.next w new.now) s new place to false broke t (group_base broke to.next w new.now) (group_start broke to.next w new.now) (ap (λ (q : Place). q.area) A.failed.1)
+    same_device keeps most w (after_group broke to.next w new.now) s new place to false broke t (group_base broke to.next w new.now) (group_start broke to.next w new.now) (ap (λ (q : Place). q.areas) A.failed.1)
     (λ k unbroken. let no = A.failed.2 in cc) D
 
 -- ## Bytes in the other area
@@ -125,24 +126,24 @@ pub put_device : (keeps : Type 0) (most : Option ℕ) (w : World NodeState) (s n
     → IsOfDevice keeps most w s place false t → PutAnswered r broke failures_old failures_new → to ≡ place → (keeps → OnOk r (head_of new.now.bytes ≡ Ok (says t place)))
     → IsOfDevice keeps most (after_put broke w new.now) new to broke t
 put_device keeps most w s new place to t r broke failures_old failures_new D A same head =
-    same_device keeps most w (after_put broke w new.now) s new place to false broke t (put_base broke w new.now) (put_start broke w new.now) (ap (λ (q : Place). q.area) same)
+    same_device keeps most w (after_put broke w new.now) s new place to false broke t (put_base broke w new.now) (put_start broke w new.now) (ap (λ (q : Place). q.areas) same)
     (λ k unbroken. closed_when r broke failures_old failures_new A (head_of new.now.bytes ≡ Ok (says t place)) (head k) unbroken) D
 
 -- the head, behind a piece
-pub piece_head : (place : Place) (at : ℕ) (bytes : List ℕ) (s new : State) (head : Head) → HEAD_BYTES + 2 * place.area ≤ length s.now.bytes → at + length bytes < place.area
-    → Called (put_calls ((other_gate place + 1 + at, bytes) ∷ [])) s new → head_of s.now.bytes ≡ Ok head → head_of new.now.bytes ≡ Ok head
-piece_head place at bytes s new head whole small called is =
-    head_kept (other_gate place + 1 + at) (length bytes) s.now.bytes new.now.bytes head (put_same place at bytes s new whole small called) (omega (arith, head_first place.area (not place.second))) is
+pub piece_head : (place : Place) (at : ℕ) (bytes : List ℕ) (s new : State) (t : Topology) → areas_end place.areas ≤ length s.now.bytes → at + length bytes < place.areas.length
+    → Called (put_calls ((other_gate place + 1 + at, bytes) ∷ [])) s new → head_of s.now.bytes ≡ Ok (says t place) → head_of new.now.bytes ≡ Ok (says t place)
+piece_head place at bytes s new t whole small called is =
+    head_kept (other_gate place + 1 + at) (length bytes) s.now.bytes new.now.bytes (says t place) (put_same place at bytes s new whole small called) (omega (arith, head_first place.areas (not place.second))) is
 
 -- and behind the other area's gate, which was closed, or was closed before
-pub clear_head : (place : Place) (s new : State) (head : Head) → HEAD_BYTES + 2 * place.area ≤ length s.now.bytes → 1 ≤ place.area
-    → Called (clear_calls (if_open (other_gate place) s.now.bytes)) s new → head_of s.now.bytes ≡ Ok head → head_of new.now.bytes ≡ Ok head
-clear_head place s new head whole some called is = go (is_open (u8_at s.now.bytes (other_gate place))) called
+pub clear_head : (place : Place) (s new : State) (t : Topology) → areas_end place.areas ≤ length s.now.bytes → 1 ≤ place.areas.length
+    → Called (clear_calls (if_open (other_gate place) s.now.bytes)) s new → head_of s.now.bytes ≡ Ok (says t place) → head_of new.now.bytes ≡ Ok (says t place)
+clear_head place s new t whole some called is = go (is_open (u8_at s.now.bytes (other_gate place))) called
   where
-    go : (found : Bool) → Called (clear_calls (if found then Some (other_gate place) else None)) s new → head_of new.now.bytes ≡ Ok head
+    go : (found : Bool) → Called (clear_calls (if found then Some (other_gate place) else None)) s new → head_of new.now.bytes ≡ Ok (says t place)
     go false did = ap (λ (m : Moment). head_of m.bytes) did.now ∙ is
     go true did =
-        let room = areas_fit place.area (length s.now.bytes) (not place.second) whole in
-        head_kept (other_gate place) 1 s.now.bytes new.now.bytes head
+        let room = areas_fit place.areas (length s.now.bytes) (not place.second) whole in
+        head_kept (other_gate place) 1 s.now.bytes new.now.bytes (says t place)
         (subst (SameOutside (other_gate place) 1 s.now.bytes) (sym (ap (λ (m : Moment). m.bytes) did.now)) (written_same_outside s.now.bytes (other_gate place) gate_closed (omega (arith, room, some))))
-        (head_first place.area (not place.second)) is
+        (head_first place.areas (not place.second)) is

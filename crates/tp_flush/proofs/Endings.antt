@@ -14,9 +14,9 @@ use Rattle.tp_flush.specs.Flushing.{Flushing, Looked}
 use Rattle.tp_flush.specs.Ends.{Ended, Failed, Stored, Waits}
 use Rattle.tp_flush.proofs.Appends.{Answered, after_group, appended, failed_at}
 
-pub if_ok_both : {A E : Type 0} (P Q R : A → Type 0) (r : Result A E) → ((x : A) → P x → Q x → R x) → IfOk r P → IfOk r Q → IfOk r R
-if_ok_both P Q R (Ok x) both p q = both x p q
-if_ok_both P Q R (Err e) both p q = tt
+pub if_ok_three : {A E : Type 0} (P Q R S : A → Type 0) (r : Result A E) → ((x : A) → P x → Q x → R x → S x) → IfOk r P → IfOk r Q → IfOk r R → IfOk r S
+if_ok_three P Q R S (Ok x) three p q r = three x p q r
+if_ok_three P Q R S (Err e) three p q r = tt
 
 -- what rests isn't broken
 pub never_both : {P : Type 0} (pos : Position NodeState) → pos ≡ Resting → pos ≡ Broken → P

@@ -4,7 +4,7 @@ use Rattle.std.specs.Prelude.{◌-◌, drop, max}
 use Rattle.std.specs.List.{AllByRecursion}
 use Rattle.tp_model.specs.declared.entry.Entry.{Entry}
 use Rattle.tp_model.specs.declared.limits.TheConstants.{NUMBER_LIMIT}
-use Rattle.tp_model.specs.EntryBytes.{is_in_range}
+use Rattle.tp_model.specs.EntryBytes.{IsSpelt}
 use Rattle.tp_model.specs.NodeState.{NodeState}
 use Rattle.tp_model.specs.Node.{t414}
 use Rattle.tp_model.specs.Network.{Network}
@@ -12,10 +12,12 @@ use Rattle.tp_model.specs.Topology.{Topology}
 use Rattle.tp_model.specs.Snapshot.{MarkedNetwork}
 use Rattle.tp_model.specs.DiskHistory.{State}
 use Rattle.tp_model.specs.WriteOrder.{Resting}
-use Rattle.tp_model.specs.DeviceAreas.{device_areas}
+use Rattle.tp_model.specs.DeviceAreas.{device_areas, numbered}
 use Rattle.tp_model.specs.Runs.{World}
 use Rattle.tp_model.specs.Walks.{Leads, Walks}
 use Rattle.tp_area.specs.declared.place.Place.{Place}
+use Rattle.tp_area.specs.Appended.{entries_of}
+use Rattle.tp_area.proofs.Behind.{length-entries}
 use Rattle.tp_law_runs.proofs.Walks.{run_then, still_walks}
 use Rattle.tp_flush.specs.declared.progress.Progress.{Progress}
 use Rattle.tp_flush.specs.Known.{Known, Reached}
@@ -116,15 +118,16 @@ module _ (keeps : Type 0) (start : Network NodeState) (before : World NodeState)
   -- what was copied is the backlog
   pub copied_backlog : (k : Known) (s : State) (place : Place) (broken : Bool) (mark : ℕ) → Keeps keeps start before k s place broken mark
       → (old now : Told) → IsFirst old k.world → Since old now → now.base + length now.net.entries < NUMBER_LIMIT
-      → (entries : List Entry) (upto : ℕ) → (entries ≡ drop (place.next - now.base) now.net.entries) × (upto ≡ now.base + length now.net.entries)
-      → AllByRecursion (λ e. is_in_range e ≡ true) entries → IsBacklog (copied k.world now) entries upto
-  copied_backlog k s place broken mark K old now told since numbers entries upto are each =
+      → (entries : List (Entry × ℕ)) (upto : ℕ) → (entries_of entries ≡ drop (place.next - now.base) now.net.entries) × (upto ≡ now.base + length now.net.entries)
+      → AllByRecursion (λ e. IsSpelt e.0 e.1) entries → entries ≡ numbered place.next (entries_of entries) → IsBacklog (copied k.world now) entries upto
+  copied_backlog k s place broken mark K old now told since numbers entries upto are each next =
       let base : now.base ≡ k.world.base = base_is k.world old now told since in
       let grew : length k.world.net.entries ≤ length now.net.entries = entries_stay k.world old now told since in
-      let count : length entries ≡ length now.net.entries - (place.next - now.base) = ap length are.0 ∙ length-drop (place.next - now.base) now.net.entries in
+      let count : length entries ≡ length now.net.entries - (place.next - now.base) = sym (length-entries entries) ∙ ap length are.0 ∙ length-drop (place.next - now.base) now.net.entries in
       record {
         same = are.0 ∙ ap (λ n. drop (n - now.base) now.net.entries) K.next;
         each = each;
+        next = next ∙ ap (λ n. numbered n (entries_of entries)) K.next;
         reaches = omega (arith, are.1, count, base, grew, K.cut, K.ends, K.next);
         numbers = omega (arith, count, base, grew, numbers, K.cut, K.ends, K.next);
       }

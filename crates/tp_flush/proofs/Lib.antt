@@ -21,3 +21,4 @@ mod Trimming
 mod SwitchingCalls
 mod SwitchingEnds
 mod Rooms
+pub mod Follows

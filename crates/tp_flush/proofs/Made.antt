@@ -1,5 +1,5 @@
 -- What is made of a device that opened.
-use Rattle.std.proofs.Common.{◌≡◌, ℕ, List, [], ◌∷◌, length, Option, Some, refl, ap, ◌∙◌, arith}
+use Rattle.std.proofs.Common.{◌≡◌, ℕ, List, length, Option, Some, ap, ◌∙◌, arith}
 use Rattle.std.specs.Prelude.{map}
 use Rattle.std.proofs.lemmas.List.{length-map}
 use Rattle.tp_model.specs.NodeState.{NodeState}
@@ -11,8 +11,7 @@ use Rattle.tp_model.specs.Order.{after}
 use Rattle.tp_model.specs.Spelling.{IsCut}
 use Rattle.tp_law_machine.proofs.LinkLaws.{has_four_links}
 use Rattle.tp_law_network.proofs.Reorder.{after_shape}
-use Rattle.tp_replay.specs.Replaying.{numbered}
-use Rattle.tp_book.specs.declared.note.Numbered.{Numbered}
+use Rattle.tp_model.specs.declared.entry.Entry.{Entry}
 use Rattle.tp_book.specs.declared.state.NetState.{NetState}
 use Rattle.tp_book.specs.Book.{BookValue, next_number, world_of}
 use Rattle.tp_book.specs.Opened.{kept_of, now_of, opened_book}
@@ -20,16 +19,11 @@ use Rattle.tp_mark.specs.Seen.{RaiserValue}
 use Rattle.tp_shared.specs.Parted.{PartsValue}
 use Rattle.tp_flush.specs.Made.{StandsFor}
 
--- the entries of numbered ones
-kept_entries : (ns : List Numbered) → map (λ n. n.entry) ns ≡ map (λ e. e.0) (map numbered ns)
-kept_entries [] = refl
-kept_entries (n ∷ ns) = ap (λ es. n.entry ∷ es) (kept_entries ns)
-
-pub kept_is : (s : NetState) (o : Opened) → map numbered s.kept.items ≡ o.kept → kept_of s ≡ map (λ e. e.0) o.kept
-kept_is s o same = kept_entries s.kept.items ∙ ap (λ ns. map (λ e. e.0) ns) same
+pub kept_is : (s : NetState) (o : Opened) → s.kept.items ≡ o.kept → kept_of s ≡ map (λ e. e.0) o.kept
+kept_is s o same = ap (λ (kept : List (Entry × ℕ)). map (λ e. e.0) kept) same
 
 -- the number behind its entries is the next one
-pub next_is : (s : NetState) (o : Opened) (room : Option ℕ) → s.base ≡ o.base → map numbered s.kept.items ≡ o.kept → next_number (opened_book s room) ≡ next_of o
+pub next_is : (s : NetState) (o : Opened) (room : Option ℕ) → s.base ≡ o.base → s.kept.items ≡ o.kept → next_number (opened_book s room) ≡ next_of o
 next_is s o room base kept =
     let entries : length (kept_of s) ≡ length o.kept = ap length (kept_is s o kept) ∙ length-map o.kept (λ e. e.0) in
     omega (arith, base, entries)
@@ -42,7 +36,7 @@ ports_are s o now cut leads =
 
 -- the parts of the book of a state that was opened
 pub stands : (s : NetState) (o : Opened) (room : Option ℕ) (parts : PartsValue) (raiser : RaiserValue) → now_of s ≡ o.now → s.base ≡ o.base → s.next ≡ next_of o
-    → map numbered s.kept.items ≡ o.kept → IsCut t414_ends o.head.topology o.base o.cut → after t414 o.cut (map (λ e. e.0) o.kept) ≡ Some o.now
+    → s.kept.items ≡ o.kept → IsCut t414_ends o.head.topology o.base o.cut → after t414 o.cut (map (λ e. e.0) o.kept) ≡ Some o.now
     → world_of (opened_book s room) ≡ book_of o → parts.book ≡ opened_book s room → parts.first ≡ next_number (opened_book s room)
     → raiser ≡ record { mark = parts.mark; at = s.next } → StandsFor o parts raiser
 stands s o room parts raiser now base next kept cut leads world book first raised = record {

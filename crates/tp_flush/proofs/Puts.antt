@@ -192,11 +192,11 @@ piece_inside t area node piece roomy there low =
     let wide = leb-true _ _ roomy in
     omega (arith, wide, sum_front t.pages node there, piece_ends piece (get_or t.pages node 0) low)
 
-pub piece_fits : (broken : Bool) (place : Place) (t : Topology) (node piece : ℕ) → broken ≡ false → is_roomy t place.area ≡ true → node < length t.pages → piece ≤ get_or t.pages node 0
+pub piece_fits : (broken : Bool) (place : Place) (t : Topology) (node piece : ℕ) → broken ≡ false → is_roomy t place.areas.length ≡ true → node < length t.pages → piece ≤ get_or t.pages node 0
     → put_refusal broken place (piece_place t node piece + piece_length piece) ≡ None
 piece_fits broken place t node piece unbroken roomy there low =
     ap (λ b. put_refusal b place (piece_place t node piece + piece_length piece)) unbroken
-    ∙ ap (λ b. if b then None else Some AreaFull) (lt-ltb (piece_place t node piece + piece_length piece) place.area (piece_inside t place.area node piece roomy there low))
+    ∙ ap (λ b. if b then None else Some AreaFull) (lt-ltb (piece_place t node piece + piece_length piece) place.areas.length (piece_inside t place.areas.length node piece roomy there low))
 
 pub if_answered : (r : Result Unit StoreFault) (q : Result Unit FlushFault) → MatchResult r (λ unit. q ≡ Ok unit) (λ fault. q ≡ Err DeviceFailed) → (P : Type 0) → OnOk r P → IfOk q (λ done. P)
 if_answered (Ok x) q is P given = subst (λ (y : Result Unit FlushFault). IfOk y (λ done. P)) (sym is) given

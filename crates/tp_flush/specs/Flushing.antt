@@ -3,7 +3,7 @@ use Rattle.std.specs.Prelude.{◌≡◌, ◌<◌, ◌≤◌, ℕ, ◌+◌, Bool,
 use Rattle.std.specs.List.{AllByRecursion}
 use Rattle.tp_model.specs.declared.entry.Entry.{Entry}
 use Rattle.tp_model.specs.declared.limits.TheConstants.{NUMBER_LIMIT}
-use Rattle.tp_model.specs.EntryBytes.{is_in_range}
+use Rattle.tp_model.specs.EntryBytes.{IsSpelt}
 use Rattle.tp_model.specs.NodeState.{NodeState}
 use Rattle.tp_model.specs.Node.{t414}
 use Rattle.tp_model.specs.Network.{Network}
@@ -12,10 +12,11 @@ use Rattle.tp_model.specs.Journal.{is_roomy, room}
 use Rattle.tp_model.specs.Head.{head_of}
 use Rattle.tp_model.specs.DiskHistory.{State}
 use Rattle.tp_model.specs.WriteOrder.{Position, Resting, Broken}
-use Rattle.tp_model.specs.DeviceAreas.{device_areas}
+use Rattle.tp_model.specs.DeviceAreas.{device_areas, numbered}
 use Rattle.tp_model.specs.Runs.{World}
 use Rattle.tp_model.specs.Walks.{Leads, Walks}
 use Rattle.tp_area.specs.declared.place.Place.{Place}
+use Rattle.tp_area.specs.Appended.{entries_of}
 use Rattle.tp_area.specs.Other.{OtherIsClosed}
 use Rattle.tp_area.specs.Tails.{content_beside}
 use Rattle.tp_model.specs.Snapshot.{MarkedNetwork}
@@ -56,16 +57,16 @@ pub record Keeps (keeps : Type 0) (start : Network NodeState) (before : World No
 -- What it keeps for the copy of a snapshot: its areas have room for any cut of its topology; the other area's gate is closed once
 -- that was done for the snapshot; and each frozen image that is out stands there.
 pub record Copies (keeps : Type 0) (net : MarkedNetwork NodeState) (state : State) (place : Place) (broken : Bool) (t : Topology) (progress : Progress) : Type 0 where
-  pub roomy : is_roomy t place.area ≡ true
+  pub roomy : is_roomy t place.areas.length ≡ true
   pub closed : keeps → broken ≡ false → progress.cleared ≡ true → OtherIsClosed place state
   pub images : keeps → broken ≡ false → (i : ℕ) → i < length t.pages → is_out progress i ≡ true → IsPartOut t net (content_beside place state) i (get_or t.pages i 0)
 
 -- What it keeps for the switch to the other area: the kept cut has an image on a device of its topology; the book is bound to the
--- room of its areas; and the device's head says the topology, and how many bytes an area has.
+-- room of its areas; and the device's head says the topology, and where the areas are.
 pub record IsOfDevice (keeps : Type 0) (most : Option ℕ) (w : World NodeState) (state : State) (place : Place) (broken : Bool) (t : Topology) : Type 0 where
   pub spelt : CutSpelt t w.base w.net.start
-  pub bound : most ≡ Some (room t place.area)
-  pub head : keeps → broken ≡ false → head_of state.now.bytes ≡ Ok (record { topology = t; area = place.area })
+  pub bound : most ≡ Some (room t place.areas.length)
+  pub head : keeps → broken ≡ false → head_of state.now.bytes ≡ Ok (record { topology = t; areas = place.areas })
 
 -- Each moment of the device since is that of a world on the way of one run.
 abbrev pub Walked : Flushing → Flushing → Type 0
@@ -91,10 +92,12 @@ pub record IsSameProcess (old new : Flushing) : Type 0 where
   pub size : new.size ≡ old.size
   pub topology : new.topology ≡ old.topology
 
--- The backlog was copied: `entries`, whose bytes and numbers are in their ranges, and which end below `upto`.
-pub record IsBacklog (w : World NodeState) (entries : List Entry) (upto : ℕ) : Type 0 where
-  pub same : entries ≡ w.backlog
-  pub each : AllByRecursion (λ e. is_in_range e ≡ true) entries
+-- The backlog was copied: `entries`, which have a spelling and the numbers that come next on the device, and which end below
+-- `upto`.
+pub record IsBacklog (w : World NodeState) (entries : List (Entry × ℕ)) (upto : ℕ) : Type 0 where
+  pub same : entries_of entries ≡ w.backlog
+  pub each : AllByRecursion (λ e. IsSpelt e.0 e.1) entries
+  pub next : entries ≡ numbered w.stored (entries_of entries)
   pub reaches : upto ≡ w.stored + length entries
   pub numbers : w.stored + length entries < NUMBER_LIMIT
 

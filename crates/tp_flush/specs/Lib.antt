@@ -11,3 +11,4 @@ pub mod Switching
 pub mod Due
 pub mod History
 pub mod Made
+pub mod Follows

@@ -54,7 +54,7 @@ impl<J: Naming, D: Disk> Model for Flusher<J, D> {
 
     ghost view = { λ f. record { world = f.parts.whole.known.world; state = D.state f.parts.store.disk; size = D.size_of f.parts.store.disk; failures = D.failures_of f.parts.store.disk; opened = f.parts.whole.known.opened; place = f.parts.store.place; topology = f.parts.topology; progress = f.parts.progress } };
 
-    ghost invariant = { λ f. (f.parts.key.name ≡ J.flusher) × (f.parts.raiser.mark ≡ J.mark) × IsFirst f.parts.key.value f.parts.whole.known.world × Keeps D.keeps J.formatted J.before f.parts.whole.known (D.state f.parts.store.disk) f.parts.store.place f.parts.store.broken f.parts.raiser.at × Copies D.keeps f.parts.whole.known.world.net (D.state f.parts.store.disk) f.parts.store.place f.parts.store.broken f.parts.topology f.parts.progress × IsOfDevice D.keeps J.room f.parts.whole.known.world (D.state f.parts.store.disk) f.parts.store.place f.parts.store.broken f.parts.topology × (J.first ≤ f.parts.whole.known.world.stored) };
+    ghost invariant = { λ f. (f.parts.key.name ≡ J.flusher) × (f.parts.raiser.mark ≡ J.mark) × IsFirst f.parts.key.value f.parts.whole.known.world × Keeps D.keeps J.formatted J.before f.parts.whole.known (D.state f.parts.store.disk) f.parts.store.place f.parts.store.broken f.parts.raiser.at × Copies D.keeps f.parts.whole.known.world.net (D.state f.parts.store.disk) f.parts.store.place f.parts.store.broken f.parts.topology f.parts.progress × IsOfDevice D.keeps J.room f.parts.whole.known.world (D.state f.parts.store.disk) f.parts.store.place f.parts.store.broken f.parts.topology × (J.first ≤ f.parts.whole.known.world.stored) × (f.parts.key.value.numbered_from ≤ f.parts.whole.known.world.stored) };
 }
 
 impl<J: Naming, D: Disk> Flusher<J, D> {
@@ -69,15 +69,16 @@ impl<J: Naming, D: Disk> Flusher<J, D> {
     ) -> Flusher<J, D>
         requires name { key.name ≡ J.flusher }
         requires told { IsFirst key.value (reopened J.before (D.state store.disk).now.bytes (held_of opened.now) opened.now.now) }
+        requires numbered { key.value.numbered_from ≡ J.first }
         requires unbroken { store.broken ≡ false }
         requires next { store.place.next ≡ next_of opened.now }
         requires raiser { raiser ≡ record { mark = J.mark; at = next_of opened.now } }
         requires read { D.keeps → verdict (D.state store.disk).now.bytes ≡ Ok opened.now }
         requires synced { D.keeps → IsSynced (D.state store.disk) }
         requires topology { topology ≡ opened.now.head.topology }
-        requires area { store.place.area ≡ opened.now.head.area }
-        requires roomy { is_roomy opened.now.head.topology opened.now.head.area ≡ true }
-        requires bound { J.room ≡ Some (room opened.now.head.topology opened.now.head.area) }
+        requires areas { store.place.areas ≡ opened.now.head.areas }
+        requires roomy { is_roomy opened.now.head.topology opened.now.head.areas.length ≡ true }
+        requires bound { J.room ≡ Some (room opened.now.head.topology opened.now.head.areas.length) }
         requires first { J.first ≡ next_of opened.now }
         ensures world { result.world ≡ reopened J.before (D.state store.disk).now.bytes (held_of opened.now) opened.now.now }
         ensures opened { result.opened ≡ (D.state store.disk).now.bytes }
@@ -98,15 +99,16 @@ impl<J: Naming, D: Disk> Flusher<J, D> {
     ) -> Flusher<J, D>
         requires name { key.name ≡ J.flusher }
         requires told { IsFirst key.value (reopened J.before (D.state store.disk).now.bytes (held_of opened.value) opened.value.now) }
+        requires numbered { key.value.numbered_from ≡ J.first }
         requires unbroken { store.broken ≡ false }
         requires next { store.place.next ≡ next_of opened.value }
         requires raiser { raiser ≡ record { mark = J.mark; at = next_of opened.value } }
         requires read { D.keeps → verdict (D.state store.disk).now.bytes ≡ Ok opened.value }
         requires synced { D.keeps → IsSynced (D.state store.disk) }
         requires topology { topology ≡ opened.value.head.topology }
-        requires area { store.place.area ≡ opened.value.head.area }
-        requires roomy { is_roomy opened.value.head.topology opened.value.head.area ≡ true }
-        requires bound { J.room ≡ Some (room opened.value.head.topology opened.value.head.area) }
+        requires areas { store.place.areas ≡ opened.value.head.areas }
+        requires roomy { is_roomy opened.value.head.topology opened.value.head.areas.length ≡ true }
+        requires bound { J.room ≡ Some (room opened.value.head.topology opened.value.head.areas.length) }
         requires first { J.first ≡ next_of opened.value }
         requires cut { IsCut t414_ends opened.value.head.topology opened.value.base opened.value.cut }
         requires bytes { AllByRecursion IsNodeOfBytes opened.value.cut.nodes }

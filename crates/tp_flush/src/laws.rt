@@ -1,6 +1,7 @@
 //! Laws of processes, one after the other. The functions do nothing; their contracts are the laws.
 
 ghost use Rattle.std.specs.Prelude.{ℕ, List};
+ghost use Rattle.tp_model.specs.declared.areas.TwoAreas.{TwoAreas};
 ghost use Rattle.tp_model.specs.NodeState.{NodeState};
 ghost use Rattle.tp_model.specs.Network.{Network};
 ghost use Rattle.tp_model.specs.Topology.{Topology};
@@ -11,7 +12,7 @@ ghost use Rattle.tp_flush.specs.Known.{Began, Reached};
 
 /// The first process begins with a device that was formatted: whatever a crash leaves of it from then on.
 pub fn first_process_begins()
-    ensures { (t : Topology) (area : ℕ) (images : List (List ℕ)) (start : Network NodeState) (bytes : List ℕ) → WasFormatted t area images start bytes
+    ensures { (t : Topology) (areas : TwoAreas) (images : List (List ℕ)) (start : Network NodeState) (bytes : List ℕ) → WasFormatted t areas images start bytes
         → (left : List ℕ) → MayBe (formatted_world start bytes).disk left → Began start (formatted_world start bytes) left }
 {}
 

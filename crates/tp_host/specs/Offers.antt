@@ -1,5 +1,5 @@
 -- Why offers are refused.
-use Rattle.std.specs.Prelude.{◌<◌, ℕ, ◌==◌, nat_lt, if◌then◌else◌, length, Option, Some, None}
+use Rattle.std.specs.Prelude.{◌<◌, ℕ, ◌==◌, nat_lt, if◌then◌else◌, Option, Some, None}
 use Rattle.tp_book.specs.Book.{BookValue}
 use Rattle.tp_book.specs.Host.{accepted_of, port_in, room_of}
 use Rattle.tp_book.specs.Refusals.{is_journal_full}
@@ -45,7 +45,7 @@ IsInputRefusal refusal.NothingToTake = ⊥
 IsInputRefusal refusal.SnapshotRunning = ⊥
 IsInputRefusal refusal.PortFull = Unit {0}
 
--- the same reason as a fault, at a port that has so much room
+-- a reason of the book as a fault, at a port that has so much room
 abbrev pub input_fault : ℕ → Refusal → OfferFault
 input_fault room refusal.JournalFull = JournalFull
 input_fault room refusal.StoreBroken = StoreBroken

@@ -38,7 +38,7 @@ IsConfirmRefusal refusal.NothingToTake = ⊥
 IsConfirmRefusal refusal.SnapshotRunning = ⊥
 IsConfirmRefusal refusal.PortFull = ⊥
 
--- the same reason as a fault
+-- a reason of the book as a fault
 abbrev pub confirmation_fault : Refusal → ConfirmFault
 confirmation_fault refusal.JournalFull = JournalFull
 confirmation_fault refusal.StoreBroken = StoreBroken

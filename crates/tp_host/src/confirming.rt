@@ -3,7 +3,7 @@
 ghost use Rattle.std.specs.Prelude.{◌≡◌, ◌<◌, ◌≤◌, [], length, IsOk, IfOk, OnErr};
 ghost use Rattle.tp_book.specs.Book.{next_number};
 ghost use Rattle.tp_book.specs.Host.{after_confirm, port_in};
-ghost use Rattle.tp_shared.specs.Entries.{confirm_entries};
+ghost use Rattle.tp_book.specs.Acts.{confirm_entries};
 ghost use Rattle.tp_shared.specs.Gains.{Noted};
 ghost use Rattle.tp_host.specs.Answers.{Answers};
 ghost use Rattle.tp_host.specs.Outputs.{confirm_fault};

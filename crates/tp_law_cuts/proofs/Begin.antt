@@ -1,6 +1,6 @@
 -- A snapshot begins.
 use Rattle.std.proofs.Common.{◌≡◌, ◌≢◌, ℕ, ◌+◌, ◌*◌, ◌/◌, ◌<◌, ◌≤◌, true, false, cond, not, inl, inr, List, [], ◌∷◌, ◌++◌, length, map, replicate, get_or, refl, sym, ap, subst, ◌∙◌, arith, Option, Some, None, append-nil, length-append, eq-eqb, ne_eqb}
-use Rattle.std.specs.Prelude.{◌&&◌, is_some}
+use Rattle.std.specs.Prelude.{◌&&◌, is_some, length}
 use Rattle.std.specs.Option.{option_map}
 use Rattle.std.proofs.lemmas.Bool.{cases_eq, cases_lt, cases_order, true≢false, lt-ltb, le-ltb}
 use Rattle.std.proofs.lemmas.List.{length-replicate, get_or-replicate, get_or_append_left, get_or_at, get_or_past, length-map}
@@ -36,16 +36,16 @@ own_past s p h = own-node s p (λ e. omega arith) ∙ ap (option_map OfNode) (sl
 
 -- there are no entries of others
 pub made_past : {Node : Type 0} (M : Machine Node) → HasFourLinks M → (s t : Network Node) (es : List Entry) → after M s es ≡ Some t
-    → (p : ℕ) → length s.nodes < p → ◌≡◌ {A = ℕ} (made (process s) p es) 0
+    → (p : ℕ) → length s.nodes < p → ◌≡◌ {A = ℕ} (made (process s.wires (length s.nodes)) p es) 0
 unfolding made
 made_past M four s t [] h p past = refl
 made_past M four s t (e ∷ es) h p past =
     let F = first_possible M s t e es h in
     let S = step_of M s e F.0 F.1 in
-    let within : process s e ≤ length s.nodes = own_within s (process s e) S.was S.own_was in
+    let within : process s.wires (length s.nodes) e ≤ length s.nodes = own_within s (process s.wires (length s.nodes) e) S.was S.own_was in
     let shape = next_shape M four s e F.0 F.1 in
     let still : length F.0.nodes < p = subst (λ n. n < p) (sym shape.nodes) past in
-    made-other (process s) p e es (λ x. omega arith)
+    made-other (process s.wires (length s.nodes)) p e es (λ x. omega arith)
     ∙ ap (λ of. made of p es) (sym (process_next M four s e F.0 F.1))
     ∙ made_past M four F.0 t es F.2 p still
 
@@ -68,7 +68,7 @@ module _ {Node : Type 0} (M : Machine Node) (four : HasFourLinks M) (w : MarkedN
   marks = host_markers N (length w.live.ports)
 
   abbrev snap : Snapshot
-  snap = first_snapshot N (length w.live.lines) (made (process w.start) N w.entries) w.live.ports (length w.entries)
+  snap = first_snapshot N (length w.live.lines) (made (process w.start.wires (length w.start.nodes)) N w.entries) w.live.ports (length w.entries)
 
   all : AreMarkers marks
   all = host_markers_all N (length w.live.ports)
@@ -77,14 +77,14 @@ module _ {Node : Type 0} (M : Machine Node) (four : HasFourLinks M) (w : MarkedN
 
   count_node : (p : ℕ) → p < N → count_of snap p ≡ None
   count_node p h =
-      get_or_append_left (replicate N None) (Some (made (process w.start) N w.entries) ∷ []) (Some 0) p (subst (λ n. p < n) (sym (length-replicate N None)) h)
+      get_or_append_left (replicate N None) (Some (made (process w.start.wires (length w.start.nodes)) N w.entries) ∷ []) (Some 0) p (subst (λ n. p < n) (sym (length-replicate N None)) h)
       ∙ get_or-replicate N p None (Some 0) h
 
-  count_host : count_of snap N ≡ Some (made (process w.start) N w.entries)
-  count_host = get_or_at (replicate N None) (Some (made (process w.start) N w.entries)) [] (Some 0) N (length-replicate N None)
+  count_host : count_of snap N ≡ Some (made (process w.start.wires (length w.start.nodes)) N w.entries)
+  count_host = get_or_at (replicate N None) (Some (made (process w.start.wires (length w.start.nodes)) N w.entries)) [] (Some 0) N (length-replicate N None)
 
   count_length : length snap.counts ≡ N + 1
-  count_length = length-append (replicate N None) (Some (made (process w.start) N w.entries) ∷ []) ∙ ap (λ n. n + 1) (length-replicate N None)
+  count_length = length-append (replicate N None) (Some (made (process w.start.wires (length w.start.nodes)) N w.entries) ∷ []) ∙ ap (λ n. n + 1) (length-replicate N None)
 
   count_past : (p : ℕ) → N < p → count_of snap p ≡ Some 0
   count_past p h = get_or_past snap.counts p (Some 0) (omega (arith, count_length))
@@ -119,26 +119,26 @@ module _ {Node : Type 0} (M : Machine Node) (four : HasFourLinks M) (w : MarkedN
 
   -- ## All entries are in the cut
 
-  all_in : (p n : ℕ) → 0 ≤ n → n < 0 + made (process w.start) p w.entries → in_cut snap p n ≡ true
+  all_in : (p n : ℕ) → 0 ≤ n → n < 0 + made (process w.start.wires (length w.start.nodes)) p w.entries → in_cut snap p n ≡ true
   all_in p n low high = elim (cases_order p N) [
-    | inl e ↦ ap (λ q. in_cut snap q n) e ∙ ap (λ c. in_count c n) count_host ∙ lt-ltb n (made (process w.start) N w.entries) (at_host e)
+    | inl e ↦ ap (λ q. in_cut snap q n) e ∙ ap (λ c. in_count c n) count_host ∙ lt-ltb n (made (process w.start.wires (length w.start.nodes)) N w.entries) (at_host e)
     | inr (inl below) ↦ ap (λ c. in_count c n) (count_node p below)
     | inr (inr past) ↦ absurd (omega (arith, made_past M four w.start (plain_network w.live) w.entries B.now p (subst (λ k. k < p) (live_nodes M four w B) past)))
   ]
     where
-      at_host : p ≡ N → n < made (process w.start) N w.entries
-      at_host e = subst (λ q. n < made (process w.start) q w.entries) e (omega arith)
+      at_host : p ≡ N → n < made (process w.start.wires (length w.start.nodes)) N w.entries
+      at_host e = subst (λ q. n < made (process w.start.wires (length w.start.nodes)) q w.entries) e (omega arith)
 
-  begin_early : early (process w.start) snap w.entries ≡ w.entries
-  begin_early = chosen_all (process w.start) (in_cut snap) (λ p. 0) w.entries all_in
+  begin_early : early (process w.start.wires (length w.start.nodes)) snap w.entries ≡ w.entries
+  begin_early = chosen_all (process w.start.wires (length w.start.nodes)) (in_cut snap) (λ p. 0) w.entries all_in
 
-  begin_late : late (process w.start) snap w.entries ≡ []
-  begin_late = chosen_none (process w.start) (λ p n. not (in_cut snap p n)) (λ p. 0) w.entries (λ p n low high. ap not (all_in p n low high))
+  begin_late : late (process w.start.wires (length w.start.nodes)) snap w.entries ≡ []
+  begin_late = chosen_none (process w.start.wires (length w.start.nodes)) (λ p n. not (in_cut snap p n)) (λ p. 0) w.entries (λ p n low high. ap not (all_in p n low high))
 
-  begin_order : Reorder M w.start w.entries (early (process w.start) snap w.entries ++ late (process w.start) snap w.entries)
+  begin_order : Reorder M w.start w.entries (early (process w.start.wires (length w.start.nodes)) snap w.entries ++ late (process w.start.wires (length w.start.nodes)) snap w.entries)
   begin_order =
       subst (λ es. Reorder M w.start w.entries es)
-      (sym (ap (λ es. early (process w.start) snap w.entries ++ es) begin_late ∙ append-nil (early (process w.start) snap w.entries) ∙ begin_early))
+      (sym (ap (λ es. early (process w.start.wires (length w.start.nodes)) snap w.entries ++ es) begin_late ∙ append-nil (early (process w.start.wires (length w.start.nodes)) snap w.entries) ∙ begin_early))
       (same w.entries)
 
   -- ## States and lines
@@ -202,11 +202,11 @@ module _ {Node : Type 0} (M : Machine Node) (four : HasFourLinks M) (w : MarkedN
     | inr h ↦ ap (has_recorded snap) (owner_past N l (omega (arith, B.lines))) ∙ has_host
   ]
 
-  begin_counted : (p k : ℕ) → count_of snap p ≡ Some k → k ≤ made (process w.start) p w.entries
+  begin_counted : (p k : ℕ) → count_of snap p ≡ Some k → k ≤ made (process w.start.wires (length w.start.nodes)) p w.entries
   begin_counted p k h = elim (cases_order p N) [
-    | inl e ↦ let is : Some (made (process w.start) N w.entries) ≡ Some k = sym count_host ∙ ap (count_of snap) (sym e) ∙ h in
-        let same_count : made (process w.start) N w.entries ≡ k = cc in
-        subst (λ q. k ≤ made (process w.start) q w.entries) (sym e) (omega arith)
+    | inl e ↦ let is : Some (made (process w.start.wires (length w.start.nodes)) N w.entries) ≡ Some k = sym count_host ∙ ap (count_of snap) (sym e) ∙ h in
+        let same_count : made (process w.start.wires (length w.start.nodes)) N w.entries ≡ k = cc in
+        subst (λ q. k ≤ made (process w.start.wires (length w.start.nodes)) q w.entries) (sym e) (omega arith)
     | inr (inl below) ↦ let none : None ≡ Some k = sym (count_node p below) ∙ h in cc
     | inr (inr past) ↦ let is : Some 0 ≡ Some k = sym (count_past p past) ∙ h in
         let zero_is : 0 ≡ k = cc in

@@ -1,6 +1,6 @@
 -- The node's half and the book's half of an act are the act.
 use Rattle.std.proofs.Common.{◌≡◌, ℕ, ◌<◌, true, false, cond, not, List, [], ◌∷◌, ◌++◌, length, set, drop, replicate, refl, sym, ap, ◌∙◌, arith, append-nil, Option, Some, None, slice_get}
-use Rattle.std.specs.Prelude.{◌&&◌}
+use Rattle.std.specs.Prelude.{◌&&◌, length}
 use Rattle.std.specs.Option.{option_map}
 use Rattle.std.proofs.lemmas.Bool.{lt-ltb}
 use Rattle.std.proofs.lemmas.List.{set-get_or}
@@ -20,7 +20,7 @@ use Rattle.tp_law_network.proofs.Lines.{first_is, without_taken}
 use Rattle.tp_law_network.proofs.Local.{Step, next_from, own-node, own-host, process_same, takes_same}
 
 module _ {Node : Type 0} (M : Machine Node) (b : BookState Node) (nodes : List Node) (frozen : List (Option Node)) (as_many : length nodes ≡ length b.start.nodes) where
-  process_live : (e : Entry) → process (live b nodes) e ≡ process b.start e
+  process_live : (e : Entry) → process (live b nodes).wires (length (live b nodes).nodes) e ≡ process b.start.wires (length b.start.nodes) e
   process_live e = process_same b.start (live b nodes) refl as_many e
 
   -- ## Entries
@@ -28,36 +28,36 @@ module _ {Node : Type 0} (M : Machine Node) (b : BookState Node) (nodes : List N
   -- an entry that leads from the network of the book and its nodes to another one
   joined : (e : Entry) (t : Network Node) → next M (live b nodes) e ≡ Some t
       → happens M (marked b nodes frozen) (Journal e)
-      ≡ Some (record { start = b.start; entries = b.entries ++ e ∷ []; live = t; snapshot = option_map (collected (process b.start e) (takes b.start e)) b.snapshot; frozen = frozen })
+      ≡ Some (record { start = b.start; entries = b.entries ++ e ∷ []; live = t; snapshot = option_map (collected (process b.start.wires (length b.start.nodes) e) (takes b.start.wires (length b.start.nodes) e)) b.snapshot; frozen = frozen })
   unfolding happens
   joined e t h = ap (λ given. given >>= λ after. Some (journalled (marked b nodes frozen) e after)) h
-      ∙ ap (λ ms. Some (record { start = b.start; entries = b.entries ++ e ∷ []; live = t; snapshot = option_map (collected (process b.start e) ms) b.snapshot; frozen = frozen })) (takes_same b.start (live b nodes) e)
+      ∙ ap (λ ms. Some (record { start = b.start; entries = b.entries ++ e ∷ []; live = t; snapshot = option_map (collected (process b.start.wires (length b.start.nodes) e) ms) b.snapshot; frozen = frozen })) (takes_same b.start (live b nodes) refl as_many e)
 
   -- An entry of a node: the node did its half, and the book does the rest.
   pub node_joins : (e : Entry) (n after : Node) (sends : List (ℕ × Token)) (out : List (List Token))
-      → slice_get nodes (process b.start e) ≡ Some n → taken b.lines (takes b.start e) ≡ Some out
+      → slice_get nodes (process b.start.wires (length b.start.nodes) e) ≡ Some n → taken b.lines (takes b.start.wires (length b.start.nodes) e) ≡ Some out
       → does M b.start.wires (length nodes) e (OfNode n) ≡ Some (OfNode after, sends)
-      → happens M (marked b nodes frozen) (Journal e) ≡ Some (marked (with_entry b e b.ports sends) (set nodes (process b.start e) after) frozen)
+      → happens M (marked b nodes frozen) (Journal e) ≡ Some (marked (with_entry b e b.ports sends) (set nodes (process b.start.wires (length b.start.nodes) e) after) frozen)
   unfolding put
-  node_joins e n after sends out at takes_out change = joined e (live (with_entry b e b.ports sends) (set nodes (process b.start e) after)) (next_from M (live b nodes) e _ S)
+  node_joins e n after sends out at takes_out change = joined e (live (with_entry b e b.ports sends) (set nodes (process b.start.wires (length b.start.nodes) e) after)) (next_from M (live b nodes) e _ S)
     where
-      S : Step M (live b nodes) e (live (with_entry b e b.ports sends) (set nodes (process b.start e) after))
+      S : Step M (live b nodes) e (live (with_entry b e b.ports sends) (set nodes (process b.start.wires (length b.start.nodes) e) after))
       S = record {
-        out = without b.lines (takes b.start e);
-        takes_out = ap (λ ms. taken b.lines ms) (takes_same b.start (live b nodes) e) ∙ takes_out ∙ ap Some (sym (without_taken b.lines (takes b.start e) out takes_out));
+        out = without b.lines (takes b.start.wires (length b.start.nodes) e);
+        takes_out = ap (λ ms. taken b.lines ms) (takes_same b.start (live b nodes) refl as_many e) ∙ takes_out ∙ ap Some (sym (without_taken b.lines (takes b.start.wires (length b.start.nodes) e) out takes_out));
         was = OfNode n;
         own_was = ap (own (live b nodes)) (process_live e)
-            ∙ own-node (live b nodes) (process b.start e) (λ h. let below = slice_get_within nodes (process b.start e) n at in omega arith)
+            ∙ own-node (live b nodes) (process b.start.wires (length b.start.nodes) e) (λ h. let below = slice_get_within nodes (process b.start.wires (length b.start.nodes) e) n at in omega arith)
             ∙ ap (option_map OfNode) at;
         now = OfNode after;
         sends = sends;
         change = change;
-        makes = ap (λ p. put (record (live b nodes) { lines = sent (has_wire b.start.wires) (without b.lines (takes b.start e)) sends }) p (OfNode after)) (process_live e);
+        makes = ap (λ p. put (record (live b nodes) { lines = sent (has_wire b.start.wires) (without b.lines (takes b.start.wires (length b.start.nodes) e)) sends }) p (OfNode after)) (process_live e);
       }
 
   -- An entry of the host.
   pub host_joins : (e : Entry) (ports : List Port) (sends : List (ℕ × Token)) (out : List (List Token))
-      → process b.start e ≡ length nodes → taken b.lines (takes b.start e) ≡ Some out
+      → process b.start.wires (length b.start.nodes) e ≡ length nodes → taken b.lines (takes b.start.wires (length b.start.nodes) e) ≡ Some out
       → does M b.start.wires (length nodes) e (OfHost b.ports) ≡ Some (OfHost ports, sends)
       → happens M (marked b nodes frozen) (Journal e) ≡ Some (marked (with_entry b e ports sends) nodes frozen)
   unfolding put
@@ -65,8 +65,8 @@ module _ {Node : Type 0} (M : Machine Node) (b : BookState Node) (nodes : List N
     where
       S : Step M (live b nodes) e (live (with_entry b e ports sends) nodes)
       S = record {
-        out = without b.lines (takes b.start e);
-        takes_out = ap (λ ms. taken b.lines ms) (takes_same b.start (live b nodes) e) ∙ takes_out ∙ ap Some (sym (without_taken b.lines (takes b.start e) out takes_out));
+        out = without b.lines (takes b.start.wires (length b.start.nodes) e);
+        takes_out = ap (λ ms. taken b.lines ms) (takes_same b.start (live b nodes) refl as_many e) ∙ takes_out ∙ ap Some (sym (without_taken b.lines (takes b.start.wires (length b.start.nodes) e) out takes_out));
         was = OfHost b.ports;
         own_was = ap (own (live b nodes)) (process_live e ∙ host) ∙ own-host (live b nodes);
         now = OfHost ports;
@@ -87,7 +87,7 @@ module _ {Node : Type 0} (M : Machine Node) (b : BookState Node) (nodes : List N
   unfolding happens
   begin_joins idle = ap (begin (marked b nodes frozen)) idle ∙ ap (λ N. Some (marked (record b {
     lines = sent (has_wire b.start.wires) b.lines (host_markers N (length b.ports));
-    snapshot = Some (first_snapshot N (length b.lines) (made (process b.start) N b.entries) b.ports (length b.entries));
+    snapshot = Some (first_snapshot N (length b.lines) (made (process b.start.wires (length b.start.nodes)) N b.entries) b.ports (length b.entries));
   }) nodes (replicate (length nodes) None))) as_many
 
   -- A node records: its image is frozen under its lock, and the book does the rest.

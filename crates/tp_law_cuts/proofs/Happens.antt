@@ -44,7 +44,7 @@ module _ {Node : Type 0} (M : Machine Node) (four : HasFourLinks M) (never : Nev
 
   -- an entry, whether a snapshot runs or not
   entry_inside : (e : Entry) (live : Network Node) → Step M w.live e live → (given : Option Snapshot) → Inside M w given
-      → Inside M (journalled w e live) (option_map (collected (process w.start e) (takes w.live e)) given)
+      → Inside M (journalled w e live) (option_map (collected (process w.start.wires (length w.start.nodes) e) (takes w.live.wires (length w.live.nodes) e)) given)
   entry_inside e live S None I = λ l. markers_kept M four w H.base e live S never l ∙ I l
   entry_inside e live S (Some snap) K = entry_journalled M four never w H.base snap K e live S
 
@@ -99,5 +99,5 @@ module _ {Node : Type 0} (M : Machine Node) (four : HasFourLinks M) (never : Nev
 
   -- and in that of a whole cut.
   pub both_after : (cut : WholeCut) → whole v ≡ Some cut
-      → after M v.start (pre (process v.start) (count_in cut) v.entries ++ post (process v.start) (count_in cut) v.entries) ≡ Some (plain_network v.live)
+      → after M v.start (pre (process v.start.wires (length v.start.nodes)) (count_in cut) v.entries ++ post (process v.start.wires (length v.start.nodes)) (count_in cut) v.entries) ≡ Some (plain_network v.live)
   both_after cut is = let C = cut_after cut is in C.same ∙ leads_after

@@ -1,6 +1,6 @@
 -- An entry is journalled while a snapshot runs.
 use Rattle.std.proofs.Common.{◌≡◌, ◌≢◌, ℕ, ◌+◌, ◌<◌, ◌≤◌, Bool, true, false, cond, not, ◌⊎◌, inl, inr, List, [], ◌∷◌, ◌++◌, length, refl, sym, ap, subst, ◌∙◌, arith, Option, Some, None, append-nil, append_assoc}
-use Rattle.std.specs.Prelude.{◌&&◌, is_some}
+use Rattle.std.specs.Prelude.{◌&&◌, is_some, length}
 use Rattle.std.specs.List.{AllByRecursion}
 use Rattle.std.proofs.lemmas.Bool.{cases_Bool, cases_eq, cases_lt, true≢false, false≢true, le-ltb, not-true, cond_both}
 use Rattle.std.proofs.lemmas.List.{append_cancel_left, get_or_past, length_push}
@@ -84,23 +84,23 @@ module _ {Node : Type 0} (M : Machine Node) (four : HasFourLinks M) (never : Nev
     (snap : Snapshot) (K : Marking M w.start w.entries w.live w.frozen snap) (e : Entry) (v : Network Node) (S : Step M w.live e v) where
   -- the process whose entry it is
   abbrev whose : ℕ
-  whose = process w.start e
+  whose = process w.start.wires (length w.start.nodes) e
 
   shape : SameShape w.live v
   shape = step_shape M four w.live e v S
 
-  whose_live : process w.live e ≡ whose
+  whose_live : process w.live.wires (length w.live.nodes) e ≡ whose
   whose_live = ap (λ of. of e) (live_process M four w B)
 
   taker_now : (l : ℕ) → taker v l ≡ taker w.live l
   taker_now l = ap (λ N. process_at N (receiver v.wires l)) shape.nodes ∙ ap (λ wires. process_at (length w.live.nodes) (receiver wires l)) shape.wires
 
   -- what it takes comes in to its process, and what it sends goes out from it
-  takes_elsewhere : (l : ℕ) → taker w.live l ≢ whose → for_line l (takes w.live e) ≡ []
-  takes_elsewhere l other = for_line-elsewhere (taker w.live) (process w.live e) l (takes w.live e) (takes_own w.live e) (λ h. other (h ∙ whose_live))
+  takes_elsewhere : (l : ℕ) → taker w.live l ≢ whose → for_line l (takes w.live.wires (length w.live.nodes) e) ≡ []
+  takes_elsewhere l other = for_line-elsewhere (taker w.live) (process w.live.wires (length w.live.nodes) e) l (takes w.live.wires (length w.live.nodes) e) (takes_own w.live e) (λ h. other (h ∙ whose_live))
 
   sends_elsewhere : (l : ℕ) → owner (length w.live.nodes) l ≢ whose → for_line l S.sends ≡ []
-  sends_elsewhere l other = for_line-elsewhere (owner (length w.live.nodes)) (process w.live e) l S.sends (step_sends M four w.live e v S) (λ h. other (h ∙ whose_live))
+  sends_elsewhere l other = for_line-elsewhere (owner (length w.live.nodes)) (process w.live.wires (length w.live.nodes) e) l S.sends (step_sends M four w.live e v S) (λ h. other (h ∙ whose_live))
 
   -- what it sends on a line, where that has a wire
   abbrev goes_out : ℕ → List Token
@@ -121,31 +121,31 @@ module _ {Node : Type 0} (M : Machine Node) (four : HasFourLinks M) (never : Nev
   closed_now : (l : ℕ) → is_closed snap l ≡ true → has_recorded snap (owner (length v.nodes) l) ≡ true
   closed_now l y = ap (λ N. has_recorded snap (owner N l)) shape.nodes ∙ K.closed_after l y
 
-  counted_now : (p k : ℕ) → count_of snap p ≡ Some k → k ≤ made (process w.start) p (w.entries ++ e ∷ [])
-  counted_now p k h = let most = K.counted p k h in omega (arith, made-append (process w.start) p w.entries (e ∷ []))
+  counted_now : (p k : ℕ) → count_of snap p ≡ Some k → k ≤ made (process w.start.wires (length w.start.nodes)) p (w.entries ++ e ∷ [])
+  counted_now p k h = let most = K.counted p k h in omega (arith, made-append (process w.start.wires (length w.start.nodes)) p w.entries (e ∷ []))
 
   -- ## The process has recorded
 
   module _ (has : has_recorded snap whose ≡ true) where
     abbrev collects : Snapshot
-    collects = record snap { lines = sent (λ l. not (is_closed snap l)) snap.lines (takes w.live e) }
+    collects = record snap { lines = sent (λ l. not (is_closed snap l)) snap.lines (takes w.live.wires (length w.live.nodes) e) }
 
-    late_out : in_cut snap whose (0 + made (process w.start) whose w.entries) ≡ false
-    late_out = recorded_out (count_of snap whose) (0 + made (process w.start) whose w.entries) has (λ k h. let most = K.counted whose k h in omega arith)
+    late_out : in_cut snap whose (0 + made (process w.start.wires (length w.start.nodes)) whose w.entries) ≡ false
+    late_out = recorded_out (count_of snap whose) (0 + made (process w.start.wires (length w.start.nodes)) whose w.entries) has (λ k h. let most = K.counted whose k h in omega arith)
 
-    late_early : early (process w.start) collects (w.entries ++ e ∷ []) ≡ early (process w.start) snap w.entries
-    late_early = chosen_last_out (process w.start) (in_cut snap) (λ p. 0) w.entries e late_out
+    late_early : early (process w.start.wires (length w.start.nodes)) collects (w.entries ++ e ∷ []) ≡ early (process w.start.wires (length w.start.nodes)) snap w.entries
+    late_early = chosen_last_out (process w.start.wires (length w.start.nodes)) (in_cut snap) (λ p. 0) w.entries e late_out
 
-    late_late : late (process w.start) collects (w.entries ++ e ∷ []) ≡ late (process w.start) snap w.entries ++ e ∷ []
-    late_late = chosen_last_in (process w.start) (λ p n. not (in_cut snap p n)) (λ p. 0) w.entries e (ap not late_out)
+    late_late : late (process w.start.wires (length w.start.nodes)) collects (w.entries ++ e ∷ []) ≡ late (process w.start.wires (length w.start.nodes)) snap w.entries ++ e ∷ []
+    late_late = chosen_last_in (process w.start.wires (length w.start.nodes)) (λ p n. not (in_cut snap p n)) (λ p. 0) w.entries e (ap not late_out)
 
-    late_order : Reorder M w.start (w.entries ++ e ∷ []) (early (process w.start) collects (w.entries ++ e ∷ []) ++ late (process w.start) collects (w.entries ++ e ∷ []))
+    late_order : Reorder M w.start (w.entries ++ e ∷ []) (early (process w.start.wires (length w.start.nodes)) collects (w.entries ++ e ∷ []) ++ late (process w.start.wires (length w.start.nodes)) collects (w.entries ++ e ∷ []))
     late_order =
         subst (λ es. Reorder M w.start (w.entries ++ e ∷ []) es)
-        (append_assoc (early (process w.start) snap w.entries) (late (process w.start) snap w.entries) (e ∷ [])
-        ∙ ap (λ es. early (process w.start) snap w.entries ++ es) (sym late_late)
-        ∙ ap (λ es. es ++ late (process w.start) collects (w.entries ++ e ∷ [])) (sym late_early))
-        (reorder_back M w.start w.entries (early (process w.start) snap w.entries ++ late (process w.start) snap w.entries) (e ∷ []) K.order)
+        (append_assoc (early (process w.start.wires (length w.start.nodes)) snap w.entries) (late (process w.start.wires (length w.start.nodes)) snap w.entries) (e ∷ [])
+        ∙ ap (λ es. early (process w.start.wires (length w.start.nodes)) snap w.entries ++ es) (sym late_late)
+        ∙ ap (λ es. es ++ late (process w.start.wires (length w.start.nodes)) collects (w.entries ++ e ∷ [])) (sym late_early))
+        (reorder_back M w.start w.entries (early (process w.start.wires (length w.start.nodes)) snap w.entries ++ late (process w.start.wires (length w.start.nodes)) snap w.entries) (e ∷ []) K.order)
 
     -- one that hasn't recorded is another process
     late_other : (q : ℕ) → has_recorded snap q ≡ false → q ≢ whose
@@ -173,15 +173,15 @@ module _ {Node : Type 0} (M : Machine Node) (four : HasFourLinks M) (never : Nev
         one : (k : ℕ) → owner (length w.live.nodes) k ≡ whose → is_closed snap k ≡ false → ◌≡◌ {A = ℕ} (cond (has_recorded snap (owner (length w.live.nodes) k) && not (is_closed snap k)) 1 0) 1
         one k same shut = rw (same, has, shut)
 
-    late_collected : (l : ℕ) → on_line collects.lines l ≡ on_line snap.lines l ++ cond (not (is_closed snap l)) (for_line l (takes w.live e)) []
-    late_collected l = on_sent (λ k. not (is_closed snap k)) snap.lines (takes w.live e) l (λ open_here. there (not-true (is_closed snap l) open_here))
+    late_collected : (l : ℕ) → on_line collects.lines l ≡ on_line snap.lines l ++ cond (not (is_closed snap l)) (for_line l (takes w.live.wires (length w.live.nodes) e)) []
+    late_collected l = on_sent (λ k. not (is_closed snap k)) snap.lines (takes w.live.wires (length w.live.nodes) e) l (λ open_here. there (not-true (is_closed snap l) open_here))
       where
         there : is_closed snap l ≡ false → l < length snap.lines
         there shut = subst (λ n. l < n) (K.cut_closed ∙ sym K.cut_lines) (open_within snap l shut)
 
     late_lines : (l : ℕ) → on_line K.mid.lines l ≡ cond (is_closed snap l) (on_line collects.lines l) (on_line collects.lines l ++ before (on_line v.lines l))
     late_lines l =
-        late_line (is_closed snap l) (has_wire w.live.wires l) (on_line snap.lines l) (on_line K.mid.lines l) (on_line w.live.lines l) (on_line S.out l) (for_line l (takes w.live e)) (for_line l S.sends)
+        late_line (is_closed snap l) (has_wire w.live.wires l) (on_line snap.lines l) (on_line K.mid.lines l) (on_line w.live.lines l) (on_line S.out l) (for_line l (takes w.live.wires (length w.live.nodes) e)) (for_line l S.sends)
         (K.on_lines l) (was_line M four w B e v S l) (takes_unmarked M four w B e v S never l) (late_behind l)
         ∙ ap (λ ts. cond (is_closed snap l) ts (ts ++ before (on_line S.out l ++ goes_out l))) (sym (late_collected l))
         ∙ ap (λ ts. cond (is_closed snap l) (on_line collects.lines l) (on_line collects.lines l ++ before ts)) (sym (now_line M four w B e v S l))
@@ -191,7 +191,7 @@ module _ {Node : Type 0} (M : Machine Node) (four : HasFourLinks M) (never : Nev
         let was : has_recorded snap (taker w.live l) ≡ false = ap (has_recorded snap) (sym (taker_now l)) ∙ n in
         let F = K.fresh l was in (
           F.0,
-          on_sent_none (λ k. not (is_closed snap k)) snap.lines (takes w.live e) l (takes_elsewhere l (late_other (taker w.live l) was)) ∙ F.1,
+          on_sent_none (λ k. not (is_closed snap k)) snap.lines (takes w.live.wires (length w.live.nodes) e) l (takes_elsewhere l (late_other (taker w.live l) was)) ∙ F.1,
         )
 
     -- The cut so far stays, and what the entry takes is in it.
@@ -207,7 +207,7 @@ module _ {Node : Type 0} (M : Machine Node) (four : HasFourLinks M) (never : Nev
       closed_after = closed_now;
       counted = counted_now;
       sized = K.sized ∙ ap length (sym late_early);
-      cut_lines = length_sent (λ l. not (is_closed snap l)) snap.lines (takes w.live e) ∙ K.cut_lines ∙ sym shape.lines;
+      cut_lines = length_sent (λ l. not (is_closed snap l)) snap.lines (takes w.live.wires (length w.live.nodes) e) ∙ K.cut_lines ∙ sym shape.lines;
       cut_closed = K.cut_closed ∙ sym shape.lines;
       cut_counts = K.cut_counts ∙ ap (λ n. n + 1) (sym shape.nodes);
       images = K.images ∙ sym shape.nodes;
@@ -219,7 +219,7 @@ module _ {Node : Type 0} (M : Machine Node) (four : HasFourLinks M) (never : Nev
     abbrev counts : Snapshot
     counts = record snap { size = snap.size + 1 }
 
-    whose_mid : process K.mid e ≡ whose
+    whose_mid : process K.mid.wires (length K.mid.nodes) e ≡ whose
     whose_mid = ap (λ of. of e) (mid_process M four w B snap K)
 
     -- a line of its own was never taken from since the snapshot began
@@ -227,7 +227,7 @@ module _ {Node : Type 0} (M : Machine Node) (four : HasFourLinks M) (never : Nev
     untouched l same = K.fresh l (ap (has_recorded snap) same ∙ has)
 
     -- what it takes stands in front in the cut too
-    mid_front : (l : ℕ) → (rest : List Token) × (on_line K.mid.lines l ≡ for_line l (takes w.live e) ++ rest)
+    mid_front : (l : ℕ) → (rest : List Token) × (on_line K.mid.lines l ≡ for_line l (takes w.live.wires (length w.live.nodes) e) ++ rest)
     mid_front l = elim (cases_eq (taker w.live l) whose) [
       | inl same ↦ (
         before (on_line S.out l),
@@ -235,23 +235,23 @@ module _ {Node : Type 0} (M : Machine Node) (four : HasFourLinks M) (never : Nev
             ∙ ap (λ b. cond b (on_line snap.lines l) (on_line snap.lines l ++ before (on_line w.live.lines l))) (untouched l same).0
             ∙ ap (λ ts. ts ++ before (on_line w.live.lines l)) (untouched l same).1
             ∙ ap before (was_line M four w B e v S l)
-            ∙ before-append (for_line l (takes w.live e)) (on_line S.out l) (takes_unmarked M four w B e v S never l),
+            ∙ before-append (for_line l (takes w.live.wires (length w.live.nodes) e)) (on_line S.out l) (takes_unmarked M four w B e v S never l),
       )
       | inr other ↦ (on_line K.mid.lines l, ap (λ ts. ts ++ on_line K.mid.lines l) (sym (takes_elsewhere l other)))
     ]
 
-    mid_out : (out : List (List Token)) × (taken K.mid.lines (takes w.live e) ≡ Some out)
-    mid_out = taken_from K.mid.lines (takes w.live e) mid_front
+    mid_out : (out : List (List Token)) × (taken K.mid.lines (takes w.live.wires (length w.live.nodes) e) ≡ Some out)
+    mid_out = taken_from K.mid.lines (takes w.live.wires (length w.live.nodes) e) mid_front
 
     -- the cut's network makes the entry too
     mid_next : Network Node
-    mid_next = put (record K.mid { lines = sent (has_wire K.mid.wires) mid_out.0 S.sends }) (process K.mid e) S.now
+    mid_next = put (record K.mid { lines = sent (has_wire K.mid.wires) mid_out.0 S.sends }) (process K.mid.wires (length K.mid.nodes) e) S.now
 
     mid_step : Step M K.mid e mid_next
     unfolding mid_next
     mid_step = record {
       out = mid_out.0;
-      takes_out = ap (λ ms. taken K.mid.lines ms) (takes_same w.live K.mid e) ∙ mid_out.1;
+      takes_out = ap (λ ms. taken K.mid.lines ms) (takes_same w.live K.mid (mid_wires M four w B snap K) (mid_nodes M four w B snap K) e) ∙ mid_out.1;
       was = S.was;
       own_was = ap (own K.mid) whose_mid ∙ K.owns whose
           ∙ ap (λ b. cond b (as_recorded (length w.live.nodes) snap w.frozen whose) (own w.live whose)) has
@@ -274,7 +274,7 @@ module _ {Node : Type 0} (M : Machine Node) (four : HasFourLinks M) (never : Nev
       where
         there : has_wire K.mid.wires l ≡ true → l < length mid_out.0
         there y =
-            subst (λ n. l < n) (sym (length_taken K.mid.lines (takes w.live e) mid_out.0 mid_out.1 ∙ mid_lines M four w B snap K))
+            subst (λ n. l < n) (sym (length_taken K.mid.lines (takes w.live.wires (length w.live.nodes) e) mid_out.0 mid_out.1 ∙ mid_lines M four w B snap K))
             (B.wired l (ap (λ wires. has_wire wires l) (sym (mid_wires M four w B snap K)) ∙ y))
 
     -- what it sends stands behind no Marker
@@ -298,12 +298,12 @@ module _ {Node : Type 0} (M : Machine Node) (four : HasFourLinks M) (never : Nev
     early_lines l =
         mid_line l
         ∙ early_line (is_closed snap l) (on_line snap.lines l) (on_line mid_out.0 l) (on_line S.out l) (goes_out l)
-        (rest_line (is_closed snap l) (on_line snap.lines l) (on_line K.mid.lines l) (on_line mid_out.0 l) (on_line w.live.lines l) (on_line S.out l) (for_line l (takes w.live e))
-        (K.on_lines l) (was_line M four w B e v S l) (on_taken K.mid.lines (takes w.live e) mid_out.0 mid_out.1 l) (takes_unmarked M four w B e v S never l) one)
+        (rest_line (is_closed snap l) (on_line snap.lines l) (on_line K.mid.lines l) (on_line mid_out.0 l) (on_line w.live.lines l) (on_line S.out l) (for_line l (takes w.live.wires (length w.live.nodes) e))
+        (K.on_lines l) (was_line M four w B e v S l) (on_taken K.mid.lines (takes w.live.wires (length w.live.nodes) e) mid_out.0 mid_out.1 l) (takes_unmarked M four w B e v S never l) one)
         (early_shut l) (λ shut. early_behind l)
         ∙ ap (λ ts. cond (is_closed snap l) (on_line snap.lines l) (on_line snap.lines l ++ before ts)) (sym (now_line M four w B e v S l))
       where
-        one : (for_line l (takes w.live e) ≡ []) ⊎ ((is_closed snap l ≡ false) × (on_line snap.lines l ≡ []))
+        one : (for_line l (takes w.live.wires (length w.live.nodes) e) ≡ []) ⊎ ((is_closed snap l ≡ false) × (on_line snap.lines l ≡ []))
         one = elim (cases_eq (taker w.live l) whose) [
           | inl same ↦ inr (untouched l same)
           | inr other ↦ inl (takes_elsewhere l other)
@@ -321,40 +321,40 @@ module _ {Node : Type 0} (M : Machine Node) (four : HasFourLinks M) (never : Nev
           ∙ ap (λ x. cond (has_recorded snap q) (as_recorded (length v.nodes) snap w.frozen q) x) (sym (step_own_other M four w.live e v S q (λ h. other (h ∙ whose_live))))
     ]
 
-    early_in : in_cut snap whose (0 + made (process w.start) whose w.entries) ≡ true
-    early_in = unrecorded_in (count_of snap whose) (0 + made (process w.start) whose w.entries) has
+    early_in : in_cut snap whose (0 + made (process w.start.wires (length w.start.nodes)) whose w.entries) ≡ true
+    early_in = unrecorded_in (count_of snap whose) (0 + made (process w.start.wires (length w.start.nodes)) whose w.entries) has
 
-    early_early : early (process w.start) counts (w.entries ++ e ∷ []) ≡ early (process w.start) snap w.entries ++ e ∷ []
-    early_early = chosen_last_in (process w.start) (in_cut snap) (λ p. 0) w.entries e early_in
+    early_early : early (process w.start.wires (length w.start.nodes)) counts (w.entries ++ e ∷ []) ≡ early (process w.start.wires (length w.start.nodes)) snap w.entries ++ e ∷ []
+    early_early = chosen_last_in (process w.start.wires (length w.start.nodes)) (in_cut snap) (λ p. 0) w.entries e early_in
 
-    early_late : late (process w.start) counts (w.entries ++ e ∷ []) ≡ late (process w.start) snap w.entries
-    early_late = chosen_last_out (process w.start) (λ p n. not (in_cut snap p n)) (λ p. 0) w.entries e (ap not early_in)
+    early_late : late (process w.start.wires (length w.start.nodes)) counts (w.entries ++ e ∷ []) ≡ late (process w.start.wires (length w.start.nodes)) snap w.entries
+    early_late = chosen_last_out (process w.start.wires (length w.start.nodes)) (λ p n. not (in_cut snap p n)) (λ p. 0) w.entries e (ap not early_in)
 
     -- the entries outside the cut are of other processes, and are possible from the cut's network on
-    early_apart : AllByRecursion (λ f. process K.mid f ≢ process K.mid e) (late (process w.start) snap w.entries)
+    early_apart : AllByRecursion (λ f. process K.mid.wires (length K.mid.nodes) f ≢ process K.mid.wires (length K.mid.nodes) e) (late (process w.start.wires (length w.start.nodes)) snap w.entries)
     early_apart =
-        subst (λ of. AllByRecursion (λ f. of f ≢ of e) (late (process w.start) snap w.entries)) (sym (mid_process M four w B snap K))
-        (chosen_passed (λ q. q ≢ whose) (process w.start) (λ p n. not (in_cut snap p n)) (λ p. 0) w.entries apart)
+        subst (λ of. AllByRecursion (λ f. of f ≢ of e) (late (process w.start.wires (length w.start.nodes)) snap w.entries)) (sym (mid_process M four w B snap K))
+        (chosen_passed (λ q. q ≢ whose) (process w.start.wires (length w.start.nodes)) (λ p n. not (in_cut snap p n)) (λ p. 0) w.entries apart)
       where
         apart : (p n : ℕ) → not (in_cut snap p n) ≡ true → p ≢ whose
         apart p n h same = true≢false (sym (out_recorded (count_of snap p) n h) ∙ ap (has_recorded snap) same ∙ has)
 
-    rest_possible : after M K.mid (late (process w.start) snap w.entries) ≡ Some (plain_network w.live)
+    rest_possible : after M K.mid (late (process w.start.wires (length w.start.nodes)) snap w.entries) ≡ Some (plain_network w.live)
     rest_possible =
-        sym (after_front M w.start K.mid (early (process w.start) snap w.entries) (late (process w.start) snap w.entries) K.consistent)
-        ∙ sym (reorder_end M four w.start w.entries (early (process w.start) snap w.entries ++ late (process w.start) snap w.entries) K.order)
+        sym (after_front M w.start K.mid (early (process w.start.wires (length w.start.nodes)) snap w.entries) (late (process w.start.wires (length w.start.nodes)) snap w.entries) K.consistent)
+        ∙ sym (reorder_end M four w.start w.entries (early (process w.start.wires (length w.start.nodes)) snap w.entries ++ late (process w.start.wires (length w.start.nodes)) snap w.entries) K.order)
         ∙ B.now
 
-    early_order : Reorder M w.start (w.entries ++ e ∷ []) (early (process w.start) counts (w.entries ++ e ∷ []) ++ late (process w.start) counts (w.entries ++ e ∷ []))
-    early_order = go (early (process w.start) snap w.entries) (late (process w.start) snap w.entries) early_early early_late K.consistent K.order rest_possible early_apart
+    early_order : Reorder M w.start (w.entries ++ e ∷ []) (early (process w.start.wires (length w.start.nodes)) counts (w.entries ++ e ∷ []) ++ late (process w.start.wires (length w.start.nodes)) counts (w.entries ++ e ∷ []))
+    early_order = go (early (process w.start.wires (length w.start.nodes)) snap w.entries) (late (process w.start.wires (length w.start.nodes)) snap w.entries) early_early early_late K.consistent K.order rest_possible early_apart
       where
-        go : (es ls : List Entry) → early (process w.start) counts (w.entries ++ e ∷ []) ≡ es ++ e ∷ [] → late (process w.start) counts (w.entries ++ e ∷ []) ≡ ls
+        go : (es ls : List Entry) → early (process w.start.wires (length w.start.nodes)) counts (w.entries ++ e ∷ []) ≡ es ++ e ∷ [] → late (process w.start.wires (length w.start.nodes)) counts (w.entries ++ e ∷ []) ≡ ls
             → after M w.start es ≡ Some K.mid → Reorder M w.start w.entries (es ++ ls) → after M K.mid ls ≡ Some (plain_network w.live)
-            → AllByRecursion (λ f. process K.mid f ≢ process K.mid e) ls
-            → Reorder M w.start (w.entries ++ e ∷ []) (early (process w.start) counts (w.entries ++ e ∷ []) ++ late (process w.start) counts (w.entries ++ e ∷ []))
+            → AllByRecursion (λ f. process K.mid.wires (length K.mid.nodes) f ≢ process K.mid.wires (length K.mid.nodes) e) ls
+            → Reorder M w.start (w.entries ++ e ∷ []) (early (process w.start.wires (length w.start.nodes)) counts (w.entries ++ e ∷ []) ++ late (process w.start.wires (length w.start.nodes)) counts (w.entries ++ e ∷ []))
         go es ls is_early is_late leads order rest apart =
             subst (λ xs. Reorder M w.start (w.entries ++ e ∷ []) xs)
-            (sym (append_assoc es (e ∷ []) ls) ∙ ap (λ xs. xs ++ ls) (sym is_early) ∙ ap (λ xs. early (process w.start) counts (w.entries ++ e ∷ []) ++ xs) (sym is_late))
+            (sym (append_assoc es (e ∷ []) ls) ∙ ap (λ xs. xs ++ ls) (sym is_early) ∙ ap (λ xs. early (process w.start.wires (length w.start.nodes)) counts (w.entries ++ e ∷ []) ++ xs) (sym is_late))
             (reorder_trans M w.start (w.entries ++ e ∷ []) (es ++ (ls ++ e ∷ [])) (es ++ e ∷ ls)
             (subst (λ xs. Reorder M w.start (w.entries ++ e ∷ []) xs) (append_assoc es ls (e ∷ [])) (reorder_back M w.start w.entries (es ++ ls) (e ∷ []) order))
             (reorder_front M w.start K.mid es (ls ++ e ∷ []) (e ∷ ls) leads
@@ -367,7 +367,7 @@ module _ {Node : Type 0} (M : Machine Node) (four : HasFourLinks M) (never : Nev
     journal_early : Marking M w.start (w.entries ++ e ∷ []) v w.frozen counts
     journal_early = record {
       mid = mid_next;
-      consistent = ap (after M w.start) early_early ∙ after_last M w.start K.mid (early (process w.start) snap w.entries) e K.consistent ∙ mid_possible;
+      consistent = ap (after M w.start) early_early ∙ after_last M w.start K.mid (early (process w.start.wires (length w.start.nodes)) snap w.entries) e K.consistent ∙ mid_possible;
       order = early_order;
       owns = early_owns;
       on_lines = early_lines;
@@ -375,7 +375,7 @@ module _ {Node : Type 0} (M : Machine Node) (four : HasFourLinks M) (never : Nev
       fresh = early_fresh;
       closed_after = closed_now;
       counted = counted_now;
-      sized = ap (λ n. n + 1) K.sized ∙ sym (length_push (early (process w.start) snap w.entries) e) ∙ ap length (sym early_early);
+      sized = ap (λ n. n + 1) K.sized ∙ sym (length_push (early (process w.start.wires (length w.start.nodes)) snap w.entries) e) ∙ ap length (sym early_early);
       cut_lines = K.cut_lines ∙ sym shape.lines;
       cut_closed = K.cut_closed ∙ sym shape.lines;
       cut_counts = K.cut_counts ∙ ap (λ n. n + 1) (sym shape.nodes);
@@ -383,7 +383,7 @@ module _ {Node : Type 0} (M : Machine Node) (four : HasFourLinks M) (never : Nev
     }
 
   -- An entry that is journalled while a snapshot runs keeps what holds.
-  pub entry_journalled : Marking M w.start (w.entries ++ e ∷ []) v w.frozen (collected whose (takes w.live e) snap)
+  pub entry_journalled : Marking M w.start (w.entries ++ e ∷ []) v w.frozen (collected whose (takes w.live.wires (length w.live.nodes) e) snap)
   entry_journalled =
-      cond_both (has_recorded snap whose) (record snap { lines = sent (λ l. not (is_closed snap l)) snap.lines (takes w.live e) }) (record snap { size = snap.size + 1 })
+      cond_both (has_recorded snap whose) (record snap { lines = sent (λ l. not (is_closed snap l)) snap.lines (takes w.live.wires (length w.live.nodes) e) }) (record snap { size = snap.size + 1 })
       (λ after. Marking M w.start (w.entries ++ e ∷ []) v w.frozen after) journal_late journal_early

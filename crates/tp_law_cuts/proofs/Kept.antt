@@ -1,6 +1,6 @@
 -- The book goes on from a whole cut.
 use Rattle.std.proofs.Common.{◌≡◌, ℕ, Bool, true, false, cond, not, inl, inr, List, length, refl, sym, ap, ◌∙◌, Some}
-use Rattle.std.specs.Prelude.{◌&&◌}
+use Rattle.std.specs.Prelude.{◌&&◌, length}
 use Rattle.std.proofs.lemmas.Bool.{cases_Bool}
 use Rattle.tp_model.specs.Network.{Machine, has_wire, on_line}
 use Rattle.tp_model.specs.Entries.{process, HasFourLinks}
@@ -18,7 +18,7 @@ use Rattle.tp_law_cuts.proofs.Whole.{all_some-map, all_closed_at, whole_parts, r
 pub cut_network : {Node : Type 0} (M : Machine Node) → HasFourLinks M → (w : MarkedNetwork Node) (cut : WholeCut) (nodes : List Node) → (C : CutHolds M w cut) → all_some w.frozen ≡ Some nodes
     → network_in w.start cut nodes ≡ C.consistent.state
 cut_network {Node} M four w cut nodes C e =
-    let shape = after_shape M four w.start C.consistent.state (pre (process w.start) (count_in cut) w.entries) C.consistent.is in
+    let shape = after_shape M four w.start C.consistent.state (pre (process w.start.wires (length w.start.nodes)) (count_in cut) w.entries) C.consistent.is in
     let there : Some nodes ≡ Some C.consistent.state.nodes = sym e ∙ ap all_some C.nodes ∙ all_some-map C.consistent.state.nodes in
     let same_nodes : nodes ≡ C.consistent.state.nodes = cc in
     ap (λ wires. record (network_in w.start cut nodes) { wires = wires }) (sym shape.wires)
@@ -53,7 +53,7 @@ trim_holds M four w H cut nodes is images = record {
     C : CutHolds M w cut
     C = whole_holds M four w H cut is
 
-    now : after M (network_in w.start cut nodes) (post (process w.start) (count_in cut) w.entries) ≡ Some (plain_network w.live)
-    now = ap (λ s. after M s (post (process w.start) (count_in cut) w.entries)) (cut_network M four w cut nodes C images)
-        ∙ sym (after_front M w.start C.consistent.state (pre (process w.start) (count_in cut) w.entries) (post (process w.start) (count_in cut) w.entries) C.consistent.is)
+    now : after M (network_in w.start cut nodes) (post (process w.start.wires (length w.start.nodes)) (count_in cut) w.entries) ≡ Some (plain_network w.live)
+    now = ap (λ s. after M s (post (process w.start.wires (length w.start.nodes)) (count_in cut) w.entries)) (cut_network M four w cut nodes C images)
+        ∙ sym (after_front M w.start C.consistent.state (pre (process w.start.wires (length w.start.nodes)) (count_in cut) w.entries) (post (process w.start.wires (length w.start.nodes)) (count_in cut) w.entries) C.consistent.is)
         ∙ C.same ∙ H.base.now

@@ -1,6 +1,6 @@
 -- A node records.
 use Rattle.std.proofs.Common.{◌≡◌, ◌≢◌, ℕ, ◌+◌, ◌<◌, ◌≤◌, true, false, cond, not, inl, inr, List, ◌++◌, length, get_or, set, refl, sym, ap, subst, ◌∙◌, arith, Option, Some, None, slice_get, length-set, get_or-set_same, get_or-set_other, ne_eqb}
-use Rattle.std.specs.Prelude.{◌==◌, ◌&&◌, is_some}
+use Rattle.std.specs.Prelude.{◌==◌, ◌&&◌, is_some, length}
 use Rattle.std.specs.Option.{option_map}
 use Rattle.std.proofs.lemmas.Bool.{cases_eq, cases_Bool, true≢false, lt-ltb}
 use Rattle.tp_model.specs.Network.{Machine, OfNode, OfHost, own, has_wire, on_line, for_line}
@@ -17,7 +17,7 @@ use Rattle.tp_law_cuts.proofs.Sending.{node_marked, node_markers_all, node_elsew
 module _ {Node : Type 0} (M : Machine Node) (w : MarkedNetwork Node) (B : Base M w)
     (snap : Snapshot) (K : Marking M w.start w.entries w.live w.frozen snap) (i : ℕ) (below : i < length w.live.nodes) (new : has_recorded snap i ≡ false) where
   abbrev count : ℕ
-  count = made (process w.start) i w.entries
+  count = made (process w.start.wires (length w.start.nodes)) i w.entries
 
   abbrev counts : Snapshot
   counts = with_count snap i count
@@ -45,29 +45,29 @@ module _ {Node : Type 0} (M : Machine Node) (w : MarkedNetwork Node) (B : Base M
 
   -- ## The cut so far stays
 
-  cut_agrees : (p n : ℕ) → 0 ≤ n → n < 0 + made (process w.start) p w.entries → in_cut counts p n ≡ in_cut snap p n
+  cut_agrees : (p n : ℕ) → 0 ≤ n → n < 0 + made (process w.start.wires (length w.start.nodes)) p w.entries → in_cut counts p n ≡ in_cut snap p n
   cut_agrees p n low high = elim (cases_eq p i) [
     | inl same ↦ ap (λ q. in_cut counts q n) same ∙ ap (λ c. in_count c n) count_here ∙ lt-ltb n count (inside same) ∙ sym (all (count_of snap p) (ap (has_recorded snap) same ∙ new))
     | inr other ↦ ap (λ c. in_count c n) (count_other p other)
   ]
     where
       inside : p ≡ i → n < count
-      inside same = subst (λ k. n < k) (ap (λ q. made (process w.start) q w.entries) same) (omega arith)
+      inside same = subst (λ k. n < k) (ap (λ q. made (process w.start.wires (length w.start.nodes)) q w.entries) same) (omega arith)
 
       all : (c : Option ℕ) → is_some c ≡ false → in_count c n ≡ true
       all None h = refl
       all (Some k) h = cc
 
-  early_same : early (process w.start) counts w.entries ≡ early (process w.start) snap w.entries
-  early_same = chosen_agree (process w.start) (in_cut counts) (in_cut snap) (λ p. 0) w.entries cut_agrees
+  early_same : early (process w.start.wires (length w.start.nodes)) counts w.entries ≡ early (process w.start.wires (length w.start.nodes)) snap w.entries
+  early_same = chosen_agree (process w.start.wires (length w.start.nodes)) (in_cut counts) (in_cut snap) (λ p. 0) w.entries cut_agrees
 
-  late_same : late (process w.start) counts w.entries ≡ late (process w.start) snap w.entries
-  late_same = chosen_agree (process w.start) (λ p n. not (in_cut counts p n)) (λ p n. not (in_cut snap p n)) (λ p. 0) w.entries (λ p n low high. ap not (cut_agrees p n low high))
+  late_same : late (process w.start.wires (length w.start.nodes)) counts w.entries ≡ late (process w.start.wires (length w.start.nodes)) snap w.entries
+  late_same = chosen_agree (process w.start.wires (length w.start.nodes)) (λ p n. not (in_cut counts p n)) (λ p n. not (in_cut snap p n)) (λ p. 0) w.entries (λ p n low high. ap not (cut_agrees p n low high))
 
-  record_order : Reorder M w.start w.entries (early (process w.start) counts w.entries ++ late (process w.start) counts w.entries)
+  record_order : Reorder M w.start w.entries (early (process w.start.wires (length w.start.nodes)) counts w.entries ++ late (process w.start.wires (length w.start.nodes)) counts w.entries)
   record_order =
       subst (λ es. Reorder M w.start w.entries es)
-      (ap (λ es. es ++ late (process w.start) snap w.entries) (sym early_same) ∙ ap (λ es. early (process w.start) counts w.entries ++ es) (sym late_same)) K.order
+      (ap (λ es. es ++ late (process w.start.wires (length w.start.nodes)) snap w.entries) (sym early_same) ∙ ap (λ es. early (process w.start.wires (length w.start.nodes)) counts w.entries ++ es) (sym late_same)) K.order
 
   -- ## States and lines
 
@@ -127,11 +127,11 @@ module _ {Node : Type 0} (M : Machine Node) (w : MarkedNetwork Node) (B : Base M
           → ◌≡◌ {A = ℕ} (markers (on_line w.live.lines l) + markers (for_line l (node_markers i))) 1
       one same a b = omega arith
 
-  record_counted : (p k : ℕ) → count_of counts p ≡ Some k → k ≤ made (process w.start) p w.entries
+  record_counted : (p k : ℕ) → count_of counts p ≡ Some k → k ≤ made (process w.start.wires (length w.start.nodes)) p w.entries
   record_counted p k h = elim (cases_eq p i) [
     | inl same ↦ let is : Some count ≡ Some k = sym count_here ∙ ap (count_of counts) (sym same) ∙ h in
         let same_count : count ≡ k = cc in
-        subst (λ q. k ≤ made (process w.start) q w.entries) (sym same) (omega arith)
+        subst (λ q. k ≤ made (process w.start.wires (length w.start.nodes)) q w.entries) (sym same) (omega arith)
     | inr other ↦ K.counted p k (sym (count_other p other) ∙ h)
   ]
 

@@ -29,7 +29,7 @@ module _ {Node : Type 0} (M : Machine Node) (four : HasFourLinks M) (w : MarkedN
   pub live_lines : length w.live.lines ≡ length w.start.lines
   live_lines = sym (length-map w.live.lines plain) ∙ live_shape.lines
 
-  pub live_process : process w.live ≡ process w.start
+  pub live_process : process w.live.wires (length w.live.nodes) ≡ process w.start.wires (length w.start.nodes)
   live_process = fun_ext (process_kept w.start w.live (record { wires = live_wires; nodes = live_nodes; ports = live_shape.ports; lines = live_lines }))
 
   module _ (snap : Snapshot) (K : Marking M w.start w.entries w.live w.frozen snap) where
@@ -45,29 +45,29 @@ module _ {Node : Type 0} (M : Machine Node) (four : HasFourLinks M) (w : MarkedN
     pub mid_lines : length K.mid.lines ≡ length w.live.lines
     mid_lines = mid_shape.lines ∙ sym live_lines
 
-    pub mid_process : process K.mid ≡ process w.start
+    pub mid_process : process K.mid.wires (length K.mid.nodes) ≡ process w.start.wires (length w.start.nodes)
     mid_process = fun_ext (process_kept w.start K.mid mid_shape)
 
   -- an entry's lines
   module _ (e : Entry) (v : Network Node) (S : Step M w.live e v) where
-    pub was_line : (l : ℕ) → on_line w.live.lines l ≡ for_line l (takes w.live e) ++ on_line S.out l
-    was_line l = on_taken w.live.lines (takes w.live e) S.out S.takes_out l
+    pub was_line : (l : ℕ) → on_line w.live.lines l ≡ for_line l (takes w.live.wires (length w.live.nodes) e) ++ on_line S.out l
+    was_line l = on_taken w.live.lines (takes w.live.wires (length w.live.nodes) e) S.out S.takes_out l
 
     pub now_line : (l : ℕ) → on_line v.lines l ≡ on_line S.out l ++ cond (has_wire w.live.wires l) (for_line l S.sends) []
     now_line l = ap (λ lines. on_line lines l) (step_lines M four w.live e v S)
-        ∙ on_sent (has_wire w.live.wires) S.out S.sends l (λ y. subst (λ n. l < n) (sym (length_taken w.live.lines (takes w.live e) S.out S.takes_out)) (B.wired l y))
+        ∙ on_sent (has_wire w.live.wires) S.out S.sends l (λ y. subst (λ n. l < n) (sym (length_taken w.live.lines (takes w.live.wires (length w.live.nodes) e) S.out S.takes_out)) (B.wired l y))
 
     -- nothing is taken from a line without a wire
-    pub out_unwired : (l : ℕ) → has_wire w.live.wires l ≡ false → (for_line l (takes w.live e) ≡ []) × (on_line S.out l ≡ [])
-    out_unwired l n = both (for_line l (takes w.live e)) (on_line S.out l) (sym (was_line l) ∙ B.unwired l n)
+    pub out_unwired : (l : ℕ) → has_wire w.live.wires l ≡ false → (for_line l (takes w.live.wires (length w.live.nodes) e) ≡ []) × (on_line S.out l ≡ [])
+    out_unwired l n = both (for_line l (takes w.live.wires (length w.live.nodes) e)) (on_line S.out l) (sym (was_line l) ∙ B.unwired l n)
       where
         both : (us vs : List Token) → us ++ vs ≡ [] → (us ≡ []) × (vs ≡ [])
         both [] vs h = (refl, h)
         both (u ∷ us) vs h = cc
 
     module _ (never : NeverMarks M) where
-      pub takes_unmarked : (l : ℕ) → markers (for_line l (takes w.live e)) ≡ 0
-      takes_unmarked l = markers-for_line l (takes w.live e) (step_takes_unmarked M never w.live e v S)
+      pub takes_unmarked : (l : ℕ) → markers (for_line l (takes w.live.wires (length w.live.nodes) e)) ≡ 0
+      takes_unmarked l = markers-for_line l (takes w.live.wires (length w.live.nodes) e) (step_takes_unmarked M never w.live e v S)
 
       pub sends_unmarked : (l : ℕ) → ◌≡◌ {A = ℕ} (markers (cond (has_wire w.live.wires l) (for_line l S.sends) [])) 0
       sends_unmarked l = go (has_wire w.live.wires l)
@@ -78,7 +78,7 @@ module _ {Node : Type 0} (M : Machine Node) (four : HasFourLinks M) (w : MarkedN
 
       -- an entry leaves as many Markers
       pub markers_left : (l : ℕ) → markers (on_line S.out l) ≡ markers (on_line w.live.lines l)
-      markers_left = markers-taken w.live.lines (takes w.live e) S.out (step_takes_unmarked M never w.live e v S) S.takes_out
+      markers_left = markers-taken w.live.lines (takes w.live.wires (length w.live.nodes) e) S.out (step_takes_unmarked M never w.live e v S) S.takes_out
 
       pub markers_kept : (l : ℕ) → markers (on_line v.lines l) ≡ markers (on_line w.live.lines l)
       markers_kept = step_markers M never w.live e v four S

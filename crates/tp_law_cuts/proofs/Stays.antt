@@ -1,6 +1,6 @@
 -- What stays until the trim.
 use Rattle.std.proofs.Common.{◌≡◌, ℕ, ◌+◌, true, false, cond, not, inl, inr, List, length, refl, sym, ap, subst, ◌∙◌, Option, Some, None}
-use Rattle.std.specs.Prelude.{is_some}
+use Rattle.std.specs.Prelude.{is_some, length}
 use Rattle.std.specs.Option.{option_map}
 use Rattle.std.proofs.lemmas.Bool.{cases_Bool, true≢false, cond_both}
 use Rattle.tp_model.specs.declared.link.Token.{Token}
@@ -73,9 +73,9 @@ counts_stay M w v (Record i) t e counts C =
 counts_stay M w v (Journal entry) t e counts C =
     let P = journal_parts w v M entry e in
     subst (λ u. HasCounts u.snapshot counts) P.2 (record {
-      snap = collected (process w.start entry) (takes w.live entry) C.snap;
-      runs = ap (option_map (collected (process w.start entry) (takes w.live entry))) C.runs;
-      recorded = ap all_some (collected-counts (process w.start entry) (takes w.live entry) C.snap) ∙ C.recorded;
+      snap = collected (process w.start.wires (length w.start.nodes) entry) (takes w.live.wires (length w.live.nodes) entry) C.snap;
+      runs = ap (option_map (collected (process w.start.wires (length w.start.nodes) entry) (takes w.live.wires (length w.live.nodes) entry))) C.runs;
+      recorded = ap all_some (collected-counts (process w.start.wires (length w.start.nodes) entry) (takes w.live.wires (length w.live.nodes) entry) C.snap) ∙ C.recorded;
     })
 counts_stay M w v (Close line) t e counts C =
     let P = close_parts w v w.snapshot line e in
@@ -110,19 +110,19 @@ module _ {Node : Type 0} (M : Machine Node) (four : HasFourLinks M) (w : MarkedN
 
   -- nothing more is collected
   module _ (e : Entry) (live : Network Node) (S : Step M w.live e live) where
-    lines_stay : sent (λ l. not (is_closed P.snap l)) P.snap.lines (takes w.live e) ≡ P.snap.lines
+    lines_stay : sent (λ l. not (is_closed P.snap l)) P.snap.lines (takes w.live.wires (length w.live.nodes) e) ≡ P.snap.lines
     lines_stay =
-        same_lines (sent (λ l. not (is_closed P.snap l)) P.snap.lines (takes w.live e)) P.snap.lines (length_sent (λ l. not (is_closed P.snap l)) P.snap.lines (takes w.live e))
+        same_lines (sent (λ l. not (is_closed P.snap l)) P.snap.lines (takes w.live.wires (length w.live.nodes) e)) P.snap.lines (length_sent (λ l. not (is_closed P.snap l)) P.snap.lines (takes w.live.wires (length w.live.nodes) e))
         (λ l h. elim (cases_Bool (has_wire w.live.wires l)) [
-          | inl y ↦ on_sent_shut (λ k. not (is_closed P.snap k)) P.snap.lines (takes w.live e) l (ap not (closed_wired l y))
-          | inr n ↦ on_sent_none (λ k. not (is_closed P.snap k)) P.snap.lines (takes w.live e) l (out_unwired M four w H.base e live S l n).0
+          | inl y ↦ on_sent_shut (λ k. not (is_closed P.snap k)) P.snap.lines (takes w.live.wires (length w.live.nodes) e) l (ap not (closed_wired l y))
+          | inr n ↦ on_sent_none (λ k. not (is_closed P.snap k)) P.snap.lines (takes w.live.wires (length w.live.nodes) e) l (out_unwired M four w H.base e live S l n).0
         ])
 
-    snapshot_stays : option_map (collected (process w.start e) (takes w.live e)) w.snapshot ≡ Some P.snap
+    snapshot_stays : option_map (collected (process w.start.wires (length w.start.nodes) e) (takes w.live.wires (length w.live.nodes) e)) w.snapshot ≡ Some P.snap
     snapshot_stays =
-        ap (option_map (collected (process w.start e) (takes w.live e))) P.runs
-        ∙ ap (λ b. Some (cond b (record P.snap { lines = sent (λ l. not (is_closed P.snap l)) P.snap.lines (takes w.live e) }) (record P.snap { size = P.snap.size + 1 })))
-        (parts_recorded w cut P (process w.start e))
+        ap (option_map (collected (process w.start.wires (length w.start.nodes) e) (takes w.live.wires (length w.live.nodes) e))) P.runs
+        ∙ ap (λ b. Some (cond b (record P.snap { lines = sent (λ l. not (is_closed P.snap l)) P.snap.lines (takes w.live.wires (length w.live.nodes) e) }) (record P.snap { size = P.snap.size + 1 })))
+        (parts_recorded w cut P (process w.start.wires (length w.start.nodes) e))
         ∙ ap (λ lines. Some (record P.snap { lines = lines })) lines_stay
 
     whole_journalled : whole (journalled w e live) ≡ Some cut

@@ -1,6 +1,6 @@
 -- What a whole cut is, and when there is one.
 use Rattle.std.proofs.Common.{◌≡◌, ℕ, zero, suc, ◌<◌, Bool, true, false, cond, not, inl, inr, List, [], ◌∷◌, ◌++◌, length, map, get_or, refl, sym, ap, subst, ◌∙◌, arith, Option, Some, None, slice_get, append-nil, eq-eqb, ne_eqb}
-use Rattle.std.specs.Prelude.{nat_lt, ◌||◌, is_some}
+use Rattle.std.specs.Prelude.{nat_lt, ◌||◌, is_some, length}
 use Rattle.std.specs.Option.{option_map}
 use Rattle.std.proofs.lemmas.Bool.{cases_eq, cases_Bool, and_parts, and_from, false≢true}
 use Rattle.std.proofs.lemmas.List.{ext_get_or, length-map}
@@ -132,11 +132,11 @@ module _ {Node : Type 0} (M : Machine Node) (four : HasFourLinks M) (w : MarkedN
   in_cut_is : (p n : ℕ) → in_cut snap p n ≡ nat_lt n (count_in cut p)
   in_cut_is p n = ap (λ c. in_count c n) (all_counts snap.counts counts recorded p)
 
-  early_pre : early (process w.start) snap w.entries ≡ pre (process w.start) (count_in cut) w.entries
-  early_pre = chosen_agree (process w.start) (in_cut snap) (λ p n. nat_lt n (count_in cut p)) (λ p. 0) w.entries (λ p n low high. in_cut_is p n)
+  early_pre : early (process w.start.wires (length w.start.nodes)) snap w.entries ≡ pre (process w.start.wires (length w.start.nodes)) (count_in cut) w.entries
+  early_pre = chosen_agree (process w.start.wires (length w.start.nodes)) (in_cut snap) (λ p n. nat_lt n (count_in cut p)) (λ p. 0) w.entries (λ p n low high. in_cut_is p n)
 
-  late_post : late (process w.start) snap w.entries ≡ post (process w.start) (count_in cut) w.entries
-  late_post = chosen_agree (process w.start) (λ p n. not (in_cut snap p n)) (λ p n. not (nat_lt n (count_in cut p))) (λ p. 0) w.entries (λ p n low high. ap not (in_cut_is p n))
+  late_post : late (process w.start.wires (length w.start.nodes)) snap w.entries ≡ post (process w.start.wires (length w.start.nodes)) (count_in cut) w.entries
+  late_post = chosen_agree (process w.start.wires (length w.start.nodes)) (λ p n. not (in_cut snap p n)) (λ p n. not (nat_lt n (count_in cut p))) (λ p. 0) w.entries (λ p n low high. ap not (in_cut_is p n))
 
   -- all have recorded
   mid_recorded : (p : ℕ) → own K.mid p ≡ as_recorded (length w.live.nodes) snap w.frozen p
@@ -170,10 +170,10 @@ module _ {Node : Type 0} (M : Machine Node) (four : HasFourLinks M) (w : MarkedN
       either true ts = refl
       either false ts = append-nil ts
 
-  cut_order : Reorder M w.start w.entries (pre (process w.start) (count_in cut) w.entries ++ post (process w.start) (count_in cut) w.entries)
+  cut_order : Reorder M w.start w.entries (pre (process w.start.wires (length w.start.nodes)) (count_in cut) w.entries ++ post (process w.start.wires (length w.start.nodes)) (count_in cut) w.entries)
   cut_order =
       subst (λ es. Reorder M w.start w.entries es)
-      (ap (λ es. es ++ late (process w.start) snap w.entries) early_pre ∙ ap (λ es. pre (process w.start) (count_in cut) w.entries ++ es) late_post) K.order
+      (ap (λ es. es ++ late (process w.start.wires (length w.start.nodes)) snap w.entries) early_pre ∙ ap (λ es. pre (process w.start.wires (length w.start.nodes)) (count_in cut) w.entries ++ es) late_post) K.order
 
   cut_is : CutHolds M w cut
   cut_is = record {
@@ -183,7 +183,7 @@ module _ {Node : Type 0} (M : Machine Node) (four : HasFourLinks M) (w : MarkedN
     nodes = whole_nodes;
     size = K.sized ∙ ap length early_pre;
     order = cut_order;
-    same = sym (reorder_end M four w.start w.entries (pre (process w.start) (count_in cut) w.entries ++ post (process w.start) (count_in cut) w.entries) cut_order);
+    same = sym (reorder_end M four w.start w.entries (pre (process w.start.wires (length w.start.nodes)) (count_in cut) w.entries ++ post (process w.start.wires (length w.start.nodes)) (count_in cut) w.entries) cut_order);
   }
 
 module _ {Node : Type 0} (M : Machine Node) (w : MarkedNetwork Node) (H : Holds M w) where

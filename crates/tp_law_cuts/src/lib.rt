@@ -40,7 +40,7 @@ pub fn cuts_hold()
         → after t414 v.start v.entries ≡ Some (plain_network v.live) }
     ensures both { (w v : MarkedNetwork NodeState) → IsOpened t414 w → (acts : List Act) → acted t414 w acts ≡ Some v
         → (cut : WholeCut) → whole v ≡ Some cut
-        → after t414 v.start (pre (process v.start) (count_in cut) v.entries ++ post (process v.start) (count_in cut) v.entries) ≡ Some (plain_network v.live) }
+        → after t414 v.start (pre (process v.start.wires (length v.start.nodes)) (count_in cut) v.entries ++ post (process v.start.wires (length v.start.nodes)) (count_in cut) v.entries) ≡ Some (plain_network v.live) }
 {}
 
 /// A whole cut stays whole, the same and with the same frozen nodes, whatever acts follow, until the book is trimmed to it.
@@ -56,12 +56,12 @@ pub fn whole_cuts_stay()
 pub fn halves_join()
     ensures node { (b : BookState NodeState) (nodes : List NodeState) (frozen : List (Option NodeState)) → length nodes ≡ length b.start.nodes
         → (e : Entry) (n changed : NodeState) (sends : List (ℕ × Token)) (out : List (List Token))
-        → slice_get nodes (process b.start e) ≡ Some n → taken b.lines (takes b.start e) ≡ Some out
+        → slice_get nodes (process b.start.wires (length b.start.nodes) e) ≡ Some n → taken b.lines (takes b.start.wires (length b.start.nodes) e) ≡ Some out
         → does t414 b.start.wires (length nodes) e (OfNode n) ≡ Some (OfNode changed, sends)
-        → happens t414 (marked b nodes frozen) (Journal e) ≡ Some (marked (with_entry b e b.ports sends) (set nodes (process b.start e) changed) frozen) }
+        → happens t414 (marked b nodes frozen) (Journal e) ≡ Some (marked (with_entry b e b.ports sends) (set nodes (process b.start.wires (length b.start.nodes) e) changed) frozen) }
     ensures host { (b : BookState NodeState) (nodes : List NodeState) (frozen : List (Option NodeState)) → length nodes ≡ length b.start.nodes
         → (e : Entry) (ports : List Port) (sends : List (ℕ × Token)) (out : List (List Token))
-        → process b.start e ≡ length nodes → taken b.lines (takes b.start e) ≡ Some out
+        → process b.start.wires (length b.start.nodes) e ≡ length nodes → taken b.lines (takes b.start.wires (length b.start.nodes) e) ≡ Some out
         → does t414 b.start.wires (length nodes) e (OfHost b.ports) ≡ Some (OfHost ports, sends)
         → happens t414 (marked b nodes frozen) (Journal e) ≡ Some (marked (with_entry b e ports sends) nodes frozen) }
     ensures begins { (b : BookState NodeState) (nodes : List NodeState) (frozen : List (Option NodeState)) → length nodes ≡ length b.start.nodes

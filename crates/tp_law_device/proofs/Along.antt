@@ -39,7 +39,7 @@ module _ (start : Network NodeState) (events : List (Event NodeState)) (first la
 
   -- the entries in a cut and then those outside it are possible too
   pub both_orders : (cut : WholeCut) → whole last.net ≡ Some cut
-      → after t414 last.net.start (pre (process last.net.start) (count_in cut) last.net.entries ++ post (process last.net.start) (count_in cut) last.net.entries) ≡ Some (plain_network last.net.live)
+      → after t414 last.net.start (pre (process last.net.start.wires (length last.net.start.nodes)) (count_in cut) last.net.entries ++ post (process last.net.start.wires (length last.net.start.nodes)) (count_in cut) last.net.entries) ≡ Some (plain_network last.net.live)
   both_orders cut is =
       let C = snapshots t414 has_four_links never_marks device_areas (areas_keep t414 t414_ends) start events first last formatted run cut is in
       C.same ∙ kept_leads t414 has_four_links never_marks device_areas (areas_keep t414 t414_ends) start events first last formatted run

@@ -1,10 +1,11 @@
 -- The first checkpoint of a device that was formatted, without an entry yet.
-use Rattle.std.proofs.Common.{◌≡◌, ℕ, ◌+◌, ◌-◌, ◌*◌, ◌≤◌, true, false, cond, List, [], ◌∷◌, ◌++◌, length, take, drop, refl, sym, ap, subst, ◌∙◌, arith, append_assoc, length-append, length-take, Some, Ok}
-use Rattle.std.specs.Prelude.{nat_le, map}
+use Rattle.std.proofs.Common.{◌≡◌, ℕ, ◌+◌, ◌-◌, ◌≤◌, true, false, cond, List, [], ◌∷◌, ◌++◌, length, take, drop, refl, sym, ap, subst, ◌∙◌, arith, append_assoc, length-append, length-take, Some, Ok}
+use Rattle.std.specs.Prelude.{nat_le, map, length}
 use Rattle.std.specs.List.{AllByRecursion}
 use Rattle.std.proofs.lemmas.Bool.{and_parts, leb-true}
 use Rattle.std.proofs.lemmas.List.{drop_at}
 use Rattle.std.proofs.Math.Seq.{take-append-add}
+use Rattle.tp_model.specs.declared.areas.TwoAreas.{TwoAreas}
 use Rattle.tp_model.specs.declared.limits.TheConstants.{GATE_CLOSED}
 use Rattle.tp_model.specs.NodeState.{NodeState}
 use Rattle.tp_model.specs.Node.{t414, t414_ends}
@@ -18,7 +19,7 @@ use Rattle.tp_model.specs.Disk.{written, IsWithin}
 use Rattle.tp_model.specs.Areas.{Held}
 use Rattle.tp_model.specs.Topology.{Topology}
 use Rattle.tp_model.specs.Journal.{is_roomy}
-use Rattle.tp_model.specs.Device.{area_start, content_of, is_open}
+use Rattle.tp_model.specs.Device.{area_start, areas_end, content_of, is_open}
 use Rattle.tp_model.specs.Spelling.{front_bytes, groups_bytes}
 use Rattle.tp_model.specs.Opening.{Opened, groups_place, opening, verdict}
 use Rattle.tp_model.specs.DeviceAreas.{device_areas, other_start, other_is_open, spare_of}
@@ -55,17 +56,17 @@ none_copied : (net : MarkedNetwork NodeState) → Holds t414 net → net.entries
 unfolding chosen after
 none_copied net H none cut nodes has =
     let C = whole_holds t414 has_four_links net H cut has.is in
-    let first : after t414 net.start (pre (process net.start) (count_in cut) []) ≡ Some C.consistent.state = ap (λ es. after t414 net.start (pre (process net.start) (count_in cut) es)) (sym none) ∙ C.consistent.is in
+    let first : after t414 net.start (pre (process net.start.wires (length net.start.nodes)) (count_in cut) []) ≡ Some C.consistent.state = ap (λ es. after t414 net.start (pre (process net.start.wires (length net.start.nodes)) (count_in cut) es)) (sym none) ∙ C.consistent.is in
     let state : net.start ≡ C.consistent.state = cc in
     let network : network_in net.start cut nodes ≡ net.start = cut_network t414 has_four_links net cut nodes C has.images ∙ sym state in
-    let entries : post (process net.start) (count_in cut) net.entries ≡ [] = ap (post (process net.start) (count_in cut)) none in
-    let none_in : cut.size ≡ 0 = C.size ∙ ap (λ es. length (pre (process net.start) (count_in cut) es)) none in
+    let entries : post (process net.start.wires (length net.start.nodes)) (count_in cut) net.entries ≡ [] = ap (post (process net.start.wires (length net.start.nodes)) (count_in cut)) none in
+    let none_in : cut.size ≡ 0 = C.size ∙ ap (λ es. length (pre (process net.start.wires (length net.start.nodes)) (count_in cut) es)) none in
     let size : 0 + cut.size ≡ 0 = omega arith in
     λ i. record { network = network i; entries = entries i; base = size i }
 
 -- ## The device
 
-module _ (t : Topology) (area : ℕ) (given : List (List ℕ)) (s : Network NodeState) (bytes : List ℕ) (W : WasFormatted t area given s bytes) where
+module _ (t : Topology) (areas : TwoAreas) (given : List (List ℕ)) (s : Network NodeState) (bytes : List ℕ) (W : WasFormatted t areas given s bytes) where
   shape : HasShape t
   shape = has_shape t W.topology
 
@@ -73,13 +74,13 @@ module _ (t : Topology) (area : ℕ) (given : List (List ℕ)) (s : Network Node
   back = start_reads_back t given s W.network shape
 
   abbrev o : Opened
-  o = found t414 t area given s bytes W
+  o = found t414 t areas given s bytes W
 
   opens : opening t414 t414_ends bytes ≡ Ok o
-  opens = formatted_opens t414 t area given s bytes W
+  opens = formatted_opens t414 t areas given s bytes W
 
   abbrev place : ℕ
-  place = area_start area true + 1
+  place = area_start areas true + 1
 
   abbrev front : List ℕ
   front = front_bytes t 2 0 s
@@ -90,18 +91,18 @@ module _ (t : Topology) (area : ℕ) (given : List (List ℕ)) (s : Network Node
   size_piece : length piece ≡ groups_place t + 1
   size_piece = omega (arith, length-append front (GATE_CLOSED ∷ []), length-front_bytes t414_ends t shape 2 0 s back)
 
-  long : 512 + 2 * area ≤ length bytes
-  long = leb-true (512 + 2 * area) (length bytes) (and_parts (nat_le (512 + 2 * area) (length bytes)) (is_roomy t area) W.room).0
+  long : areas_end areas ≤ length bytes
+  long = leb-true (areas_end areas) (length bytes) (and_parts (nat_le (areas_end areas) (length bytes)) (is_roomy t areas.length) W.room).0
 
-  wide : groups_place t + 2 ≤ area
-  wide = let room = leb-true _ _ (and_parts (nat_le (512 + 2 * area) (length bytes)) (is_roomy t area) W.room).1 in omega arith
+  wide : groups_place t + 2 ≤ areas.length
+  wide = let room = leb-true _ _ (and_parts (nat_le (areas_end areas) (length bytes)) (is_roomy t areas.length) W.room).1 in omega arith
 
   closed : other_is_open o bytes ≡ false
   closed = ap (λ gate. is_open gate) W.format.closed_gate
 
-  spare_is : device_areas.spare bytes ≡ (other_start o + 1, area - 1)
+  spare_is : device_areas.spare bytes ≡ (other_start o + 1, areas.length - 1)
   unfolding spare_of
-  spare_is = (λ i. spare_of (opens i) bytes) ∙ (λ i. cond (closed i) (0, 0) (other_start o + 1, area - 1))
+  spare_is = (λ i. spare_of (opens i) bytes) ∙ (λ i. cond (closed i) (0, 0) (other_start o + 1, areas.length - 1))
 
   inside : IsWithin (device_areas.spare bytes) (place, length piece)
   inside = subst (λ spare. IsWithin spare (place, length piece)) (sym spare_is) (omega arith, omega (arith, size_piece, wide))
@@ -111,19 +112,19 @@ module _ (t : Topology) (area : ℕ) (given : List (List ℕ)) (s : Network Node
   behind = drop (place + length piece) bytes
 
   abbrev rest : List ℕ
-  rest = take (area - 1 - length piece) behind
+  rest = take (areas.length - 1 - length piece) behind
 
-  content_is : content_of area true (written bytes place piece) ≡ front ++ (GATE_CLOSED ∷ rest)
+  content_is : content_of areas true (written bytes place piece) ≡ front ++ (GATE_CLOSED ∷ rest)
   content_is =
       let first : length (take place bytes) ≡ place = omega (arith, length-take place bytes, long, wide) in
-      let count : length piece + (area - 1 - length piece) ≡ area - 1 = omega (arith, size_piece, wide) in
-      ap (λ xs. take (area - 1) (drop place xs)) (append_assoc (take place bytes) piece behind)
-      ∙ ap (take (area - 1)) (drop_at (take place bytes) (piece ++ behind) place first)
+      let count : length piece + (areas.length - 1 - length piece) ≡ areas.length - 1 = omega (arith, size_piece, wide) in
+      ap (λ xs. take (areas.length - 1) (drop place xs)) (append_assoc (take place bytes) piece behind)
+      ∙ ap (take (areas.length - 1)) (drop_at (take place bytes) (piece ++ behind) place first)
       ∙ ap (λ n. take n (piece ++ behind)) (sym count)
-      ∙ take-append-add piece behind (area - 1 - length piece)
+      ∙ take-append-add piece behind (areas.length - 1 - length piece)
       ∙ append_assoc front (GATE_CLOSED ∷ []) rest
 
-  spelt : SpeltArea t414 t414_ends t (content_of area true (written bytes place piece)) 2 0 s [] s
+  spelt : SpeltArea t414 t414_ends t (content_of areas true (written bytes place piece)) 2 0 s [] s
   unfolding groups_bytes after
   spelt = record {
     gate = GATE_CLOSED;
@@ -146,7 +147,7 @@ module _ (t : Topology) (area : ℕ) (given : List (List ℕ)) (s : Network Node
   first_checkpoint acts none net is empty cut nodes has =
       let run = acts_run t414 device_areas (formatted_world s bytes) acts net none is in
       let w : World NodeState = record (formatted_world s bytes) { net = net; journal = run.0 } in
-      let H = acted_holds t414 has_four_links never_marks (fresh s) net acts (opened_holds t414 (fresh s) (formatted_begins t414 t area given s bytes W)) is in
+      let H = acted_holds t414 has_four_links never_marks (fresh s) net acts (opened_holds t414 (fresh s) (formatted_begins t414 t areas given s bytes W)) is in
       let start = acts_start t414 (fresh s) net acts none is in
       let copy : copy_of net 0 cut nodes ≡ record { network = s; entries = []; base = 0 } =
       none_copied net H empty cut nodes has ∙ (λ i. record { network = start i; entries = []; base = 0 }) in

@@ -1,9 +1,10 @@
 -- A device that was formatted, for each topology and each network of images.
-use Rattle.std.proofs.Common.{◌≡◌, ℕ, ◌+◌, ◌-◌, ◌*◌, ◌^◌, ◌<◌, ◌≤◌, true, false, List, ◌∷◌, ◌++◌, length, take, drop, get_or, sym, ap, ◌∙◌, arith, append_assoc, length-append, Some}
+use Rattle.std.proofs.Common.{◌≡◌, ℕ, ◌+◌, ◌-◌, ◌^◌, ◌<◌, ◌≤◌, true, false, List, ◌∷◌, ◌++◌, length, take, drop, get_or, sym, ap, ◌∙◌, arith, append_assoc, length-append, Some}
 use Rattle.std.specs.Prelude.{nat_le, flat_map, sum_by}
 use Rattle.std.proofs.lemmas.Bool.{and_from, le-leb, leb-true}
 use Rattle.std.proofs.lemmas.List.{take_at, drop_at, drop-drop, get_or_at, length-replicate}
-use Rattle.tp_model.specs.declared.limits.TheConstants.{GATE_OPEN, GATE_CLOSED}
+use Rattle.tp_model.specs.declared.areas.TwoAreas.{TwoAreas}
+use Rattle.tp_model.specs.declared.limits.TheConstants.{HEAD_BYTES, GATE_OPEN, GATE_CLOSED}
 use Rattle.tp_model.specs.Bytes.{zeros}
 use Rattle.tp_model.specs.NodeState.{NodeState}
 use Rattle.tp_model.specs.Image.{image}
@@ -12,7 +13,7 @@ use Rattle.tp_model.specs.Sound.{Ends}
 use Rattle.tp_model.specs.Node.{t414_ends}
 use Rattle.tp_model.specs.Topology.{Topology, is_topology}
 use Rattle.tp_model.specs.Journal.{image_length, is_roomy}
-use Rattle.tp_model.specs.Device.{gate_of, content_of}
+use Rattle.tp_model.specs.Device.{areas_end, gate_of, content_of}
 use Rattle.tp_model.specs.Head.{head_bytes}
 use Rattle.tp_model.specs.CutImage.{line_bytes, port_bytes, cut_bytes}
 use Rattle.tp_model.specs.Spelling.{front_bytes}
@@ -36,12 +37,13 @@ length-front_bytes E t L generation base s C =
     let c = length-ports base s.ports C.ports in
     omega (arith, length-append images (lines ++ ports), length-append lines ports, C.count, L.lines)
 
-module _ (t : Topology) (area : ℕ) (given : List (List ℕ)) (s : Network NodeState) (topology : is_topology t ≡ true) (roomy : is_roomy t area ≡ true) (low : area < 2 ^ 64) (start : start_of t given ≡ Some s) where
+module _ (t : Topology) (areas : TwoAreas) (given : List (List ℕ)) (s : Network NodeState) (topology : is_topology t ≡ true) (roomy : is_roomy t areas.length ≡ true) (starts : areas.first ≡ HEAD_BYTES)
+    (low : areas.length < 2 ^ 64) (start : start_of t given ≡ Some s) where
   limits : HasShape t
   limits = has_shape t topology
 
   abbrev head : List ℕ
-  head = head_bytes t area
+  head = head_bytes t areas
 
   abbrev front : List ℕ
   front = front_bytes t 1 0 s
@@ -49,53 +51,54 @@ module _ (t : Topology) (area : ℕ) (given : List (List ℕ)) (s : Network Node
   size_front : length front ≡ groups_place t
   size_front = length-front_bytes t414_ends t limits 1 0 s (start_reads_back t given s start limits)
 
-  size_head : length head ≡ 512
-  size_head = length-head_bytes t limits area
+  size_head : length head ≡ areas.first
+  size_head = length-head_bytes t limits areas starts
 
-  wide : groups_place t + 2 ≤ area
+  wide : groups_place t + 2 ≤ areas.length
   wide = let room = leb-true _ _ roomy in omega arith
 
   -- the first area's content, the second area, and all of it
   abbrev behind : List ℕ
-  behind = zeros (area - 2 - length front)
+  behind = zeros (areas.length - 2 - length front)
 
   abbrev content : List ℕ
   content = front ++ GATE_CLOSED ∷ behind
 
   abbrev second : List ℕ
-  second = GATE_CLOSED ∷ zeros (area - 1)
+  second = GATE_CLOSED ∷ zeros (areas.length - 1)
 
   abbrev device : List ℕ
   device = head ++ GATE_OPEN ∷ (content ++ second)
 
-  size_content : length content ≡ area - 1
-  size_content = omega (arith, length-append front (GATE_CLOSED ∷ behind), length-replicate {A = ℕ} (area - 2 - length front) 0, size_front, wide)
+  size_content : length content ≡ areas.length - 1
+  size_content = omega (arith, length-append front (GATE_CLOSED ∷ behind), length-replicate {A = ℕ} (areas.length - 2 - length front) 0, size_front, wide)
 
-  size_device : length device ≡ 512 + 2 * area
-  size_device = omega (arith, length-append head (GATE_OPEN ∷ (content ++ second)), length-append content second, length-replicate {A = ℕ} (area - 1) 0, size_head, size_content, wide)
+  size_device : length device ≡ areas_end areas
+  size_device = omega (arith, length-append head (GATE_OPEN ∷ (content ++ second)), length-append content second, length-replicate {A = ℕ} (areas.length - 1) 0, size_head, size_content, wide)
 
-  first_content : content_of area false device ≡ content
+  first_content : content_of areas false device ≡ content
   first_content =
-      let past : drop 513 device ≡ content ++ second = sym (drop-drop 1 512 device) ∙ ap (drop 1) (drop_at head (GATE_OPEN ∷ (content ++ second)) 512 size_head) in
-      ap (take (area - 1)) past ∙ take_at content second (area - 1) size_content
+      let past : drop (areas.first + 1) device ≡ content ++ second = sym (drop-drop 1 areas.first device) ∙ ap (drop 1) (drop_at head (GATE_OPEN ∷ (content ++ second)) areas.first size_head) in
+      ap (take (areas.length - 1)) past ∙ take_at content second (areas.length - 1) size_content
 
-  second_gate : gate_of area true device ≡ GATE_CLOSED
+  second_gate : gate_of areas true device ≡ GATE_CLOSED
   second_gate =
       let front_part = head ++ GATE_OPEN ∷ content in
-      let size : length front_part ≡ 512 + area = omega (arith, length-append head (GATE_OPEN ∷ content), size_head, size_content, wide) in
-      ap (λ xs. get_or xs (512 + area) 0) (sym (append_assoc head (GATE_OPEN ∷ content) second)) ∙ get_or_at front_part GATE_CLOSED (zeros (area - 1)) 0 (512 + area) size
+      let size : length front_part ≡ areas.first + areas.length = omega (arith, length-append head (GATE_OPEN ∷ content), size_head, size_content, wide) in
+      ap (λ xs. get_or xs (areas.first + areas.length) 0) (sym (append_assoc head (GATE_OPEN ∷ content) second)) ∙ get_or_at front_part GATE_CLOSED (zeros (areas.length - 1)) 0 (areas.first + areas.length) size
 
-  pub formattable_with : (bytes : List ℕ) × WasFormatted t area given s bytes
+  pub formattable_with : (bytes : List ℕ) × WasFormatted t areas given s bytes
   formattable_with = (
     device,
     record {
       topology = topology;
-      room = and_from (nat_le (512 + 2 * area) (length device)) (is_roomy t area) (le-leb (512 + 2 * area) (length device) (omega (arith, size_device))) roomy;
+      room = and_from (nat_le (areas_end areas) (length device)) (is_roomy t areas.length) (le-leb (areas_end areas) (length device) (omega (arith, size_device))) roomy;
       area_fits = low;
       network = start;
       format = record {
-        head = take_at head (GATE_OPEN ∷ (content ++ second)) 512 size_head;
-        open_gate = get_or_at head GATE_OPEN (content ++ second) 0 512 size_head;
+        first = starts;
+        head = take_at head (GATE_OPEN ∷ (content ++ second)) areas.first size_head;
+        open_gate = get_or_at head GATE_OPEN (content ++ second) 0 areas.first size_head;
         closed_gate = second_gate;
         rest = behind;
         content = first_content;
@@ -103,6 +106,6 @@ module _ (t : Topology) (area : ℕ) (given : List (List ℕ)) (s : Network Node
     },
   )
 
-pub formattable : (t : Topology) (area : ℕ) (given : List (List ℕ)) (s : Network NodeState) → is_topology t ≡ true → is_roomy t area ≡ true → area < 2 ^ 64
-    → start_of t given ≡ Some s → (bytes : List ℕ) × WasFormatted t area given s bytes
-formattable t area given s topology roomy low start = formattable_with t area given s topology roomy low start
+pub formattable : (t : Topology) (areas : TwoAreas) (given : List (List ℕ)) (s : Network NodeState) → is_topology t ≡ true → is_roomy t areas.length ≡ true → areas.first ≡ HEAD_BYTES → areas.length < 2 ^ 64
+    → start_of t given ≡ Some s → (bytes : List ℕ) × WasFormatted t areas given s bytes
+formattable t areas given s topology roomy starts low start = formattable_with t areas given s topology roomy starts low start

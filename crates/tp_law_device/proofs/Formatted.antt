@@ -3,6 +3,7 @@ use Rattle.std.proofs.Common.{◌≡◌, ℕ, zero, suc, ◌<◌, true, false, L
 use Rattle.std.specs.Prelude.{map, replicate}
 use Rattle.std.proofs.lemmas.Bool.{false≢true}
 use Rattle.std.proofs.lemmas.List.{length-replicate, length-map}
+use Rattle.tp_model.specs.declared.areas.TwoAreas.{TwoAreas}
 use Rattle.tp_model.specs.declared.link.Token.{Token}
 use Rattle.tp_model.specs.declared.wire.WireEnd.{WireEnd}
 use Rattle.tp_model.specs.declared.limits.TheConstants.{GATE_CLOSED}
@@ -60,9 +61,9 @@ module _ (t : Topology) (given : List (List ℕ)) (s : Network NodeState) (start
 
 -- ## The device
 
-module _ (M : Machine NodeState) (t : Topology) (area : ℕ) (given : List (List ℕ)) (s : Network NodeState) (bytes : List ℕ) (W : WasFormatted t area given s bytes) where
+module _ (M : Machine NodeState) (t : Topology) (areas : TwoAreas) (given : List (List ℕ)) (s : Network NodeState) (bytes : List ℕ) (W : WasFormatted t areas given s bytes) where
   abbrev pub head : Head
-  head = record { topology = t; area = area }
+  head = record { topology = t; areas = areas }
 
   abbrev first : Begins t given s W.network
   first = begins t given s W.network
@@ -74,7 +75,7 @@ module _ (M : Machine NodeState) (t : Topology) (area : ℕ) (given : List (List
   abbrev pub found : Opened
   found = record { head = head; second = false; generation = 1; base = 0; cut = s; kept = []; now = s; end = end_of_groups head false [] }
 
-  area_is : SpeltArea M t414_ends t (content_of area false bytes) 1 0 s [] s
+  area_is : SpeltArea M t414_ends t (content_of areas false bytes) 1 0 s [] s
   unfolding groups_bytes after
   area_is = record {
     gate = GATE_CLOSED;
@@ -94,9 +95,9 @@ module _ (M : Machine NodeState) (t : Topology) (area : ℕ) (given : List (List
       let opened = W.format.open_gate in
       let closed = W.format.closed_gate in
       opening_from M t414_ends bytes head false found
-      (head_of-head_bytes t area bytes W.topology W.room W.area_fits W.format.head)
-      (chosen_alone area bytes false (ap (λ gate. is_open gate) opened) (ap (λ gate. is_open gate) closed))
-      (area_spelt M t414_ends head false limits (content_of area false bytes) 1 0 s [] s area_is)
+      (head_of-head_bytes t areas bytes W.topology W.room W.format.first W.area_fits W.format.head)
+      (chosen_alone areas bytes false (ap (λ gate. is_open gate) opened) (ap (λ gate. is_open gate) closed))
+      (area_spelt M t414_ends head false limits (content_of areas false bytes) 1 0 s [] s area_is)
 
   pub formatted_holds : held_in (opening M t414_ends bytes) ≡ Some (record { network = s; entries = []; base = 0 })
   formatted_holds = held_from (opening M t414_ends bytes) found (record { network = s; entries = []; base = 0 }) formatted_opens refl
@@ -135,21 +136,21 @@ module _ (M : Machine NodeState) (t : Topology) (area : ℕ) (given : List (List
     unwired = λ line is. no_tokens line;
   }
 
-pub formatted_starts : (M : Machine NodeState) (t : Topology) (area : ℕ) (given : List (List ℕ)) (s : Network NodeState) (bytes : List ℕ) → WasFormatted t area given s bytes
+pub formatted_starts : (M : Machine NodeState) (t : Topology) (areas : TwoAreas) (given : List (List ℕ)) (s : Network NodeState) (bytes : List ℕ) → WasFormatted t areas given s bytes
     → IsFormatted M (areas_of M t414_ends) s (formatted_world s bytes)
-formatted_starts M t area given s bytes W = record {
-  reads = formatted_holds M t area given s bytes W;
+formatted_starts M t areas given s bytes W = record {
+  reads = formatted_holds M t areas given s bytes W;
   synced = refl;
-  opened = formatted_begins M t area given s bytes W;
+  opened = formatted_begins M t areas given s bytes W;
   net = refl;
   rests = (refl, refl);
   none = (refl, refl, refl, refl, refl);
 }
 
-pub formatted_stands : (t : Topology) (area : ℕ) (given : List (List ℕ)) (s : Network NodeState) (bytes : List ℕ) → WasFormatted t area given s bytes → StandsFor bytes s [] 0
+pub formatted_stands : (t : Topology) (areas : TwoAreas) (given : List (List ℕ)) (s : Network NodeState) (bytes : List ℕ) → WasFormatted t areas given s bytes → StandsFor bytes s [] 0
 unfolding verdict
-formatted_stands t area given s bytes W = record {
-  opened = found t414 t area given s bytes W;
-  is = formatted_opens t414 t area given s bytes W;
+formatted_stands t areas given s bytes W = record {
+  opened = found t414 t areas given s bytes W;
+  is = formatted_opens t414 t areas given s bytes W;
   holds = refl;
 }

@@ -2,6 +2,7 @@
 use Rattle.std.proofs.Common.{◌≡◌, ℕ, ◌+◌, ◌<◌, ◌≤◌, ◌⊎◌, inl, inr, true, false, not, List, [], ◌∷◌, length, get_or, refl, sym, ap, subst, ◌∙◌, arith, le_refl, Some, Ok}
 use Rattle.std.proofs.lemmas.Bool.{cases_Bool, eqb-true}
 use Rattle.std.proofs.lemmas.Option.{cond_some}
+use Rattle.tp_model.specs.declared.areas.TwoAreas.{TwoAreas}
 use Rattle.tp_model.specs.declared.entry.Entry.{Entry}
 use Rattle.tp_model.specs.declared.limits.TheConstants.{GATE_OPEN}
 use Rattle.tp_model.specs.NodeState.{NodeState}
@@ -30,7 +31,7 @@ pub record Written (o : Opened) (es : List Entry) (gate : ℕ) (body : List ℕ)
   pub can : can_add o (numbered (next_of o) es) ≡ true
   pub gate_is : gate ≡ o.end
   pub body_is : body ≡ body_of o es
-  pub room : o.end + 1 + length (body_of o es) ≤ area_start o.head.area o.second + o.head.area
+  pub room : o.end + 1 + length (body_of o es) ≤ area_start o.head.areas o.second + o.head.areas.length
 
 group_written : (o : Opened) (es : List Entry) (gate : ℕ) (body : List ℕ) → group_of (Ok o) es ≡ Some (gate, body) → Written o es gate body
 unfolding group_of
@@ -60,7 +61,7 @@ body_holds M E bytes left h es gate body reads group may =
     let o = F.opened in
     let W = written_in M E bytes o es gate body F.is group in
     let same_length : length body ≡ length (body_of o es) = ap length W.body_is in
-    let outside : (q : ℕ) → (q ≤ o.end) ⊎ (area_start o.head.area o.second + o.head.area ≤ q) → IsOut (gate + 1, length body) q =
+    let outside : (q : ℕ) → (q ≤ o.end) ⊎ (area_start o.head.areas o.second + o.head.areas.length ≤ q) → IsOut (gate + 1, length body) q =
     λ q beside. elim beside [ inl low ↦ inl (let g = W.gate_is in omega arith) | inr high ↦ inr (let g = W.gate_is in let r = W.room in omega arith) ] in
     held_from (opening M E left) o h
     (loose_keeps M E bytes o F.is F.reads left may.same_length (λ q out beside. may.same_outside q (out, (outside q beside, tt))))
@@ -73,20 +74,20 @@ body_has_room M E bytes h es gate body reads group =
     let o = F.opened in
     let W = written_in M E bytes o es gate body F.is group in
     let L = layout M E bytes o F.reads in
-    omega (arith, ap length W.body_is, W.gate_is, W.room, L.both, places o.head.area o.second)
+    omega (arith, ap length W.body_is, W.gate_is, W.room, L.both, places o.head.areas o.second)
 
 -- ## A group that is there, at any byte of its gate
 
 module _ (M : Machine NodeState) (E : Ends NodeState) (bytes : List ℕ) (o : Opened) (R : Reads M E bytes o) (es : List Entry)
-    (room : o.end + 1 + length (body_of o es) ≤ area_start o.head.area o.second + o.head.area) where
-  abbrev area : ℕ
-  area = o.head.area
+    (room : o.end + 1 + length (body_of o es) ≤ area_start o.head.areas o.second + o.head.areas.length) where
+  abbrev areas : TwoAreas
+  areas = o.head.areas
 
   abbrev own : ℕ
-  own = area_start o.head.area o.second
+  own = area_start o.head.areas o.second
 
   abbrev other : ℕ
-  other = area_start o.head.area (not o.second)
+  other = area_start o.head.areas (not o.second)
 
   abbrev body : List ℕ
   body = body_of o es
@@ -96,7 +97,7 @@ module _ (M : Machine NodeState) (E : Ends NodeState) (bytes : List ℕ) (o : Op
   there = written bytes (o.end + 1) body
 
   fits : o.end + 1 + length body ≤ length bytes
-  fits = let L = layout M E bytes o R in omega (arith, L.both, places area o.second)
+  fits = let L = layout M E bytes o R in omega (arith, L.both, places areas o.second)
 
   module _ (left : List ℕ) (size : length left ≡ length bytes) (same : (q : ℕ) → IsOut (o.end, 1) q → get_or left q 0 ≡ get_or there q 0) where
     -- outside the group
@@ -105,13 +106,13 @@ module _ (M : Machine NodeState) (E : Ends NodeState) (bytes : List ℕ) (o : Op
     group_outside q (inr high) = same q (inr (omega arith)) ∙ get_or-written_outside bytes (o.end + 1) body fits q (inr high)
 
     group_head : HeadStays M E bytes o R left size
-    group_head q low = group_outside q (inl (omega (arith, end_low M E bytes o R, places area o.second)))
+    group_head q low = group_outside q (inl (omega (arith, end_low M E bytes o R, places areas o.second)))
 
     group_own : OwnStays M E bytes o R left size
     group_own q low high = group_outside q (inl high)
 
     beside : (q : ℕ) → other ≤ q → q < other + 9 → (q < o.end) ⊎ (o.end + 1 + length body ≤ q)
-    beside q low high = elim (places area o.second) [
+    beside q low high = elim (places areas o.second) [
       | inl first ↦ inr (let a = first.0 in let b = first.1 in omega arith)
       | inr last ↦ inl (let a = last.0 in let b = last.1 in omega (arith, end_low M E bytes o R, end_within M E bytes o R))
     ]
@@ -119,7 +120,7 @@ module _ (M : Machine NodeState) (E : Ends NodeState) (bytes : List ℕ) (o : Op
     group_other : OtherStays M E bytes o R left size
     group_other opened = (
       sym (ap (λ byte. is_open byte) (group_outside other (beside other (le_refl other) (omega arith)))) ∙ opened,
-      age_same area (not o.second) bytes left (omega (arith, end_low M E bytes o R, end_within M E bytes o R)) size (λ q low high. group_outside q (beside q (omega arith) (omega arith))),
+      age_same areas (not o.second) bytes left (omega (arith, end_low M E bytes o R, end_within M E bytes o R)) size (λ q low high. group_outside q (beside q (omega arith) (omega arith))),
     )
 
     group_there : (k : ℕ) → k < length body → get_or left (o.end + 1 + k) 0 ≡ get_or body k 0

@@ -7,7 +7,7 @@ use Rattle.std.proofs.lemmas.Bool.{and_parts, leb-true, lt-ltb}
 use Rattle.std.proofs.lemmas.List.{length_push}
 use Rattle.std.proofs.lemmas.Option.{cond_some as chosen}
 use Rattle.tp_model.specs.declared.entry.Entry.{Entry}
-use Rattle.tp_model.specs.declared.limits.TheConstants.{GATE_OPEN, AREA_HEAD_BYTES, MAX_GROUP}
+use Rattle.tp_model.specs.declared.limits.TheConstants.{GATE_OPEN, ENTRY_BYTES, GROUP_HEAD_BYTES, AREA_HEAD_BYTES, MAX_GROUP}
 use Rattle.tp_model.specs.NodeState.{NodeState}
 use Rattle.tp_model.specs.Node.{t414, t414_ends}
 use Rattle.tp_model.specs.Network.{Machine}
@@ -62,7 +62,7 @@ rows_some bytes rows is =
 
 pub length-placed : (at : ℕ) (rows : List (List ℕ)) → length (placed at rows) ≡ length rows
 length-placed at [] = refl
-length-placed at (row ∷ rows) = ap suc (length-placed (at + 16) rows)
+length-placed at (row ∷ rows) = ap suc (length-placed (at + ENTRY_BYTES) rows)
 
 abbrev shut_at : ℕ → Listing
 shut_at at = record { rows = []; end = at; is_closed = true }
@@ -84,7 +84,7 @@ listing_room zero at (gate ∷ bytes) = go (gate == GATE_OPEN) (rows_behind byte
         let more = listing (group_length (length rows) - 1) (at + 1) bytes in
         let rest = each (group_length (length rows) - 1) in
         let some = rows_some bytes rows is in
-        omega (arith, length-append (placed (at + 16) rows) more.rows, length-placed (at + 16) rows)
+        omega (arith, length-append (placed (at + GROUP_HEAD_BYTES) rows) more.rows, length-placed (at + GROUP_HEAD_BYTES) rows)
 
 -- one entry is kept of each row
 row_kept : {Node : Type 0} (M : Machine Node) (r v : Replay Node) (row : List ℕ) → after_row M r row ≡ Some v → length v.kept ≡ length r.kept + 1
@@ -103,10 +103,10 @@ rows_kept M r v (row ∷ rows) is =
     omega (arith, row_kept M r first.0 row.1 (or_damaged_ok row.0 (after_row M r row.1) first.0 first.1), rows_kept M first.0 v rows first.2)
 
 opening_ends : (M : Machine NodeState) (E : Ends NodeState) (bytes : List ℕ) (o : Opened) → opening M E bytes ≡ Ok o
-    → o.end ≤ area_start o.head.area o.second + AREA_HEAD_BYTES + cut_length o.head.topology + entry_room * length o.kept
+    → o.end ≤ area_start o.head.areas o.second + AREA_HEAD_BYTES + cut_length o.head.topology + entry_room * length o.kept
 opening_ends M E bytes o is =
     let R = reads_of M E bytes o is in
-    let content = content_of o.head.area o.second bytes in
+    let content = content_of o.head.areas o.second bytes in
     let A = area_parts M E o.head o.second content o R.area in
     let found = groups_in o.head o.second content in
     let kept = rows_kept M (replay_from A.cut (base_of content)) A.replay found.rows A.leads in
@@ -116,9 +116,9 @@ opening_ends M E bytes o is =
     omega arith
 
 -- so behind the entries that are kept there is room for a group
-pub verdict_has_room : (bytes : List ℕ) (o : Opened) → verdict bytes ≡ Ok o → (count : ℕ) → 1 ≤ count → entry_room * (length o.kept + count) ≤ room o.head.topology o.head.area
+pub verdict_has_room : (bytes : List ℕ) (o : Opened) → verdict bytes ≡ Ok o → (count : ℕ) → 1 ≤ count → entry_room * (length o.kept + count) ≤ room o.head.topology o.head.areas.length
     → has_room o count ≡ true
 unfolding verdict
 verdict_has_room bytes o is count some bound =
     let end = opening_ends t414 t414_ends bytes o is in
-    lt-ltb (o.end + group_length count) (area_start o.head.area o.second + o.head.area) (omega arith)
+    lt-ltb (o.end + group_length count) (area_start o.head.areas o.second + o.head.areas.length) (omega arith)

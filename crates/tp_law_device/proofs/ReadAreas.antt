@@ -2,6 +2,7 @@
 use Rattle.std.proofs.Common.{◌≡◌, ℕ, ◌+◌, ◌-◌, ◌^◌, ◌<◌, ◌≤◌, ◌⊎◌, inl, inr, Bool, true, false, not, cond, List, ◌∷◌, ◌++◌, length, drop, refl, sym, ap, subst, ◌∙◌, arith, length-drop, Ok, Err}
 use Rattle.std.specs.Prelude.{◌==◌, nat_lt, map}
 use Rattle.std.proofs.lemmas.Bool.{and_parts, cases_Bool, ltb-true}
+use Rattle.tp_model.specs.declared.areas.TwoAreas.{TwoAreas}
 use Rattle.tp_model.specs.declared.entry.Entry.{Entry}
 use Rattle.tp_model.specs.Numbers.{AreNumbered}
 use Rattle.tp_model.specs.declared.opening.OpenFault.TheVariants.{Damaged}
@@ -19,7 +20,7 @@ use Rattle.tp_model.specs.Replay.{replay_from}
 use Rattle.tp_model.specs.Spelling.{front_bytes, entries_in, Spells, Stands}
 use Rattle.tp_model.specs.Opening.{Opened, base_of, groups_place, choice, chosen_area, opening}
 use Rattle.tp_law_machine.proofs.Numbers.{AreBytes, are_bytes-take, are_bytes-drop}
-use Rattle.tp_law_device.proofs.Heads.{head_parts, wires_count}
+use Rattle.tp_law_device.proofs.Heads.{head_first, head_parts, wires_count}
 use Rattle.tp_law_device.proofs.Listings.{listing_ends}
 use Rattle.tp_law_device.proofs.Chosen.{open_in, age_in, chosen_open}
 use Rattle.tp_law_device.proofs.AreaReads.{AreaParts, area_parts, groups_at, groups_in}
@@ -59,10 +60,10 @@ choice_second at true true first second is = elim (cases_Bool (nat_lt first seco
     not_taken false true h e = absurd (cc)
     not_taken false false h e = absurd (cc)
 
-chosen_over : (area : ℕ) (bytes : List ℕ) (second : Bool) → chosen_area area bytes ≡ Ok second → (open_in area bytes (not second) ≡ false) ⊎ (age_in area bytes (not second) < age_in area bytes second)
+chosen_over : (areas : TwoAreas) (bytes : List ℕ) (second : Bool) → chosen_area areas bytes ≡ Ok second → (open_in areas bytes (not second) ≡ false) ⊎ (age_in areas bytes (not second) < age_in areas bytes second)
 unfolding chosen_area
-chosen_over area bytes false is = choice_first (area_start area true) (open_in area bytes false) (open_in area bytes true) (age_in area bytes false) (age_in area bytes true) is
-chosen_over area bytes true is = choice_second (area_start area true) (open_in area bytes false) (open_in area bytes true) (age_in area bytes false) (age_in area bytes true) is
+chosen_over areas bytes false is = choice_first (area_start areas true) (open_in areas bytes false) (open_in areas bytes true) (age_in areas bytes false) (age_in areas bytes true) is
+chosen_over areas bytes true is = choice_second (area_start areas true) (open_in areas bytes false) (open_in areas bytes true) (age_in areas bytes false) (age_in areas bytes true) is
 
 -- ## The area that is taken
 
@@ -81,7 +82,7 @@ area_read M E head second content o wires h A =
     let behind = drop (groups_place t) content in
     let gate = listing_ends 0 at behind A.closed in
     let room : 20 ≤ length content = omega (arith, gate.within, length-drop (groups_place t) content) in
-    let C = cut_read E t (area_start head.area second + 1) content A.cut wires h room A.front A.cut_is in
+    let C = cut_read E t (area_start head.areas second + 1) content A.cut wires h room A.front A.cut_is in
     let G = groups_read 0 at behind A.closed in
     let V = entries_read M (replay_from A.cut (base_of content)) A.replay (groups_in head second content).rows A.leads in
     let D = grouped G.groups V.entries G.each V.spelt (V.rows_are ∙ G.rows) in
@@ -119,28 +120,29 @@ area_read M E head second content o wires h A =
 
 -- ## The device
 
-area_below : (bytes : List ℕ) (head : Head) → AreBytes bytes → head_at bytes ≡ head → head.area < 2 ^ 64
+area_below : (bytes : List ℕ) (head : Head) → AreBytes bytes → head_at bytes ≡ head → head.areas.length < 2 ^ 64
 unfolding head_at
-area_below bytes head h is = subst (λ (p : Head). p.area < 2 ^ 64) is (u64_below bytes 16 h)
+area_below bytes head h is = subst (λ (p : Head). p.areas.length < 2 ^ 64) is (u64_below bytes 16 h)
 
 pub opens_stand : (M : Machine NodeState) (E : Ends NodeState) (bytes : List ℕ) (o : Opened) → AreBytes bytes → opening M E bytes ≡ Ok o → Stands M E bytes o
 opens_stand M E bytes o h is =
     let R = reads_of M E bytes o is in
     let H = head_parts bytes o.head R.head in
-    let area = o.head.area in
-    let content = content_of area o.second bytes in
+    let areas = o.head.areas in
+    let content = content_of areas o.second bytes in
     let A = area_parts M E o.head o.second content o R.area in
-    let age : age_in area bytes o.second ≡ o.generation = ap (λ (p : Opened). p.generation) A.is in
-    let S = area_read M E o.head o.second content o (wires_count o.head.topology H.topology) (are_bytes-take (area - 1) (drop (area_start area o.second + 1) bytes) (are_bytes-drop (area_start area o.second + 1) bytes h)) A in
+    let age : age_in areas bytes o.second ≡ o.generation = ap (λ (p : Opened). p.generation) A.is in
+    let S = area_read M E o.head o.second content o (wires_count o.head.topology H.topology) (are_bytes-take (areas.length - 1) (drop (area_start areas o.second + 1) bytes) (are_bytes-drop (area_start areas o.second + 1) bytes h)) A in
     record {
+      starts = head_first bytes o.head R.head;
       head = H.front;
       topology = H.topology;
       room = H.room;
       area_fits = area_below bytes o.head h H.read;
-      gate = chosen_open area bytes o.second R.chosen;
+      gate = chosen_open areas bytes o.second R.chosen;
       groups = S.groups;
       spells = S.spells;
       kept = S.kept;
       end = S.end;
-      first = elim (chosen_over area bytes o.second R.chosen) [ inl closed ↦ inl closed | inr lower ↦ inr (omega (arith, age)) ];
+      first = elim (chosen_over areas bytes o.second R.chosen) [ inl closed ↦ inl closed | inr lower ↦ inr (omega (arith, age)) ];
     }

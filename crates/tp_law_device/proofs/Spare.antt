@@ -1,5 +1,6 @@
 -- The range behind the other area's closed gate isn't read, nor is what lies behind the first closed gate of the groups.
 use Rattle.std.proofs.Common.{◌≡◌, ℕ, ◌+◌, ◌-◌, ◌<◌, ◌≤◌, ◌⊎◌, inl, inr, Bool, true, false, not, cond, List, [], ◌∷◌, length, get_or, refl, sym, ap, subst, ◌∙◌, arith, le_refl, Some, Ok}
+use Rattle.tp_model.specs.declared.areas.TwoAreas.{TwoAreas}
 use Rattle.tp_model.specs.NodeState.{NodeState}
 use Rattle.tp_model.specs.Network.{Machine}
 use Rattle.tp_model.specs.Sound.{Ends}
@@ -15,34 +16,34 @@ use Rattle.tp_law_device.proofs.Opens.{Reads, held_in, held_from, layout, end_wi
 
 -- the range, by whether the other area is open
 abbrev pub range_of : Opened → Bool → ℕ × ℕ
-range_of o opened = cond opened (0, 0) (area_start o.head.area (not o.second) + 1, o.head.area - 1)
+range_of o opened = cond opened (0, 0) (area_start o.head.areas (not o.second) + 1, o.head.areas.length - 1)
 
-spare_found : (o : Opened) (bytes : List ℕ) → spare_of (Ok o) bytes ≡ range_of o (open_in o.head.area bytes (not o.second))
+spare_found : (o : Opened) (bytes : List ℕ) → spare_of (Ok o) bytes ≡ range_of o (open_in o.head.areas bytes (not o.second))
 unfolding spare_of
 spare_found o bytes = refl
 
 module _ (M : Machine NodeState) (E : Ends NodeState) (bytes : List ℕ) (o : Opened) (is : opening M E bytes ≡ Ok o) (R : Reads M E bytes o) where
-  abbrev area : ℕ
-  area = o.head.area
+  abbrev areas : TwoAreas
+  areas = o.head.areas
 
   abbrev own : ℕ
-  own = area_start o.head.area o.second
+  own = area_start o.head.areas o.second
 
   abbrev other : ℕ
-  other = area_start o.head.area (not o.second)
+  other = area_start o.head.areas (not o.second)
 
   abbrev pub spare_now : ℕ × ℕ
   spare_now = spare_of (opening M E bytes) bytes
 
-  spare_is : spare_now ≡ range_of o (open_in o.head.area bytes (not o.second))
+  spare_is : spare_now ≡ range_of o (open_in o.head.areas bytes (not o.second))
   spare_is = ap (λ found. spare_of found bytes) is ∙ spare_found o bytes
 
   -- the head, the area that is taken and the other gate lie outside it
-  spare_apart : (q : ℕ) → (q < 512) ⊎ (((own ≤ q) × (q < own + area)) ⊎ (q ≡ other)) → IsOut spare_now q
-  spare_apart q there = subst (λ range. IsOut range q) (sym spare_is) (go (open_in area bytes (not o.second)))
+  spare_apart : (q : ℕ) → (q < areas.first) ⊎ (((own ≤ q) × (q < own + areas.length)) ⊎ (q ≡ other)) → IsOut spare_now q
+  spare_apart q there = subst (λ range. IsOut range q) (sym spare_is) (go (open_in areas bytes (not o.second)))
     where
-      low_or_high : (q < other + 1) ⊎ (other + area ≤ q)
-      low_or_high = elim (places area o.second) [
+      low_or_high : (q < other + 1) ⊎ (other + areas.length ≤ q)
+      low_or_high = elim (places areas o.second) [
         | inl first ↦ inl (omega (arith, first, there))
         | inr last ↦ elim there [
           | inl low ↦ inl (let a = last.1 in omega arith)
@@ -58,40 +59,40 @@ module _ (M : Machine NodeState) (E : Ends NodeState) (bytes : List ℕ) (o : Op
       go false = elim low_or_high [ inl low ↦ inl low | inr high ↦ inr (let some = layout M E bytes o R in omega (arith, some.some)) ]
 
   -- where the other gate is open it is empty
-  pub spare_none : open_in area bytes (not o.second) ≡ true → (q : ℕ) → IsOut spare_now q
+  pub spare_none : open_in areas bytes (not o.second) ≡ true → (q : ℕ) → IsOut spare_now q
   spare_none opened q = subst (λ range. IsOut range q) (sym (spare_is ∙ ap (range_of o) opened)) (inr (omega arith))
 
   pub spare_fits : spare_now.0 + spare_now.1 ≤ length bytes
-  spare_fits = subst (λ range. range.0 + range.1 ≤ length bytes) (sym spare_is) (go (open_in area bytes (not o.second)))
+  spare_fits = subst (λ range. range.0 + range.1 ≤ length bytes) (sym spare_is) (go (open_in areas bytes (not o.second)))
     where
       go : (opened : Bool) → (range_of o opened).0 + (range_of o opened).1 ≤ length bytes
       go true = omega arith
-      go false = let L = layout M E bytes o R in omega (arith, places area o.second, L.both, L.some)
+      go false = let L = layout M E bytes o R in omega (arith, places areas o.second, L.both, L.some)
 
   -- ## Bytes that differ there, and in the area that is taken behind its first closed gate
 
   module _ (left : List ℕ) (size : length left ≡ length bytes)
-      (same : (q : ℕ) → IsOut spare_now q → (q ≤ o.end) ⊎ (own + area ≤ q) → get_or left q 0 ≡ get_or bytes q 0) where
+      (same : (q : ℕ) → IsOut spare_now q → (q ≤ o.end) ⊎ (own + areas.length ≤ q) → get_or left q 0 ≡ get_or bytes q 0) where
     loose_head : HeadStays M E bytes o R left size
-    loose_head q low = same q (spare_apart q (inl low)) (inl (omega (arith, end_low M E bytes o R, places area o.second)))
+    loose_head q low = same q (spare_apart q (inl low)) (inl (omega (arith, end_low M E bytes o R, places areas o.second)))
 
     loose_own : OwnStays M E bytes o R left size
     loose_own q low high = same q (spare_apart q (inr (inl (low, omega (arith, end_within M E bytes o R))))) (inl (omega arith))
 
     -- a place of the other area's front
-    beside : (q : ℕ) → other ≤ q → q < other + 9 → (q ≤ o.end) ⊎ (own + area ≤ q)
-    beside q low high = elim (places area o.second) [
+    beside : (q : ℕ) → other ≤ q → q < other + 9 → (q ≤ o.end) ⊎ (own + areas.length ≤ q)
+    beside q low high = elim (places areas o.second) [
       | inl first ↦ inr (let a = first.0 in let b = first.1 in omega arith)
       | inr last ↦ inl (let a = last.0 in let b = last.1 in omega (arith, end_low M E bytes o R, end_within M E bytes o R))
     ]
 
-    pub loose_gate : open_in area left (not o.second) ≡ open_in area bytes (not o.second)
+    pub loose_gate : open_in areas left (not o.second) ≡ open_in areas bytes (not o.second)
     loose_gate = ap (λ byte. is_open byte) (same other (spare_apart other (inr (inr refl))) (beside other (le_refl other) (omega arith)))
 
     loose_other : OtherStays M E bytes o R left size
-    loose_other opened = (was, age_same area (not o.second) bytes left (omega (arith, end_low M E bytes o R, end_within M E bytes o R)) size (λ q low high. same q (spare_none was q) (beside q (omega arith) (omega arith))))
+    loose_other opened = (was, age_same areas (not o.second) bytes left (omega (arith, end_low M E bytes o R, end_within M E bytes o R)) size (λ q low high. same q (spare_none was q) (beside q (omega arith) (omega arith))))
       where
-        was : open_in area bytes (not o.second) ≡ true
+        was : open_in areas bytes (not o.second) ≡ true
         was = sym loose_gate ∙ opened
 
     loose_end : is_open (get_or left o.end 0) ≡ false
@@ -111,7 +112,7 @@ pub spare_holds : (M : Machine NodeState) (E : Ends NodeState) (bytes left : Lis
     → (held_in (opening M E left) ≡ Some h) × (spare_of (opening M E left) left ≡ spare_of (opening M E bytes) bytes)
 spare_holds M E bytes left h reads may =
     let F = found_in M E bytes h reads in
-    let stays = λ (q : ℕ) (out : IsOut (spare_of (opening M E bytes) bytes) q) (beside : (q ≤ F.opened.end) ⊎ (area_start F.opened.head.area F.opened.second + F.opened.head.area ≤ q)). may.same_outside q (out, tt) in (
+    let stays = λ (q : ℕ) (out : IsOut (spare_of (opening M E bytes) bytes) q) (beside : (q ≤ F.opened.end) ⊎ (area_start F.opened.head.areas F.opened.second + F.opened.head.areas.length ≤ q)). may.same_outside q (out, tt) in (
       held_from (opening M E left) F.opened h (loose_keeps M E bytes F.opened F.is F.reads left may.same_length stays) F.holds,
       loose_spare M E bytes F.opened F.is F.reads left may.same_length stays,
     )

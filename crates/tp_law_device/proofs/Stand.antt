@@ -56,21 +56,21 @@ spelt_area M E t content generation base s groups now S = record {
 pub stands_opens : (M : Machine NodeState) (E : Ends NodeState) (bytes : List ℕ) (o : Opened) → Stands M E bytes o → opening M E bytes ≡ Ok o
 stands_opens M E bytes o S =
     let t = o.head.topology in
-    let area = o.head.area in
-    let content = content_of area o.second bytes in
+    let areas = o.head.areas in
+    let content = content_of areas o.second bytes in
     let L = has_shape t S.topology in
     let A = spelt_area M E t content o.generation o.base o.cut S.groups o.now S.spells in
-    let age : age_in area bytes o.second ≡ o.generation = front_generation E t L o.generation o.base o.cut A.cut content _ A.spelled A.generation_fits in
-    let chosen : chosen_area area bytes ≡ Ok o.second = elim (cases_Bool (open_in area bytes (not o.second))) [
-      | inr closed ↦ chosen_alone area bytes o.second S.gate closed
-      | inl opened ↦ chosen_higher area bytes o.second S.gate opened (elim S.first [
+    let age : age_in areas bytes o.second ≡ o.generation = front_generation E t L o.generation o.base o.cut A.cut content _ A.spelled A.generation_fits in
+    let chosen : chosen_area areas bytes ≡ Ok o.second = elim (cases_Bool (open_in areas bytes (not o.second))) [
+      | inr closed ↦ chosen_alone areas bytes o.second S.gate closed
+      | inl opened ↦ chosen_higher areas bytes o.second S.gate opened (elim S.first [
         | inl closed ↦ absurd (let both = opened in cc)
         | inr lower ↦ omega (arith, age, lower)
       ])
     ] in
     let kept = S.kept in
     let end = sym S.end in
-    opening_from M E bytes o.head o.second o (head_of-head_bytes t area bytes S.topology S.room S.area_fits S.head) chosen
+    opening_from M E bytes o.head o.second o (head_of-head_bytes t areas bytes S.topology S.room S.starts S.area_fits S.head) chosen
     (area_spelt M E o.head o.second L content o.generation o.base o.cut S.groups o.now A
     ∙ (λ i. Ok (record { head = o.head; second = o.second; generation = o.generation; base = o.base; cut = o.cut; kept = kept i; now = o.now; end = end i })))
 

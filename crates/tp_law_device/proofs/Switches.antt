@@ -5,6 +5,7 @@ use Rattle.std.proofs.lemmas.Bool.{cases_Bool, both_ways, ltb-true}
 use Rattle.std.proofs.lemmas.Option.{cond_some}
 use Rattle.tp_model.specs.declared.opening.OpenFault.{OpenFault}
 use Rattle.tp_model.specs.declared.limits.TheConstants.{GATE_OPEN}
+use Rattle.tp_model.specs.declared.areas.TwoAreas.{TwoAreas}
 use Rattle.tp_model.specs.NodeState.{NodeState}
 use Rattle.tp_model.specs.Network.{Machine}
 use Rattle.tp_model.specs.Sound.{Ends}
@@ -24,28 +25,28 @@ use Rattle.tp_law_device.proofs.Spare.{spare_none}
 -- ## Bytes that differ at the other area's gate
 
 module _ (M : Machine NodeState) (E : Ends NodeState) (bytes : List ℕ) (o : Opened) (R : Reads M E bytes o) where
-  abbrev area : ℕ
-  area = o.head.area
+  abbrev areas : TwoAreas
+  areas = o.head.areas
 
   abbrev own : ℕ
-  own = area_start o.head.area o.second
+  own = area_start o.head.areas o.second
 
   abbrev other : ℕ
-  other = area_start o.head.area (not o.second)
+  other = area_start o.head.areas (not o.second)
 
   pub other_within : other + 1 ≤ length bytes
-  other_within = let L = layout M E bytes o R in omega (arith, places area o.second, L.both, L.some)
+  other_within = let L = layout M E bytes o R in omega (arith, places areas o.second, L.both, L.some)
 
   module _ (left : List ℕ) (size : length left ≡ length bytes) (same : (q : ℕ) → IsOut (other, 1) q → get_or left q 0 ≡ get_or bytes q 0) where
     -- the area that is taken lies apart
-    apart : (q : ℕ) → own ≤ q → q < own + area → IsOut (other, 1) q
-    apart q low high = elim (places area o.second) [
+    apart : (q : ℕ) → own ≤ q → q < own + areas.length → IsOut (other, 1) q
+    apart q low high = elim (places areas o.second) [
       | inl first ↦ inl (let a = first.0 in let b = first.1 in omega arith)
       | inr last ↦ inr (let a = last.0 in let b = last.1 in let L = layout M E bytes o R in omega (arith, L.some))
     ]
 
     gate_head : HeadStays M E bytes o R left size
-    gate_head q low = same q (inl (omega (arith, places area o.second)))
+    gate_head q low = same q (inl (omega (arith, places areas o.second)))
 
     gate_own : OwnStays M E bytes o R left size
     gate_own q low high = same q (apart q low (omega (arith, end_within M E bytes o R)))
@@ -54,27 +55,27 @@ module _ (M : Machine NodeState) (E : Ends NodeState) (bytes : List ℕ) (o : Op
     gate_end = ap (λ byte. is_open byte) (same o.end (apart o.end (omega (arith, end_low M E bytes o R)) (end_within M E bytes o R))) ∙ end_shut M E bytes o R
 
     -- where it was open, or is closed, the same is read
-    pub gate_keeps : (open_in area left (not o.second) ≡ true → open_in area bytes (not o.second) ≡ true) → opening M E left ≡ Ok o
+    pub gate_keeps : (open_in areas left (not o.second) ≡ true → open_in areas bytes (not o.second) ≡ true) → opening M E left ≡ Ok o
     gate_keeps was = keeps M E bytes o R left size gate_head gate_own
-        (λ opened. (was opened, age_same area (not o.second) bytes left (omega (arith, end_low M E bytes o R, end_within M E bytes o R)) size (λ q low high. same q (inr (omega arith)))))
+        (λ opened. (was opened, age_same areas (not o.second) bytes left (omega (arith, end_low M E bytes o R, end_within M E bytes o R)) size (λ q low high. same q (inr (omega arith)))))
         gate_end
 
     -- where it is open and the area is of higher generation, that area is read
-    pub gate_switches : (k : Opened) → area_in M E o.head (not o.second) (content_of area (not o.second) bytes) ≡ Ok k → o.generation < k.generation
-        → open_in area left (not o.second) ≡ true → opening M E left ≡ Ok k
+    pub gate_switches : (k : Opened) → area_in M E o.head (not o.second) (content_of areas (not o.second) bytes) ≡ Ok k → o.generation < k.generation
+        → open_in areas left (not o.second) ≡ true → opening M E left ≡ Ok k
     gate_switches k read later opened = switches M E bytes o R left size k gate_head gate_own read later (λ q low high. same q (inr (omega arith))) opened
 
 -- ## Closed
 
 -- the other gate's place, where that is open
 record OpenOther (o : Opened) (bytes : List ℕ) (at : ℕ) : Type 0 where
-  opened : open_in o.head.area bytes (not o.second) ≡ true
-  place : at ≡ area_start o.head.area (not o.second)
+  opened : open_in o.head.areas bytes (not o.second) ≡ true
+  place : at ≡ area_start o.head.areas (not o.second)
 
 open_found : (o : Opened) (bytes : List ℕ) (at : ℕ) → open_other_of (Ok o) bytes ≡ Some at → OpenOther o bytes at
 unfolding open_other_of
 open_found o bytes at is =
-    let found = cond_some (other_is_open o bytes) (area_start o.head.area (not o.second)) at is in
+    let found = cond_some (other_is_open o bytes) (area_start o.head.areas (not o.second)) at is in
     record { opened = found.0; place = sym found.1 }
 
 pub clear_holds : (M : Machine NodeState) (E : Ends NodeState) (bytes left : List ℕ) (h : Held NodeState) (at : ℕ) → held_in (opening M E bytes) ≡ Some h
@@ -102,18 +103,18 @@ clear_has_room M E bytes h at reads was =
 
 -- the other area as it is once its gate is open
 record Other (M : Machine NodeState) (E : Ends NodeState) (o : Opened) (bytes : List ℕ) (at : ℕ) (k : Held NodeState) : Type 0 where
-  closed : open_in o.head.area bytes (not o.second) ≡ false
-  place : at ≡ area_start o.head.area (not o.second)
+  closed : open_in o.head.areas bytes (not o.second) ≡ false
+  place : at ≡ area_start o.head.areas (not o.second)
   next : Opened
-  read : area_in M E o.head (not o.second) (content_of o.head.area (not o.second) bytes) ≡ Ok next
+  read : area_in M E o.head (not o.second) (content_of o.head.areas (not o.second) bytes) ≡ Ok next
   later : o.generation < next.generation
   holds : held_of next ≡ k
 
 newer_found : (o : Opened) (found : Result Opened OpenFault) (at : ℕ) (k : Held NodeState) → if_newer o found ≡ Some (at, k)
-    → (next : Opened) × (found ≡ Ok next) × (o.generation < next.generation) × (area_start o.head.area (not o.second) ≡ at) × (held_of next ≡ k)
+    → (next : Opened) × (found ≡ Ok next) × (o.generation < next.generation) × (area_start o.head.areas (not o.second) ≡ at) × (held_of next ≡ k)
 newer_found o (Err fault) at k is = cc
 newer_found o (Ok next) at k is =
-    let found = cond_some (nat_lt o.generation next.generation) (area_start o.head.area (not o.second), held_of next) (at, k) is in
+    let found = cond_some (nat_lt o.generation next.generation) (area_start o.head.areas (not o.second), held_of next) (at, k) is in
     (next, refl, ltb-true o.generation next.generation found.0, ap (λ pair. pair.0) found.1, ap (λ pair. pair.1) found.1)
 
 other_found : (M : Machine NodeState) (E : Ends NodeState) (o : Opened) (bytes : List ℕ) (at : ℕ) (k : Held NodeState) → other_of M E (Ok o) bytes ≡ Some (at, k) → Other M E o bytes at k
@@ -137,10 +138,10 @@ switch_holds M E bytes left h k at reads is may =
     let F = found_in M E bytes h reads in
     let o = F.opened in
     let S = other_found M E o bytes at k (ap (λ found. other_of M E found bytes) (sym F.is) ∙ is) in
-    let same : (q : ℕ) → IsOut (area_start o.head.area (not o.second), 1) q → get_or left q 0 ≡ get_or bytes q 0 =
+    let same : (q : ℕ) → IsOut (area_start o.head.areas (not o.second), 1) q → get_or left q 0 ≡ get_or bytes q 0 =
     λ q out. may.same_outside q (subst (λ place. IsOut (place, 1) q) (sym S.place) out, tt) in
-    elim (cases_Bool (open_in o.head.area left (not o.second))) [
-      | inr shut ↦ inl (held_from (opening M E left) o h (gate_keeps M E bytes o F.reads left may.same_length same (λ opened. absurd (both_ways (open_in o.head.area left (not o.second)) shut opened))) F.holds)
+    elim (cases_Bool (open_in o.head.areas left (not o.second))) [
+      | inr shut ↦ inl (held_from (opening M E left) o h (gate_keeps M E bytes o F.reads left may.same_length same (λ opened. absurd (both_ways (open_in o.head.areas left (not o.second)) shut opened))) F.holds)
       | inl opened ↦ inr (held_from (opening M E left) S.next k (gate_switches M E bytes o F.reads left may.same_length same S.next S.read S.later opened) S.holds)
     ]
 
@@ -150,7 +151,7 @@ switched_holds M E bytes h k at reads is =
     let F = found_in M E bytes h reads in
     let o = F.opened in
     let S = other_found M E o bytes at k (ap (λ found. other_of M E found bytes) (sym F.is) ∙ is) in
-    let place = area_start o.head.area (not o.second) in
+    let place = area_start o.head.areas (not o.second) in
     let room : place + length gate_open ≤ length bytes = omega (arith, other_within M E bytes o F.reads) in
     let left = written bytes place gate_open in
     let opened : get_or left place 0 ≡ GATE_OPEN = ap (λ q. get_or left q 0) (omega arith) ∙ get_or-written_inside bytes place gate_open room 0 (omega arith) in

@@ -35,7 +35,7 @@ module _ (M : Machine NodeState) (E : Ends NodeState) (bytes : List ℕ) (o : Op
   pub opening_leads : after M o.cut (map (λ e. e.0) o.kept) ≡ Some o.now
   opening_leads =
       let R = reads_of M E bytes o is in
-      let content = content_of o.head.area o.second bytes in
+      let content = content_of o.head.areas o.second bytes in
       let A = area_parts M E o.head o.second content o R.area in
       let L = replay_holds M A.cut (base_of content) A.replay (groups_in o.head o.second content).rows A.leads in
       let cut : o.cut ≡ A.cut = ap (λ (p : Opened). p.cut) (sym A.is) in
@@ -46,10 +46,10 @@ module _ (M : Machine NodeState) (E : Ends NodeState) (bytes : List ℕ) (o : Op
   cut_has : HasParts E o.head.topology o.cut
   cut_has =
       let R = reads_of M E bytes o is in
-      let content = content_of o.head.area o.second bytes in
+      let content = content_of o.head.areas o.second bytes in
       let A = area_parts M E o.head o.second content o R.area in
       let cut : A.cut ≡ o.cut = ap (λ (p : Opened). p.cut) A.is in
-      subst (HasParts E o.head.topology) cut (read_parts E o.head.topology (area_start o.head.area o.second + 1) content A.cut A.cut_is)
+      subst (HasParts E o.head.topology) cut (read_parts E o.head.topology (area_start o.head.areas o.second + 1) content A.cut A.cut_is)
 
   -- what is read is sound
   pub opening_sound : Sound E o.cut

@@ -1,5 +1,6 @@
 -- Where runs begin: a device that was formatted, and opened.
 use Rattle.std.specs.Prelude.{◌≡◌, ◌<◌, ℕ, ◌^◌, true, List, [], length, Some}
+use Rattle.tp_model.specs.declared.areas.TwoAreas.{TwoAreas}
 use Rattle.tp_model.specs.NodeState.{NodeState}
 use Rattle.tp_model.specs.Network.{Network}
 use Rattle.tp_model.specs.WriteOrder.{Resting}
@@ -24,9 +25,9 @@ formatted_world start bytes = record {
 
 -- The bytes are a device that was formatted with the images, for a topology, in areas of a length for which there is
 -- room and a field.
-pub record WasFormatted (t : Topology) (area : ℕ) (images : List (List ℕ)) (start : Network NodeState) (bytes : List ℕ) : Type 0 where
+pub record WasFormatted (t : Topology) (areas : TwoAreas) (images : List (List ℕ)) (start : Network NodeState) (bytes : List ℕ) : Type 0 where
   pub topology : is_topology t ≡ true
-  pub room : fits (length bytes) t area ≡ true
-  pub area_fits : area < 2 ^ 64
+  pub room : fits (length bytes) t areas ≡ true
+  pub area_fits : areas.length < 2 ^ 64
   pub network : start_of t images ≡ Some start
-  pub format : IsFormatted t area start bytes
+  pub format : IsFormatted t areas start bytes

@@ -3,6 +3,7 @@
 #![tactic(auto)]
 
 ghost use Rattle.std.specs.Prelude.{◌≡◌, ◌≤◌, ◌<◌, ◌+◌, ◌++◌, ◌*◌, ◌^◌, ℕ, true, false, List, [], Some, Ok, length, map, take, drop, slice_get};
+ghost use Rattle.tp_model.specs.declared.areas.TwoAreas.{TwoAreas};
 ghost use Rattle.tp_model.specs.declared.entry.Entry.{Entry};
 ghost use Rattle.tp_model.specs.declared.limits.TheConstants.{AREA_HEAD_BYTES, HEAD_BYTES};
 ghost use Rattle.tp_model.specs.NodeState.{NodeState};
@@ -90,28 +91,28 @@ pub fn every_run_holds()
         → (number < next_number r.held) × (take (number + 1) last.journal ≡ take (number + 1) s.reading.journal) }
 {}
 
-/// A head that was written is read back: the topology, whose wires the head has for links alone, and the areas' length.
+/// A head that was written is read back: the topology, whose wires the head has for links alone, and the areas.
 pub fn heads_read_back()
-    ensures { (t : Topology) (area : ℕ) (bytes : List ℕ) → is_topology t ≡ true → fits (length bytes) t area ≡ true → area < 2 ^ 64
-        → take HEAD_BYTES bytes ≡ head_bytes t area → head_of bytes ≡ Ok (record { topology = t; area = area }) }
+    ensures { (t : Topology) (areas : TwoAreas) (bytes : List ℕ) → is_topology t ≡ true → fits (length bytes) t areas ≡ true → areas.first ≡ HEAD_BYTES → areas.length < 2 ^ 64
+        → take areas.first bytes ≡ head_bytes t areas → head_of bytes ≡ Ok (record { topology = t; areas = areas }) }
 {}
 
 /// A device that was formatted stands for the network of its images, with no entries behind it. So a run may begin there,
 /// and then whatever a crash leaves is recovered.
 pub fn formatted_starts()
-    ensures stands { (t : Topology) (area : ℕ) (images : List (List ℕ)) (start : Network NodeState) (bytes : List ℕ)
-        → WasFormatted t area images start bytes → StandsFor bytes start [] 0 }
-    ensures starts { (t : Topology) (area : ℕ) (images : List (List ℕ)) (start : Network NodeState) (bytes : List ℕ)
-        → WasFormatted t area images start bytes → IsFormatted t414 device_areas start (formatted_world start bytes) }
-    ensures recovers { (t : Topology) (area : ℕ) (images : List (List ℕ)) (start : Network NodeState) (bytes : List ℕ) → WasFormatted t area images start bytes
+    ensures stands { (t : Topology) (areas : TwoAreas) (images : List (List ℕ)) (start : Network NodeState) (bytes : List ℕ)
+        → WasFormatted t areas images start bytes → StandsFor bytes start [] 0 }
+    ensures starts { (t : Topology) (areas : TwoAreas) (images : List (List ℕ)) (start : Network NodeState) (bytes : List ℕ)
+        → WasFormatted t areas images start bytes → IsFormatted t414 device_areas start (formatted_world start bytes) }
+    ensures recovers { (t : Topology) (areas : TwoAreas) (images : List (List ℕ)) (start : Network NodeState) (bytes : List ℕ) → WasFormatted t areas images start bytes
         → (events : List (Event NodeState)) (last : World NodeState) → Run t414 device_areas (formatted_world start bytes) events last
         → (left : List ℕ) → MayBe last.disk left → Recovers t414 device_areas start last left }
 {}
 
 /// There is such a device for each topology, each area with room for it, and each network of images.
 pub fn devices_can_be_formatted()
-    ensures { (t : Topology) (area : ℕ) (images : List (List ℕ)) (start : Network NodeState) → is_topology t ≡ true → is_roomy t area ≡ true → area < 2 ^ 64
-        → start_of t images ≡ Some start → (bytes : List ℕ) × WasFormatted t area images start bytes }
+    ensures { (t : Topology) (areas : TwoAreas) (images : List (List ℕ)) (start : Network NodeState) → is_topology t ≡ true → is_roomy t areas.length ≡ true → areas.first ≡ HEAD_BYTES → areas.length < 2 ^ 64
+        → start_of t images ≡ Some start → (bytes : List ℕ) × WasFormatted t areas images start bytes }
 {}
 
 /// Opening answers exactly what is spelt: a device that has a head, an open area of highest generation, a cut and groups with
@@ -148,7 +149,7 @@ pub fn histories_hold()
         → IsFormatted t414 device_areas start first → Run t414 device_areas first events last → (line : ℕ) → length (on_line last.net.live.lines line) ≤ 3 }
     ensures both { (start : Network NodeState) (events : List (Event NodeState)) (first last : World NodeState)
         → IsFormatted t414 device_areas start first → Run t414 device_areas first events last → (cut : WholeCut) → whole last.net ≡ Some cut
-        → after t414 last.net.start (pre (process last.net.start) (count_in cut) last.net.entries ++ post (process last.net.start) (count_in cut) last.net.entries) ≡ Some (plain_network last.net.live) }
+        → after t414 last.net.start (pre (process last.net.start.wires (length last.net.start.nodes)) (count_in cut) last.net.entries ++ post (process last.net.start.wires (length last.net.start.nodes)) (count_in cut) last.net.entries) ≡ Some (plain_network last.net.live) }
     ensures ports { (start : Network NodeState) (events : List (Event NodeState)) (first last : World NodeState)
         → IsFormatted t414 device_areas start first → Run t414 device_areas first events last → (p : ℕ) (port : Port) → slice_get start.ports p ≡ Some port
         → (later : Port) × (slice_get last.net.live.ports p ≡ Some later)
@@ -163,7 +164,7 @@ pub fn cuts_are_orders()
         → IsFormatted t414 device_areas start first → Run t414 device_areas first events last → HasOrder t414 start last.journal last.net.start last.net.entries last.base }
     ensures cut { (start : Network NodeState) (events : List (Event NodeState)) (first last : World NodeState)
         → IsFormatted t414 device_areas start first → Run t414 device_areas first events last → (cut : WholeCut) → (c : CutHolds t414 last.net cut)
-        → HasOrder t414 start last.journal c.consistent.state (post (process last.net.start) (count_in cut) last.net.entries) (last.base + cut.size) }
+        → HasOrder t414 start last.journal c.consistent.state (post (process last.net.start.wires (length last.net.start.nodes)) (count_in cut) last.net.entries) (last.base + cut.size) }
     ensures whole { (start : Network NodeState) (events : List (Event NodeState)) (first last : World NodeState)
         → IsFormatted t414 device_areas start first → Run t414 device_areas first events last
         → ((cut : WholeCut) → whole last.net ≡ Some cut → IsWhole last.net) × (IsWhole last.net → (cut : WholeCut) × (whole last.net ≡ Some cut)) }
@@ -177,7 +178,7 @@ pub fn groups_fit()
     ensures divided { (t : Topology) (area : ℕ) (groups : List (List (Entry × ℕ))) (more : List (Entry × ℕ)) → AllByRecursion IsGroup groups → 1 ≤ length more
         → entry_room * (length (entries_in groups) + length more) ≤ room t area
         → AREA_HEAD_BYTES + cut_length t + length (groups_bytes groups) + group_length (length more) < area }
-    ensures opened { (bytes : List ℕ) (o : Opened) → verdict bytes ≡ Ok o → (count : ℕ) → 1 ≤ count → entry_room * (length o.kept + count) ≤ room o.head.topology o.head.area
+    ensures opened { (bytes : List ℕ) (o : Opened) → verdict bytes ≡ Ok o → (count : ℕ) → 1 ≤ count → entry_room * (length o.kept + count) ≤ room o.head.topology o.head.areas.length
         → has_room o count ≡ true }
     ensures ordinary { (most lines entries reserved number more : ℕ) → is_full (Some most) lines entries reserved number more ≡ false
         → entry_room * (entries + reserved + more) + reserve lines ≤ most }
@@ -197,7 +198,7 @@ pub fn checkpoints_switch()
         → device_areas.other bytes ≡ Some (other_start o, record { network = s; entries = map (λ e. e.0) (entries_in groups); base = base }) }
     ensures switches { (w : World NodeState) (cut : WholeCut) (nodes : List NodeState) (o : Opened) (pieces : List (ℕ × List ℕ)) (generation : ℕ)
         → w.at ≡ Resting → HasCut w.net cut nodes → SpellsCopy w o pieces (copy_of w.net w.base cut nodes) generation → Switches w o cut nodes generation }
-    ensures formatted { (t : Topology) (area : ℕ) (images : List (List ℕ)) (start : Network NodeState) (bytes : List ℕ) → WasFormatted t area images start bytes
+    ensures formatted { (t : Topology) (areas : TwoAreas) (images : List (List ℕ)) (start : Network NodeState) (bytes : List ℕ) → WasFormatted t areas images start bytes
         → (acts : List Act) → AllByRecursion (λ act. is_trim act ≡ false) acts → (net : MarkedNetwork NodeState) → acted t414 (fresh start) acts ≡ Some net → net.entries ≡ []
         → (cut : WholeCut) (nodes : List NodeState) → HasCut net cut nodes → HasCheckpoint start bytes net cut nodes }
     ensures snapshot { (node : NodeState) → HasSnapshot node }

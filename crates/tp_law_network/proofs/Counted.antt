@@ -1,6 +1,6 @@
 -- What a port has counted is how many entries there were.
 use Rattle.std.proofs.Common.{◌≡◌, ℕ, ◌+◌, ◌-◌, Bool, true, false, cond, inl, inr, List, [], ◌∷◌, length, set, refl, sym, ap, subst, ◌∙◌, arith, length-append, length-drop, Option, Some, None, slice_get, ne_eqb, eq-eqb}
-use Rattle.std.specs.Prelude.{◌==◌, ◌&&◌, nat_lt, nat_le}
+use Rattle.std.specs.Prelude.{◌==◌, ◌&&◌, nat_lt, nat_le, length}
 use Rattle.std.specs.Option.{option_map}
 use Rattle.std.specs.List.{count_by}
 use Rattle.std.proofs.lemmas.Bool.{and_parts, cases_eq, ltb-true, leb-true}
@@ -13,7 +13,7 @@ use Rattle.tp_model.specs.declared.wire.WireEnd.TheVariants.{Link, Port as AtPor
 use Rattle.tp_model.specs.declared.entry.Entry.{Entry}
 use Rattle.tp_model.specs.declared.entry.Entry.TheVariants.{Run, Take, HostIn, Confirm}
 use Rattle.tp_model.specs.declared.limits.TheConstants.{MAX_STEPS}
-use Rattle.tp_model.specs.Network.{Machine, steps, Network, Port, Own, OfNode, OfHost, own, put, receiver, has_wire, sent}
+use Rattle.tp_model.specs.Network.{Machine, steps, Network, Port, Own, OfNode, OfHost, put, receiver, has_wire, sent}
 use Rattle.tp_model.specs.Entries.{HasFourLinks, process, port_took, acked, handed_in, confirmed, of_node, of_port, receives, does, next}
 use Rattle.tp_model.specs.Order.{after}
 use Rattle.tp_model.specs.Counted.{accepted, came_out, is_input, is_at, is_output}
@@ -158,9 +158,9 @@ module _ {Node : Type 0} (s : Network Node) (p : ℕ) (port : Port) (at : slice_
   entry_counted : (M : Machine Node) (e : Entry) (t : Network Node) → next M s e ≡ Some t → Counted (cond (is_input p e) 1 0) (cond (is_output s.wires p e) 1 0) t.ports
   entry_counted M e t h =
       let S = step_of M s e t h in
-      let ports : ports_after s S.now ≡ t.ports = sym (put_ports (record s { lines = sent (has_wire s.wires) S.out S.sends }) (process s e) S.now) ∙ ap (λ u. u.ports) S.makes in
+      let ports : ports_after s S.now ≡ t.ports = sym (put_ports (record s { lines = sent (has_wire s.wires) S.out S.sends }) (process s.wires (length s.nodes) e) S.now) ∙ ap (λ u. u.ports) S.makes in
       subst (Counted (cond (is_input p e) 1 0) (cond (is_output s.wires p e) 1 0)) ports
-      (does_counted M (length s.nodes) e S.was (S.now, S.sends) (λ hosts is. (own_host s (process s e) hosts (S.own_was ∙ ap Some is)).1) S.change)
+      (does_counted M (length s.nodes) e S.was (S.now, S.sends) (λ hosts is. (own_host s (process s.wires (length s.nodes) e) hosts (S.own_was ∙ ap Some is)).1) S.change)
 
 -- ## Entries, one after the other
 

@@ -2,7 +2,7 @@
 use Rattle.std.proofs.Common.{◌≡◌, ◌≢◌, ℕ, zero, suc, ◌+◌, ◌-◌, ◌*◌, ◌/◌, ◌%◌, ◌<◌, ◌≤◌, inl, inr, List, [], ◌∷◌, ◌++◌, map, length, set, refl, sym, ap, subst, arith, Option, Some, None}
 use Rattle.std.proofs.lemmas.Bool.{eq-eqb, ne_eqb, cases_Bool, cases_eq, ltb-true, ltb-false}
 use Rattle.std.proofs.lemmas.Option.{cond_some}
-use Rattle.std.specs.Prelude.{nat_lt, nat_le, ◌&&◌, slice_get}
+use Rattle.std.specs.Prelude.{nat_lt, nat_le, ◌&&◌, slice_get, length}
 use Rattle.std.specs.Option.{option_map}
 use Rattle.std.specs.List.{AllByRecursion}
 use Rattle.tp_model.specs.declared.link.Token.{Token}
@@ -198,7 +198,7 @@ arrivals s (HostIn p x) = []
 arrivals s (Confirm p upto) = []
 
 -- what comes in comes in to its process
-pub arrivals_own : {Node : Type 0} (s : Network Node) (e : Entry) → Wired s → AllByRecursion (λ m. owner (length s.nodes) m.0 ≡ process s e) (arrivals s e)
+pub arrivals_own : {Node : Type 0} (s : Network Node) (e : Entry) → Wired s → AllByRecursion (λ m. owner (length s.nodes) m.0 ≡ process s.wires (length s.nodes) e) (arrivals s e)
 unfolding process
 arrivals_own s (Run i k) wired = tt
 arrivals_own s (HostIn p x) wired = tt
@@ -242,8 +242,8 @@ module _ {Node : Type 0} {M : Machine Node} {E : Ends Node} (keeps : KeepsFlight
 
   -- what an entry does
   pub does_moves : (s : Network Node) (e : Entry) (state : Own Node) (change : Own Node × List (ℕ × Token)) → Wired s
-      → own s (process s e) ≡ Some state → does M s.wires (length s.nodes) e state ≡ Some change
-      → Moves E (length s.nodes) (process s e) state (arrivals s e) change
+      → own s (process s.wires (length s.nodes) e) ≡ Some state → does M s.wires (length s.nodes) e state ≡ Some change
+      → Moves E (length s.nodes) (process s.wires (length s.nodes) e) state (arrivals s e) change
   unfolding process does
   does_moves s (Run i k) (OfHost ports) change wired o d = cc
   does_moves s (HostIn p x) (OfNode node) change wired o d = cc

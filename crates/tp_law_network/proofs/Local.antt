@@ -1,7 +1,7 @@
 -- An entry touches its own process alone, the fronts of lines that come in to it and the backs of lines that go out
 -- from it.
 use Rattle.std.proofs.Common.{◌≡◌, ◌≢◌, ℕ, zero, suc, ◌+◌, ◌*◌, ◌<◌, Bool, true, false, cond, List, [], ◌∷◌, ◌++◌, length, map, set, refl, sym, ap, subst, ◌∙◌, arith, Option, Some, None, length-set, slice_get, eqb-true, eq-eqb, ne_eqb}
-use Rattle.std.specs.Prelude.{◌==◌, nat_lt, nat_le, ◌&&◌}
+use Rattle.std.specs.Prelude.{◌==◌, nat_lt, nat_le, ◌&&◌, length}
 use Rattle.std.specs.Option.{option_map}
 use Rattle.std.specs.List.{AllByRecursion}
 use Rattle.std.proofs.lemmas.Bool.{lt-ltb, le-ltb}
@@ -13,7 +13,7 @@ use Rattle.tp_model.specs.declared.entry.Entry.{Entry}
 use Rattle.tp_model.specs.declared.entry.Entry.TheVariants.{Run, Take, HostIn, Confirm}
 use Rattle.tp_model.specs.declared.limits.TheConstants.{MAX_STEPS}
 use Rattle.tp_model.specs.Network.{Machine, steps, Port, Network, Own, OfNode, OfHost, own, put, receiver, has_wire, process_at, taken, sent}
-use Rattle.tp_model.specs.Entries.{process, takes, port_took, handed_in, confirmed, of_node, of_port, receives, does, next, HasFourLinks}
+use Rattle.tp_model.specs.Entries.{process, takes, port_took, handed_in, confirmed, of_node, of_port, receives, does, next, HasFourLinks, acts}
 use Rattle.tp_model.specs.Sound.{owner}
 use Rattle.tp_model.specs.Snapshot.{taker}
 use Rattle.tp_law_network.proofs.Lines.{length_taken, length_sent}
@@ -24,24 +24,24 @@ use Rattle.tp_law_network.proofs.Partial.{all_append, bind_some, map_some, cond_
 -- What the entry takes leaves `out`; its process was in one state and is in another, and sent `sends`.
 pub record Step {Node : Type 0} (M : Machine Node) (s : Network Node) (e : Entry) (t : Network Node) : Type 0 where
   pub out : List (List Token)
-  pub takes_out : taken s.lines (takes s e) ≡ Some out
+  pub takes_out : taken s.lines (takes s.wires (length s.nodes) e) ≡ Some out
   pub was : Own Node
-  pub own_was : own s (process s e) ≡ Some was
+  pub own_was : own s (process s.wires (length s.nodes) e) ≡ Some was
   pub now : Own Node
   pub sends : List (ℕ × Token)
   pub change : does M s.wires (length s.nodes) e was ≡ Some (now, sends)
-  pub makes : put (record s { lines = sent (has_wire s.wires) out sends }) (process s e) now ≡ t
+  pub makes : put (record s { lines = sent (has_wire s.wires) out sends }) (process s.wires (length s.nodes) e) now ≡ t
 
 pub step_of : {Node : Type 0} (M : Machine Node) (s : Network Node) (e : Entry) (t : Network Node) → next M s e ≡ Some t → Step M s e t
-unfolding next
+unfolding next acts
 step_of M s e t h =
-    let L = bind_some (taken s.lines (takes s e)) _ t h in
-    let B = bind_some (own s (process s e)) _ t L.2 in
+    let L = bind_some (taken s.lines (takes s.wires (length s.nodes) e)) _ t h in
+    let B = bind_some (own s (process s.wires (length s.nodes) e)) _ t L.2 in
     let C = bind_some (does M s.wires (length s.nodes) e B.0) _ t B.2 in
     record { out = L.0; takes_out = L.1; was = B.0; own_was = B.1; now = C.0.0; sends = C.0.1; change = C.1; makes = cc }
 
 pub next_from : {Node : Type 0} (M : Machine Node) (s : Network Node) (e : Entry) (t : Network Node) → Step M s e t → next M s e ≡ Some t
-unfolding next
+unfolding next acts
 next_from M s e t S = rw (S.takes_out, S.own_was, S.change, S.makes)
 
 -- ## States of processes
@@ -134,22 +134,14 @@ pub record SameShape {Node : Type 0} (s t : Network Node) : Type 0 where
   pub ports : length t.ports ≡ length s.ports
   pub lines : length t.lines ≡ length s.lines
 
-pub process_same : {Node : Type 0} (s t : Network Node) → t.wires ≡ s.wires → length t.nodes ≡ length s.nodes → (e : Entry) → process t e ≡ process s e
-unfolding process
-process_same s t w n (Run i k) = refl
-process_same s t w n (Take l token) = ap (λ N. process_at N (receiver t.wires l)) n ∙ ap (λ ws. process_at (length s.nodes) (receiver ws l)) w
-process_same s t w n (HostIn p x) = n
-process_same s t w n (Confirm p upto) = n
+pub process_same : {Node : Type 0} (s t : Network Node) → t.wires ≡ s.wires → length t.nodes ≡ length s.nodes → (e : Entry) → process t.wires (length t.nodes) e ≡ process s.wires (length s.nodes) e
+process_same s t w n e = ap (λ wires. process wires (length t.nodes) e) w ∙ ap (λ N. process s.wires N e) n
 
-pub takes_same : {Node : Type 0} (s t : Network Node) (e : Entry) → takes t e ≡ takes s e
-unfolding takes
-takes_same s t (Run i k) = refl
-takes_same s t (Take l token) = refl
-takes_same s t (HostIn p x) = refl
-takes_same s t (Confirm p upto) = refl
+pub takes_same : {Node : Type 0} (s t : Network Node) → t.wires ≡ s.wires → length t.nodes ≡ length s.nodes → (e : Entry) → takes t.wires (length t.nodes) e ≡ takes s.wires (length s.nodes) e
+takes_same s t w n e = ap (λ wires. takes wires (length t.nodes) e) w ∙ ap (λ N. takes s.wires N e) n
 
 -- what it takes comes in to its process
-pub takes_own : {Node : Type 0} (s : Network Node) (e : Entry) → AllByRecursion (λ m. taker s m.0 ≡ process s e) (takes s e)
+pub takes_own : {Node : Type 0} (s : Network Node) (e : Entry) → AllByRecursion (λ m. taker s m.0 ≡ process s.wires (length s.nodes) e) (takes s.wires (length s.nodes) e)
 unfolding takes process
 takes_own s (Run i k) = tt
 takes_own s (Take l token) = (refl, tt)
@@ -229,8 +221,8 @@ receives_local M four N None token (OfHost ports) r h e = cc
 
 -- An entry: the state of its process stays one of its kind, and what it sends goes out from its process.
 does_local : {Node : Type 0} (M : Machine Node) → HasFourLinks M → (s : Network Node) (e : Entry) (x : Own Node) (r : Own Node × List (ℕ × Token))
-    → ((n : Node) → x ≡ OfNode n → process s e < length s.nodes) → does M s.wires (length s.nodes) e x ≡ Some r
-    → AreAlike x r.0 × AllByRecursion (λ m. owner (length s.nodes) m.0 ≡ process s e) r.1
+    → ((n : Node) → x ≡ OfNode n → process s.wires (length s.nodes) e < length s.nodes) → does M s.wires (length s.nodes) e x ≡ Some r
+    → AreAlike x r.0 × AllByRecursion (λ m. owner (length s.nodes) m.0 ≡ process s.wires (length s.nodes) e) r.1
 unfolding does process
 does_local M four s (Run i k) (OfNode n) r h e =
     let C = cond_some (nat_lt 0 k && nat_le k MAX_STEPS) (option_map (of_node i) (steps M k n)) r e in
@@ -244,17 +236,17 @@ does_local M four s (HostIn p b) (OfNode n) r h e = cc
 does_local M four s (Confirm p upto) (OfHost ports) r h e = from_port (length s.nodes) p ports (confirmed upto) r e
 does_local M four s (Confirm p upto) (OfNode n) r h e = cc
 
-below_all : {Node : Type 0} (s : Network Node) (e : Entry) (x : Own Node) → own s (process s e) ≡ Some x → (n : Node) → x ≡ OfNode n → process s e < length s.nodes
-below_all s e x o n is = (own_node s (process s e) n (o ∙ ap Some is)).0
+below_all : {Node : Type 0} (s : Network Node) (e : Entry) (x : Own Node) → own s (process s.wires (length s.nodes) e) ≡ Some x → (n : Node) → x ≡ OfNode n → process s.wires (length s.nodes) e < length s.nodes
+below_all s e x o n is = (own_node s (process s.wires (length s.nodes) e) n (o ∙ ap Some is)).0
 
 -- the state of its process stays one of its kind
 pub does_stays : {Node : Type 0} (M : Machine Node) → HasFourLinks M → (s : Network Node) (e : Entry) (x : Own Node) (r : Own Node × List (ℕ × Token))
-    → own s (process s e) ≡ Some x → does M s.wires (length s.nodes) e x ≡ Some r → AreAlike x r.0
+    → own s (process s.wires (length s.nodes) e) ≡ Some x → does M s.wires (length s.nodes) e x ≡ Some r → AreAlike x r.0
 does_stays M four s e x r o d = (does_local M four s e x r (below_all s e x o) d).0
 
 -- what it sends goes out from its process
 pub sends_own : {Node : Type 0} (M : Machine Node) → HasFourLinks M → (s : Network Node) (e : Entry) (x : Own Node) (r : Own Node × List (ℕ × Token))
-    → own s (process s e) ≡ Some x → does M s.wires (length s.nodes) e x ≡ Some r → AllByRecursion (λ m. owner (length s.nodes) m.0 ≡ process s e) r.1
+    → own s (process s.wires (length s.nodes) e) ≡ Some x → does M s.wires (length s.nodes) e x ≡ Some r → AllByRecursion (λ m. owner (length s.nodes) m.0 ≡ process s.wires (length s.nodes) e) r.1
 sends_own M four s e x r o d = (does_local M four s e x r (below_all s e x o) d).1
 
 -- ## The network after an entry
@@ -263,32 +255,32 @@ module _ {Node : Type 0} (M : Machine Node) (four : HasFourLinks M) (s : Network
   pub step_alike : AreAlike S.was S.now
   step_alike = does_stays M four s e S.was (S.now, S.sends) S.own_was S.change
 
-  pub step_sends : AllByRecursion (λ m. owner (length s.nodes) m.0 ≡ process s e) S.sends
+  pub step_sends : AllByRecursion (λ m. owner (length s.nodes) m.0 ≡ process s.wires (length s.nodes) e) S.sends
   step_sends = sends_own M four s e S.was (S.now, S.sends) S.own_was S.change
 
   pub step_lines : t.lines ≡ sent (has_wire s.wires) S.out S.sends
-  step_lines = ap (λ u. u.lines) (sym S.makes) ∙ put-lines (record s { lines = sent (has_wire s.wires) S.out S.sends }) (process s e) S.now
+  step_lines = ap (λ u. u.lines) (sym S.makes) ∙ put-lines (record s { lines = sent (has_wire s.wires) S.out S.sends }) (process s.wires (length s.nodes) e) S.now
 
   -- the network with the lines that the entry leaves
   abbrev between : Network Node
   between = record s { lines = sent (has_wire s.wires) S.out S.sends }
 
-  was_own : own between (process s e) ≡ Some S.was
-  was_own = own-lines s (sent (has_wire s.wires) S.out S.sends) (process s e) ∙ S.own_was
+  was_own : own between (process s.wires (length s.nodes) e) ≡ Some S.was
+  was_own = own-lines s (sent (has_wire s.wires) S.out S.sends) (process s.wires (length s.nodes) e) ∙ S.own_was
 
-  pub step_own_same : own t (process s e) ≡ Some S.now
-  step_own_same = ap (λ u. own u (process s e)) (sym S.makes) ∙ own-put_same between (process s e) S.was S.now was_own step_alike
+  pub step_own_same : own t (process s.wires (length s.nodes) e) ≡ Some S.now
+  step_own_same = ap (λ u. own u (process s.wires (length s.nodes) e)) (sym S.makes) ∙ own-put_same between (process s.wires (length s.nodes) e) S.was S.now was_own step_alike
 
-  pub step_own_other : (q : ℕ) → q ≢ process s e → own t q ≡ own s q
-  step_own_other q apart = ap (λ u. own u q) (sym S.makes) ∙ own-put_other between (process s e) q S.was S.now was_own step_alike apart
+  pub step_own_other : (q : ℕ) → q ≢ process s.wires (length s.nodes) e → own t q ≡ own s q
+  step_own_other q apart = ap (λ u. own u q) (sym S.makes) ∙ own-put_other between (process s.wires (length s.nodes) e) q S.was S.now was_own step_alike apart
       ∙ own-lines s (sent (has_wire s.wires) S.out S.sends) q
 
   pub step_shape : SameShape s t
   step_shape = record {
-    wires = ap (λ u. u.wires) (sym S.makes) ∙ put-wires between (process s e) S.now;
-    nodes = ap (λ u. length u.nodes) (sym S.makes) ∙ put-length between (process s e) S.now;
-    ports = ap (λ u. length u.ports) (sym S.makes) ∙ put-ports between (process s e) S.was S.now was_own step_alike;
-    lines = ap length step_lines ∙ length_sent (has_wire s.wires) S.out S.sends ∙ length_taken s.lines (takes s e) S.out S.takes_out;
+    wires = ap (λ u. u.wires) (sym S.makes) ∙ put-wires between (process s.wires (length s.nodes) e) S.now;
+    nodes = ap (λ u. length u.nodes) (sym S.makes) ∙ put-length between (process s.wires (length s.nodes) e) S.now;
+    ports = ap (λ u. length u.ports) (sym S.makes) ∙ put-ports between (process s.wires (length s.nodes) e) S.was S.now was_own step_alike;
+    lines = ap length step_lines ∙ length_sent (has_wire s.wires) S.out S.sends ∙ length_taken s.lines (takes s.wires (length s.nodes) e) S.out S.takes_out;
   }
 
 -- an entry keeps the network's shape
@@ -297,8 +289,8 @@ next_shape M four s e t h = step_shape M four s e t (step_of M s e t h)
 
 -- and the states of the other processes
 pub next_own_other : {Node : Type 0} (M : Machine Node) → HasFourLinks M → (s : Network Node) (e : Entry) (t : Network Node) → next M s e ≡ Some t
-    → (q : ℕ) → q ≢ process s e → own t q ≡ own s q
+    → (q : ℕ) → q ≢ process s.wires (length s.nodes) e → own t q ≡ own s q
 next_own_other M four s e t h q apart = step_own_other M four s e t (step_of M s e t h) q apart
 
-pub process_kept : {Node : Type 0} (s t : Network Node) → SameShape s t → (e : Entry) → process t e ≡ process s e
+pub process_kept : {Node : Type 0} (s t : Network Node) → SameShape s t → (e : Entry) → process t.wires (length t.nodes) e ≡ process s.wires (length s.nodes) e
 process_kept s t K e = process_same s t K.wires K.nodes e

@@ -1,6 +1,6 @@
 -- A step over lines with Markers is a step over the lines without them.
 use Rattle.std.proofs.Common.{◌≡◌, ℕ, ◌+◌, ◌*◌, false, List, [], ◌∷◌, length, map, refl, sym, ap, subst, ◌∙◌, Option, Some, None}
-use Rattle.std.specs.Prelude.{nat_lt, nat_le, ◌&&◌}
+use Rattle.std.specs.Prelude.{nat_lt, nat_le, ◌&&◌, length}
 use Rattle.std.specs.Option.{option_map}
 use Rattle.tp_model.specs.declared.link.Token.{Token}
 use Rattle.tp_model.specs.declared.link.Token.TheVariants.{Data, Ack, Marker}
@@ -9,11 +9,11 @@ use Rattle.tp_model.specs.declared.wire.WireEnd.TheVariants.{Link, Port as AtPor
 use Rattle.tp_model.specs.declared.entry.Entry.{Entry}
 use Rattle.tp_model.specs.declared.entry.Entry.TheVariants.{Run, Take, HostIn, Confirm}
 use Rattle.tp_model.specs.declared.limits.TheConstants.{MAX_STEPS, MAX_HELD}
-use Rattle.tp_model.specs.Network.{Machine, steps, Port, Network, Own, OfNode, OfHost, own, put, receiver, has_wire, on_line, taken, sent}
+use Rattle.tp_model.specs.Network.{Machine, steps, Port, Network, Own, OfNode, OfHost, own, put, receiver, has_wire, on_line, sent}
 use Rattle.tp_model.specs.Entries.{process, takes, acked, port_took, first_only, handed_in, confirmed, of_node, of_port, receives, does, next, HasFourLinks}
 use Rattle.tp_model.specs.Markers.{is_marker, plain, markers, plain_network, NeverMarks}
 use Rattle.tp_law_network.proofs.Partial.{map_some, cond_some}
-use Rattle.tp_law_network.proofs.Local.{Step, step_of, next_from, step_lines, port_step, process_same, takes_same}
+use Rattle.tp_law_network.proofs.Local.{Step, step_of, next_from, step_lines, port_step, process_same}
 use Rattle.tp_law_network.proofs.Room.{steps_unmarked, own-plain}
 use Rattle.tp_law_network.proofs.Marks.{AreUnmarked, HasNoMarker, taken_plain, sent_plain, markers-taken, markers-sent}
 
@@ -84,7 +84,7 @@ receives_unmarked M never N None t (OfHost ports) r e = cc
 
 -- An entry takes no Marker and sends none.
 pub does_unmarked : {Node : Type 0} (M : Machine Node) → NeverMarks M → (s : Network Node) (e : Entry) (x : Own Node) (r : Own Node × List (ℕ × Token))
-    → does M s.wires (length s.nodes) e x ≡ Some r → AreUnmarked (takes s e) × AreUnmarked r.1
+    → does M s.wires (length s.nodes) e x ≡ Some r → AreUnmarked (takes s.wires (length s.nodes) e) × AreUnmarked r.1
 unfolding does takes
 does_unmarked M never s (Run i k) (OfNode n) r e =
     let C = cond_some (nat_lt 0 k && nat_le k MAX_STEPS) (option_map (of_node i) (steps M k n)) r e in
@@ -106,11 +106,11 @@ unfolding put
 put-plain s p (OfNode n) = refl
 put-plain s p (OfHost ports) = refl
 
-pub process-plain : {Node : Type 0} (s : Network Node) (e : Entry) → process (plain_network s) e ≡ process s e
+pub process-plain : {Node : Type 0} (s : Network Node) (e : Entry) → process (plain_network s).wires (length (plain_network s).nodes) e ≡ process s.wires (length s.nodes) e
 process-plain s e = process_same s (plain_network s) refl refl e
 
 module _ {Node : Type 0} (M : Machine Node) (never : NeverMarks M) (s : Network Node) (e : Entry) (t : Network Node) where
-  pub step_takes_unmarked : (S : Step M s e t) → AreUnmarked (takes s e)
+  pub step_takes_unmarked : (S : Step M s e t) → AreUnmarked (takes s.wires (length s.nodes) e)
   step_takes_unmarked S = (does_unmarked M never s e S.was (S.now, S.sends) S.change).0
 
   pub step_sends_unmarked : (S : Step M s e t) → AreUnmarked S.sends
@@ -121,21 +121,21 @@ module _ {Node : Type 0} (M : Machine Node) (never : NeverMarks M) (s : Network 
   step_markers four S l =
       ap (λ lines. markers (on_line lines l)) (step_lines M four s e t S)
       ∙ markers-sent (has_wire s.wires) S.out S.sends (step_sends_unmarked S) l
-      ∙ markers-taken s.lines (takes s e) S.out (step_takes_unmarked S) S.takes_out l
+      ∙ markers-taken s.lines (takes s.wires (length s.nodes) e) S.out (step_takes_unmarked S) S.takes_out l
 
   -- An entry that is possible over lines with Markers is possible over the lines without them, and does the same.
   pub plain_step : next M s e ≡ Some t → next M (plain_network s) e ≡ Some (plain_network t)
   plain_step h = next_from M (plain_network s) e (plain_network t) (record {
     out = map plain S.out;
-    takes_out = ap (λ ms. taken (map plain s.lines) ms) (takes_same s (plain_network s) e) ∙ taken_plain s.lines (takes s e) S.out (step_takes_unmarked S) S.takes_out;
+    takes_out = taken_plain s.lines (takes s.wires (length s.nodes) e) S.out (step_takes_unmarked S) S.takes_out;
     was = S.was;
-    own_was = ap (own (plain_network s)) (process-plain s e) ∙ own-plain s (process s e) ∙ S.own_was;
+    own_was = ap (own (plain_network s)) (process-plain s e) ∙ own-plain s (process s.wires (length s.nodes) e) ∙ S.own_was;
     now = S.now;
     sends = S.sends;
     change = S.change;
-    makes = ap (λ lines. put (record s { lines = lines }) (process (plain_network s) e) S.now) (sym (sent_plain (has_wire s.wires) S.out S.sends (step_sends_unmarked S)))
+    makes = ap (λ lines. put (record s { lines = lines }) (process (plain_network s).wires (length (plain_network s).nodes) e) S.now) (sym (sent_plain (has_wire s.wires) S.out S.sends (step_sends_unmarked S)))
         ∙ ap (λ p. put (plain_network (record s { lines = sent (has_wire s.wires) S.out S.sends })) p S.now) (process-plain s e)
-        ∙ put-plain (record s { lines = sent (has_wire s.wires) S.out S.sends }) (process s e) S.now
+        ∙ put-plain (record s { lines = sent (has_wire s.wires) S.out S.sends }) (process s.wires (length s.nodes) e) S.now
         ∙ ap plain_network S.makes;
   })
     where

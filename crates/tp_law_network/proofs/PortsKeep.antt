@@ -1,6 +1,6 @@
 -- What each change of a port keeps, each entry keeps of all ports, where it holds the more the more entries there are.
 use Rattle.std.proofs.Common.{◌≡◌, ℕ, ◌+◌, inl, inr, List, length, set, sym, ap, subst, ◌∙◌, Option, Some, None, slice_get}
-use Rattle.std.specs.Prelude.{nat_lt, nat_le, ◌&&◌}
+use Rattle.std.specs.Prelude.{nat_lt, nat_le, ◌&&◌, length}
 use Rattle.std.specs.Option.{option_map}
 use Rattle.std.proofs.lemmas.Bool.{cases_eq}
 use Rattle.tp_model.specs.declared.link.Token.{Token}
@@ -90,5 +90,5 @@ module _ {Node : Type 0} (M : Machine Node) (Holds : ℕ → Port → Type 0) (K
   ports_keep n s e t all h =
       let S = step_of M s e t h in
       subst (λ u. AllPorts Holds (n + 1) u.ports) S.makes
-      (put_holds (n + 1) (record s { lines = sent (has_wire s.wires) S.out S.sends }) (process s e) S.now (all_more n s.ports all)
-      (does_keeps n s e S.was (S.now, S.sends) (own_holds n s (process s e) S.was all S.own_was) S.change))
+      (put_holds (n + 1) (record s { lines = sent (has_wire s.wires) S.out S.sends }) (process s.wires (length s.nodes) e) S.now (all_more n s.ports all)
+      (does_keeps n s e S.was (S.now, S.sends) (own_holds n s (process s.wires (length s.nodes) e) S.was all S.own_was) S.change))

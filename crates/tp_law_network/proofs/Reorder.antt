@@ -67,15 +67,15 @@ after_shape M four s t (e ∷ es) h =
     record { wires = more.wires ∙ one.wires; nodes = more.nodes ∙ one.nodes; ports = more.ports ∙ one.ports; lines = more.lines ∙ one.lines }
 
 -- each entry is of the same process at the later network
-pub process_next : {Node : Type 0} (M : Machine Node) → HasFourLinks M → (s : Network Node) (e : Entry) (t : Network Node) → next M s e ≡ Some t → process t ≡ process s
+pub process_next : {Node : Type 0} (M : Machine Node) → HasFourLinks M → (s : Network Node) (e : Entry) (t : Network Node) → next M s e ≡ Some t → process t.wires (length t.nodes) ≡ process s.wires (length s.nodes)
 process_next M four s e t h = fun_ext (process_kept s t (next_shape M four s e t h))
 
-pub process_after : {Node : Type 0} (M : Machine Node) → HasFourLinks M → (s t : Network Node) (es : List Entry) → after M s es ≡ Some t → process t ≡ process s
+pub process_after : {Node : Type 0} (M : Machine Node) → HasFourLinks M → (s t : Network Node) (es : List Entry) → after M s es ≡ Some t → process t.wires (length t.nodes) ≡ process s.wires (length s.nodes)
 process_after M four s t es h = fun_ext (process_kept s t (after_shape M four s t es h))
 
 -- entries of other processes keep a process's state
 pub after_own_other : {Node : Type 0} (M : Machine Node) → HasFourLinks M → (s t : Network Node) (es : List Entry) (q : ℕ) → after M s es ≡ Some t
-    → AllByRecursion (λ e. q ≢ process s e) es → own t q ≡ own s q
+    → AllByRecursion (λ e. q ≢ process s.wires (length s.nodes) e) es → own t q ≡ own s q
 unfolding after
 after_own_other M four s t [] q h apart = let is : s ≡ t = cc in ap (λ u. own u q) (sym is)
 after_own_other M four s t (e ∷ es) q h apart =
@@ -126,7 +126,7 @@ module _ {Node : Type 0} (M : Machine Node) where
 
     -- An entry that is possible before a list of entries of other processes may go in front of it.
     pub move_left : (s t u : Network Node) (es : List Entry) (e : Entry) → after M s es ≡ Some u → next M s e ≡ Some t
-        → AllByRecursion (λ f. process s f ≢ process s e) es → Reorder M s (es ++ e ∷ []) (e ∷ es)
+        → AllByRecursion (λ f. process s.wires (length s.nodes) f ≢ process s.wires (length s.nodes) e) es → Reorder M s (es ++ e ∷ []) (e ∷ es)
     move_left s t u [] e h g apart = same (e ∷ [])
     move_left s t u (f ∷ es) e h g apart =
         let F = first_possible M s u f es h in

@@ -96,7 +96,7 @@ pub push_room : {Node : Type 0} {M : Machine Node} {E : Ends Node} → HasFourLi
     → length (on_line (sent (has_wire s.wires) S.out front) m.0) < 2 + markers (on_line t.lines m.0)
 push_room {M = M} four keeps s t e sound S front m more is y =
     let last = line_room (sound_kept four keeps s t e sound (next_from M s e t S)) m.0 in
-    let there : m.0 < length S.out = rw (length_taken s.lines (takes s e) S.out S.takes_out) (sound.there m.0 y) in
+    let there : m.0 < length S.out = rw (length_taken s.lines (takes s.wires (length s.nodes) e) S.out S.takes_out) (sound.there m.0 y) in
     let longer = push_longer (has_wire s.wires) S.out front m more y there in
     let same : on_line t.lines m.0 ≡ on_line (sent (has_wire s.wires) S.out (front ++ m ∷ more)) m.0 =
     ap (λ ls. on_line ls m.0) (step_lines M four s e t S) ∙ ap (λ ms. on_line (sent (has_wire s.wires) S.out ms) m.0) is in

@@ -39,7 +39,7 @@ pub record Across {Node : Type 0} (E : Ends Node) (s : Network Node) (e : Entry)
   pub long : length t.lines ≡ length s.lines
   pub sends : List (ℕ × Token)
   pub rest : List (List Token)
-  pub front : (x : ℕ) → on_line s.lines x ≡ for_line x (takes s e) ++ on_line rest x
+  pub front : (x : ℕ) → on_line s.lines x ≡ for_line x (takes s.wires (length s.nodes) e) ++ on_line rest x
   pub behind : (x : ℕ) → (has_wire s.wires x ≡ true → x < length s.lines) → on_line t.lines x ≡ on_line rest x ++ cond (has_wire s.wires x) (for_line x sends) []
   pub out : (z : ℕ) → bit (end_waits E t z) + acks (for_line z (arrivals s e)) ≡ bit (end_waits E s z) + datas (for_line z sends)
   pub inn : (z : ℕ) → bit (end_holds E t z) + acks (for_line z sends) ≡ bit (end_holds E s z) + datas (for_line z (arrivals s e))
@@ -52,8 +52,8 @@ module _ {Node : Type 0} {M : Machine Node} {E : Ends Node} (four : HasFourLinks
     long = shape.lines;
     sends = S.sends;
     rest = S.out;
-    front = on_taken s.lines (takes s e) S.out S.takes_out;
-    behind = λ x there. ap (λ ls. on_line ls x) (step_lines M four s e t S) ∙ on_sent (has_wire s.wires) S.out S.sends x (λ y. subst (λ n. x < n) (sym (length_taken s.lines (takes s e) S.out S.takes_out)) (there y));
+    front = on_taken s.lines (takes s.wires (length s.nodes) e) S.out S.takes_out;
+    behind = λ x there. ap (λ ls. on_line ls x) (step_lines M four s e t S) ∙ on_sent (has_wire s.wires) S.out S.sends x (λ y. subst (λ n. x < n) (sym (length_taken s.lines (takes s.wires (length s.nodes) e) S.out S.takes_out)) (there y));
     out = out;
     inn = inn;
   }
@@ -61,30 +61,30 @@ module _ {Node : Type 0} {M : Machine Node} {E : Ends Node} (four : HasFourLinks
       shape : SameShape s t
       shape = step_shape M four s e t S
 
-      moves : Moves E (length s.nodes) (process s e) S.was (arrivals s e) (S.now, S.sends)
+      moves : Moves E (length s.nodes) (process s.wires (length s.nodes) e) S.was (arrivals s e) (S.now, S.sends)
       moves = does_moves keeps s e S.was (S.now, S.sends) wired S.own_was S.change
 
       -- lines of other processes
-      no_sends : (z : ℕ) → owner (length s.nodes) z ≢ process s e → for_line z S.sends ≡ []
-      no_sends z n = for_line-elsewhere (owner (length s.nodes)) (process s e) z S.sends (step_sends M four s e t S) n
+      no_sends : (z : ℕ) → owner (length s.nodes) z ≢ process s.wires (length s.nodes) e → for_line z S.sends ≡ []
+      no_sends z n = for_line-elsewhere (owner (length s.nodes)) (process s.wires (length s.nodes) e) z S.sends (step_sends M four s e t S) n
 
-      no_arrivals : (z : ℕ) → owner (length s.nodes) z ≢ process s e → for_line z (arrivals s e) ≡ []
-      no_arrivals z n = for_line-elsewhere (owner (length s.nodes)) (process s e) z (arrivals s e) (arrivals_own s e wired) n
+      no_arrivals : (z : ℕ) → owner (length s.nodes) z ≢ process s.wires (length s.nodes) e → for_line z (arrivals s e) ≡ []
+      no_arrivals z n = for_line-elsewhere (owner (length s.nodes)) (process s.wires (length s.nodes) e) z (arrivals s e) (arrivals_own s e wired) n
 
-      now_own : (z : ℕ) → owner (length s.nodes) z ≡ process s e → own t (owner (length s.nodes) z) ≡ Some S.now
+      now_own : (z : ℕ) → owner (length s.nodes) z ≡ process s.wires (length s.nodes) e → own t (owner (length s.nodes) z) ≡ Some S.now
       now_own z y = ap (own t) y ∙ step_own_same M four s e t S
 
-      was_own : (z : ℕ) → owner (length s.nodes) z ≡ process s e → own s (owner (length s.nodes) z) ≡ Some S.was
+      was_own : (z : ℕ) → owner (length s.nodes) z ≡ process s.wires (length s.nodes) e → own s (owner (length s.nodes) z) ≡ Some S.was
       was_own z y = ap (own s) y ∙ S.own_was
 
       out : (z : ℕ) → bit (end_waits E t z) + acks (for_line z (arrivals s e)) ≡ bit (end_waits E s z) + datas (for_line z S.sends)
-      out z = elim (cases_eq (owner (length s.nodes) z) (process s e)) [
+      out z = elim (cases_eq (owner (length s.nodes) z) (process s.wires (length s.nodes) e)) [
         | inl y ↦ rw (end_waits_is E t (length s.nodes) z S.now shape.nodes (now_own z y), end_waits_is E s (length s.nodes) z S.was refl (was_own z y)) (moves.out z y)
         | inr n ↦ rw (end_waits_as E s t z shape.nodes (step_own_other M four s e t S (owner (length s.nodes) z) n), no_sends z n, no_arrivals z n) refl
       ]
 
       inn : (z : ℕ) → bit (end_holds E t z) + acks (for_line z S.sends) ≡ bit (end_holds E s z) + datas (for_line z (arrivals s e))
-      inn z = elim (cases_eq (owner (length s.nodes) z) (process s e)) [
+      inn z = elim (cases_eq (owner (length s.nodes) z) (process s.wires (length s.nodes) e)) [
         | inl y ↦ rw (end_holds_is E t (length s.nodes) z S.now shape.nodes (now_own z y), end_holds_is E s (length s.nodes) z S.was refl (was_own z y)) (moves.inn z y)
         | inr n ↦ rw (end_holds_as E s t z shape.nodes (step_own_other M four s e t S (owner (length s.nodes) z) n), no_sends z n, no_arrivals z n) refl
       ]
@@ -97,7 +97,7 @@ module _ {Node : Type 0} {M : Machine Node} {E : Ends Node} (four : HasFourLinks
 pub wire_one : {Node : Type 0} (s : Network Node) → Wired s → (x l y : ℕ) → back s x ≡ Some y → back s l ≡ Some y → l ≡ x
 wire_one s wired x l y a b = let c : back s y ≡ Some x = wired.both_ways x y a in let d : back s y ≡ Some l = wired.both_ways l y b in cc
 
-pub arrivals_taken : {Node : Type 0} (s : Network Node) → Wired s → (e : Entry) (x y : ℕ) → back s x ≡ Some y → for_line y (arrivals s e) ≡ for_line x (takes s e)
+pub arrivals_taken : {Node : Type 0} (s : Network Node) → Wired s → (e : Entry) (x y : ℕ) → back s x ≡ Some y → for_line y (arrivals s e) ≡ for_line x (takes s.wires (length s.nodes) e)
 unfolding takes
 arrivals_taken s wired (Run i k) x y b = refl
 arrivals_taken s wired (HostIn p v) x y b = refl
@@ -153,22 +153,22 @@ module _ {Node : Type 0} {E : Ends Node} {s t : Network Node} {e : Entry} (sound
   back-across x = rw (a.wires, a.nodes) refl
 
   -- what stands on a line with a wire
-  datas_across : (x y : ℕ) → back s x ≡ Some y → datas (on_line t.lines x) + datas (for_line x (takes s e)) ≡ datas (on_line s.lines x) + datas (for_line x a.sends)
+  datas_across : (x y : ℕ) → back s x ≡ Some y → datas (on_line t.lines x) + datas (for_line x (takes s.wires (length s.nodes) e)) ≡ datas (on_line s.lines x) + datas (for_line x a.sends)
   datas_across x y b =
-      rw (a.behind x (sound.there x), wired-back s x y b, a.front x, datas-append (for_line x (takes s e)) (on_line a.rest x), datas-append (on_line a.rest x) (for_line x a.sends)) (omega arith)
+      rw (a.behind x (sound.there x), wired-back s x y b, a.front x, datas-append (for_line x (takes s.wires (length s.nodes) e)) (on_line a.rest x), datas-append (on_line a.rest x) (for_line x a.sends)) (omega arith)
 
-  acks_across : (x y : ℕ) → back s x ≡ Some y → acks (on_line t.lines x) + acks (for_line x (takes s e)) ≡ acks (on_line s.lines x) + acks (for_line x a.sends)
+  acks_across : (x y : ℕ) → back s x ≡ Some y → acks (on_line t.lines x) + acks (for_line x (takes s.wires (length s.nodes) e)) ≡ acks (on_line s.lines x) + acks (for_line x a.sends)
   acks_across x y b =
-      rw (a.behind x (sound.there x), wired-back s x y b, a.front x, acks-append (for_line x (takes s e)) (on_line a.rest x), acks-append (on_line a.rest x) (for_line x a.sends)) (omega arith)
+      rw (a.behind x (sound.there x), wired-back s x y b, a.front x, acks-append (for_line x (takes s.wires (length s.nodes) e)) (on_line a.rest x), acks-append (on_line a.rest x) (for_line x a.sends)) (omega arith)
 
   flight_across : (x y : ℕ) → back s x ≡ Some y → bit (end_waits E t x) ≡ datas (on_line t.lines x) + acks (on_line t.lines y) + bit (end_holds E t y)
   flight_across x y b =
       let c : back s y ≡ Some x = sound.wires.both_ways x y b in
-      let in_x : for_line y (arrivals s e) ≡ for_line x (takes s e) = arrivals_taken s sound.wires e x y b in
-      let in_y : for_line x (arrivals s e) ≡ for_line y (takes s e) = arrivals_taken s sound.wires e y x c in
+      let in_x : for_line y (arrivals s e) ≡ for_line x (takes s.wires (length s.nodes) e) = arrivals_taken s sound.wires e x y b in
+      let in_y : for_line x (arrivals s e) ≡ for_line y (takes s.wires (length s.nodes) e) = arrivals_taken s sound.wires e y x c in
       sum_up (bit (end_waits E s x)) (bit (end_waits E t x)) (bit (end_holds E s y)) (bit (end_holds E t y))
       (datas (on_line s.lines x)) (datas (on_line t.lines x)) (acks (on_line s.lines y)) (acks (on_line t.lines y))
-      (datas (for_line x (takes s e))) (datas (for_line x a.sends)) (acks (for_line y (takes s e))) (acks (for_line y a.sends))
+      (datas (for_line x (takes s.wires (length s.nodes) e))) (datas (for_line x a.sends)) (acks (for_line y (takes s.wires (length s.nodes) e))) (acks (for_line y a.sends))
       (sound.flight x y b) (datas_across x y b) (acks_across y x c) (rw in_y at (a.out x)) (rw in_x at (a.inn y))
     where
       sum_up : (w w' h h' d d' k k' dt ds kt ks : ℕ) → w ≡ d + k + h → d' + dt ≡ d + ds → k' + kt ≡ k + ks → w' + kt ≡ w + ds → h' + ks ≡ h + dt → w' ≡ d' + k' + h'
@@ -176,7 +176,7 @@ module _ {Node : Type 0} {E : Ends Node} {s t : Network Node} {e : Entry} (sound
 
   none_across : (x : ℕ) → back s x ≡ None → (on_line t.lines x ≡ []) × (end_holds E t x ≡ false)
   none_across x b =
-      let rest : on_line a.rest x ≡ [] = nothing_left (for_line x (takes s e)) (on_line a.rest x) (sym (a.front x) ∙ (sound.none x b).0) in
+      let rest : on_line a.rest x ≡ [] = nothing_left (for_line x (takes s.wires (length s.nodes) e)) (on_line a.rest x) (sym (a.front x) ∙ (sound.none x b).0) in
       let held : bit (end_holds E t x) + acks (for_line x a.sends) ≡ 0 = rw ((sound.none x b).1, arrivals_none s sound.wires e x b) at (a.inn x) in
       (a.behind x (sound.there x) ∙ rw (rest, unwired-back s x b) refl, no_bit (end_holds E t x) (acks (for_line x a.sends)) held)
 

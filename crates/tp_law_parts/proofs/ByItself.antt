@@ -30,12 +30,12 @@ arriving-none true l ms h = h
 arriving-none false l ms h = refl
 
 -- a process's own entry, and another's
-pub doing-own : {Node : Type 0} (M : Machine Node) (s : Network Node) (p : ℕ) (a : Alone Node) (e : Entry) → p ≡ process s e
+pub doing-own : {Node : Type 0} (M : Machine Node) (s : Network Node) (p : ℕ) (a : Alone Node) (e : Entry) → p ≡ process s.wires (length s.nodes) e
     → doing M s p a e ≡ (does M s.wires (length s.nodes) e a.0 >>= λ change. Some (change.0, a.1 ++ change.1))
-doing-own M s p a e h = rw (eq-eqb p (process s e) h)
+doing-own M s p a e h = rw (eq-eqb p (process s.wires (length s.nodes) e) h)
 
-doing-other : {Node : Type 0} (M : Machine Node) (s : Network Node) (p : ℕ) (a : Alone Node) (e : Entry) → p ≢ process s e → doing M s p a e ≡ Some a
-doing-other M s p a e h = rw (ne_eqb p (process s e) h)
+doing-other : {Node : Type 0} (M : Machine Node) (s : Network Node) (p : ℕ) (a : Alone Node) (e : Entry) → p ≢ process s.wires (length s.nodes) e → doing M s p a e ≡ Some a
+doing-other M s p a e h = rw (ne_eqb p (process s.wires (length s.nodes) e) h)
 
 -- a node of a number that is there
 pub node_there : {Node : Type 0} (nodes : List Node) (i : ℕ) → i < length nodes → (n : Node) × (slice_get nodes i ≡ Some n)
@@ -67,7 +67,7 @@ pub record GoesOn {Node : Type 0} (M : Machine Node) (s : Network Node) (p : ℕ
 
 module _ {Node : Type 0} (M : Machine Node) (four : HasFourLinks M) (s : Network Node) (there : (l : ℕ) → has_wire s.wires l ≡ true → l < length s.lines) (p : ℕ) where
   module _ (t u v : Network Node) (shape : SameShape s t) (e : Entry) (es : List Entry) (S : Step M t e u) where
-    whose : process t e ≡ process s e
+    whose : process t.wires (length t.nodes) e ≡ process s.wires (length s.nodes) e
     whose = process_same s t shape.wires shape.nodes e
 
     -- a line after the entry, where the entry sent this on it
@@ -75,14 +75,14 @@ module _ {Node : Type 0} (M : Machine Node) (four : HasFourLinks M) (s : Network
     behind l =
         ap (λ ls. on_line ls l) (step_lines M four t e u S)
         ∙ ap (λ wires. on_line (sent (has_wire wires) S.out S.sends) l) shape.wires
-        ∙ on_sent (has_wire s.wires) S.out S.sends l (λ y. subst (λ n. l < n) (sym (length_taken t.lines (takes t e) S.out S.takes_out ∙ shape.lines)) (there l y))
+        ∙ on_sent (has_wire s.wires) S.out S.sends l (λ y. subst (λ n. l < n) (sym (length_taken t.lines (takes t.wires (length t.nodes) e) S.out S.takes_out ∙ shape.lines)) (there l y))
 
-    line_after : (l : ℕ) → on_line t.lines l ++ arriving (has_wire s.wires l) l S.sends ≡ for_line l (takes s e) ++ on_line u.lines l
+    line_after : (l : ℕ) → on_line t.lines l ++ arriving (has_wire s.wires l) l S.sends ≡ for_line l (takes s.wires (length s.nodes) e) ++ on_line u.lines l
     line_after l =
-        ap (λ ts. ts ++ arriving (has_wire s.wires l) l S.sends) (on_taken t.lines (takes t e) S.out S.takes_out l)
-        ∙ append_assoc (for_line l (takes t e)) (on_line S.out l) (arriving (has_wire s.wires l) l S.sends)
-        ∙ ap (λ ms. for_line l ms ++ (on_line S.out l ++ arriving (has_wire s.wires l) l S.sends)) (takes_same s t e)
-        ∙ ap (λ ts. for_line l (takes s e) ++ ts) (sym (behind l))
+        ap (λ ts. ts ++ arriving (has_wire s.wires l) l S.sends) (on_taken t.lines (takes t.wires (length t.nodes) e) S.out S.takes_out l)
+        ∙ append_assoc (for_line l (takes t.wires (length t.nodes) e)) (on_line S.out l) (arriving (has_wire s.wires l) l S.sends)
+        ∙ ap (λ ms. for_line l ms ++ (on_line S.out l ++ arriving (has_wire s.wires l) l S.sends)) (takes_same s t shape.wires shape.nodes e)
+        ∙ ap (λ ts. for_line l (takes s.wires (length s.nodes) e) ++ ts) (sym (behind l))
 
     shape_after : SameShape s u
     shape_after =
@@ -91,20 +91,20 @@ module _ {Node : Type 0} (M : Machine Node) (four : HasFourLinks M) (s : Network
 
     -- a line that the process sends, where it then sends more
     line_further : (l : ℕ) (more : List (ℕ × Token)) → on_line u.lines l ++ arriving (has_wire s.wires l) l more ≡ named s l es ++ on_line v.lines l
-        → on_line t.lines l ++ (arriving (has_wire s.wires l) l S.sends ++ arriving (has_wire s.wires l) l more) ≡ (for_line l (takes s e) ++ named s l es) ++ on_line v.lines l
+        → on_line t.lines l ++ (arriving (has_wire s.wires l) l S.sends ++ arriving (has_wire s.wires l) l more) ≡ (for_line l (takes s.wires (length s.nodes) e) ++ named s l es) ++ on_line v.lines l
     line_further l more h =
         sym (append_assoc (on_line t.lines l) (arriving (has_wire s.wires l) l S.sends) (arriving (has_wire s.wires l) l more))
         ∙ ap (λ ts. ts ++ arriving (has_wire s.wires l) l more) (line_after l)
-        ∙ append_assoc (for_line l (takes s e)) (on_line u.lines l) (arriving (has_wire s.wires l) l more)
-        ∙ ap (λ ts. for_line l (takes s e) ++ ts) h
-        ∙ sym (append_assoc (for_line l (takes s e)) (named s l es) (on_line v.lines l))
+        ∙ append_assoc (for_line l (takes s.wires (length s.nodes) e)) (on_line u.lines l) (arriving (has_wire s.wires l) l more)
+        ∙ ap (λ ts. for_line l (takes s.wires (length s.nodes) e) ++ ts) h
+        ∙ sym (append_assoc (for_line l (takes s.wires (length s.nodes) e)) (named s l es) (on_line v.lines l))
 
     module _ (a : Alone Node) (at : own t p ≡ Some a.0) where
       -- after one of its own entries
       abbrev done : Alone Node
       done = (S.now, a.1 ++ S.sends)
 
-      does_it : p ≡ process s e → doing M s p a e ≡ Some done
+      does_it : p ≡ process s.wires (length s.nodes) e → doing M s p a e ≡ Some done
       does_it same =
           let here : Some a.0 ≡ Some S.was = sym at ∙ ap (own t) (same ∙ sym whose) ∙ S.own_was in
           let was : a.0 ≡ S.was = cc in
@@ -114,10 +114,10 @@ module _ {Node : Type 0} (M : Machine Node) (four : HasFourLinks M) (s : Network
           ∙ ap (λ N. does M t.wires N e S.was >>= λ change. Some (change.0, a.1 ++ change.1)) (sym shape.nodes)
           ∙ ap (λ o. o >>= λ change. Some (change.0, a.1 ++ change.1)) S.change
 
-      stands_done : p ≡ process s e → own u p ≡ Some S.now
+      stands_done : p ≡ process s.wires (length s.nodes) e → own u p ≡ Some S.now
       stands_done same = ap (own u) (same ∙ sym whose) ∙ step_own_same M four t e u S
 
-      further_own : p ≡ process s e → GoesOn M s p done u v es → GoesOn M s p a t v (e ∷ es)
+      further_own : p ≡ process s.wires (length s.nodes) e → GoesOn M s p done u v es → GoesOn M s p a t v (e ∷ es)
       unfolding doing_all named
       further_own same R = record {
         to = R.to;
@@ -128,15 +128,15 @@ module _ {Node : Type 0} (M : Machine Node) (four : HasFourLinks M) (s : Network
         lines = λ l of. ap (λ ts. on_line t.lines l ++ ts) (arriving-append (has_wire s.wires l) l S.sends R.more) ∙ line_further l R.more (R.lines l of);
       }
 
-      stands_same : p ≢ process s e → own u p ≡ Some a.0
+      stands_same : p ≢ process s.wires (length s.nodes) e → own u p ≡ Some a.0
       stands_same apart = step_own_other M four t e u S p (λ same. apart (same ∙ whose)) ∙ at
 
-      sends_none : p ≢ process s e → (l : ℕ) → owner (length s.nodes) l ≡ p → arriving (has_wire s.wires l) l S.sends ≡ []
+      sends_none : p ≢ process s.wires (length s.nodes) e → (l : ℕ) → owner (length s.nodes) l ≡ p → arriving (has_wire s.wires l) l S.sends ≡ []
       sends_none apart l of = arriving-none (has_wire s.wires l) l S.sends
-          (for_line-elsewhere (owner (length t.nodes)) (process t e) l S.sends (step_sends M four t e u S)
+          (for_line-elsewhere (owner (length t.nodes)) (process t.wires (length t.nodes) e) l S.sends (step_sends M four t e u S)
           (λ same. apart (sym of ∙ ap (λ N. owner N l) (sym shape.nodes) ∙ same ∙ whose)))
 
-      further_other : p ≢ process s e → GoesOn M s p a u v es → GoesOn M s p a t v (e ∷ es)
+      further_other : p ≢ process s.wires (length s.nodes) e → GoesOn M s p a u v es → GoesOn M s p a t v (e ∷ es)
       unfolding doing_all named
       further_other apart R = record {
         to = R.to;
@@ -163,7 +163,7 @@ module _ {Node : Type 0} (M : Machine Node) (four : HasFourLinks M) (s : Network
       let F = bind_some (next M t e) (λ u. after M u es) v h in
       let S = step_of M t e F.0 F.1 in
       let on = shape_after t F.0 v shape e es S in
-      elim (cases_eq p (process s e)) [
+      elim (cases_eq p (process s.wires (length s.nodes) e)) [
         | inl same ↦ further_own t F.0 v shape e es S a at same (goes_on (S.now, a.1 ++ S.sends) F.0 v on (stands_done t F.0 v shape e es S a at same) es F.2)
         | inr apart ↦ further_other t F.0 v shape e es S a at apart (goes_on a F.0 v on (stands_same t F.0 v shape e es S a at apart) es F.2)
       ]

@@ -101,48 +101,48 @@ module _ {Node : Type 0} (M : Machine Node) (four : HasFourLinks M) (s : Network
     S : Step M t e u
     S = step_of M t e u h
 
-    whose : process t e ≡ process s e
+    whose : process t.wires (length t.nodes) e ≡ process s.wires (length s.nodes) e
     whose = process_same s t shape.wires shape.nodes e
 
     pub follows_possible : CanFollow M s xs e
     follows_possible =
-        let x = own_still s t shape (process s e) S.was (ap (own t) (sym whose) ∙ S.own_was) in
-        let G = goes_on M four s there (process s e) (x.0, []) s u (same_shape s) x.1 (xs ++ e ∷ []) (after_last M s t xs e leads ∙ h) in
+        let x = own_still s t shape (process s.wires (length s.nodes) e) S.was (ap (own t) (sym whose) ∙ S.own_was) in
+        let G = goes_on M four s there (process s.wires (length s.nodes) e) (x.0, []) s u (same_shape s) x.1 (xs ++ e ∷ []) (after_last M s t xs e leads ∙ h) in
         record {
           last = G.to;
-          does = ap (λ o. o >>= λ y. doing_all M s (process s e) (y, []) (xs ++ e ∷ [])) x.1 ∙ G.leads;
-          next = λ l. (on_line S.out l, came_there l ∙ ap (λ ts. Some (named s l xs ++ ts)) (on_taken t.lines (takes t e) S.out S.takes_out l ∙ ap (λ ms. for_line l ms ++ on_line S.out l) (takes_same s t e)));
+          does = ap (λ o. o >>= λ y. doing_all M s (process s.wires (length s.nodes) e) (y, []) (xs ++ e ∷ [])) x.1 ∙ G.leads;
+          next = λ l. (on_line S.out l, came_there l ∙ ap (λ ts. Some (named s l xs ++ ts)) (on_taken t.lines (takes t.wires (length t.nodes) e) S.out S.takes_out l ∙ ap (λ ms. for_line l ms ++ on_line S.out l) (takes_same s t shape.wires shape.nodes e)));
         }
 
   -- ## An entry that can follow is possible
 
   module _ (e : Entry) (F : CanFollow M s xs e) where
-    whose_following : process t e ≡ process s e
+    whose_following : process t.wires (length t.nodes) e ≡ process s.wires (length s.nodes) e
     whose_following = process_same s t shape.wires shape.nodes e
 
-    its : (x : Own Node) × (own s (process s e) ≡ Some x) × (doing_all M s (process s e) (x, []) (xs ++ e ∷ []) ≡ Some F.last)
-    its = bind_some (own s (process s e)) (λ x. doing_all M s (process s e) (x, []) (xs ++ e ∷ [])) F.last F.does
+    its : (x : Own Node) × (own s (process s.wires (length s.nodes) e) ≡ Some x) × (doing_all M s (process s.wires (length s.nodes) e) (x, []) (xs ++ e ∷ []) ≡ Some F.last)
+    its = bind_some (own s (process s.wires (length s.nodes) e)) (λ x. doing_all M s (process s.wires (length s.nodes) e) (x, []) (xs ++ e ∷ [])) F.last F.does
 
-    goes : GoesOn M s (process s e) (its.0, []) s t xs
-    goes = follows (process s e) its.0 its.1
+    goes : GoesOn M s (process s.wires (length s.nodes) e) (its.0, []) s t xs
+    goes = follows (process s.wires (length s.nodes) e) its.0 its.1
 
-    doing_it : doing M s (process s e) goes.to e ≡ Some F.last
-    doing_it = doing_all-one M s (process s e) goes.to e F.last (sym (doing_all-append M s (process s e) (its.0, []) xs (e ∷ []) ∙ ap (λ o. o >>= λ b. doing_all M s (process s e) b (e ∷ [])) goes.leads) ∙ its.2)
+    doing_it : doing M s (process s.wires (length s.nodes) e) goes.to e ≡ Some F.last
+    doing_it = doing_all-one M s (process s.wires (length s.nodes) e) goes.to e F.last (sym (doing_all-append M s (process s.wires (length s.nodes) e) (its.0, []) xs (e ∷ []) ∙ ap (λ o. o >>= λ b. doing_all M s (process s.wires (length s.nodes) e) b (e ∷ [])) goes.leads) ∙ its.2)
 
     change : (c : Own Node × List (ℕ × Token)) × (does M s.wires (length s.nodes) e goes.to.0 ≡ Some c) × (Some (c.0, goes.to.1 ++ c.1) ≡ Some F.last)
-    change = bind_some (does M s.wires (length s.nodes) e goes.to.0) (λ c. Some (c.0, goes.to.1 ++ c.1)) F.last (sym (doing-own M s (process s e) goes.to e refl) ∙ doing_it)
+    change = bind_some (does M s.wires (length s.nodes) e goes.to.0) (λ c. Some (c.0, goes.to.1 ++ c.1)) F.last (sym (doing-own M s (process s.wires (length s.nodes) e) goes.to e refl) ∙ doing_it)
 
-    front : (l : ℕ) → (rest : List Token) × (on_line t.lines l ≡ for_line l (takes t e) ++ rest)
+    front : (l : ℕ) → (rest : List Token) × (on_line t.lines l ≡ for_line l (takes t.wires (length t.nodes) e) ++ rest)
     front l =
         let N = F.next l in
-        let both : Some (named s l xs ++ on_line t.lines l) ≡ Some (named s l xs ++ (for_line l (takes s e) ++ N.0)) = sym (came_there l) ∙ N.1 in
-        let same : named s l xs ++ on_line t.lines l ≡ named s l xs ++ (for_line l (takes s e) ++ N.0) = cc in
-        (N.0, append_cancel_left (named s l xs) (on_line t.lines l) (for_line l (takes s e) ++ N.0) same ∙ ap (λ ms. for_line l ms ++ N.0) (sym (takes_same s t e)))
+        let both : Some (named s l xs ++ on_line t.lines l) ≡ Some (named s l xs ++ (for_line l (takes s.wires (length s.nodes) e) ++ N.0)) = sym (came_there l) ∙ N.1 in
+        let same : named s l xs ++ on_line t.lines l ≡ named s l xs ++ (for_line l (takes s.wires (length s.nodes) e) ++ N.0) = cc in
+        (N.0, append_cancel_left (named s l xs) (on_line t.lines l) (for_line l (takes s.wires (length s.nodes) e) ++ N.0) same ∙ ap (λ ms. for_line l ms ++ N.0) (sym (takes_same s t shape.wires shape.nodes e)))
 
     pub possible_of : (u : Network Node) × (next M t e ≡ Some u)
     possible_of =
-        let T = taken_from t.lines (takes t e) front in
-        let made = put (record t { lines = sent (has_wire t.wires) T.0 change.0.1 }) (process t e) change.0.0 in (
+        let T = taken_from t.lines (takes t.wires (length t.nodes) e) front in
+        let made = put (record t { lines = sent (has_wire t.wires) T.0 change.0.1 }) (process t.wires (length t.nodes) e) change.0.0 in (
           made,
           next_from M t e made (record {
             out = T.0;

@@ -10,7 +10,7 @@ use Rattle.tp_law_parts.specs.ByItself.{Alone, by_itself}
 -- the tokens that the entries name on the line, in order
 unfoldable pub named : {Node : Type 0} → Network Node → ℕ → List Entry → List Token
 named s l [] = []
-named s l (e ∷ es) = for_line l (takes s e) ++ named s l es
+named s l (e ∷ es) = for_line l (takes s.wires (length s.nodes) e) ++ named s l es
 
 -- what the network has on the line, and behind it what its sender has sent there, if the line has a wire
 abbrev pub arrivals : {Node : Type 0} → Network Node → ℕ → Alone Node → List Token

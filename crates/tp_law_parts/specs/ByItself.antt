@@ -12,7 +12,7 @@ Alone Node = Own Node × List (ℕ × Token)
 -- after one entry: an entry of its own it does, with the tokens that the entry names; another's leaves it as it is
 abbrev pub doing : {Node : Type 0} → Machine Node → Network Node → ℕ → Alone Node → Entry → Option (Alone Node)
 doing M s p a e =
-    if p == process s e
+    if p == process s.wires (length s.nodes) e
     then (does M s.wires (length s.nodes) e a.0 >>= λ change. Some (change.0, a.1 ++ change.1))
     else Some a
 

@@ -13,8 +13,8 @@ use Rattle.tp_law_parts.specs.Arrivals.{named, came}
 -- sent it, and none is left out.
 pub record CanFollow {Node : Type 0} (M : Machine Node) (s : Network Node) (xs : List Entry) (e : Entry) : Type 0 where
   pub last : Alone Node
-  pub does : by_itself M s (process s e) (xs ++ e ∷ []) ≡ Some last
-  pub next : (l : ℕ) → (rest : List Token) × (came M s l xs ≡ Some (named s l xs ++ (for_line l (takes s e) ++ rest)))
+  pub does : by_itself M s (process s.wires (length s.nodes) e) (xs ++ e ∷ []) ≡ Some last
+  pub next : (l : ℕ) → (rest : List Token) × (came M s l xs ≡ Some (named s l xs ++ (for_line l (takes s.wires (length s.nodes) e) ++ rest)))
 
 -- Each entry before the place `stop` can follow those before it, and the one that stands there can't.
 pub record StopsAtFault {Node : Type 0} (M : Machine Node) (s : Network Node) (es : List Entry) (stop : ℕ) : Type 0 where

@@ -58,10 +58,10 @@ module _ {Node : Type 0} (M : Machine Node) (four : HasFourLinks M) (never : Nev
   kept_order = holds.order
 
   pub whole_order : (cut : WholeCut) → (C : CutHolds M last.net cut)
-      → HasOrder M start last.journal C.consistent.state (post (process last.net.start) (count_in cut) last.net.entries) (last.base + cut.size)
+      → HasOrder M start last.journal C.consistent.state (post (process last.net.start.wires (length last.net.start.nodes)) (count_in cut) last.net.entries) (last.base + cut.size)
   whole_order cut C =
-      let inside = pre (process last.net.start) (count_in cut) last.net.entries in
-      let outside = post (process last.net.start) (count_in cut) last.net.entries in
+      let inside = pre (process last.net.start.wires (length last.net.start.nodes)) (count_in cut) last.net.entries in
+      let outside = post (process last.net.start.wires (length last.net.start.nodes)) (count_in cut) last.net.entries in
       subst (λ n. HasOrder M start last.journal C.consistent.state outside (last.base + n)) (sym C.size)
       (order_cut M start last.journal last.net.entries last.net.start C.consistent.state last.base inside outside holds.order C.consistent.is C.order)
 

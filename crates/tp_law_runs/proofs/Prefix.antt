@@ -62,11 +62,11 @@ pub record Copied {Node : Type 0} (M : Machine Node) (start kept : Network Node)
   pub all : journal ≡ first ++ since
   pub number : length first ≡ upto
   pub count : length first ≡ base + length before
-  pub there : (p : ℕ) → in_counts counts p ≤ made (process kept) p before
-  pub network : after M kept (pre (process kept) (in_counts counts) before) ≡ Some copy.network
-  pub tail : copy.entries ≡ post (process kept) (in_counts counts) before
-  pub size : copy.base ≡ base + length (pre (process kept) (in_counts counts) before)
-  pub same : after M kept (pre (process kept) (in_counts counts) before ++ post (process kept) (in_counts counts) before) ≡ after M start first
+  pub there : (p : ℕ) → in_counts counts p ≤ made (process kept.wires (length kept.nodes)) p before
+  pub network : after M kept (pre (process kept.wires (length kept.nodes)) (in_counts counts) before) ≡ Some copy.network
+  pub tail : copy.entries ≡ post (process kept.wires (length kept.nodes)) (in_counts counts) before
+  pub size : copy.base ≡ base + length (pre (process kept.wires (length kept.nodes)) (in_counts counts) before)
+  pub same : after M kept (pre (process kept.wires (length kept.nodes)) (in_counts counts) before ++ post (process kept.wires (length kept.nodes)) (in_counts counts) before) ≡ after M start first
   pub order : HasOrder M start first copy.network copy.entries copy.base
   pub no_less : stored ≤ length first
 
@@ -209,14 +209,14 @@ module _ {Node : Type 0} (M : Machine Node) (start kept : Network Node) (entries
     pub copied_exact : after M copy.network copy.entries ≡ after M start C.first
     copied_exact =
         ap (after M copy.network) C.tail
-        ∙ sym (after_front M kept copy.network (pre (process kept) (in_counts C.counts) C.before) (post (process kept) (in_counts C.counts) C.before) C.network)
+        ∙ sym (after_front M kept copy.network (pre (process kept.wires (length kept.nodes)) (in_counts C.counts) C.before) (post (process kept.wires (length kept.nodes)) (in_counts C.counts) C.before) C.network)
         ∙ C.same
 
     pub copied_count : length C.first ≡ next_number copy
     copied_count =
         let c = C.count in
         let s = C.size in
-        omega (arith, ap length C.tail, length-pre-post (process kept) (in_counts C.counts) C.before)
+        omega (arith, ap length C.tail, length-pre-post (process kept.wires (length kept.nodes)) (in_counts C.counts) C.before)
 
     pub copied_stands : Stands M start journal stored copy
     copied_stands = record { first = C.first; rest = C.since; parts = C.all; count = copied_count; exact = copied_exact; order = C.order; no_less = C.no_less }

@@ -70,7 +70,7 @@ module _ {Node : Type 0} (M : Machine Node) (four : HasFourLinks M) (never : Nev
   walk (e ∷ es) w holds idle now is =
       let F = first_possible M w.live now e es is in
       let here : happens M w (Journal e) ≡ Some (journalled w e F.0) = ap (λ live. live >>= λ t. Some (journalled w e t)) F.1 in
-      let rest = walk es (journalled w e F.0) (happens_holds M four never w (journalled w e F.0) (Journal e) holds here) (ap (option_map (collected (process w.start e) (takes w.live e))) idle) now F.2 in
+      let rest = walk es (journalled w e F.0) (happens_holds M four never w (journalled w e F.0) (Journal e) holds here) (ap (option_map (collected (process w.start.wires (length w.start.nodes) e) (takes w.live.wires (length w.live.nodes) e))) idle) now F.2 in
       (rest.0, rest.1, rest.2, rest.3, rest.4, rest.5 ∙ append_assoc w.entries (e ∷ []) es)
 
   module _ (A : Areas Node) (law : AreasHold M A) (start : Network Node) (opened : IsOpened M (fresh start)) where
@@ -246,8 +246,8 @@ module _ {Node : Type 0} (M : Machine Node) (four : HasFourLinks M) (never : Nev
         a : At M A start w (Opened copy upto)
         a = subst (At M A start w) is I.at
 
-        T : (after M (network_in w.net.start cut nodes) (post (process w.net.start) (count_in cut) w.net.entries) ≡ after M start w.journal)
-            × HasOrder M start w.journal (network_in w.net.start cut nodes) (post (process w.net.start) (count_in cut) w.net.entries) (w.base + cut.size)
+        T : (after M (network_in w.net.start cut nodes) (post (process w.net.start.wires (length w.net.start.nodes)) (count_in cut) w.net.entries) ≡ after M start w.journal)
+            × HasOrder M start w.journal (network_in w.net.start cut nodes) (post (process w.net.start.wires (length w.net.start.nodes)) (count_in cut) w.net.entries) (w.base + cut.size)
             × WithKept M start (record w { net = trimmed w.net cut nodes; base = w.base + cut.size }) (λ h. Rests A h w.disk)
         T = trims M four A start w I.net I.agree I.order cut nodes has copy upto a.2 a.4 a.0 a.1 a.3
 

@@ -5,7 +5,7 @@ use Rattle.tp_model.specs.declared.entry.Entry.TheVariants.{HostIn}
 use Rattle.tp_model.specs.declared.link.Token.{Token}
 use Rattle.tp_model.specs.declared.limits.TheConstants.{GATE_CLOSED}
 use Rattle.tp_model.specs.Network.{◌>>=◌, Machine, Network, own, put, has_wire, taken, pushed, sent}
-use Rattle.tp_model.specs.Entries.{process, takes, of_port, does, next}
+use Rattle.tp_model.specs.Entries.{process, takes, of_port, does, next, acts}
 use Rattle.tp_model.specs.Order.{after}
 use Rattle.tp_model.specs.Markers.{markers}
 use Rattle.tp_model.specs.Snapshot.{journalled}
@@ -83,7 +83,7 @@ one_port_opened M = record {
     no_wire (suc line) = refl
 
 one_port_takes : {Node : Type 0} (M : Machine Node) (x : ℕ) → (live : Network Node) × (next M one_port (HostIn 0 x) ≡ Some live)
-unfolding next process takes taken own does of_port sent pushed put
+unfolding next acts process takes taken own does of_port sent pushed put
 one_port_takes M x = (_, refl)
 
 -- a device made with it, and a run that stores a byte

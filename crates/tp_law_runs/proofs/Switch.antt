@@ -25,7 +25,7 @@ use Rattle.tp_law_cuts.proofs.Whole.{all_counts, whole_holds}
 
 -- the counts of a snapshot are of entries that are there
 counts_there : {Node : Type 0} (M : Machine Node) (net : MarkedNetwork Node) (counts : List ℕ) → Holds M net → HasCounts net.snapshot counts
-    → (p : ℕ) → in_counts counts p ≤ made (process net.start) p net.entries
+    → (p : ℕ) → in_counts counts p ≤ made (process net.start.wires (length net.start.nodes)) p net.entries
 counts_there M net counts holds H p = (subst (Inside M net) H.runs holds.inside).counted p (in_counts counts p) (all_counts H.snap.counts counts H.recorded p)
 
 module _ {Node : Type 0} (M : Machine Node) (four : HasFourLinks M) where
@@ -33,11 +33,11 @@ module _ {Node : Type 0} (M : Machine Node) (four : HasFourLinks M) where
       (order : HasOrder M start w.journal w.net.start w.net.entries w.base)
       (cut : WholeCut) (nodes : List Node) (has : HasCut w.net cut nodes) where
     -- the cut and the entries outside it are an order of the journal
-    pub cut_order : HasOrder M start w.journal (network_in w.net.start cut nodes) (post (process w.net.start) (count_in cut) w.net.entries) (w.base + cut.size)
+    pub cut_order : HasOrder M start w.journal (network_in w.net.start cut nodes) (post (process w.net.start.wires (length w.net.start.nodes)) (count_in cut) w.net.entries) (w.base + cut.size)
     cut_order =
         let C = whole_holds M four w.net holds cut has.is in
-        let inside = pre (process w.net.start) (count_in cut) w.net.entries in
-        let outside = post (process w.net.start) (count_in cut) w.net.entries in
+        let inside = pre (process w.net.start.wires (length w.net.start.nodes)) (count_in cut) w.net.entries in
+        let outside = post (process w.net.start.wires (length w.net.start.nodes)) (count_in cut) w.net.entries in
         subst (λ n. HasOrder M start w.journal (network_in w.net.start cut nodes) outside (w.base + n)) (sym C.size)
         (order_cut M start w.journal w.net.entries w.net.start (network_in w.net.start cut nodes) w.base inside outside order
         (C.consistent.is ∙ ap Some (sym (cut_network M four w.net cut nodes C has.images))) C.order)
@@ -78,9 +78,9 @@ module _ {Node : Type 0} (M : Machine Node) (four : HasFourLinks M) where
     -- The book is trimmed: it starts at the copied cut, and its entries are the copied tail and those since. The device
     -- stands for the cut and the tail already.
     pub trims : (copy : Held Node) (upto : ℕ) → CopiedOf M start w copy upto → w.stored ≡ upto → A.verdict w.disk.bytes ≡ Some copy → w.disk.unsynced ≡ [] → w.backlog ≡ []
-        → Goes (network_in w.net.start cut nodes) (post (process w.net.start) (count_in cut) w.net.entries) (w.base + cut.size) w.backlog
+        → Goes (network_in w.net.start cut nodes) (post (process w.net.start.wires (length w.net.start.nodes)) (count_in cut) w.net.entries) (w.base + cut.size) w.backlog
     trims copy upto C reached reads synced none =
-        subst (λ n. Goes n (post (process w.net.start) (count_in cut) w.net.entries) (w.base + cut.size) w.backlog) (sym network)
+        subst (λ n. Goes n (post (process w.net.start.wires (length w.net.start.nodes)) (count_in cut) w.net.entries) (w.base + cut.size) w.backlog) (sym network)
         (subst (λ es. Goes copy.network es (w.base + cut.size) w.backlog) (sym entries)
         (subst (λ n. Goes copy.network (copy.entries ++ C.since) n w.backlog) (sym base)
         (subst (Goes copy.network (copy.entries ++ C.since) copy.base) (sym none) goes)))
@@ -91,17 +91,17 @@ module _ {Node : Type 0} (M : Machine Node) (four : HasFourLinks M) where
         same : C.counts ≡ cut.counts
         same = same_counts w.net.snapshot C.counts cut.counts C.whole (whole_counts w.net cut has.is)
 
-        inside : pre (process w.net.start) (count_in cut) w.net.entries ≡ pre (process w.net.start) (in_counts C.counts) C.before
+        inside : pre (process w.net.start.wires (length w.net.start.nodes)) (count_in cut) w.net.entries ≡ pre (process w.net.start.wires (length w.net.start.nodes)) (in_counts C.counts) C.before
         inside =
-            ap (λ counts. pre (process w.net.start) (in_counts counts) w.net.entries) (sym same)
-            ∙ ap (pre (process w.net.start) (in_counts C.counts)) C.own
-            ∙ pre-append_outside (process w.net.start) (in_counts C.counts) C.before C.since C.there
+            ap (λ counts. pre (process w.net.start.wires (length w.net.start.nodes)) (in_counts counts) w.net.entries) (sym same)
+            ∙ ap (pre (process w.net.start.wires (length w.net.start.nodes)) (in_counts C.counts)) C.own
+            ∙ pre-append_outside (process w.net.start.wires (length w.net.start.nodes)) (in_counts C.counts) C.before C.since C.there
 
-        entries : post (process w.net.start) (count_in cut) w.net.entries ≡ copy.entries ++ C.since
+        entries : post (process w.net.start.wires (length w.net.start.nodes)) (count_in cut) w.net.entries ≡ copy.entries ++ C.since
         entries =
-            ap (λ counts. post (process w.net.start) (in_counts counts) w.net.entries) (sym same)
-            ∙ ap (post (process w.net.start) (in_counts C.counts)) C.own
-            ∙ post-append_outside (process w.net.start) (in_counts C.counts) C.before C.since C.there
+            ap (λ counts. post (process w.net.start.wires (length w.net.start.nodes)) (in_counts counts) w.net.entries) (sym same)
+            ∙ ap (post (process w.net.start.wires (length w.net.start.nodes)) (in_counts C.counts)) C.own
+            ∙ post-append_outside (process w.net.start.wires (length w.net.start.nodes)) (in_counts C.counts) C.before C.since C.there
             ∙ ap (λ es. es ++ C.since) (sym C.tail)
 
         network : network_in w.net.start cut nodes ≡ copy.network

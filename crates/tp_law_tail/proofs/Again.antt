@@ -1,6 +1,6 @@
 -- A network that has what opening reads has an image.
 use Rattle.std.proofs.Common.{◌≡◌, ℕ, suc, ◌+◌, ◌<◌, ◌≤◌, true, false, not, List, [], ◌∷◌, length, refl, sym, ap, subst, ◌∙◌, arith, Option, Some, None, slice_get, eq-eqb}
-use Rattle.std.specs.Prelude.{nat_lt, ◌&&◌}
+use Rattle.std.specs.Prelude.{nat_lt, ◌&&◌, length}
 use Rattle.std.specs.List.{AllByRecursion}
 use Rattle.std.proofs.lemmas.Bool.{and_from}
 use Rattle.tp_model.specs.declared.link.Token.{Token}
@@ -115,7 +115,7 @@ pub cut_spelt : (t : Topology) (base : ℕ) (w : MarkedNetwork NodeState) (cut :
     → AllByRecursion HasByte w.entries → CutHolds t414 w cut → all_some w.frozen ≡ Some nodes → base + length w.entries < NUMBER_LIMIT
     → CutSpelt t (base + cut.size) (network_in w.start cut nodes)
 cut_spelt t base w cut nodes topology C low H images few =
-    let of = process w.start in
+    let of = process w.start.wires (length w.start.nodes) in
     let es = pre of (count_in cut) w.entries in
     let K = keeps_after t base w.start es H.consistent.state (cut_keeps t base w.start topology C.cut C.bytes)
     (chosen_keeps HasByte of (λ p n. nat_lt n (count_in cut p)) (λ p. 0) w.entries low) H.consistent.is in

@@ -1,6 +1,6 @@
 -- A whole cut with its tail can be put into the other area.
 use Rattle.std.proofs.Common.{◌≡◌, ℕ, ◌+◌, ◌-◌, ◌*◌, ◌<◌, ◌≤◌, ◌⊎◌, inl, true, false, not, cond, List, [], ◌∷◌, length, map, refl, sym, ap, subst, ◌∙◌, arith, le_refl, Some, Ok}
-use Rattle.std.specs.Prelude.{nat_lt}
+use Rattle.std.specs.Prelude.{nat_lt, length}
 use Rattle.std.specs.List.{AllByRecursion}
 use Rattle.std.proofs.lemmas.Bool.{and_from, and_parts, lt-ltb}
 use Rattle.std.proofs.lemmas.List.{length-map}
@@ -17,7 +17,7 @@ use Rattle.tp_model.specs.Snapshot.{MarkedNetwork}
 use Rattle.tp_model.specs.WholeCut.{WholeCut, count_in, network_in}
 use Rattle.tp_model.specs.Acts.{CutHolds}
 use Rattle.tp_model.specs.Topology.{Topology, is_topology}
-use Rattle.tp_model.specs.Journal.{room, is_roomy}
+use Rattle.tp_model.specs.Journal.{entry_room, room, is_roomy}
 use Rattle.tp_model.specs.EntryBytes.{is_in_range}
 use Rattle.tp_model.specs.Areas.{Held}
 use Rattle.tp_model.specs.WriteOrder.{Resting}
@@ -80,7 +80,7 @@ module _ (t : Topology) (w : MarkedNetwork NodeState) (base : ℕ) (cut : WholeC
   tail = tail_of w.start cut kept
 
   abbrev size : ℕ
-  size = length (pre (process w.start) (count_in cut) w.entries)
+  size = length (pre (process w.start.wires (length w.start.nodes)) (count_in cut) w.entries)
 
   holds : CutHolds t414 w cut
   holds = whole_holds t414 has_four_links w H cut has.is
@@ -88,27 +88,27 @@ module _ (t : Topology) (w : MarkedNetwork NodeState) (base : ℕ) (cut : WholeC
   pub spelt_copy : CutSpelt t (base + cut.size) (network_in w.start cut nodes)
   spelt_copy = cut_spelt t base w cut nodes topology C (each_has_byte w.entries range) holds has.images few
 
-  outside : map (λ (e : Entry × ℕ). e.0) tail ≡ post (process w.start) (count_in cut) w.entries
-  outside = tail_entries w.start cut kept ∙ ap (post (process w.start) (count_in cut)) entries
+  outside : map (λ (e : Entry × ℕ). e.0) tail ≡ post (process w.start.wires (length w.start.nodes)) (count_in cut) w.entries
+  outside = tail_entries w.start cut kept ∙ ap (post (process w.start.wires (length w.start.nodes)) (count_in cut)) entries
 
   numbered : AreNumbered 0 (base + cut.size) (map (λ (e : Entry × ℕ). e.1) tail)
   numbered =
-      let same : base + length (pre (process w.start) (count_in cut) (map (λ (e : Entry × ℕ). e.0) kept)) ≡ base + cut.size =
-      ap (λ es. base + length (pre (process w.start) (count_in cut) es)) entries ∙ ap (λ n. base + n) (sym holds.size) in
+      let same : base + length (pre (process w.start.wires (length w.start.nodes)) (count_in cut) (map (λ (e : Entry × ℕ). e.0) kept)) ≡ base + cut.size =
+      ap (λ es. base + length (pre (process w.start.wires (length w.start.nodes)) (count_in cut) es)) entries ∙ ap (λ n. base + n) (sym holds.size) in
       subst (λ n. AreNumbered 0 n (map (λ (e : Entry × ℕ). e.1) tail)) same (tail_numbered w.start cut kept base numbers)
 
   count : length tail + cut.size ≡ length w.entries
-  count = omega (arith, holds.size, length-map tail (λ (e : Entry × ℕ). e.0), ap length outside, length-pre-post (process w.start) (count_in cut) w.entries)
+  count = omega (arith, holds.size, length-map tail (λ (e : Entry × ℕ). e.0), ap length outside, length-pre-post (process w.start.wires (length w.start.nodes)) (count_in cut) w.entries)
 
   in_range : AllByRecursion (λ (e : Entry × ℕ). is_in_range e.0 ≡ true) tail
-  in_range = chosen_keeps (λ (e : Entry × ℕ). is_in_range e.0 ≡ true) (λ (e : Entry × ℕ). process w.start e.0) (λ p n. not (nat_lt n (count_in cut p))) (λ p. 0) kept
+  in_range = chosen_keeps (λ (e : Entry × ℕ). is_in_range e.0 ≡ true) (λ (e : Entry × ℕ). process w.start.wires (length w.start.nodes) e.0) (λ p n. not (nat_lt n (count_in cut p))) (λ p. 0) kept
       (all_map kept (subst (AllByRecursion (λ e. is_in_range e ≡ true)) (sym entries) range))
 
   leads : after t414 (network_in w.start cut nodes) (map (λ (e : Entry × ℕ). e.0) tail) ≡ Some (plain_network w.live)
   leads =
       ap (after t414 (network_in w.start cut nodes)) outside
-      ∙ ap (λ s. after t414 s (post (process w.start) (count_in cut) w.entries)) (cut_network t414 has_four_links w cut nodes holds has.images)
-      ∙ sym (after_front t414 w.start holds.consistent.state (pre (process w.start) (count_in cut) w.entries) (post (process w.start) (count_in cut) w.entries) holds.consistent.is)
+      ∙ ap (λ s. after t414 s (post (process w.start.wires (length w.start.nodes)) (count_in cut) w.entries)) (cut_network t414 has_four_links w cut nodes holds has.images)
+      ∙ sym (after_front t414 w.start holds.consistent.state (pre (process w.start.wires (length w.start.nodes)) (count_in cut) w.entries) (post (process w.start.wires (length w.start.nodes)) (count_in cut) w.entries) holds.consistent.is)
       ∙ holds.same ∙ H.base.now
 
   pub copy_spelt : CopySpelt t (copy_of w base cut nodes) tail
@@ -122,7 +122,7 @@ module _ (t : Topology) (w : MarkedNetwork NodeState) (base : ℕ) (cut : WholeC
     leads = ap (after t414 (network_in w.start cut nodes)) (sym outside) ∙ leads;
   }
 
-  pub copy_spelling : (area generation : ℕ) → is_roomy t area ≡ true → generation < NUMBER_LIMIT → 32 * length (post (process w.start) (count_in cut) w.entries) ≤ room t area
+  pub copy_spelling : (area generation : ℕ) → is_roomy t area ≡ true → generation < NUMBER_LIMIT → entry_room * length (post (process w.start.wires (length w.start.nodes)) (count_in cut) w.entries) ≤ room t area
       → AreaSpelling t area generation (base + cut.size) (network_in w.start cut nodes) tail (plain_network w.live)
   copy_spelling area generation roomy young small = can_be_spelt t area generation (base + cut.size) (network_in w.start cut nodes) tail (plain_network w.live) topology roomy young spelt_copy.cut
       (spelt_numbered tail 0 (base + cut.size) in_range numbered (omega (arith, count, few))) numbered (omega (arith, count, few)) leads (omega (arith, small, ap length outside, length-map tail (λ (e : Entry × ℕ). e.0)))
@@ -130,7 +130,7 @@ module _ (t : Topology) (w : MarkedNetwork NodeState) (base : ℕ) (cut : WholeC
   pub copy_is : held_then (base + cut.size) (network_in w.start cut nodes) (in_groups tail) ≡ copy_of w base cut nodes
   copy_is =
       let same : entries_in (in_groups tail) ≡ tail = parted_entries (length tail) tail (le_refl (length tail)) in
-      let all : map (λ (e : Entry × ℕ). e.0) (entries_in (in_groups tail)) ≡ post (process w.start) (count_in cut) w.entries = ap (map (λ (e : Entry × ℕ). e.0)) same ∙ outside in
+      let all : map (λ (e : Entry × ℕ). e.0) (entries_in (in_groups tail)) ≡ post (process w.start.wires (length w.start.nodes)) (count_in cut) w.entries = ap (map (λ (e : Entry × ℕ). e.0)) same ∙ outside in
       λ i. record { network = network_in w.start cut nodes; entries = all i; base = base + cut.size }
 
 -- ## The device
@@ -144,31 +144,31 @@ same_topology t u base other s C D =
     λ i. record { pages = pages i; ports = ports i; wires = wires i }
 
 -- with another content in the other area the device opens as before
-put_stays : (bytes : List ℕ) (o : Opened) (content : List ℕ) → opening t414 t414_ends bytes ≡ Ok o → other_is_open o bytes ≡ false → length content ≡ o.head.area - 1
+put_stays : (bytes : List ℕ) (o : Opened) (content : List ℕ) → opening t414 t414_ends bytes ≡ Ok o → other_is_open o bytes ≡ false → length content ≡ o.head.areas.length - 1
     → opening t414 t414_ends (with_other bytes o content) ≡ Ok o
 unfolding spare_of
 put_stays bytes o content is closed long =
     let R = reads_of t414 t414_ends bytes o is in
     let L = layout t414 t414_ends bytes o R in
     let at = other_start o + 1 in
-    let fits_in : at + length content ≤ length bytes = omega (arith, long, L.both, L.some, places o.head.area o.second) in
+    let fits_in : at + length content ≤ length bytes = omega (arith, long, L.both, L.some, places o.head.areas o.second) in
     loose_keeps t414 t414_ends bytes o is R (with_other bytes o content) (length-written bytes at content fits_in)
     (λ q out beside. get_or-written_outside bytes at content fits_in q (subst (λ (range : ℕ × ℕ). (q < range.0) ⊎ (range.0 + range.1 ≤ q)) (spare_is ∙ (λ i. (at, sym long i))) out))
   where
-    spare_is : spare_of (opening t414 t414_ends bytes) bytes ≡ (other_start o + 1, o.head.area - 1)
-    spare_is = ap (λ found. spare_of found bytes) is ∙ ap (λ b. cond b (0, 0) (other_start o + 1, o.head.area - 1)) closed
+    spare_is : spare_of (opening t414 t414_ends bytes) bytes ≡ (other_start o + 1, o.head.areas.length - 1)
+    spare_is = ap (λ found. spare_of found bytes) is ∙ ap (λ b. cond b (0, 0) (other_start o + 1, o.head.areas.length - 1)) closed
 
-put_closed : (bytes : List ℕ) (o : Opened) (content : List ℕ) → opening t414 t414_ends bytes ≡ Ok o → other_is_open o bytes ≡ false → length content ≡ o.head.area - 1
+put_closed : (bytes : List ℕ) (o : Opened) (content : List ℕ) → opening t414 t414_ends bytes ≡ Ok o → other_is_open o bytes ≡ false → length content ≡ o.head.areas.length - 1
     → other_is_open o (with_other bytes o content) ≡ false
 put_closed bytes o content is closed long =
     let R = reads_of t414 t414_ends bytes o is in
     let L = layout t414 t414_ends bytes o R in
     let at = other_start o + 1 in
-    let fits_in : at + length content ≤ length bytes = omega (arith, long, L.both, L.some, places o.head.area o.second) in
+    let fits_in : at + length content ≤ length bytes = omega (arith, long, L.both, L.some, places o.head.areas o.second) in
     ap (λ byte. is_open byte) (get_or-written_outside bytes at content fits_in (other_start o) (inl (omega arith))) ∙ closed
 
 pub put_opens : (bytes : List ℕ) (o : Opened) (copy : Held NodeState) (content : List ℕ) (groups : List (List (Entry × ℕ))) (now : Network NodeState)
-    → opening t414 t414_ends bytes ≡ Ok o → other_is_open o bytes ≡ false → length content ≡ o.head.area - 1
+    → opening t414 t414_ends bytes ≡ Ok o → other_is_open o bytes ≡ false → length content ≡ o.head.areas.length - 1
     → Spells t414 t414_ends o.head.topology content (o.generation + 1) copy.base copy.network groups now → map (λ (e : Entry × ℕ). e.0) (entries_in groups) ≡ copy.entries → CanPut bytes o copy
 put_opens bytes o copy content groups now is closed long S entries =
     let left = with_other bytes o content in
@@ -197,7 +197,7 @@ put_opens bytes o copy content groups now is closed long S entries =
 -- what the device and the book have in common between groups
 pub record AtRest (w : World NodeState) (o : Opened) : Type 0 where
   pub topology : is_topology o.head.topology ≡ true
-  pub roomy : is_roomy o.head.topology o.head.area ≡ true
+  pub roomy : is_roomy o.head.topology o.head.areas.length ≡ true
   pub cut : CutSpelt o.head.topology w.base w.net.start
 
 pub at_rest : (most : ℕ) (start : Network NodeState) (w : World NodeState) (o : Opened) → KeptAt most start w → w.at ≡ Resting → AreBytes w.disk.bytes → opening t414 t414_ends w.disk.bytes ≡ Ok o → AtRest w o
@@ -212,7 +212,7 @@ at_rest most start w o S rests bytes is =
     let t_is : G.topology ≡ o.head.topology = same_topology G.topology o.head.topology w.base o.base w.net.start G.cut.cut (subst (IsCut t414_ends o.head.topology o.base) cut_is D.cut) in
     record {
       topology = here.topology;
-      roomy = (and_parts _ (is_roomy o.head.topology o.head.area) here.room).1;
+      roomy = (and_parts _ (is_roomy o.head.topology o.head.areas.length) here.room).1;
       cut = subst (λ t. CutSpelt t w.base w.net.start) t_is G.cut;
     }
 
@@ -229,13 +229,13 @@ tail_spelt most start w o cut nodes kept S rests bytes has is entries numbers =
 pub tail_put : (most : ℕ) (start : Network NodeState) (w : World NodeState) (o : Opened) (cut : WholeCut) (nodes : List NodeState) (kept : List (Entry × ℕ)) → KeptAt most start w → w.at ≡ Resting → AreBytes w.disk.bytes
     → HasCut w.net cut nodes → opening t414 t414_ends w.disk.bytes ≡ Ok o → other_is_open o w.disk.bytes ≡ false
     → map (λ (e : Entry × ℕ). e.0) kept ≡ w.net.entries → AreNumbered 0 w.base (map (λ (e : Entry × ℕ). e.1) kept)
-    → o.generation + 1 < NUMBER_LIMIT → 32 * length (post (process w.net.start) (count_in cut) w.net.entries) ≤ room o.head.topology o.head.area
+    → o.generation + 1 < NUMBER_LIMIT → entry_room * length (post (process w.net.start.wires (length w.net.start.nodes)) (count_in cut) w.net.entries) ≤ room o.head.topology o.head.areas.length
     → CanPut w.disk.bytes o (copy_of w.net w.base cut nodes)
 tail_put most start w o cut nodes kept S rests bytes has is closed entries numbers young small =
     let G = S.spelt in
     let R = at_rest most start w o S rests bytes is in
     let C = R.cut in
-    let A = copy_spelling o.head.topology w.net w.base cut nodes kept R.topology S.inv.net has C G.entries entries numbers G.few o.head.area (o.generation + 1) R.roomy young small in
+    let A = copy_spelling o.head.topology w.net w.base cut nodes kept R.topology S.inv.net has C G.entries entries numbers G.few o.head.areas.length (o.generation + 1) R.roomy young small in
     let copy = copy_of w.net w.base cut nodes in
     let held = copy_is o.head.topology w.net w.base cut nodes kept R.topology S.inv.net has C G.entries entries numbers G.few in
     put_opens w.disk.bytes o copy A.content (in_groups (tail_of w.net.start cut kept)) (plain_network w.net.live) is closed A.long A.spells (ap (λ (h : Held NodeState). h.entries) held)
@@ -244,7 +244,7 @@ pub run_tail_put : (most : ℕ) (start : Network NodeState) (events : List (Even
     → (o : Opened) (cut : WholeCut) (nodes : List NodeState) (kept : List (Entry × ℕ)) → w.at ≡ Resting → AreBytes w.disk.bytes
     → HasCut w.net cut nodes → opening t414 t414_ends w.disk.bytes ≡ Ok o → other_is_open o w.disk.bytes ≡ false
     → map (λ (e : Entry × ℕ). e.0) kept ≡ w.net.entries → AreNumbered 0 w.base (map (λ (e : Entry × ℕ). e.1) kept)
-    → o.generation + 1 < NUMBER_LIMIT → 32 * length (post (process w.net.start) (count_in cut) w.net.entries) ≤ room o.head.topology o.head.area
+    → o.generation + 1 < NUMBER_LIMIT → entry_room * length (post (process w.net.start.wires (length w.net.start.nodes)) (count_in cut) w.net.entries) ≤ room o.head.topology o.head.areas.length
     → CanPut w.disk.bytes o (copy_of w.net w.base cut nodes)
 run_tail_put most start events first w F bytes run o cut nodes kept = tail_put most start w o cut nodes kept (formatted_kept most start events first w F bytes run)
 

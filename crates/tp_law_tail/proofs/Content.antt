@@ -14,7 +14,7 @@ use Rattle.tp_model.specs.Order.{after}
 use Rattle.tp_model.specs.Sound.{Ends}
 use Rattle.tp_model.specs.Numbers.{AreNumbered}
 use Rattle.tp_model.specs.Topology.{Topology, is_topology}
-use Rattle.tp_model.specs.Journal.{room, is_roomy}
+use Rattle.tp_model.specs.Journal.{entry_room, room, is_roomy}
 use Rattle.tp_model.specs.Spelling.{front_bytes, groups_bytes, entries_in, IsCut, Spells}
 use Rattle.tp_model.specs.Opening.{groups_place}
 use Rattle.tp_law_machine.proofs.Images.{node_of-image}
@@ -48,7 +48,7 @@ pub record AreaSpelling (t : Topology) (area generation base : ℕ) (s : Network
 
 pub can_be_spelt : (t : Topology) (area generation base : ℕ) (s : Network NodeState) (tail : List (Entry × ℕ)) (now : Network NodeState) → is_topology t ≡ true → is_roomy t area ≡ true → generation < NUMBER_LIMIT
     → IsCut t414_ends t base s → AreSpelt tail → AreNumbered 0 base (map (λ (e : Entry × ℕ). e.1) tail) → base + length tail ≤ NUMBER_LIMIT - 1
-    → after t414 s (map (λ (e : Entry × ℕ). e.0) tail) ≡ Some now → 32 * length tail ≤ room t area → AreaSpelling t area generation base s tail now
+    → after t414 s (map (λ (e : Entry × ℕ). e.0) tail) ≡ Some now → entry_room * length tail ≤ room t area → AreaSpelling t area generation base s tail now
 can_be_spelt t area generation base s tail now topology roomy young C spelt numbered last leads fits =
     let groups = in_groups tail in
     let front = front_bytes t generation base s in

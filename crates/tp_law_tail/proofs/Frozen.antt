@@ -1,6 +1,6 @@
 -- The image of a node that recorded stays until the trim, and is that of the cut; its pieces are the image.
 use Rattle.std.proofs.Common.{◌≡◌, ◌≢◌, ℕ, zero, suc, ◌+◌, ◌*◌, ◌/◌, ◌%◌, ◌<◌, false, List, [], ◌∷◌, length, take, drop, get_or, refl, sym, ap, subst, ◌∙◌, arith, Option, Some, None, slice_get, length-take, length-drop, length-append, get_or-set_other}
-use Rattle.std.specs.Prelude.{nat_le, ◌==◌, ◌&&◌, is_some}
+use Rattle.std.specs.Prelude.{nat_le, ◌==◌, ◌&&◌, is_some, length}
 use Rattle.std.specs.Option.{option_map}
 use Rattle.std.proofs.lemmas.Bool.{and_parts, eqb-true, true≢false}
 use Rattle.std.proofs.lemmas.List.{get_or-take, get_or-drop}
@@ -41,9 +41,9 @@ frozen_as_stays M w v (Record j) i node t e F =
 frozen_as_stays M w v (Journal entry) i node t e F =
     let P = journal_parts w v M entry e in
     subst (λ u. IsFrozenAs u i node) P.2 (record {
-      snap = collected (process w.start entry) (takes w.live entry) F.snap;
-      runs = ap (option_map (collected (process w.start entry) (takes w.live entry))) F.runs;
-      recorded = ap (λ counts. is_some (get_or counts i (Some 0))) (same_counts (process w.start entry) (takes w.live entry) F.snap) ∙ F.recorded;
+      snap = collected (process w.start.wires (length w.start.nodes) entry) (takes w.live.wires (length w.live.nodes) entry) F.snap;
+      runs = ap (option_map (collected (process w.start.wires (length w.start.nodes) entry) (takes w.live.wires (length w.live.nodes) entry))) F.runs;
+      recorded = ap (λ counts. is_some (get_or counts i (Some 0))) (same_counts (process w.start.wires (length w.start.nodes) entry) (takes w.live.wires (length w.live.nodes) entry) F.snap) ∙ F.recorded;
       is = F.is;
     })
 frozen_as_stays M w v (Close line) i node t e F =

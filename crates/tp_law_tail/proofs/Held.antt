@@ -1,6 +1,6 @@
 -- What the book of a run stands for has an image, at each moment.
 use Rattle.std.proofs.Common.{◌≡◌, ℕ, ◌+◌, ◌-◌, true, not, List, [], ◌∷◌, ◌++◌, length, map, sym, ap, subst, ◌∙◌, arith, length-append, drop, Some, Ok}
-use Rattle.std.specs.Prelude.{nat_lt, ◌<◌}
+use Rattle.std.specs.Prelude.{nat_lt, ◌<◌, length}
 use Rattle.std.specs.List.{AllByRecursion}
 use Rattle.std.proofs.lemmas.Bool.{and_parts, ltb-true}
 use Rattle.std.proofs.lemmas.List.{length-map, map-append}
@@ -91,15 +91,15 @@ groups_in_range (group ∷ groups) h =
 -- the cut of an opened device has an image
 pub opened_spelt : (bytes : List ℕ) (o : Opened) → AreBytes bytes → opening t414 t414_ends bytes ≡ Ok o → Stands t414 t414_ends bytes o → CutSpelt o.head.topology o.base o.cut
 opened_spelt bytes o h is S =
-    let content = content_of o.head.area o.second bytes in
+    let content = content_of o.head.areas o.second bytes in
     let R = reads_of t414 t414_ends bytes o is in
     let A = area_parts t414 t414_ends o.head o.second content o R.area in
     let cut : A.cut ≡ o.cut = ap (λ (p : Opened). p.cut) A.is in
-    let start = area_start o.head.area o.second + 1 in
+    let start = area_start o.head.areas o.second + 1 in
     record {
       cut = S.spells.cut;
       bytes = subst (λ (s : Network NodeState). AllByRecursion IsNodeOfBytes s.nodes) cut
-          (read_of_bytes t414_ends o.head.topology start content A.cut (are_bytes-take (o.head.area - 1) (drop start bytes) (are_bytes-drop start bytes h)) A.cut_is);
+          (read_of_bytes t414_ends o.head.topology start content A.cut (are_bytes-take (o.head.areas.length - 1) (drop start bytes) (are_bytes-drop start bytes h)) A.cut_is);
     }
 
 pub held_read : (bytes : List ℕ) (h : Held NodeState) → AreBytes bytes → device_areas.verdict bytes ≡ Some h → HeldSpelt h
@@ -151,7 +151,7 @@ act_keeps w v base (Journal e) G H K start entries keeps =
 -- ## The trim
 
 trim_keeps : (w : MarkedNetwork NodeState) (base : ℕ) (cut : WholeCut) (nodes : List NodeState) → HeldSpelt (record { network = w.start; entries = w.entries; base = base }) → Holds t414 w → HasCut w cut nodes
-    → HeldSpelt (record { network = network_in w.start cut nodes; entries = post (process w.start) (count_in cut) w.entries; base = base + cut.size })
+    → HeldSpelt (record { network = network_in w.start cut nodes; entries = post (process w.start.wires (length w.start.nodes)) (count_in cut) w.entries; base = base + cut.size })
 trim_keeps w base cut nodes G H has =
     let C = whole_holds t414 has_four_links w H cut has.is in
     let S = cut_spelt G.topology base w cut nodes G.is G.cut (each_has_byte w.entries G.entries) C has.images G.few in
@@ -159,8 +159,8 @@ trim_keeps w base cut nodes G H has =
       topology = G.topology;
       is = G.is;
       cut = S;
-      entries = chosen_keeps InRange (process w.start) (λ p n. not (nat_lt n (count_in cut p))) (λ p. 0) w.entries G.entries;
-      few = omega (arith, G.few, C.size, length-pre-post (process w.start) (count_in cut) w.entries);
+      entries = chosen_keeps InRange (process w.start.wires (length w.start.nodes)) (λ p n. not (nat_lt n (count_in cut p))) (λ p. 0) w.entries G.entries;
+      few = omega (arith, G.few, C.size, length-pre-post (process w.start.wires (length w.start.nodes)) (count_in cut) w.entries);
     }
 
 -- ## Each event

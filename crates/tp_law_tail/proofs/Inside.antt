@@ -54,7 +54,7 @@ tail_inside t area copy tail groups roomy C all sized few =
 -- ## Behind the groups that are there
 
 group_inside : (bytes : List ℕ) (o : Opened) (count : ℕ) → opening t414 t414_ends bytes ≡ Ok o → 1 ≤ count
-    → entry_room * (length o.kept + count) ≤ room o.head.topology o.head.area → has_room o count ≡ true
+    → entry_room * (length o.kept + count) ≤ room o.head.topology o.head.areas.length → has_room o count ≡ true
 unfolding verdict
 group_inside bytes o count is = verdict_has_room bytes o is count
 
@@ -62,7 +62,7 @@ group_inside bytes o count is = verdict_has_room bytes o is count
 
 pub run_group_inside : (most : ℕ) (start : Network NodeState) (events : List (Event NodeState)) (first w : World NodeState) → IsFormatted t414 device_areas start first → AreBytes first.disk.bytes → KeptRun most first events w
     → (o : Opened) (es more : List Entry) → w.at ≡ Resting → AreBytes w.disk.bytes → opening t414 t414_ends w.disk.bytes ≡ Ok o → w.backlog ≡ es ++ more → 1 ≤ length es
-    → most ≤ room o.head.topology o.head.area → has_room o (length es) ≡ true
+    → most ≤ room o.head.topology o.head.areas.length → has_room o (length es) ≡ true
 run_group_inside most start events first w F bytes run o es more rests are is backlog some enough = go (KeptAt.room K).group
   where
     K : KeptAt most start w
@@ -85,7 +85,7 @@ run_group_inside most start events first w F bytes run o es more rests are is ba
     go (inr all) = absurd (omega (arith, all, entries, kept, a.0.reach, a.0.count, some))
 
 pub run_tail_room : (most : ℕ) (start : Network NodeState) (events : List (Event NodeState)) (first w : World NodeState) → IsFormatted t414 device_areas start first → AreBytes first.disk.bytes → KeptRun most first events w
-    → (cut : WholeCut) (nodes : List NodeState) → HasCut w.net cut nodes → entry_room * length (post (process w.net.start) (count_in cut) w.net.entries) ≤ most
+    → (cut : WholeCut) (nodes : List NodeState) → HasCut w.net cut nodes → entry_room * length (post (process w.net.start.wires (length w.net.start.nodes)) (count_in cut) w.net.entries) ≤ most
 run_tail_room most start events first w F bytes run cut nodes has =
     let K = formatted_kept most start events first w F bytes run in
     tail_room t414 has_four_links most w.net cut has.is K.room.tail

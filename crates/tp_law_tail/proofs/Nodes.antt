@@ -1,6 +1,6 @@
 -- A network's nodes stay of bytes, and as long, whatever entries follow.
 use Rattle.std.proofs.Common.{◌≡◌, ℕ, zero, suc, ◌/◌, List, [], ◌∷◌, length, set, refl, sym, ap, subst, ◌∙◌, Option, Some, None, slice_get}
-use Rattle.std.specs.Prelude.{nat_lt, nat_le, ◌&&◌}
+use Rattle.std.specs.Prelude.{nat_lt, nat_le, ◌&&◌, length}
 use Rattle.std.specs.Option.{option_map}
 use Rattle.std.specs.List.{AllByRecursion}
 use Rattle.tp_model.specs.declared.link.Token.{Token}
@@ -109,7 +109,7 @@ pub nodes_next : (s : Network NodeState) (e : Entry) (u : Network NodeState) →
 nodes_next s e u all low h =
     let S = step_of t414 s e u h in
     let lines = sent (has_wire s.wires) S.out S.sends in
-    let p = process s e in
+    let p = process s.wires (length s.nodes) e in
     let bytes : OfBytes S.was = λ n is. all_at IsNodeOfBytes s.nodes p n all (own_node s p n (S.own_was ∙ ap Some is)).1 in
     let stays = does_stays s e S.was (S.now, S.sends) bytes low S.change in
     subst (λ (x : Network NodeState). NodesStay s.nodes x.nodes) S.makes (put_stays (record s { lines = lines }) p S.was S.now all (own-lines s lines p ∙ S.own_was) stays.is)

@@ -1,5 +1,5 @@
 -- The computed checkpoint: its run, and what the device opens to.
-use Rattle.std.proofs.Common.{◌≡◌, ℕ, List, [], ◌∷◌, ◌++◌, map, refl, sym, ap, subst, ◌∙◌, arith, le_refl, Some, Ok}
+use Rattle.std.proofs.Common.{◌≡◌, ℕ, ◌+◌, List, [], ◌∷◌, ◌++◌, map, refl, sym, ap, subst, ◌∙◌, arith, le_refl, Some, Ok}
 use Rattle.std.specs.Prelude.{max}
 use Rattle.tp_model.specs.NodeState.{NodeState}
 use Rattle.tp_model.specs.Node.{t414}
@@ -20,9 +20,9 @@ use Rattle.tp_law_device.specs.Checkpoints.{Switches}
 use Rattle.tp_law_device.specs.FormattedWorld.{formatted_world}
 use Rattle.tp_law_device.proofs.Formatted.{formatted_starts}
 use Rattle.tp_law_device.proofs.Verdicts.{verdict_leads}
-use Rattle.tp_law_tail.specs.OneCheckpoint.{OneCheckpoint, one_device, one_room, inside, before_snapshot, snapshot}
+use Rattle.tp_law_tail.specs.OneCheckpoint.{OneCheckpoint, one_areas, one_device, one_room, inside, before_snapshot, snapshot}
 use Rattle.tp_law_tail.proofs.ActRuns.{acts_kept, journal_after}
-use Rattle.tp_law_tail.proofs.OneDevice.{one_formatted, one_bytes, one_body, one_group, grouped, grouped_bytes, grouped_opens}
+use Rattle.tp_law_tail.proofs.OneDevice.{one_formatted, one_bytes, one_gate, one_body, one_group, grouped, grouped_bytes, grouped_opens}
 use Rattle.tp_law_tail.proofs.OneSnapshot.{early, late, one_cut, early_acted, late_acted, late_cut, one_copy, one_trimmed, outside_leads}
 use Rattle.tp_law_tail.proofs.Switching.{kept_then, cut_switches}
 
@@ -38,13 +38,13 @@ abbrev copied : World NodeState
 copied = record journalled { backlog = inside }
 
 abbrev body_written : World NodeState
-body_written = moved copied (Write 13034 one_body) (Body 13033 inside)
+body_written = moved copied (Write (one_gate + 1) one_body) (Body one_gate inside)
 
 abbrev body_synced : World NodeState
-body_synced = moved body_written Sync (Ready 13033 inside)
+body_synced = moved body_written Sync (Ready one_gate inside)
 
 abbrev gate_written : World NodeState
-gate_written = moved body_synced (Write 13033 gate_open) (Gate 13033 inside)
+gate_written = moved body_synced (Write one_gate gate_open) (Gate one_gate inside)
 
 abbrev stored : World NodeState
 stored = moved gate_written Sync Resting
@@ -62,7 +62,7 @@ whole_world = record read { net = late; journal = journal_after snapshot read.jo
 
 abbrev stored_events : List (Event NodeState)
 stored_events =
-    Copies ∷ Does (Write 13034 one_body) (Body 13033 inside) ∷ Does Sync (Ready 13033 inside) ∷ Does (Write 13033 gate_open) (Gate 13033 inside)
+    Copies ∷ Does (Write (one_gate + 1) one_body) (Body one_gate inside) ∷ Does Sync (Ready one_gate inside) ∷ Does (Write one_gate gate_open) (Gate one_gate inside)
     ∷ Does Sync Resting ∷ Raises ∷ Reads ∷ []
 
 abbrev snapshot_events : List (Event NodeState)
@@ -78,13 +78,13 @@ stored_run = (
   tt,
   (
     body_written,
-    (add_body inside [] 13033 one_body refl one_group, refl),
+    (add_body inside [] one_gate one_body refl one_group, refl),
     tt,
     (
       body_synced,
-      (body_done inside 13033, refl),
+      (body_done inside one_gate, refl),
       tt,
-      (gate_written, (add_gate inside 13033, refl), tt, (stored, (gate_done inside 13033, refl), tt, (raised, refl, tt, (read, refl, tt, refl)))),
+      (gate_written, (add_gate inside one_gate, refl), tt, (stored, (gate_done inside one_gate, refl), tt, (raised, refl, tt, (read, refl, tt, refl)))),
     ),
   ),
 )
@@ -103,7 +103,7 @@ one_run =
 -- ## The checkpoint
 
 begins : IsFormatted t414 device_areas one_before formatted
-begins = formatted_starts t414 one_node 16384 (image sends ∷ []) one_before one_device one_formatted
+begins = formatted_starts t414 one_node one_areas (image sends ∷ []) one_before one_device one_formatted
 
 one_switches : Switches whole_world grouped one_cut (awaits ∷ []) 2
 one_switches =

@@ -5,7 +5,7 @@ use Rattle.tp_model.specs.NodeState.{NodeState}
 use Rattle.tp_model.specs.Step.{step_of}
 use Rattle.tp_model.specs.Node.{node_step, took, t414}
 use Rattle.tp_model.specs.Network.{steps, own, put, taken, pushed, sent}
-use Rattle.tp_model.specs.Entries.{process, takes, of_port, receives, does, next}
+use Rattle.tp_model.specs.Entries.{process, takes, of_port, receives, does, next, acts}
 use Rattle.tp_model.specs.Order.{after, chosen, made}
 use Rattle.tp_model.specs.Format.{fresh_port}
 use Rattle.tp_model.specs.Snapshot.{MarkedNetwork}
@@ -44,11 +44,11 @@ one_cut = record {
 }
 
 pub early_acted : acted t414 (fresh one_before) before_snapshot ≡ Some early
-unfolding step_of node_step took steps own put taken pushed sent process takes of_port receives does next chosen made whole happens acted
+unfolding step_of node_step took steps own put taken pushed sent process takes of_port receives does next acts chosen made whole happens acted
 early_acted = refl
 
 pub late_acted : acted t414 early snapshot ≡ Some late
-unfolding step_of node_step took steps own put taken pushed sent process takes of_port receives does next chosen made whole happens acted
+unfolding step_of node_step took steps own put taken pushed sent process takes of_port receives does next acts chosen made whole happens acted
 late_acted = refl
 
 pub late_cut : HasCut late one_cut (awaits ∷ [])
@@ -65,5 +65,5 @@ unfolding process chosen
 one_trimmed = refl
 
 pub outside_leads : after t414 cut_network outside ≡ Some one_after
-unfolding step_of node_step took steps own put taken pushed sent process takes of_port receives does next after
+unfolding step_of node_step took steps own put taken pushed sent process takes of_port receives does next acts after
 outside_leads = refl

@@ -28,16 +28,16 @@ other_spelt bytes o generation base s groups now is closed higher S =
     spelt_other t414 t414_ends bytes o is closed generation base s groups now (spelt_area t414 t414_ends o.head.topology (other_content o bytes) generation base s groups now S) higher
 
 -- the other area's content, once it is written whole
-pub content_written : (bytes : List ℕ) (o : Opened) (content : List ℕ) → opening t414 t414_ends bytes ≡ Ok o → length content ≡ o.head.area - 1
+pub content_written : (bytes : List ℕ) (o : Opened) (content : List ℕ) → opening t414 t414_ends bytes ≡ Ok o → length content ≡ o.head.areas.length - 1
     → other_content o (written bytes (other_start o + 1) content) ≡ content
 content_written bytes o content is long =
     let R = reads_of t414 t414_ends bytes o is in
     let L = layout t414 t414_ends bytes o R in
     let at = other_start o + 1 in
-    let area = o.head.area in
-    let room : at + length content ≤ length bytes = omega (arith, long, L.both, L.some, places area o.second) in
+    let areas = o.head.areas in
+    let room : at + length content ≤ length bytes = omega (arith, long, L.both, L.some, places areas o.second) in
     let new = written bytes at content in
     let size = length-written bytes at content room in
-    let whole = length-content_of area (not o.second) new (omega (arith, size, L.both, places area o.second)) in
+    let whole = length-content_of areas (not o.second) new (omega (arith, size, L.both, places areas o.second)) in
     same_number_lists (other_content o new) content (whole ∙ sym long)
-    (λ k low. get_or-content_of area (not o.second) new k (omega (arith, whole, low)) ∙ get_or-written_inside bytes at content room k (omega (arith, whole, long, low)))
+    (λ k low. get_or-content_of areas (not o.second) new k (omega (arith, whole, low)) ∙ get_or-written_inside bytes at content room k (omega (arith, whole, long, low)))

@@ -7,7 +7,7 @@ use Rattle.tp_model.specs.declared.link.Token.TheVariants.{Data, Ack, Marker}
 use Rattle.tp_model.specs.declared.entry.Entry.{Entry}
 use Rattle.tp_model.specs.declared.limits.TheConstants.{MAX_HELD}
 use Rattle.tp_model.specs.NodeState.{NodeState}
-use Rattle.tp_model.specs.Node.{t414, took}
+use Rattle.tp_model.specs.Node.{t414}
 use Rattle.tp_model.specs.Network.{Port, Network}
 use Rattle.tp_model.specs.Entries.{port_took, handed_in, confirmed, acked, first_only, in_flight, next}
 use Rattle.tp_model.specs.CutImage.{is_port_of}

@@ -1,6 +1,6 @@
 -- An entry that is possible has a spelling, where what it carries are bytes.
 use Rattle.std.proofs.Common.{◌≡◌, ℕ, ◌+◌, ◌<◌, ◌≤◌, inl, inr, true, List, length, refl, sym, ap, ◌∙◌, arith, Option, Some, None, slice_get}
-use Rattle.std.specs.Prelude.{nat_lt, nat_le, ◌&&◌}
+use Rattle.std.specs.Prelude.{nat_lt, nat_le, ◌&&◌, length}
 use Rattle.std.specs.Option.{option_map}
 use Rattle.std.proofs.lemmas.Bool.{and_from, and_parts, lt-ltb, leb-true, cases_lt}
 use Rattle.std.proofs.lemmas.Option.{slice_get_within}
@@ -11,7 +11,7 @@ use Rattle.tp_model.specs.declared.wire.WireEnd.{WireEnd}
 use Rattle.tp_model.specs.declared.wire.WireEnd.TheVariants.{Link, Port as AtPort}
 use Rattle.tp_model.specs.declared.entry.Entry.{Entry}
 use Rattle.tp_model.specs.declared.entry.Entry.TheVariants.{Run, Take, HostIn, Confirm}
-use Rattle.tp_model.specs.declared.limits.TheConstants.{MAX_STEPS, MAX_PORTS, NUMBER_LIMIT, ENTRY_NODES, ENTRY_LINES}
+use Rattle.tp_model.specs.declared.limits.TheConstants.{MAX_NODES, MAX_STEPS, MAX_PORTS, NUMBER_LIMIT, ENTRY_NODES, ENTRY_LINES}
 use Rattle.tp_model.specs.NodeState.{NodeState}
 use Rattle.tp_model.specs.Node.{t414, took}
 use Rattle.tp_model.specs.Network.{steps, Port, Network, Own, OfNode, OfHost, own, receiver}
@@ -66,7 +66,7 @@ received N wires line token was r e = record { there = there; plain = plain (rec
     plain None (OfNode n) e is = cc
     plain None (OfHost ports) e is = cc
 
-run_range : (s : Network NodeState) (i k : ℕ) (was : Own NodeState) (r : Own NodeState × List (ℕ × Token)) → length s.nodes ≤ 16 → own s i ≡ Some was → does t414 s.wires (length s.nodes) (Run i k) was ≡ Some r
+run_range : (s : Network NodeState) (i k : ℕ) (was : Own NodeState) (r : Own NodeState × List (ℕ × Token)) → length s.nodes ≤ MAX_NODES → own s i ≡ Some was → does t414 s.wires (length s.nodes) (Run i k) was ≡ Some r
     → is_in_range (Run i k) ≡ true
 unfolding does
 run_range s i k (OfNode n) r few at e =
@@ -88,7 +88,7 @@ in_range_next t s e u count K low byte h =
     let S = step_of t414 s e u h in
     go e S.was (S.now, S.sends) byte S.own_was S.change
   where
-    go : (e : Entry) (was : Own NodeState) (r : Own NodeState × List (ℕ × Token)) → HasByte e → own s (process s e) ≡ Some was → does t414 s.wires (length s.nodes) e was ≡ Some r → is_in_range e ≡ true
+    go : (e : Entry) (was : Own NodeState) (r : Own NodeState × List (ℕ × Token)) → HasByte e → own s (process s.wires (length s.nodes) e) ≡ Some was → does t414 s.wires (length s.nodes) e was ≡ Some r → is_in_range e ≡ true
     go (Run i k) was r byte at e = run_range s i k was r K.few_nodes at e
     go (Take line token) was r byte at e =
         let R = received (length s.nodes) s.wires line token was r e in

@@ -72,10 +72,10 @@ trim_room : (most : ℕ) (w : World NodeState) (cut : WholeCut) (nodes : List No
 trim_room most w cut nodes H has R = record { tail = tail_room_trim t414 has_four_links most w.net cut nodes has.is R.tail; group = go R.group }
   where
     outside : List Entry
-    outside = post (process w.net.start) (count_in cut) w.net.entries
+    outside = post (process w.net.start.wires (length w.net.start.nodes)) (count_in cut) w.net.entries
 
     count : cut.size + length outside ≡ length w.net.entries
-    count = let C = whole_holds t414 has_four_links w.net H cut has.is in omega (arith, C.size, length-pre-post (process w.net.start) (count_in cut) w.net.entries)
+    count = let C = whole_holds t414 has_four_links w.net H cut has.is in omega (arith, C.size, length-pre-post (process w.net.start.wires (length w.net.start.nodes)) (count_in cut) w.net.entries)
 
     go : HasGroupRoom most w → (entry_room * length outside ≤ most) ⊎ (w.base + cut.size + length outside ≤ w.stored)
     go (inl few) = inl (omega (arith, few, count))

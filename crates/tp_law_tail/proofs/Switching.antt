@@ -53,9 +53,9 @@ numbered_numbers least number (e ∷ es) le = (le, le_refl number, numbered_numb
 
 -- ## The other area is closed
 
-spare_closed : (bytes : List ℕ) (o : Opened) → opening t414 t414_ends bytes ≡ Ok o → other_is_open o bytes ≡ false → spare_of (opening t414 t414_ends bytes) bytes ≡ (other_start o + 1, o.head.area - 1)
+spare_closed : (bytes : List ℕ) (o : Opened) → opening t414 t414_ends bytes ≡ Ok o → other_is_open o bytes ≡ false → spare_of (opening t414 t414_ends bytes) bytes ≡ (other_start o + 1, o.head.areas.length - 1)
 unfolding spare_of
-spare_closed bytes o is closed = ap (λ found. spare_of found bytes) is ∙ ap (λ b. cond b (0, 0) (other_start o + 1, o.head.area - 1)) closed
+spare_closed bytes o is closed = ap (λ found. spare_of found bytes) is ∙ ap (λ b. cond b (0, 0) (other_start o + 1, o.head.areas.length - 1)) closed
 
 closed_switches : (w : World NodeState) (o : Opened) (cut : WholeCut) (nodes : List NodeState) → w.at ≡ Resting → opening t414 t414_ends w.disk.bytes ≡ Ok o
     → other_is_open o w.disk.bytes ≡ false → HasCut w.net cut nodes → CanPut w.disk.bytes o (copy_of w.net w.base cut nodes) → Switches w o cut nodes (o.generation + 1)
@@ -127,7 +127,7 @@ cleared_are_bytes bytes o are =
 -- as many bytes as the room of its areas are enough
 module _ (most : ℕ) (start : Network NodeState) (first : World NodeState) (F : IsFormatted t414 device_areas start first) (first_bytes : AreBytes first.disk.bytes) where
   switches_from : (events : List (Event NodeState)) (w : World NodeState) → KeptRun most first events w → (o : Opened) (cut : WholeCut) (nodes : List NodeState) → w.at ≡ Resting → AreBytes w.disk.bytes
-      → HasCut w.net cut nodes → opening t414 t414_ends w.disk.bytes ≡ Ok o → other_is_open o w.disk.bytes ≡ false → o.generation + 1 < NUMBER_LIMIT → most ≤ room o.head.topology o.head.area
+      → HasCut w.net cut nodes → opening t414 t414_ends w.disk.bytes ≡ Ok o → other_is_open o w.disk.bytes ≡ false → o.generation + 1 < NUMBER_LIMIT → most ≤ room o.head.topology o.head.areas.length
       → Switches w o cut nodes (o.generation + 1)
   switches_from events w run o cut nodes rests are has is closed young small =
       closed_switches w o cut nodes rests is closed has
@@ -136,7 +136,7 @@ module _ (most : ℕ) (start : Network NodeState) (first : World NodeState) (F :
       (omega (arith, small, run_tail_room most start events first w F first_bytes run cut nodes has)))
 
   pub cut_switches : (events : List (Event NodeState)) (w : World NodeState) → KeptRun most first events w → (o : Opened) (cut : WholeCut) (nodes : List NodeState) → w.at ≡ Resting → AreBytes w.disk.bytes
-      → HasCut w.net cut nodes → opening t414 t414_ends w.disk.bytes ≡ Ok o → o.generation + 1 < NUMBER_LIMIT → most ≤ room o.head.topology o.head.area
+      → HasCut w.net cut nodes → opening t414 t414_ends w.disk.bytes ≡ Ok o → o.generation + 1 < NUMBER_LIMIT → most ≤ room o.head.topology o.head.areas.length
       → Switches w o cut nodes (o.generation + 1)
   cut_switches events w run o cut nodes rests are has is young small = elim (cases_Bool (other_is_open o w.disk.bytes)) [
     | inr closed ↦ switches_from events w run o cut nodes rests are has is closed young small

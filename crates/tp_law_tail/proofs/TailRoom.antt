@@ -1,6 +1,6 @@
 -- The tail of a whole cut finds room.
-use Rattle.std.proofs.Common.{◌≡◌, ℕ, zero, suc, ◌+◌, ◌*◌, ◌<◌, ◌≤◌, inl, inr, true, false, not, List, [], ◌∷◌, ◌++◌, length, get_or, set, replicate, refl, sym, ap, subst, ◌∙◌, arith, length-append, Option, Some, None, get_or-set_same, get_or-set_other}
-use Rattle.std.specs.Prelude.{is_some}
+use Rattle.std.proofs.Common.{◌≡◌, ℕ, zero, suc, ◌+◌, ◌*◌, ◌<◌, ◌≤◌, inl, inr, false, not, List, [], ◌∷◌, ◌++◌, length, get_or, set, replicate, refl, sym, ap, subst, ◌∙◌, arith, length-append, Option, Some, None, get_or-set_same, get_or-set_other}
+use Rattle.std.specs.Prelude.{is_some, length}
 use Rattle.std.proofs.lemmas.Bool.{true≢false, cond_both, cases_lt, cases_eq}
 use Rattle.std.proofs.lemmas.List.{get_or_append_left, get_or_at, get_or_past, length-replicate}
 use Rattle.tp_model.specs.declared.link.Token.{Token}
@@ -11,6 +11,7 @@ use Rattle.tp_model.specs.Markers.{before, plain_network}
 use Rattle.tp_model.specs.Snapshot.{Snapshot, MarkedNetwork, count_of, has_recorded, is_closed, collected, with_count, closed_over, first_snapshot}
 use Rattle.tp_model.specs.WholeCut.{WholeCut, count_in, whole, trimmed}
 use Rattle.tp_model.specs.Acts.{Act, Begin, Record, Journal, Close, Trim, happens}
+use Rattle.tp_model.specs.Journal.{entry_room}
 use Rattle.tp_model.specs.Runs.{is_trim}
 use Rattle.tp_law_network.proofs.Choice.{length-pre-post, post_all}
 use Rattle.tp_law_network.proofs.Reorder.{after_shape}
@@ -74,9 +75,9 @@ module _ {Node : Type 0} (M : Machine Node) (four : HasFourLinks M) (most : ℕ)
       let N = length w.live.nodes in
       subst (HasTailRoom most) P.1 (inr (record {
         early = λ snap is p count counted.
-            let first = first_snapshot N (length w.live.lines) (made (process w.start) N w.entries) w.live.ports (length w.entries) in
+            let first = first_snapshot N (length w.live.lines) (made (process w.start.wires (length w.start.nodes)) N w.entries) w.live.ports (length w.entries) in
             let same : first ≡ snap = cc in
-            begun_early N (length w.live.lines) (made (process w.start) N w.entries) (length w.entries) w.live.ports (λ q. made (process w.start) q w.entries) refl
+            begun_early N (length w.live.lines) (made (process w.start.wires (length w.start.nodes)) N w.entries) (length w.entries) w.live.ports (λ q. made (process w.start.wires (length w.start.nodes)) q w.entries) refl
             (λ q past. made_past M four w.start (plain_network w.live) w.entries H.base.now q (omega (arith, past, shape.nodes))) p count (ap (λ s. count_of s p) same ∙ counted);
       }))
   tail_room_stays w v (Record i) t H e found (inl few) = let P = record_parts w v w.snapshot i e in subst (HasTailRoom most) P.4 (inl few)
@@ -84,8 +85,8 @@ module _ {Node : Type 0} (M : Machine Node) (four : HasFourLinks M) (most : ℕ)
       let P = record_parts w v w.snapshot i e in
       subst (HasTailRoom most) P.4 (inr (record {
         early = λ snap is p count counted.
-            let same : with_count P.0 i (made (process w.start) i w.entries) ≡ snap = cc in
-            recorded_early P.0.counts i (λ q. made (process w.start) q w.entries) P.3 (all.early P.0 P.1) p count (ap (λ s. count_of s p) same ∙ counted);
+            let same : with_count P.0 i (made (process w.start.wires (length w.start.nodes)) i w.entries) ≡ snap = cc in
+            recorded_early P.0.counts i (λ q. made (process w.start.wires (length w.start.nodes)) q w.entries) P.3 (all.early P.0 P.1) p count (ap (λ s. count_of s p) same ∙ counted);
       }))
   tail_room_stays w v (Journal entry) t H e found fits = let P = journal_parts w v M entry e in subst (HasTailRoom most) P.2 (inl (omega (arith, found, length-append w.entries (entry ∷ []))))
   tail_room_stays w v (Close line) t H e found (inl few) = let P = close_parts w v w.snapshot line e in subst (HasTailRoom most) P.4 (inl few)
@@ -99,12 +100,12 @@ module _ {Node : Type 0} (M : Machine Node) (four : HasFourLinks M) (most : ℕ)
   tail_room_stays w v Trim t H e found fits = absurd (true≢false t)
 
   -- the entries outside a whole cut find room
-  pub tail_room : (w : MarkedNetwork Node) (cut : WholeCut) → whole w ≡ Some cut → HasTailRoom most w → 32 * length (post (process w.start) (count_in cut) w.entries) ≤ most
-  tail_room w cut is (inl few) = omega (arith, few, length-pre-post (process w.start) (count_in cut) w.entries)
+  pub tail_room : (w : MarkedNetwork Node) (cut : WholeCut) → whole w ≡ Some cut → HasTailRoom most w → entry_room * length (post (process w.start.wires (length w.start.nodes)) (count_in cut) w.entries) ≤ most
+  tail_room w cut is (inl few) = omega (arith, few, length-pre-post (process w.start.wires (length w.start.nodes)) (count_in cut) w.entries)
   tail_room w cut is (inr all) =
       let C = whole_counts w cut is in
-      let none : post (process w.start) (count_in cut) w.entries ≡ [] =
-      post_all (process w.start) (count_in cut) w.entries (λ p. all.early C.snap C.runs p (get_or cut.counts p 0) (all_counts C.snap.counts cut.counts C.recorded p)) in
+      let none : post (process w.start.wires (length w.start.nodes)) (count_in cut) w.entries ≡ [] =
+      post_all (process w.start.wires (length w.start.nodes)) (count_in cut) w.entries (λ p. all.early C.snap C.runs p (get_or cut.counts p 0) (all_counts C.snap.counts cut.counts C.recorded p)) in
       omega (arith, ap length none)
 
   pub tail_room_trim : (w : MarkedNetwork Node) (cut : WholeCut) (nodes : List Node) → whole w ≡ Some cut → HasTailRoom most w → HasTailRoom most (trimmed w cut nodes)

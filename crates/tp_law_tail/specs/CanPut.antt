@@ -18,7 +18,7 @@ with_other bytes o content = written bytes (other_start o + 1) content
 -- for what it did, and the other area is the copy, which is read once its gate is open.
 pub record CanPut (bytes : List ℕ) (o : Opened) (copy : Held NodeState) : Type 0 where
   pub content : List ℕ
-  pub long : length content ≡ o.head.area - 1
+  pub long : length content ≡ o.head.areas.length - 1
   pub groups : List (List (Entry × ℕ))
   pub now : Network NodeState
   pub spells : Spells t414 t414_ends o.head.topology content (o.generation + 1) copy.base copy.network groups now

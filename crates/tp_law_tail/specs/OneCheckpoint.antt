@@ -1,5 +1,6 @@
 -- A run with a checkpoint, computed: entries in the cut and outside it, and an Ack on a line of the cut.
 use Rattle.std.specs.Prelude.{◌≡◌, ℕ, ◌-◌, false, List, [], ◌∷◌, ◌++◌, length, map, None, Ok}
+use Rattle.tp_model.specs.declared.areas.TwoAreas.{TwoAreas}
 use Rattle.tp_model.specs.declared.link.Token.TheVariants.{Data, Ack}
 use Rattle.tp_model.specs.declared.entry.Entry.{Entry}
 use Rattle.tp_model.specs.declared.entry.Entry.TheVariants.{Run, Take}
@@ -10,7 +11,7 @@ use Rattle.tp_model.specs.Image.{image}
 use Rattle.tp_model.specs.Network.{Network}
 use Rattle.tp_model.specs.WholeCut.{WholeCut}
 use Rattle.tp_model.specs.Acts.{Act, Begin, Record, Journal, Close}
-use Rattle.tp_model.specs.Head.{head_bytes}
+use Rattle.tp_model.specs.Head.{areas_of_length, head_bytes}
 use Rattle.tp_model.specs.Spelling.{front_bytes}
 use Rattle.tp_model.specs.Format.{fresh_port}
 use Rattle.tp_model.specs.Opening.{Opened, held_of, network_of, verdict}
@@ -21,14 +22,17 @@ use Rattle.tp_law_machine.specs.Transfers.{sends, awaits}
 use Rattle.tp_law_device.specs.Checkpoints.{Switches}
 use Rattle.tp_law_device.specs.FormattedWorld.{formatted_world, WasFormatted}
 
--- a device that was formatted for the network of one node, in areas of 16,384 bytes
+-- areas of 16,384 bytes, and a device that was formatted for the network of one node in them
+abbrev pub one_areas : TwoAreas
+one_areas = areas_of_length 16384
+
 abbrev pub first_content : List ℕ
 first_content = front_bytes one_node 1 0 one_before
 
 abbrev pub one_device : List ℕ
 one_device =
-    head_bytes one_node 16384
-    ++ (GATE_OPEN ∷ (first_content ++ (GATE_CLOSED ∷ (zeros (16384 - 2 - length first_content) ++ (GATE_CLOSED ∷ zeros (16384 - 1))))))
+    head_bytes one_node one_areas
+    ++ (GATE_OPEN ∷ (first_content ++ (GATE_CLOSED ∷ (zeros (one_areas.length - 2 - length first_content) ++ (GATE_CLOSED ∷ zeros (one_areas.length - 1))))))
 
 -- The node sends a byte and the host takes it. A snapshot begins, the node records, and after that it takes the Ack and goes on.
 abbrev pub inside : List Entry
@@ -56,7 +60,7 @@ one_room = 3862
 -- trimmed to the cut, and the device opens as the second area, of generation 2; it holds the cut, of two entries, and the two
 -- entries outside it, which lead to the network as it is.
 pub record OneCheckpoint : Type 0 where
-  pub formatted : WasFormatted one_node 16384 (image sends ∷ []) one_before one_device
+  pub formatted : WasFormatted one_node one_areas (image sends ∷ []) one_before one_device
   pub events : List (Event NodeState)
   pub w : World NodeState
   pub run : KeptRun one_room (formatted_world one_before one_device) events w

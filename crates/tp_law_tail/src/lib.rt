@@ -34,6 +34,7 @@ ghost use Rattle.tp_model.specs.Spelling.{entries_in, groups_bytes};
 ghost use Rattle.tp_model.specs.Topology.{Topology, is_topology};
 ghost use Rattle.tp_model.specs.WholeCut.{WholeCut, all_some, count_in, network_in};
 ghost use Rattle.tp_model.specs.WriteOrder.{Resting};
+ghost use Rattle.tp_model.specs.declared.areas.TwoAreas.{TwoAreas};
 ghost use Rattle.tp_model.specs.declared.entry.Entry.{Entry};
 ghost use Rattle.tp_model.specs.declared.limits.TheConstants.{IMAGE_HEAD_BYTES, NUMBER_LIMIT, PAGE_BYTES};
 
@@ -78,7 +79,7 @@ pub fn copies_can_be_put()
         → (o : Opened) (cut : WholeCut) (nodes : List NodeState) (kept : List (Entry × ℕ)) → w.at ≡ Resting
         → AllByRecursion (λ byte. byte < 256) w.disk.bytes → HasCut w.net cut nodes → verdict w.disk.bytes ≡ Ok o → other_is_open o w.disk.bytes ≡ false
         → map (λ e. e.0) kept ≡ w.net.entries → AreNumbered 0 w.base (map (λ e. e.1) kept)
-        → o.generation + 1 < NUMBER_LIMIT → entry_room * length (post (process w.net.start) (count_in cut) w.net.entries) ≤ room o.head.topology o.head.area
+        → o.generation + 1 < NUMBER_LIMIT → entry_room * length (post (process w.net.start.wires (length w.net.start.nodes)) (count_in cut) w.net.entries) ≤ room o.head.topology o.head.areas.length
         → CanPut w.disk.bytes o (copy_of w.net w.base cut nodes) }
 {}
 
@@ -96,11 +97,11 @@ pub fn groups_stay_inside()
 pub fn entries_find_room()
     ensures tails { (most : ℕ) (start : Network NodeState) (events : List (Event NodeState)) (first w : World NodeState) → IsFormatted t414 device_areas start first
         → AllByRecursion (λ byte. byte < 256) first.disk.bytes → KeptRun most first events w
-        → (cut : WholeCut) (nodes : List NodeState) → HasCut w.net cut nodes → entry_room * length (post (process w.net.start) (count_in cut) w.net.entries) ≤ most }
+        → (cut : WholeCut) (nodes : List NodeState) → HasCut w.net cut nodes → entry_room * length (post (process w.net.start.wires (length w.net.start.nodes)) (count_in cut) w.net.entries) ≤ most }
     ensures groups { (most : ℕ) (start : Network NodeState) (events : List (Event NodeState)) (first w : World NodeState) → IsFormatted t414 device_areas start first
         → AllByRecursion (λ byte. byte < 256) first.disk.bytes → KeptRun most first events w
         → (o : Opened) (es more : List Entry) → w.at ≡ Resting → AllByRecursion (λ byte. byte < 256) w.disk.bytes → verdict w.disk.bytes ≡ Ok o
-        → w.backlog ≡ es ++ more → 1 ≤ length es → most ≤ room o.head.topology o.head.area → has_room o (length es) ≡ true }
+        → w.backlog ≡ es ++ more → 1 ≤ length es → most ≤ room o.head.topology o.head.areas.length → has_room o (length es) ≡ true }
 {}
 
 /// While a snapshot runs, the image of a node that has recorded stays as it was frozen, whatever act follows but the trim; in
@@ -117,10 +118,10 @@ pub fn pieces_stay()
     ensures written { (content : List ℕ) (at : ℕ) (bytes : List ℕ) → at + length bytes ≤ length content → IsThere (written content at bytes) at bytes }
     ensures apart { (content : List ℕ) (at : ℕ) (bytes : List ℕ) (place : ℕ) (more : List ℕ) → place + length more ≤ length content
         → (at + length bytes ≤ place) ⊎ (place + length more ≤ at) → IsThere content at bytes → IsThere (written content place more) at bytes }
-    ensures inside { (area : ℕ) (second : Bool) (bytes : List ℕ) (at : ℕ) (piece : List ℕ) → area_start area second + area ≤ length bytes → at + length piece < area
-        → content_of area second (written bytes (area_start area second + 1 + at) piece) ≡ written (content_of area second bytes) at piece }
-    ensures elsewhere { (area : ℕ) (second : Bool) (bytes : List ℕ) (at : ℕ) (more : List ℕ) → 1 ≤ area → at + length more ≤ length bytes
-        → (at + length more ≤ area_start area second + 1) ⊎ (area_start area second + area ≤ at) → content_of area second (written bytes at more) ≡ content_of area second bytes }
+    ensures inside { (areas : TwoAreas) (second : Bool) (bytes : List ℕ) (at : ℕ) (piece : List ℕ) → area_start areas second + areas.length ≤ length bytes → at + length piece < areas.length
+        → content_of areas second (written bytes (area_start areas second + 1 + at) piece) ≡ written (content_of areas second bytes) at piece }
+    ensures elsewhere { (areas : TwoAreas) (second : Bool) (bytes : List ℕ) (at : ℕ) (more : List ℕ) → 1 ≤ areas.length → at + length more ≤ length bytes
+        → (at + length more ≤ area_start areas second + 1) ⊎ (area_start areas second + areas.length ≤ at) → content_of areas second (written bytes at more) ≡ content_of areas second bytes }
     ensures image { (content : List ℕ) (at : ℕ) (node : NodeState) → IsNode node → IsThere content at (image_head node)
         → ((page : ℕ) → page < page_count node.memory → IsThere content (at + IMAGE_HEAD_BYTES + PAGE_BYTES * page) (take PAGE_BYTES (drop (PAGE_BYTES * page) node.memory)))
         → IsThere content at (image node) }
@@ -134,7 +135,7 @@ pub fn cuts_can_be_switched_to()
     ensures { (most : ℕ) (start : Network NodeState) (events : List (Event NodeState)) (first w : World NodeState) → IsFormatted t414 device_areas start first
         → AllByRecursion (λ byte. byte < 256) first.disk.bytes → KeptRun most first events w
         → (o : Opened) (cut : WholeCut) (nodes : List NodeState) → w.at ≡ Resting → AllByRecursion (λ byte. byte < 256) w.disk.bytes → HasCut w.net cut nodes
-        → verdict w.disk.bytes ≡ Ok o → o.generation + 1 < NUMBER_LIMIT → most ≤ room o.head.topology o.head.area
+        → verdict w.disk.bytes ≡ Ok o → o.generation + 1 < NUMBER_LIMIT → most ≤ room o.head.topology o.head.areas.length
         → Switches w o cut nodes (o.generation + 1) }
 {}
 

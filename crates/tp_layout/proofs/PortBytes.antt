@@ -1,5 +1,5 @@
 -- A port's record, written field by field.
-use Rattle.std.proofs.Common.{◌≡◌, ℕ, ◌+◌, ◌-◌, ◌≤◌, List, [], ◌++◌, length, refl, sym, ap, ◌∙◌, arith, append_assoc, length-append}
+use Rattle.std.proofs.Common.{◌≡◌, ℕ, ◌+◌, ◌-◌, ◌≤◌, List, [], ◌++◌, length, refl, ap, ◌∙◌, arith, append_assoc, length-append}
 use Rattle.std.proofs.lemmas.List.{length-replicate}
 use Rattle.tp_model.specs.declared.limits.TheConstants.{MAX_HELD, PORT_BYTES}
 use Rattle.tp_model.specs.Bytes.{u16_bytes, u64_bytes, padded, zeros}

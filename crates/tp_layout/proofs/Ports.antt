@@ -1,10 +1,10 @@
 -- Records of ports.
-use Rattle.std.proofs.Common.{◌≡◌, ℕ, suc, ◌+◌, ◌-◌, ◌*◌, ◌<◌, ◌≤◌, List, [], ◌∷◌, ◌++◌, length, take, drop, get_or, refl, sym, ap, ◌∙◌, arith, append_assoc, append-nil, true, false, cond, subst, inl, inr, Fits, w8}
-use Rattle.std.specs.Prelude.{◌&&◌, ◌⊎◌, nat_le, bytes_eq, Option, Some, None, Result, Ok, Err}
+use Rattle.std.proofs.Common.{◌≡◌, ℕ, ◌+◌, ◌-◌, ◌<◌, ◌≤◌, List, ◌++◌, length, take, drop, get_or, refl, sym, ap, ◌∙◌, arith, append_assoc, true, false, cond, inl, inr, Fits, w8}
+use Rattle.std.specs.Prelude.{◌&&◌, ◌⊎◌, nat_le, bytes_eq, Some, None}
 use Rattle.std.specs.List.{list_all}
 use Rattle.std.proofs.lemmas.Bool.{and_parts, leb-true, le-leb, cases_Bool, cases_lt}
 use Rattle.std.proofs.lemmas.Nat.{le_bytes_2, le_bytes_8}
-use Rattle.std.proofs.lemmas.List.{length-take, length-drop, length-take-le, take-take, take_all, drop-drop, length-replicate, get_or-take, get_or-drop, get_or_past}
+use Rattle.std.proofs.lemmas.List.{length-take, length-drop, length-take-le, take-take, take_all, length-replicate, get_or-take, get_or-drop, get_or_past}
 use Rattle.std.proofs.lemmas.Slice.Eq.{bytes_eq-Decides}
 use Rattle.tp_model.specs.declared.limits.TheConstants.{MAX_HELD, PORT_BYTES}
 use Rattle.tp_model.specs.Bytes.{u16_bytes, u64_bytes, u16_at, u64_at, zeros, padded}

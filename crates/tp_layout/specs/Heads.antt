@@ -16,7 +16,7 @@ topology_at bytes = if is_topology (head_at bytes).topology then Some (head_at b
 -- the bytes are that head's, and `len` bytes have room for what it says
 abbrev pub is_whole : ℕ → List ℕ → Head → Bool
 is_whole len bytes head =
-    is_topology head.topology && (bytes_eq bytes (head_bytes head.topology head.area) && fits len head.topology head.area)
+    is_topology head.topology && (bytes_eq bytes (head_bytes head.topology head.areas) && fits len head.topology head.areas)
 
 abbrev pub fields_in : ℕ → List ℕ → Option Head
 fields_in len bytes = if is_whole len bytes (head_at bytes) then Some (head_at bytes) else None

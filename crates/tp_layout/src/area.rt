@@ -6,11 +6,11 @@ ghost use Rattle.tp_model.specs.Device.{fits};
 ghost use Rattle.tp_model.specs.Journal.{cut_length, entry_room, reserve};
 ghost use Rattle.tp_model.specs.Topology.{line_count};
 
-use crate::head::head_length;
 use crate::journal::{JournalRoom, reserve};
 use crate::room::cut_length;
 use tp_entry::ENTRY_ROOM;
-use tp_model::limits::{AREA_HEAD_BYTES, HEAD_VERSION};
+use tp_model::TwoAreas;
+use tp_model::limits::AREA_HEAD_BYTES;
 use tp_net::Topology;
 
 /// How many bytes an area needs for `entries` entries that anyone may make, each in a group of its own.
@@ -23,12 +23,11 @@ pub fn area_for(topology: &Topology, entries: u64) -> u64
     cut_length(topology) + (AREA_HEAD_BYTES + 1) as u64 + kept
 }
 
-/// Whether a device of `size` bytes has room for two areas of `area` bytes, and each of them for a cut image and for an entry
-/// that anyone may make.
-pub fn fits(size: u64, topology: &Topology, area: u64) -> bool
-    ensures { result ≡ fits size topology.now area }
+/// Whether a device of `size` bytes has room for the two areas, and each of them for a cut image and for an entry that anyone
+/// may make.
+pub fn fits(size: u64, topology: &Topology, areas: TwoAreas) -> bool
+    ensures { result ≡ fits size topology.now areas }
 {
-    let head = head_length(HEAD_VERSION);
-    let has_areas = size >= head && area <= (size - head) / 2;
-    has_areas && JournalRoom::of(topology, area).takes(1)
+    let has_areas = size >= areas.first && areas.length <= (size - areas.first) / 2;
+    has_areas && JournalRoom::of(topology, areas.length).takes(1)
 }

@@ -4,7 +4,7 @@ ghost use Rattle.std.specs.Prelude.{◌≡◌, ◌+◌, ◌*◌, ◌≤◌, ◌<
 ghost use Rattle.std.specs.List.{range_with_len};
 ghost use Rattle.arrayvec.specs.ArrayVec.{array_vec_len};
 ghost use Rattle.tp_model.specs.Bytes.{u16_bytes};
-ghost use Rattle.tp_model.specs.Device.{fits};
+ghost use Rattle.tp_model.specs.Device.{areas_end, fits};
 ghost use Rattle.tp_model.specs.Head.{all_wires, end_byte, end_of_byte, head_bytes, is_port, port_wire, u16s_at};
 ghost use Rattle.tp_model.specs.Journal.{is_roomy};
 ghost use Rattle.tp_model.specs.Topology.{is_topology};
@@ -16,11 +16,12 @@ use crate::head_places::{
     AREA_PLACE, ENDS_PLACE, NODES_PLACE, PAGES_PLACE, PORTS_PLACE, VERSION_PLACE,
 };
 use crate::number::{u16_at, u64_at};
+use crate::place::areas_of_length;
 use crate::written::{pad, put};
 use arrayvec::ArrayVec;
 use std::marker::Model;
 use tp_model::limits::{HEAD_BYTES, HEAD_VERSION, MAX_NODES, MAX_PORTS};
-use tp_model::{OpenFault, WireEnd};
+use tp_model::{OpenFault, TwoAreas, WireEnd};
 use tp_net::{MAX_LINES, Topology, end_of, link_line};
 
 /// The bytes that a formatted device begins with.
@@ -37,25 +38,25 @@ pub fn head_length(version: u8) -> u64
     }
 }
 
-/// What a device's head says: the topology, and how many bytes an area has.
+/// What a device's head says: the topology, and where the areas are.
 #[derive(Drop)]
 pub struct Head {
     topology: Topology,
-    area: u64,
+    areas: TwoAreas,
 }
 
 impl Model for Head {
-    ghost use Rattle.std.specs.Prelude.{◌≡◌, ◌+◌, ◌*◌, ◌^◌, ◌<◌, true};
-    ghost use Rattle.tp_model.specs.declared.limits.TheConstants.{HEAD_BYTES};
+    ghost use Rattle.std.specs.Prelude.{◌≡◌, ◌^◌, ◌<◌, true};
+    ghost use Rattle.tp_model.specs.Device.{areas_end};
     ghost use Rattle.tp_model.specs.Head.{Head as Fields};
     ghost use Rattle.tp_model.specs.Journal.{is_roomy};
     ghost use Rattle.tp_model.specs.Topology.{is_topology};
 
     ghost Value = { Fields };
 
-    ghost view = { λ head. record { topology = head.topology; area = head.area } };
+    ghost view = { λ head. record { topology = head.topology; areas = head.areas } };
 
-    ghost invariant = { λ head. (is_topology head.topology ≡ true) × (is_roomy head.topology head.area ≡ true) × (HEAD_BYTES + 2 * head.area < 2 ^ 64) };
+    ghost invariant = { λ head. (is_topology head.topology ≡ true) × (is_roomy head.topology head.areas.length ≡ true) × (areas_end head.areas < 2 ^ 64) };
 }
 
 impl Head {
@@ -67,13 +68,13 @@ impl Head {
         &self.topology
     }
 
-    /// How many bytes an area has: enough for an entry.
-    pub fn area(&self) -> u64
-        ensures value { result ≡ self.now.area }
-        ensures roomy { is_roomy self.now.topology self.now.area ≡ true }
-        ensures bound { HEAD_BYTES + 2 * result < 2 ^ 64 }
+    /// Where the areas are, which have enough bytes for an entry.
+    pub fn areas(&self) -> TwoAreas
+        ensures value { result ≡ self.now.areas }
+        ensures roomy { is_roomy self.now.topology self.now.areas.length ≡ true }
+        ensures bound { areas_end result < 2 ^ 64 }
     {
-        self.area
+        self.areas
     }
 }
 
@@ -100,10 +101,11 @@ fn put_ends(ends: &[Option<WireEnd>], out: &mut ArrayVec<u8, HEAD_BYTES>)
     }
 }
 
-/// The bytes of the head of a device for `topology`, with areas of `area` bytes.
-pub fn head_bytes(topology: &Topology, area: u64) -> ArrayVec<u8, HEAD_BYTES>
-    ensures bytes { result.items ≡ head_bytes topology.now area }
-    ensures len { array_vec_len result ≡ HEAD_BYTES }
+/// The bytes of the head of a device for `topology`, with `areas` behind it.
+pub fn head_bytes(topology: &Topology, areas: TwoAreas) -> ArrayVec<u8, HEAD_BYTES>
+    requires { areas.first ≡ HEAD_BYTES }
+    ensures bytes { result.items ≡ head_bytes topology.now areas }
+    ensures len { array_vec_len result ≡ areas.first }
 {
     let pages = topology.pages();
     let ports = topology.port_count() as u8;
@@ -112,7 +114,7 @@ pub fn head_bytes(topology: &Topology, area: u64) -> ArrayVec<u8, HEAD_BYTES>
     put(&MAGIC, &mut out);
     put(&[HEAD_VERSION, pages.len() as u8, ports], &mut out);
     pad(AREA_PLACE, &mut out);
-    put(&area.to_le_bytes(), &mut out);
+    put(&areas.length.to_le_bytes(), &mut out);
     put_pages(pages, &mut out);
     pad(ENDS_PLACE, &mut out);
     put_ends(links, &mut out);
@@ -224,30 +226,32 @@ fn topology_in(bytes: &[u8]) -> Option<Topology>
 }
 
 /// Whether `bytes` are those of the head for `topology`.
-fn spells(bytes: &[u8], topology: &Topology, area: u64) -> bool
-    ensures { result ≡ bytes_eq bytes.now (head_bytes topology.now area) }
+fn spells(bytes: &[u8], topology: &Topology, areas: TwoAreas) -> bool
+    requires { areas.first ≡ HEAD_BYTES }
+    ensures { result ≡ bytes_eq bytes.now (head_bytes topology.now areas) }
 {
-    let head = head_bytes(topology, area);
+    let head = head_bytes(topology, areas);
     bytes == head.as_slice()
 }
 
 /// Whether `bytes` are those of the head for `topology`, and a device of `len` bytes has room for what it says.
-fn is_whole(len: u64, bytes: &[u8], topology: &Topology, area: u64) -> bool
-    ensures { result ≡ (bytes_eq bytes.now (head_bytes topology.now area) && fits len topology.now area) }
+fn is_whole(len: u64, bytes: &[u8], topology: &Topology, areas: TwoAreas) -> bool
+    requires { areas.first ≡ HEAD_BYTES }
+    ensures { result ≡ (bytes_eq bytes.now (head_bytes topology.now areas) && fits len topology.now areas) }
 {
-    spells(bytes, topology, area) && fits(len, topology, area)
+    spells(bytes, topology, areas) && fits(len, topology, areas)
 }
 
 /// The head that `bytes` are, if they are one and a device of `len` bytes has room for what it says.
 fn fields_in(bytes: &[u8], len: u64) -> Option<Head>
     requires { length bytes.now ≡ HEAD_BYTES }
     ensures value { result ≡ fields_in len bytes.now }
-    ensures inside { IfSome result (λ head. HEAD_BYTES + 2 * head.area ≤ len) }
+    ensures inside { IfSome result (λ head. areas_end head.areas ≤ len) }
 {
     let topology = topology_in(bytes)?;
-    let area = u64_at(bytes, AREA_PLACE);
-    if is_whole(len, bytes, &topology, area) {
-        Some(Head { topology, area })
+    let areas = areas_of_length(u64_at(bytes, AREA_PLACE));
+    if is_whole(len, bytes, &topology, areas) {
+        Some(Head { topology, areas })
     } else {
         None
     }
@@ -257,7 +261,7 @@ fn fields_in(bytes: &[u8], len: u64) -> Option<Head>
 pub fn head_in(bytes: &[u8], len: u64) -> Result<Head, OpenFault>
     requires { length bytes.now ≡ HEAD_BYTES }
     ensures value { result ≡ head_in len bytes.now }
-    ensures inside { IfOk result (λ head. HEAD_BYTES + 2 * head.area ≤ len) }
+    ensures inside { IfOk result (λ head. areas_end head.areas ≤ len) }
 {
     if bytes[..VERSION_PLACE] != MAGIC[..] {
         return Err(OpenFault::NotFormatted);

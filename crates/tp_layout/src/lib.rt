@@ -21,6 +21,6 @@ pub use front::{
 pub use head::{Head, head_bytes, head_in, head_length};
 pub use journal::{JournalRoom, journal_room, reserve};
 pub use line::{LINES_BYTES, LineTokens, line_in, lines_bytes};
-pub use place::{Places, area_start, piece_length, piece_place};
+pub use place::{Places, area_start, areas_of_length, piece_length, piece_place};
 pub use port::{PortRecord, port_bytes, port_in};
 pub use room::{cut_length, image_length, images_length, records_length};

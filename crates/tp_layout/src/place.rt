@@ -2,24 +2,39 @@
 
 ghost use Rattle.std.specs.Prelude.{◌≡◌, ◌+◌, ◌^◌, ◌<◌, ◌≤◌, true, length};
 ghost use Rattle.tp_model.specs.Device.{area_start};
+ghost use Rattle.tp_model.specs.Head.{areas_of_length};
 ghost use Rattle.tp_model.specs.Opening.{groups_place, lines_place, nodes_place, ports_place};
 ghost use Rattle.tp_model.specs.Topology.{is_topology};
-ghost use Rattle.tp_model.specs.declared.limits.TheConstants.{HEAD_BYTES, MAX_PAGES};
+ghost use Rattle.tp_model.specs.declared.limits.TheConstants.{MAX_PAGES};
 ghost use Rattle.tp_layout.specs.Pieces.{piece_length, piece_place};
 
 use crate::front::FIELDS_BYTES;
 use crate::head::head_length;
 use crate::room::{cut_length, images_bytes, images_length};
+use tp_model::TwoAreas;
 use tp_model::limits::{AREA_HEAD_BYTES, HEAD_VERSION, IMAGE_HEAD_BYTES, LINE_BYTES, PAGE_BYTES};
 use tp_net::Topology;
 
-/// Where an area of `area` bytes begins: the first one, behind the head, or the second one.
-pub fn area_start(area: u64, second: bool) -> u64
-    requires { HEAD_BYTES + area < 2 ^ 64 }
-    ensures { result ≡ area_start area second }
+/// The areas of `length` bytes each behind a head.
+pub fn areas_of_length(length: u64) -> TwoAreas
+    ensures { result ≡ areas_of_length length }
 {
-    let first = head_length(HEAD_VERSION);
-    if second { first + area } else { first }
+    TwoAreas {
+        first: head_length(HEAD_VERSION),
+        length,
+    }
+}
+
+/// Where an area begins: the first one, or the second one.
+pub fn area_start(areas: TwoAreas, second: bool) -> u64
+    requires { areas.first + areas.length < 2 ^ 64 }
+    ensures { result ≡ area_start areas second }
+{
+    if second {
+        areas.first + areas.length
+    } else {
+        areas.first
+    }
 }
 
 /// Bytes of a piece of a node's image: of its head, which is piece 0, or of a page.

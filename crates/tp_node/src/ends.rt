@@ -5,7 +5,7 @@ ghost use Rattle.tp_model.specs.Bytes.{u8_at};
 ghost use Rattle.std.specs.List.{flat_map};
 ghost use Rattle.tp_model.specs.EndBytes.{end_bytes, out_end_bytes, in_end_bytes, transfer_at, out_end_at, in_end_at, ends_at};
 
-use crate::image_places::{LEFT_PLACE, POINTER_PLACE, PROCESS_PLACE};
+use crate::image_places::{END_BYTES, LEFT_PLACE, POINTER_PLACE, PROCESS_PLACE};
 use crate::number::u32_at;
 use byteorder::{ByteOrder, LittleEndian};
 use tp_link::{InEngine, OutEngine};
@@ -65,7 +65,7 @@ pub(crate) fn put_outputs(out: &mut [u8], ends: &[OutEngine])
     ensures { out.new ≡ flat_map out_end_bytes ends.now ++ drop (16 * length ends.now) out.old }
 {
     for (i, end) in ends.iter().enumerate() {
-        put_out_end(&mut out[16 * i..], end.end());
+        put_out_end(&mut out[END_BYTES * i..], end.end());
     }
 }
 
@@ -75,7 +75,7 @@ pub(crate) fn put_inputs(out: &mut [u8], ends: &[InEngine])
     ensures { out.new ≡ flat_map in_end_bytes ends.now ++ drop (16 * length ends.now) out.old }
 {
     for (i, end) in ends.iter().enumerate() {
-        put_in_end(&mut out[16 * i..], end.end());
+        put_in_end(&mut out[END_BYTES * i..], end.end());
     }
 }
 
@@ -134,9 +134,9 @@ pub(crate) fn outputs_at(bytes: &[u8], at: usize) -> [OutEngine; 4]
 {
     [
         out_end_at(bytes, at),
-        out_end_at(bytes, at + 16),
-        out_end_at(bytes, at + 32),
-        out_end_at(bytes, at + 48),
+        out_end_at(bytes, at + END_BYTES),
+        out_end_at(bytes, at + 2 * END_BYTES),
+        out_end_at(bytes, at + 3 * END_BYTES),
     ]
 }
 
@@ -148,8 +148,8 @@ pub(crate) fn inputs_at(bytes: &[u8], at: usize) -> [InEngine; 4]
 {
     [
         in_end_at(bytes, at),
-        in_end_at(bytes, at + 16),
-        in_end_at(bytes, at + 32),
-        in_end_at(bytes, at + 48),
+        in_end_at(bytes, at + END_BYTES),
+        in_end_at(bytes, at + 2 * END_BYTES),
+        in_end_at(bytes, at + 3 * END_BYTES),
     ]
 }

@@ -12,14 +12,13 @@ use Rattle.tp_model.specs.declared.entry.Entry.TheVariants.{Run, Take, HostIn, C
 use Rattle.tp_model.specs.declared.limits.TheConstants.{MAX_STEPS}
 use Rattle.tp_model.specs.NodeState.{NodeState}
 use Rattle.tp_model.specs.Network.{steps, Port, Network, Own, OfNode, OfHost, own, put, receiver, process_at, has_wire, on_line, sent}
-use Rattle.tp_model.specs.Entries.{process, of_node, of_port, does, receives, port_took, handed_in, confirmed}
+use Rattle.tp_model.specs.Entries.{process, of_node, of_port, does, receives, port_took, handed_in, confirmed, acts}
 use Rattle.tp_model.specs.Sound.{owner}
 use Rattle.tp_model.specs.Node.{t414, took}
 use Rattle.tp_law_network.proofs.Lines.{for_line-elsewhere, on_sent_none}
 use Rattle.tp_law_network.proofs.Local.{put-length, put-lines, sends_own, own-host, own-node}
 use Rattle.tp_law_machine.proofs.LinkLaws.{has_four_links}
 use Rattle.tp_law_parts.specs.Piece.{Piece, sends}
-use Rattle.tp_law_parts.specs.InPiece.{acts}
 use Rattle.tp_law_parts.specs.Stops.{IsOverfull}
 use Rattle.tp_law_parts.proofs.Steps.{Act, acts_from}
 use Rattle.tp_port.specs.Sends.{on_lines}
@@ -30,47 +29,47 @@ use Rattle.tp_pieces.specs.Behind.{behind, IsStuck, SameProcesses, DoesRest}
 
 -- ## Any process
 
-behind-own : (piece : Piece) (s : Network NodeState) (e : Entry) → piece (process s e) ≡ true → behind piece s e ≡ acts t414 s s.lines e
+behind-own : (piece : Piece) (s : Network NodeState) (e : Entry) → piece (process s.wires (length s.nodes) e) ≡ true → behind piece s e ≡ acts t414 s s.lines e
 behind-own piece s e mine = ap (λ b. cond b (acts t414 s s.lines e) (Some s)) mine
 
 -- another part's entry
-pub other_rests : (was : Held) (e : Entry) → has was (process was.network e) ≡ false → DoesRest was e true was
+pub other_rests : (was : Held) (e : Entry) → has was (process was.network.wires (length was.network.nodes) e) ≡ false → DoesRest was e true was
 other_rests was e other = record {
   same = record { first = refl; past = refl };
   goes = ap (λ b. cond b (acts t414 was.network was.network.lines e) (Some was.network)) other;
 }
 
 -- the process that isn't there, or can't do it
-pub nobody : (was now : Held) (e : Entry) → SameProcesses was now → has was (process was.network e) ≡ true → own was.network (process was.network e) ≡ None → DoesRest was e false now
+pub nobody : (was now : Held) (e : Entry) → SameProcesses was now → has was (process was.network.wires (length was.network.nodes) e) ≡ true → own was.network (process was.network.wires (length was.network.nodes) e) ≡ None → DoesRest was e false now
 unfolding acts
 nobody was now e same mine none = record { same = same; goes = inl (behind-own (has was) was.network e mine ∙ rw none) }
 
-pub refuses : (was now : Held) (e : Entry) (state : Own NodeState) → SameProcesses was now → has was (process was.network e) ≡ true → own was.network (process was.network e) ≡ Some state
+pub refuses : (was now : Held) (e : Entry) (state : Own NodeState) → SameProcesses was now → has was (process was.network.wires (length was.network.nodes) e) ≡ true → own was.network (process was.network.wires (length was.network.nodes) e) ≡ Some state
     → does t414 was.network.wires (length was.network.nodes) e state ≡ None → DoesRest was e false now
 unfolding acts
 refuses was now e state same mine there none = record { same = same; goes = inl (behind-own (has was) was.network e mine ∙ rw (there, none)) }
 
 -- A third token on a line: it is a line that the process sends.
-overfull : (piece : Piece) (s : Network NodeState) (e : Entry) (v : Network NodeState) (A : Act t414 s s.lines e v) → piece (process s e) ≡ true → Overfills (has_wire s.wires) s.lines A.sends → IsOverfull piece v
+overfull : (piece : Piece) (s : Network NodeState) (e : Entry) (v : Network NodeState) (A : Act t414 s s.lines e v) → piece (process s.wires (length s.nodes) e) ≡ true → Overfills (has_wire s.wires) s.lines A.sends → IsOverfull piece v
 overfull piece s e v A mine O = record { line = O.line; its = its; long = subst (λ ls. 2 < length (on_line ls O.line)) (sym lines) O.long }
   where
     nodes : length v.nodes ≡ length s.nodes
-    nodes = ap (λ u. length u.nodes) (sym A.makes) ∙ put-length (record s { lines = sent (has_wire s.wires) s.lines A.sends }) (process s e) A.now
+    nodes = ap (λ u. length u.nodes) (sym A.makes) ∙ put-length (record s { lines = sent (has_wire s.wires) s.lines A.sends }) (process s.wires (length s.nodes) e) A.now
 
     lines : v.lines ≡ sent (has_wire s.wires) s.lines A.sends
-    lines = ap (λ u. u.lines) (sym A.makes) ∙ put-lines (record s { lines = sent (has_wire s.wires) s.lines A.sends }) (process s e) A.now
+    lines = ap (λ u. u.lines) (sym A.makes) ∙ put-lines (record s { lines = sent (has_wire s.wires) s.lines A.sends }) (process s.wires (length s.nodes) e) A.now
 
     its : sends piece (length v.nodes) O.line ≡ true
-    its = elim (cases_eq (owner (length s.nodes) O.line) (process s e)) [
+    its = elim (cases_eq (owner (length s.nodes) O.line) (process s.wires (length s.nodes) e)) [
       | inl same ↦ ap (λ N. piece (owner N O.line)) nodes ∙ ap piece same ∙ mine
-      | inr apart ↦ (let none = for_line-elsewhere (owner (length s.nodes)) (process s e) O.line A.sends (sends_own t414 has_four_links s e A.was (A.now, A.sends) A.own_was A.change) apart in
+      | inr apart ↦ (let none = for_line-elsewhere (owner (length s.nodes)) (process s.wires (length s.nodes) e) O.line A.sends (sends_own t414 has_four_links s e A.was (A.now, A.sends) A.own_was A.change) apart in
           let still = ap length (on_sent_none (has_wire s.wires) s.lines A.sends O.line none) in
           absurd (omega (arith, still, O.short, O.long)))
     ]
 
 -- The process does it: the part goes on, or would have a third token on a line.
 pub settled : (was now : Held) (e : Entry) (v : Network NodeState) (could : Bool) (lines : List (List Token)) (A : Act t414 was.network was.network.lines e v) → SameProcesses was now
-    → has was (process was.network e) ≡ true → (lines ≡ sent (has_wire was.network.wires) was.network.lines A.sends → now.network ≡ v)
+    → has was (process was.network.wires (length was.network.nodes) e) ≡ true → (lines ≡ sent (has_wire was.network.wires) was.network.lines A.sends → now.network ≡ v)
     → MatchBool could (lines ≡ sent (has_wire was.network.wires) was.network.lines A.sends) (Overfills (has_wire was.network.wires) was.network.lines A.sends) → DoesRest was e could now
 settled was now e v could lines A same mine net sends = record { same = same; goes = go could sends }
   where
@@ -86,7 +85,7 @@ settled was now e v could lines A same mine net sends = record { same = same; go
 
 -- the node after it, with the lines that it sent
 pub node_settled : (was now : Held) (e : Entry) (could : Bool) (i : ℕ) (node after : NodeState) (tokens : List (ℕ × Token)) (lines : List (List Token)) → SameProcesses was now
-    → now.network ≡ record was.network { nodes = set was.network.nodes i after; lines = lines } → process was.network e ≡ i → has was i ≡ true → slice_get was.network.nodes i ≡ Some node
+    → now.network ≡ record was.network { nodes = set was.network.nodes i after; lines = lines } → process was.network.wires (length was.network.nodes) e ≡ i → has was i ≡ true → slice_get was.network.nodes i ≡ Some node
     → does t414 was.network.wires (length was.network.nodes) e (OfNode node) ≡ Some (of_node i (after, tokens))
     → MatchBool could (lines ≡ sent (has_wire was.network.wires) was.network.lines (on_lines i tokens)) (Overfills (has_wire was.network.wires) was.network.lines (on_lines i tokens)) → DoesRest was e could now
 unfolding put
@@ -151,15 +150,15 @@ same_item xs i x y first second = cc
 -- ## The host
 
 -- a process behind the nodes is the host, or isn't there
-pub host_cannot : (was now : Held) (e : Entry) → SameProcesses was now → length was.network.nodes ≤ process was.network e → has was (process was.network e) ≡ true
+pub host_cannot : (was now : Held) (e : Entry) → SameProcesses was now → length was.network.nodes ≤ process was.network.wires (length was.network.nodes) e → has was (process was.network.wires (length was.network.nodes) e) ≡ true
     → does t414 was.network.wires (length was.network.nodes) e (OfHost was.network.ports) ≡ None → DoesRest was e false now
-host_cannot was now e same past mine none = elim (cases_eq (process was.network e) (length was.network.nodes)) [
+host_cannot was now e same past mine none = elim (cases_eq (process was.network.wires (length was.network.nodes) e) (length was.network.nodes)) [
   | inl host ↦ refuses was now e (OfHost was.network.ports) same mine (ap (own was.network) host ∙ own-host was.network) none
-  | inr apart ↦ nobody was now e same mine (own-node was.network (process was.network e) apart ∙ ap (option_map OfNode) (slice_get_past was.network.nodes (process was.network e) past))
+  | inr apart ↦ nobody was now e same mine (own-node was.network (process was.network.wires (length was.network.nodes) e) apart ∙ ap (option_map OfNode) (slice_get_past was.network.nodes (process was.network.wires (length was.network.nodes) e) past))
 ]
 
 pub port_settled : (was now : Held) (e : Entry) (could : Bool) (p : ℕ) (after : Port) (sends : List (ℕ × Token)) (lines : List (List Token)) → SameProcesses was now
-    → now.network ≡ record was.network { ports = set was.network.ports p after; lines = lines } → process was.network e ≡ length was.network.nodes → has was (length was.network.nodes) ≡ true
+    → now.network ≡ record was.network { ports = set was.network.ports p after; lines = lines } → process was.network.wires (length was.network.nodes) e ≡ length was.network.nodes → has was (length was.network.nodes) ≡ true
     → does t414 was.network.wires (length was.network.nodes) e (OfHost was.network.ports) ≡ Some (OfHost (set was.network.ports p after), sends)
     → MatchBool could (lines ≡ sent (has_wire was.network.wires) was.network.lines sends) (Overfills (has_wire was.network.wires) was.network.lines sends) → DoesRest was e could now
 unfolding put

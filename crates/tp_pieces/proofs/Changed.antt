@@ -47,7 +47,7 @@ module _ (n : Inside) (I : IsNodesInside n) where
       never false = refl
 
   -- one of its nodes can't do the entry
-  pub node_cannot : (now : Held) (e : Entry) (i : ℕ) (node : NodeContents) → SameProcesses (nodes_held n) now → process (nodes_held n).network e ≡ n.before + i → slice_get n.nodes.items i ≡ Some node
+  pub node_cannot : (now : Held) (e : Entry) (i : ℕ) (node : NodeContents) → SameProcesses (nodes_held n) now → process (nodes_held n).network.wires (length (nodes_held n).network.nodes) e ≡ n.before + i → slice_get n.nodes.items i ≡ Some node
       → does t414 n.lanes.wires (length (nodes_held n).network.nodes) e (OfNode node.live) ≡ None → DoesRest (nodes_held n) e false now
   node_cannot now e i node same whose at none =
       refuses (nodes_held n) now e (OfNode node.live) same (ap (has (nodes_held n)) whose ∙ has_own i (slice_get_within n.nodes.items i node at))
@@ -106,7 +106,7 @@ module _ (n : Inside) (I : IsNodesInside n) where
               ∙ sym (among_set n.before (map (λ node. node.live) n.nodes.items) n.behind i new.live (omega (arith, slice_get_within n.nodes.items i old there, length-map n.nodes.items (λ node. node.live))))
 
       -- the node did the entry
-      pub node_did : (e : Entry) (could : Bool) (tokens : List (ℕ × Token)) → process (nodes_held n).network e ≡ n.before + i
+      pub node_did : (e : Entry) (could : Bool) (tokens : List (ℕ × Token)) → process (nodes_held n).network.wires (length (nodes_held n).network.nodes) e ≡ n.before + i
           → does t414 n.lanes.wires (length (nodes_held n).network.nodes) e (OfNode old.live) ≡ Some (of_node (n.before + i) (new.live, tokens))
           → MatchBool could (lanes.lines ≡ sent (has_wire n.lanes.wires) n.lanes.lines (on_lines (n.before + i) tokens)) (Overfills (has_wire n.lanes.wires) n.lanes.lines (on_lines (n.before + i) tokens))
           → DoesRest (nodes_held n) e could (nodes_held changed)

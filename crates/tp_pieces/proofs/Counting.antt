@@ -2,7 +2,7 @@
 use Rattle.std.proofs.Common.{◌≡◌, ℕ, suc, zero, ◌+◌, ◌-◌, ◌^◌, ◌<◌, ◌≤◌, Bool, true, false, cond, inl, inr, List, [], ◌∷◌, ◌++◌, length, set, drop, refl, sym, ap, subst, ◌∙◌, arith, Option, Some, None, slice_get, min, nat_lt, nat_le}
 use Rattle.std.specs.Prelude.{◌&&◌, IsTrue, MatchBool}
 use Rattle.std.specs.Option.{option_map}
-use Rattle.std.proofs.lemmas.Bool.{cases_Bool, cases_eq, false≢true}
+use Rattle.std.proofs.lemmas.Bool.{cases_Bool, cases_eq, cases_lt, false≢true}
 use Rattle.tp_model.specs.declared.link.Token.{Token}
 use Rattle.tp_model.specs.declared.link.Token.TheVariants.{Data, Ack, Marker}
 use Rattle.tp_model.specs.declared.wire.WireEnd.{WireEnd}
@@ -12,15 +12,16 @@ use Rattle.tp_model.specs.declared.entry.Entry.TheVariants.{Run, Take, HostIn, C
 use Rattle.tp_model.specs.declared.limits.TheConstants.{MAX_STEPS, MAX_HELD}
 use Rattle.tp_model.specs.NodeState.{NodeState}
 use Rattle.tp_model.specs.Network.{steps, Port, Network, Own, OfNode, OfHost, own, put, receiver, has_wire, taken, sent}
-use Rattle.tp_model.specs.Entries.{process, takes, of_node, of_port, receives, in_flight, acked, first_only, port_took, handed_in, confirmed, does}
+use Rattle.tp_model.specs.Entries.{process, takes, of_node, of_port, receives, in_flight, acked, first_only, port_took, handed_in, confirmed, does, acts}
 use Rattle.tp_model.specs.Node.{t414}
 use Rattle.tp_law_network.proofs.Local.{own_host, port_step}
 use Rattle.tp_law_network.proofs.Partial.{bind_some, map_some, cond_some, slice_get-set_same, slice_get-set_other}
 use Rattle.tp_law_parts.specs.Piece.{Piece, from_piece}
-use Rattle.tp_law_parts.specs.InPiece.{acts, next_in}
+use Rattle.tp_law_parts.specs.InPiece.{next_in}
 use Rattle.tp_law_parts.proofs.Steps.{act_of}
 use Rattle.tp_parts.specs.Blocked.{IsBlocked}
-use Rattle.tp_pieces.specs.Counts.{CanCount, room_of}
+use Rattle.tp_port.specs.Counted.{AreCounted}
+use Rattle.tp_pieces.specs.Counts.{CanCount, most_entries, room_of}
 
 -- each port can count `n` more
 abbrev pub CanCountMore : ℕ → List Port → Type 0
@@ -44,7 +45,7 @@ room_from n (x ∷ ports) small all =
     let rest = room_from n ports small (λ p port at. all (suc p) port at) in
     omega (arith, first, rest)
 
-room_most : (ports : List Port) → room_of ports < 2 ^ 64
+pub room_most : (ports : List Port) → room_of ports < 2 ^ 64
 unfolding room_of
 room_most [] = omega arith
 room_most (x ∷ ports) = let rest = room_most ports in omega (arith, rest)
@@ -55,6 +56,13 @@ counts_more ports n some p port at = let least = room_each ports p port at in om
 -- where there is room, each port can count one more
 pub can_count : (s : Network NodeState) → 0 < room_of s.ports → CanCount s
 can_count s some p port at = let least = room_each s.ports p port at in omega (arith, least, some)
+
+-- Ports that have counted no more than a number can still count up to what is left of it.
+pub counted_room : (n : ℕ) (ports : List Port) → AreCounted n ports → most_entries - n ≤ room_of ports
+counted_room n ports counted = elim (cases_lt n most_entries) [
+  | inl below ↦ room_from (most_entries - n) ports (omega arith) (λ p port at. let few = (counted p port at).inputs in omega (arith, few, below))
+  | inr past ↦ (let none : most_entries - n ≡ 0 = omega (arith, past) in omega (arith, none))
+]
 
 -- ## One change of a port
 
@@ -152,14 +160,14 @@ acts_counts : (n : ℕ) (s : Network NodeState) (lines : List (List Token)) (e :
 acts_counts n s lines e t all h =
     let A = act_of t414 s lines e t h in
     subst (λ (u : Network NodeState). CanCountMore n u.ports) A.makes
-    (put_counts n (record s { lines = sent (has_wire s.wires) lines A.sends }) (process s e) A.now (less n s.ports all)
-    (does_counts n s e A.was (A.now, A.sends) (own_counts (suc n) s (process s e) A.was all A.own_was) A.change))
+    (put_counts n (record s { lines = sent (has_wire s.wires) lines A.sends }) (process s.wires (length s.nodes) e) A.now (less n s.ports all)
+    (does_counts n s e A.was (A.now, A.sends) (own_counts (suc n) s (process s.wires (length s.nodes) e) A.was all A.own_was) A.change))
 
 next_in_counts : (n : ℕ) (has : Piece) (s : Network NodeState) (e : Entry) (t : Network NodeState) → CanCountMore (suc n) s.ports → next_in t414 has s e ≡ Some t → CanCountMore n t.ports
 unfolding next_in
 next_in_counts n has s e t all h =
-    let T = bind_some (taken s.lines (from_piece has (length s.nodes) (takes s e))) (λ lines. cond (has (process s e)) (acts t414 s lines e) (Some (record s { lines = lines }))) t h in
-    elim (cases_Bool (has (process s e))) [
+    let T = bind_some (taken s.lines (from_piece has (length s.nodes) (takes s.wires (length s.nodes) e))) (λ lines. cond (has (process s.wires (length s.nodes) e)) (acts t414 s lines e) (Some (record s { lines = lines }))) t h in
+    elim (cases_Bool (has (process s.wires (length s.nodes) e))) [
       | inl y ↦ acts_counts n s T.0 e t all (sym (ap (λ b. cond b (acts t414 s T.0 e) (Some (record s { lines = T.0 }))) y) ∙ T.2)
       | inr other ↦
           let is : Some (record s { lines = T.0 }) ≡ Some t = sym (ap (λ b. cond b (acts t414 s T.0 e) (Some (record s { lines = T.0 }))) other) ∙ T.2 in

@@ -6,11 +6,11 @@ use Rattle.tp_model.specs.declared.entry.Entry.{Entry}
 use Rattle.tp_model.specs.declared.entry.Entry.TheVariants.{Run, Take, HostIn, Confirm}
 use Rattle.tp_model.specs.NodeState.{NodeState}
 use Rattle.tp_model.specs.Network.{◌>>=◌, Network, own, taken}
-use Rattle.tp_model.specs.Entries.{process, takes}
+use Rattle.tp_model.specs.Entries.{process, takes, acts}
 use Rattle.tp_model.specs.Node.{t414}
 use Rattle.tp_law_network.proofs.Local.{process_same}
 use Rattle.tp_law_parts.specs.Piece.{Piece, from_piece, sends}
-use Rattle.tp_law_parts.specs.InPiece.{acts, next_in}
+use Rattle.tp_law_parts.specs.InPiece.{next_in}
 use Rattle.tp_parts.specs.Blocked.{IsBlocked}
 use Rattle.tp_pieces.specs.Whose.{whose}
 use Rattle.tp_pieces.specs.Held.{Held, has}
@@ -28,13 +28,13 @@ acts-lines s xs ys (Confirm p upto) = refl
 
 pub in_two : (piece : Piece) (s : Network NodeState) (e : Entry) → next_in t414 piece s e ≡ (without_tokens piece s e >>= λ u. behind piece u e)
 unfolding next_in
-in_two piece s e = go (taken s.lines (from_piece piece (length s.nodes) (takes s e)))
+in_two piece s e = go (taken s.lines (from_piece piece (length s.nodes) (takes s.wires (length s.nodes) e)))
   where
-    go : (o : Option (List (List Token))) → (o >>= λ lines. cond (piece (process s e)) (acts t414 s lines e) (Some (record s { lines = lines })))
+    go : (o : Option (List (List Token))) → (o >>= λ lines. cond (piece (process s.wires (length s.nodes) e)) (acts t414 s lines e) (Some (record s { lines = lines })))
         ≡ ((o >>= λ lines. Some (record s { lines = lines })) >>= λ u. behind piece u e)
     go None = refl
     go (Some lines) =
-        ap (λ a. cond (piece (process s e)) a (Some (record s { lines = lines }))) (sym (acts-lines s lines lines e))
+        ap (λ a. cond (piece (process s.wires (length s.nodes) e)) a (Some (record s { lines = lines }))) (sym (acts-lines s lines lines e))
         ∙ ap (λ p. cond (piece p) (acts t414 (record s { lines = lines }) lines e) (Some (record s { lines = lines }))) (sym (process_same s (record s { lines = lines }) refl refl e))
 
 pub same_has : (was now : Held) → SameProcesses was now → has now ≡ has was
@@ -62,7 +62,7 @@ first_half was mid e T = inl (in_two (has was) was.network e ∙ ap (λ o. o >>=
 -- ## Tokens
 
 -- an entry takes none
-pub none_taken : (was : Held) (e : Entry) → takes was.network e ≡ [] → TakesOff was e true was
+pub none_taken : (was : Held) (e : Entry) → takes was.network.wires (length was.network.nodes) e ≡ [] → TakesOff was e true was
 unfolding taken from_piece
 none_taken was e none = record {
   same = record { first = refl; past = refl };
@@ -93,7 +93,7 @@ taken_here was now line token could lines same net mine took = record { same = s
     go false none = its ∙ ap (λ o. o >>= λ lines. Some (record was.network { lines = lines })) none
 
 -- an entry that is no Take takes none
-pub takes_none : (s : Network NodeState) (e : Entry) → ((line : ℕ) (token : Token) → e ≡ Take line token → ⊥) → takes s e ≡ []
+pub takes_none : (s : Network NodeState) (e : Entry) → ((line : ℕ) (token : Token) → e ≡ Take line token → ⊥) → takes s.wires (length s.nodes) e ≡ []
 unfolding takes
 takes_none s (Run i k) h = refl
 takes_none s (Take line token) h = absurd (h line token refl)

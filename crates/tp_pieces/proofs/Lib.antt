@@ -1,8 +1,14 @@
 pub mod Acts
 pub mod Among
 pub mod AtPorts
+pub mod Chains
 pub mod Changed
+pub mod Copying
 pub mod Counting
+pub mod Dealing
 pub mod Fewer
 pub mod Halves
+pub mod Rejoined
+pub mod Replayed
 pub mod Room
+pub mod Stretch

@@ -3,20 +3,20 @@ use Rattle.std.specs.Prelude.{◌≡◌, ◌⊎◌, Bool, if◌then◌else◌, M
 use Rattle.tp_model.specs.declared.entry.Entry.{Entry}
 use Rattle.tp_model.specs.NodeState.{NodeState}
 use Rattle.tp_model.specs.Network.{◌>>=◌, Network, taken}
-use Rattle.tp_model.specs.Entries.{process, takes}
+use Rattle.tp_model.specs.Entries.{process, takes, acts}
 use Rattle.tp_model.specs.Node.{t414}
 use Rattle.tp_law_parts.specs.Piece.{Piece, from_piece}
-use Rattle.tp_law_parts.specs.InPiece.{acts, next_in}
+use Rattle.tp_law_parts.specs.InPiece.{next_in}
 use Rattle.tp_law_parts.specs.Stops.{IsOverfull}
 use Rattle.tp_pieces.specs.Held.{Held, has}
 
 -- what is left to do of an entry in a piece, once the tokens that it takes are off the piece's lines
 abbrev pub behind : Piece → Network NodeState → Entry → Option (Network NodeState)
-behind piece s e = if piece (process s e) then acts t414 s s.lines e else Some s
+behind piece s e = if piece (process s.wires (length s.nodes) e) then acts t414 s s.lines e else Some s
 
 -- the network with the lines that are left where the entry's tokens, of those that the piece sends, are taken off
 abbrev pub without_tokens : Piece → Network NodeState → Entry → Option (Network NodeState)
-without_tokens piece s e = taken s.lines (from_piece piece (length s.nodes) (takes s e)) >>= λ lines. Some (record s { lines = lines })
+without_tokens piece s e = taken s.lines (from_piece piece (length s.nodes) (takes s.wires (length s.nodes) e)) >>= λ lines. Some (record s { lines = lines })
 
 -- there is no such network, or a line that the piece sends would be overfull in it
 abbrev pub IsStuck : Piece → Option (Network NodeState) → Type 0

@@ -1,9 +1,15 @@
+pub mod Apart
 pub mod Behind
 pub mod Blank
+pub mod Copies
 pub mod Counts
+pub mod Dealing
 pub mod Held
 pub mod HostInside
 pub mod Inside
+pub mod Joining
 pub mod Lanes
+pub mod Outcome
 pub mod Parts
+pub mod Runs
 pub mod Whose

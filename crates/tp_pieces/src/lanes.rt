@@ -1,12 +1,14 @@
 //! Wires, and the lines as one part has them.
 
-ghost use Rattle.std.specs.Prelude.{◌≡◌, ◌<◌, ◌≤◌, [], ◌∷◌, MatchBool, Some, None, length};
+ghost use Rattle.std.specs.Prelude.{◌≡◌, ◌<◌, ◌≤◌, [], ◌∷◌, IfOk, MatchBool, Some, None, length};
 ghost use Rattle.tp_model.specs.Network.{has_wire, pushed, receiver, sent, taken};
 ghost use Rattle.tp_port.specs.Room.{from_line};
 ghost use Rattle.tp_port.specs.Sends.{sends_on};
 ghost use Rattle.tp_pieces.specs.Lanes.{Overfills, SameLanes};
 
+use crate::copies::copy_of;
 use crate::front::is_front;
+use std::alloc::{AllocError, Global};
 use std::marker::Model;
 use tp_model::{Token, WireEnd};
 use tp_net::Lines;
@@ -32,6 +34,16 @@ impl Model for Lanes {
 }
 
 impl Lanes {
+    /// The wires and lines once more.
+    pub(crate) fn copy(&self, alloc: Global) -> Result<Lanes, AllocError>
+        ensures { IfOk result (λ copy. copy ≡ self.now) }
+    {
+        Ok(Lanes {
+            wires: Vec::from_slice(alloc, &self.wires)?,
+            lines: copy_of(alloc, &self.lines)?,
+        })
+    }
+
     /// The end that receives a line.
     pub(crate) fn receiver(&self, line: usize) -> Option<WireEnd>
         ensures { result ≡ receiver self.now.wires line }

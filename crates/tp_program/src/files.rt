@@ -16,7 +16,7 @@ use std::sync::Wait;
 use std::thread::Threads;
 use std::{fs, io};
 use tp_disk::{Counted, NewDisk, NotedFile, RawFile};
-use tp_layout::area_start;
+use tp_layout::{area_start, areas_of_length};
 use tp_net::{Named, Topology};
 use tp_stream_files::is_one_file;
 use tp_views::{Refusal, check_on, is_device_file, recover_on, refuse, show_on, try_on, view_on};
@@ -136,7 +136,8 @@ fn new_disk<R: Files<File = F>, F: FileExt + OpenFile + Drop>(
 ) -> io::Result<NewDisk<F>>
     requires { new.now.area ≤ MAX_AREA }
 {
-    let (path, size) = (new.device.as_str(), area_start(new.area, true) + new.area);
+    let areas = areas_of_length(new.area);
+    let (path, size) = (new.device.as_str(), area_start(areas, true) + areas.length);
     if new.only_new {
         NewDisk::create_new(rt, path, size)
     } else {

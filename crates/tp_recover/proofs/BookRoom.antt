@@ -4,6 +4,7 @@ use Rattle.std.specs.List.{AllByRecursion}
 use Rattle.std.specs.Prelude.{nat_le}
 use Rattle.std.proofs.lemmas.Bool.{and_parts}
 use Rattle.tp_model.specs.declared.entry.Entry.{Entry}
+use Rattle.tp_model.specs.Device.{areas_end}
 use Rattle.tp_model.specs.EntryBytes.{IsSpelt}
 use Rattle.tp_model.specs.Journal.{entry_room, is_roomy, room}
 use Rattle.tp_model.specs.Node.{t414, t414_ends}
@@ -18,13 +19,13 @@ use Rattle.tp_area.specs.Tails.{tail_refusal}
 use Rattle.tp_area.proofs.Roomy.{group_fits_room, tail_fits_room}
 
 -- a device that opens has room for an entry
-opened_roomy : (bytes : List ℕ) (o : Opened) → opening t414 t414_ends bytes ≡ Ok o → is_roomy o.head.topology o.head.area ≡ true
+opened_roomy : (bytes : List ℕ) (o : Opened) → opening t414 t414_ends bytes ≡ Ok o → is_roomy o.head.topology o.head.areas.length ≡ true
 opened_roomy bytes o is =
     let H = head_parts bytes o.head (reads_of t414 t414_ends bytes o is).head in
-    (and_parts (nat_le (512 + 2 * o.head.area) (length bytes)) (is_roomy o.head.topology o.head.area) H.room).1
+    (and_parts (nat_le (areas_end o.head.areas) (length bytes)) (is_roomy o.head.topology o.head.areas.length) H.room).1
 
 pub book_group : (bytes : List ℕ) (o : Opened) (floor entries count : ℕ) → AllByRecursion (λ byte. byte < 256) bytes → verdict bytes ≡ Ok o
-    → FitsRoom (Some (room o.head.topology o.head.area)) floor entries → floor ≤ length o.kept → 1 ≤ count → length o.kept + count ≤ entries
+    → FitsRoom (Some (room o.head.topology o.head.areas.length)) floor entries → floor ≤ length o.kept → 1 ≤ count → length o.kept + count ≤ entries
     → append_refusal false (place_at o) count ≡ None
 book_group bytes o floor entries count are is fits low some high =
     let most = fits (omega (arith, low, some, high)) in
@@ -34,10 +35,10 @@ few_bytes : (most : ℕ) (tail : List (Entry × ℕ)) → FitsRoom (Some most) 0
 few_bytes most [] fits = omega arith
 few_bytes most (e ∷ es) fits = fits (omega arith)
 
-pub book_tail : (bytes : List ℕ) (o : Opened) (place : Place) (tail : List (Entry × ℕ)) → verdict bytes ≡ Ok o → place.area ≡ o.head.area → AllByRecursion (λ e. IsSpelt e.0 e.1) tail
-    → FitsRoom (Some (room o.head.topology o.head.area)) 0 (length tail) → tail_refusal false place o.head.topology tail ≡ None
+pub book_tail : (bytes : List ℕ) (o : Opened) (place : Place) (tail : List (Entry × ℕ)) → verdict bytes ≡ Ok o → place.areas ≡ o.head.areas → AllByRecursion (λ e. IsSpelt e.0 e.1) tail
+    → FitsRoom (Some (room o.head.topology o.head.areas.length)) 0 (length tail) → tail_refusal false place o.head.topology tail ≡ None
 unfolding verdict
-book_tail bytes o place tail is area spelt fits =
+book_tail bytes o place tail is areas spelt fits =
     let t = o.head.topology in
-    tail_fits_room t place tail (subst (λ n. is_roomy t n ≡ true) (sym area) (opened_roomy bytes o is)) spelt
-    (subst (λ n. entry_room * length tail ≤ room t n) (sym area) (few_bytes (room t o.head.area) tail fits))
+    tail_fits_room t place tail (subst (λ a. is_roomy t a.length ≡ true) (sym areas) (opened_roomy bytes o is)) spelt
+    (subst (λ a. entry_room * length tail ≤ room t a.length) (sym areas) (few_bytes (room t o.head.areas.length) tail fits))

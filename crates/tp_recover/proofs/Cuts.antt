@@ -2,6 +2,7 @@
 use Rattle.std.proofs.Common.{◌≡◌, ℕ, zero, suc, ◌+◌, ◌-◌, ◌*◌, ◌≤◌, List, length, take, drop, refl, sym, ap, ◌∙◌, arith, subst}
 use Rattle.std.specs.Prelude.{Bool, Option, Result, Ok, Err, sum_by}
 use Rattle.std.proofs.lemmas.List.{drop-take, drop-drop, take-take}
+use Rattle.tp_model.specs.declared.areas.TwoAreas.{TwoAreas}
 use Rattle.tp_model.specs.declared.link.Token.{Token}
 use Rattle.tp_model.specs.declared.opening.OpenFault.{OpenFault}
 use Rattle.tp_model.specs.declared.wire.WireEnd.{WireEnd}
@@ -93,30 +94,30 @@ abbrev whole_cut : Ends NodeState → ℕ → ℕ → List (Option WireEnd) → 
 whole_cut E at count wires nodes lines ports = nodes >>= (λ x. lines >>= (λ y. ports >>= (λ z. tested E at count (wired wires x y z))))
 
 -- the records of a content, by their places on the device
-pub cut_in-records : (E : Ends NodeState) (t : Topology) (area : ℕ) (second : Bool) (base ports : ℕ) (pages : List ℕ) (wires : List (Option WireEnd)) (places : Places) (xs : List ℕ)
-    → cut_length t + 46 ≤ area → length t.wires ≡ line_count t → pages ≡ t.pages → wires ≡ t.wires → ports ≡ t.ports
-    → base ≡ base_of (content_of area second xs)
-    → places.nodes ≡ area_start area second + 1 + nodes_place → places.lines ≡ area_start area second + 1 + lines_place t → places.ports ≡ area_start area second + 1 + ports_place t
-    → cut_in E t (area_start area second + 1) (content_of area second xs) ≡ (records_at pages wires ports base places xs >>= tested E places.lines (line_count t))
+pub cut_in-records : (E : Ends NodeState) (t : Topology) (areas : TwoAreas) (second : Bool) (base ports : ℕ) (pages : List ℕ) (wires : List (Option WireEnd)) (places : Places) (xs : List ℕ)
+    → cut_length t + 46 ≤ areas.length → length t.wires ≡ line_count t → pages ≡ t.pages → wires ≡ t.wires → ports ≡ t.ports
+    → base ≡ base_of (content_of areas second xs)
+    → places.nodes ≡ area_start areas second + 1 + nodes_place → places.lines ≡ area_start areas second + 1 + lines_place t → places.ports ≡ area_start areas second + 1 + ports_place t
+    → cut_in E t (area_start areas second + 1) (content_of areas second xs) ≡ (records_at pages wires ports base places xs >>= tested E places.lines (line_count t))
 unfolding cut_in
-cut_in-records E t area second base ports pages wires places xs room lines p w h b at_nodes at_lines at_ports =
-    let start = area_start area second + 1 in
-    let content = content_of area second xs in
+cut_in-records E t areas second base ports pages wires places xs room lines p w h b at_nodes at_lines at_ports =
+    let start = area_start areas second + 1 in
+    let content = content_of areas second xs in
     let count = line_count t in
     let some_nodes = nodes_in places.nodes pages (drop places.nodes xs) in
     let some_lines = lines_in places.lines wires (drop places.lines xs) in
     let some_ports = ports_in base places.ports ports (drop places.ports xs) in
     let nodes_are : nodes_in (start + nodes_place) t.pages (drop nodes_place content) ≡ some_nodes =
-    ap (nodes_in (start + nodes_place) t.pages) (behind_place nodes_place (area - 1) start places.nodes xs (omega arith) at_nodes)
-    ∙ nodes_in-take (start + nodes_place) (area - 1 - nodes_place) t.pages (drop places.nodes xs) (omega arith)
+    ap (nodes_in (start + nodes_place) t.pages) (behind_place nodes_place (areas.length - 1) start places.nodes xs (omega arith) at_nodes)
+    ∙ nodes_in-take (start + nodes_place) (areas.length - 1 - nodes_place) t.pages (drop places.nodes xs) (omega arith)
     ∙ ap (λ n. nodes_in n t.pages (drop places.nodes xs)) (sym at_nodes) ∙ ap (λ ps. nodes_in places.nodes ps (drop places.nodes xs)) (sym p) in
     let lines_are : lines_in (start + lines_place t) t.wires (drop (lines_place t) content) ≡ some_lines =
-    ap (lines_in (start + lines_place t) t.wires) (behind_place (lines_place t) (area - 1) start places.lines xs (omega arith) at_lines)
-    ∙ lines_in-take (start + lines_place t) (area - 1 - lines_place t) t.wires (drop places.lines xs) (omega arith)
+    ap (lines_in (start + lines_place t) t.wires) (behind_place (lines_place t) (areas.length - 1) start places.lines xs (omega arith) at_lines)
+    ∙ lines_in-take (start + lines_place t) (areas.length - 1 - lines_place t) t.wires (drop places.lines xs) (omega arith)
     ∙ ap (λ n. lines_in n t.wires (drop places.lines xs)) (sym at_lines) ∙ ap (λ ws. lines_in places.lines ws (drop places.lines xs)) (sym w) in
     let ports_are : ports_in (base_of content) (start + ports_place t) t.ports (drop (ports_place t) content) ≡ some_ports =
-    ap (ports_in (base_of content) (start + ports_place t) t.ports) (behind_place (ports_place t) (area - 1) start places.ports xs (omega arith) at_ports)
-    ∙ ports_in-take (base_of content) (start + ports_place t) t.ports (area - 1 - ports_place t) (drop places.ports xs) (omega arith)
+    ap (ports_in (base_of content) (start + ports_place t) t.ports) (behind_place (ports_place t) (areas.length - 1) start places.ports xs (omega arith) at_ports)
+    ∙ ports_in-take (base_of content) (start + ports_place t) t.ports (areas.length - 1 - ports_place t) (drop places.ports xs) (omega arith)
     ∙ ap (λ n. ports_in (base_of content) n t.ports (drop places.ports xs)) (sym at_ports) ∙ ap (λ n. ports_in (base_of content) places.ports n (drop places.ports xs)) (sym h)
     ∙ ap (λ n. ports_in n places.ports ports (drop places.ports xs)) (sym b) in
     ap (λ a. whole_cut E (start + lines_place t) count t.wires a (lines_in (start + lines_place t) t.wires (drop (lines_place t) content)) (ports_in (base_of content) (start + ports_place t) t.ports (drop (ports_place t) content))) nodes_are

@@ -1,6 +1,6 @@
 -- What each change of a port keeps is kept by every entry; so a port never holds more than it has room for.
 use Rattle.std.proofs.Common.{◌≡◌, ℕ, ◌+◌, ◌-◌, ◌≤◌, inl, inr, List, [], ◌∷◌, ◌++◌, length, set, drop, sym, ap, subst, ◌∙◌, arith, Option, Some, None, slice_get, length-append, length-drop}
-use Rattle.std.specs.Prelude.{nat_lt, nat_le, ◌&&◌}
+use Rattle.std.specs.Prelude.{nat_lt, nat_le, ◌&&◌, length}
 use Rattle.std.specs.Option.{option_map}
 use Rattle.std.proofs.lemmas.Bool.{cases_eq, ltb-true}
 use Rattle.tp_model.specs.declared.link.Token.{Token}
@@ -92,8 +92,8 @@ module _ (P : Port → Type 0) (keeps : PortsKeep P) where
   ports_next s e t all h =
       let S = step_of t414 s e t h in
       subst (λ u. EachPort P u.ports) S.makes
-      (put_keeps (record s { lines = sent (has_wire s.wires) S.out S.sends }) (process s e) S.now all
-      (does_keeps s e S.was (S.now, S.sends) (own_keeps s (process s e) S.was all S.own_was) S.change))
+      (put_keeps (record s { lines = sent (has_wire s.wires) S.out S.sends }) (process s.wires (length s.nodes) e) S.now all
+      (does_keeps s e S.was (S.now, S.sends) (own_keeps s (process s.wires (length s.nodes) e) S.was all S.own_was) S.change))
 
 -- ## What a port has room for
 

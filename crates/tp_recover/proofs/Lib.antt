@@ -14,5 +14,8 @@ pub mod Room
 pub mod CutsAreFlat
 pub mod HeldPorts
 pub mod ReplayedCuts
+mod Ranged
+mod RowsAhead
+mod RowsRead
 pub mod Ages
 pub mod BookRoom

@@ -47,7 +47,7 @@ rows_then head second read end (Err fault) closed = refl
 -- an area is what stands in front of its groups, and then its groups
 pub area_in-read : (head : Head) (second : Bool) (content : List ℕ) → area_in t414 t414_ends head second content ≡ (read_in head second content >>= opened_after head second content)
 unfolding area_in
-area_in-read head second content = go (front_in head.topology (area_start head.area second) content) (cut_in t414_ends head.topology (area_start head.area second + 1) content)
+area_in-read head second content = go (front_in head.topology (area_start head.areas second) content) (cut_in t414_ends head.topology (area_start head.areas second + 1) content)
   where
     go : (front : Result (Unit {0}) OpenFault) (cut : Result (Network NodeState) OpenFault)
         → (front >>= (λ good. cut >>= (λ s. after_rows t414 (replay_from s (base_of content)) (groups_of head second content).rows
@@ -61,7 +61,7 @@ area_in-read head second content = go (front_in head.topology (area_start head.a
 
 -- the content of an area at another moment
 abbrev content_at : Head → Bool → Moment → List ℕ
-content_at head second m = content_of head.area second m.bytes
+content_at head second m = content_of head.areas second m.bytes
 
 -- what isn't read is the answer of all
 pub area_unread : {A : Type 0} (seen : A → Opened) (head : Head) (second : Bool) (content : List ℕ) (error : Unopened) (answer : Result A Unopened)
@@ -76,18 +76,18 @@ area_read head second content start S read =
     ∙ ap (λ r. after_groups r (groups_of head second content) >>= (λ both. Ok (opened_with head second (read_of start) both))) (sym S.replay)
 
 pub area_broken : {A B : Type 0} (seen : A → Opened) (seen_first : B → Replay NodeState × ℕ) (head : Head) (second : Bool) (old now : Moment) (start : Start) (error : Unopened) (answer : Result A Unopened)
-    → IsStart head start → read_in head second (content_of head.area second old.bytes) ≡ Ok (read_of start) → now ≡ old
-    → Answers seen_first (after_groups start.replay (groups_of head second (content_of head.area second now.bytes))) (Err error) → answer ≡ Err error
-    → Answers seen (area_in t414 t414_ends head second (content_of head.area second old.bytes)) answer
+    → IsStart head start → read_in head second (content_of head.areas second old.bytes) ≡ Ok (read_of start) → now ≡ old
+    → Answers seen_first (after_groups start.replay (groups_of head second (content_of head.areas second now.bytes))) (Err error) → answer ≡ Err error
+    → Answers seen (area_in t414 t414_ends head second (content_of head.areas second old.bytes)) answer
 area_broken {A} {B} seen seen_first head second old now start error answer S read same groups told =
     subst (λ given. Answers seen given answer) (sym (area_read head second (content_at head second old) start S read))
     (passed seen_first seen (after_groups start.replay (groups_of head second (content_at head second old))) (λ both. Ok (opened_with head second (read_of start) both)) error answer
     (subst (λ m. Answers seen_first (after_groups start.replay (groups_of head second (content_at head second m))) (Err error)) same groups) told)
 
 pub area_whole : (head : Head) (second : Bool) (old now : Moment) (start : Start) (last : Replay NodeState) (end : ℕ)
-    → IsStart head start → read_in head second (content_of head.area second old.bytes) ≡ Ok (read_of start) → now ≡ old
-    → after_groups start.replay (groups_of head second (content_of head.area second now.bytes)) ≡ Ok (last, end)
-    → area_in t414 t414_ends head second (content_of head.area second old.bytes) ≡ Ok (opened_with head second (read_of start) (last, end))
+    → IsStart head start → read_in head second (content_of head.areas second old.bytes) ≡ Ok (read_of start) → now ≡ old
+    → after_groups start.replay (groups_of head second (content_of head.areas second now.bytes)) ≡ Ok (last, end)
+    → area_in t414 t414_ends head second (content_of head.areas second old.bytes) ≡ Ok (opened_with head second (read_of start) (last, end))
 area_whole head second old now start last end S read same groups =
     area_read head second (content_at head second old) start S read
     ∙ ap (λ r. r >>= (λ both. Ok (opened_with head second (read_of start) both)))
@@ -96,10 +96,10 @@ area_whole head second old now start last end S read same groups =
 -- ## A device
 
 abbrev area_of : List ℕ → Head → Bool → Result Opened OpenFault
-area_of bytes head second = area_in t414 t414_ends head second (content_of head.area second bytes)
+area_of bytes head second = area_in t414 t414_ends head second (content_of head.areas second bytes)
 
 abbrev with_head : List ℕ → Head → Result Opened OpenFault
-with_head bytes head = chosen_area head.area bytes >>= area_of bytes head
+with_head bytes head = chosen_area head.areas bytes >>= area_of bytes head
 
 verdict-head : (bytes : List ℕ) → verdict bytes ≡ (head_of bytes >>= with_head bytes)
 unfolding verdict opening
@@ -110,19 +110,19 @@ pub head_unread : {A B : Type 0} (seen : A → Opened) (seen_first : B → Head)
 head_unread seen seen_first bytes error answer read told =
     subst (λ given. Answers seen given answer) (sym (verdict-head bytes)) (passed seen_first seen (head_of bytes) (with_head bytes) error answer read told)
 
-verdict-choice : (bytes : List ℕ) (head : Head) → head_of bytes ≡ Ok head → verdict bytes ≡ (chosen_area head.area bytes >>= area_of bytes head)
+verdict-choice : (bytes : List ℕ) (head : Head) → head_of bytes ≡ Ok head → verdict bytes ≡ (chosen_area head.areas bytes >>= area_of bytes head)
 verdict-choice bytes head is = verdict-head bytes ∙ ap (λ r. r >>= with_head bytes) is
 
 pub choice_unread : {A B : Type 0} (seen : A → Opened) (seen_first : B → Bool) (head : Head) (old now : Moment) (error : Unopened) (answer : Result A Unopened)
-    → head_of old.bytes ≡ Ok head → now ≡ old → Answers seen_first (chosen_area head.area now.bytes) (Err error) → answer ≡ Err error → Answers seen (verdict old.bytes) answer
+    → head_of old.bytes ≡ Ok head → now ≡ old → Answers seen_first (chosen_area head.areas now.bytes) (Err error) → answer ≡ Err error → Answers seen (verdict old.bytes) answer
 choice_unread {A} {B} seen seen_first head old now error answer is same read told =
     subst (λ given. Answers seen given answer) (sym (verdict-choice old.bytes head is))
-    (passed seen_first seen (chosen_area head.area old.bytes) (area_of old.bytes head) error answer (subst (λ m. Answers seen_first (chosen_area head.area m.bytes) (Err error)) same read) told)
+    (passed seen_first seen (chosen_area head.areas old.bytes) (area_of old.bytes head) error answer (subst (λ m. Answers seen_first (chosen_area head.areas m.bytes) (Err error)) same read) told)
 
 pub area_answered : {A : Type 0} (seen : A → Opened) (head : Head) (second : Bool) (old then now : Moment) (answer : Result A Unopened)
-    → head_of old.bytes ≡ Ok head → then ≡ old → chosen_area head.area then.bytes ≡ Ok second → now ≡ old
-    → Answers seen (area_in t414 t414_ends head second (content_of head.area second now.bytes)) answer → Answers seen (verdict old.bytes) answer
+    → head_of old.bytes ≡ Ok head → then ≡ old → chosen_area head.areas then.bytes ≡ Ok second → now ≡ old
+    → Answers seen (area_in t414 t414_ends head second (content_of head.areas second now.bytes)) answer → Answers seen (verdict old.bytes) answer
 area_answered {A} seen head second old then now answer is same chosen last read =
     subst (λ given. Answers seen given answer)
-    (sym (verdict-choice old.bytes head is ∙ ap (λ r. r >>= area_of old.bytes head) (ap (λ m. chosen_area head.area m.bytes) (sym same) ∙ chosen)))
+    (sym (verdict-choice old.bytes head is ∙ ap (λ r. r >>= area_of old.bytes head) (ap (λ m. chosen_area head.areas m.bytes) (sym same) ∙ chosen)))
     (subst (λ m. Answers seen (area_of m.bytes head second) answer) last read)

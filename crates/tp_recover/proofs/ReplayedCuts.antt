@@ -1,23 +1,18 @@
 -- What is replayed behind a cut can be opened as a book.
 use Rattle.std.proofs.Common.{◌≡◌, ℕ, ◌-◌, ◌<◌, true, List, [], ◌∷◌, length, map, get_or, sym, ap, subst, ◌∙◌, arith, Some}
-use Rattle.std.specs.Prelude.{◌&&◌, nat_le, nat_lt, bytes_eq, Ok}
+use Rattle.std.specs.Prelude.{◌&&◌, nat_le, nat_lt, Ok}
 use Rattle.std.specs.List.{AllByRecursion}
 use Rattle.std.specs.Option.{option_map}
 use Rattle.std.proofs.lemmas.Bool.{and_parts, ltb-true}
 use Rattle.std.proofs.lemmas.Option.{slice_get-map, slice_get-get_or}
-use Rattle.std.proofs.lemmas.List.{length-map}
-use Rattle.std.proofs.lemmas.Simd.{map-map}
-use Rattle.tp_model.specs.declared.link.Token.TheVariants.{Data, Ack, Marker}
 use Rattle.tp_model.specs.declared.entry.Entry.{Entry}
-use Rattle.tp_model.specs.declared.entry.Entry.TheVariants.{Run, Take, HostIn, Confirm}
-use Rattle.tp_model.specs.declared.limits.TheConstants.{NUMBER_LIMIT, ENTRY_LINES}
-use Rattle.tp_model.specs.Bytes.{u8_at, u16_at, u32_at}
+use Rattle.tp_model.specs.declared.limits.TheConstants.{NUMBER_LIMIT}
 use Rattle.tp_model.specs.NodeState.{NodeState}
 use Rattle.tp_model.specs.Image.{node_of}
 use Rattle.tp_model.specs.Node.{t414, t414_ends}
 use Rattle.tp_model.specs.Network.{Network, on_line}
 use Rattle.tp_model.specs.Entries.{next}
-use Rattle.tp_model.specs.EntryBytes.{entry_bytes, is_in_range, is_spelt, number_at, entry_of, entry_at}
+use Rattle.tp_model.specs.EntryBytes.{entry_at, is_in_range}
 use Rattle.tp_model.specs.Markers.{markers, plain}
 use Rattle.tp_model.specs.Numbers.{AreNumbered}
 use Rattle.tp_model.specs.Order.{after}
@@ -36,15 +31,15 @@ use Rattle.tp_port.specs.Counted.{AreCounted}
 use Rattle.tp_port.specs.Parts.{port_of}
 use Rattle.tp_book.specs.Kept.{AreInRange}
 use Rattle.tp_book.specs.Opened.{cut_of, now_of, IsOpened}
-use Rattle.tp_replay.specs.Flat.{IsFlat, TakesByte}
+use Rattle.tp_replay.specs.Flat.{IsFlat}
 use Rattle.tp_replay.specs.History.{IsHistory}
-use Rattle.tp_replay.specs.Replaying.{numbered}
 use Rattle.tp_replay.proofs.Counted.{counted_next}
 use Rattle.tp_replay.proofs.Flat.{flat_next, markers_next}
 use Rattle.tp_replay.proofs.History.{history_of}
 use Rattle.tp_law_device.proofs.UnmarkedLines.{lines_unmarked, plain_lines}
 use Rattle.tp_recover.proofs.HeldPorts.{EachPort, IsHeld, held_next}
 use Rattle.tp_recover.proofs.CutsAreFlat.{cut_flat, cut_counted, cut_held}
+use Rattle.tp_recover.proofs.Ranged.{entry_ranged, ranged_takes}
 
 -- ## What a replay keeps
 
@@ -66,26 +61,6 @@ replayed_first t base s topology C bytes = record {
   few = C.base_fits;
   ranged = tt;
 }
-
--- an entry that was read is in the range of its bytes
-entry_ranged : (row : List ℕ) (entry : Entry × ℕ) → entry_at row ≡ Some entry → is_in_range entry.0 ≡ true
-unfolding entry_at
-entry_ranged row entry e =
-    let read = entry_of (u8_at row 0) (u8_at row 1) (u16_at row 2) (u32_at row 4) in
-    let found = cond_some (is_spelt read (number_at row) && bytes_eq row (entry_bytes read (number_at row))) (Some (read, number_at row)) entry e in
-    let spelt = and_parts (is_spelt read (number_at row)) (bytes_eq row (entry_bytes read (number_at row))) found.0 in
-    let ranged = and_parts (is_in_range read) (nat_lt (number_at row) NUMBER_LIMIT) spelt.0 in
-    let same : read ≡ entry.0 = let one = found.1 in cc in
-    subst (λ (x : Entry). is_in_range x ≡ true) same ranged.0
-
--- so it takes a byte
-ranged_takes : (e : Entry) → is_in_range e ≡ true → TakesByte e
-ranged_takes (Run node count) h = tt
-ranged_takes (Take line (Data byte)) h = ltb-true byte 256 (and_parts (nat_lt line ENTRY_LINES) (nat_lt byte 256) h).1
-ranged_takes (Take line Ack) h = tt
-ranged_takes (Take line Marker) h = tt
-ranged_takes (HostIn port byte) h = tt
-ranged_takes (Confirm port upto) h = tt
 
 replayed_entry : (r : Replay NodeState) (entry : Entry × ℕ) (now : Network NodeState) → IsReplayed r → is_in_range entry.0 ≡ true → is_number r entry.1 ≡ true → next t414 r.now entry.0 ≡ Some now
     → IsReplayed (with_entry r entry now)
@@ -136,23 +111,23 @@ parts_held parts held k d below =
 
 -- A state of the parts is what opening leaves: the cut, the network that the replay led to, and the entries with their numbers.
 pub replayed_opened : (t : Topology) (base : ℕ) (s : Network NodeState) (rows : List (ℕ × List ℕ)) (r : Replay NodeState) (o : NetState) → is_topology t ≡ true → IsCut t414_ends t base s
-    → AllByRecursion IsNodeOfBytes s.nodes → after_rows t414 (replay_from s base) rows ≡ Ok r → cut_of o ≡ s → now_of o ≡ r.now → map numbered o.kept.items ≡ r.kept → o.base ≡ base → o.next ≡ r.next
+    → AllByRecursion IsNodeOfBytes s.nodes → after_rows t414 (replay_from s base) rows ≡ Ok r → cut_of o ≡ s → now_of o ≡ r.now → o.kept.items ≡ r.kept → o.base ≡ base → o.next ≡ r.next
     → o.generation < NUMBER_LIMIT → map (λ image. node_of image.items) o.net.images.items ≡ map (λ node. Some node) (now_of o).nodes → IsOpened o
 replayed_opened t base s rows r o topology C bytes is cut now kept base_is next_is age images =
     let R = replayed_holds t base s rows r topology C bytes is in
     let history : IsHistory t414 s base r = history_of t414 s base r rows is in
-    let entries : map (λ n. n.entry) o.kept.items ≡ map (λ (e : Entry × ℕ). e.0) r.kept = sym (map-map (λ (e : Entry × ℕ). e.0) numbered o.kept.items) ∙ ap (map (λ (e : Entry × ℕ). e.0)) kept in
-    let numbers : map (λ n. n.number) o.kept.items ≡ map (λ (e : Entry × ℕ). e.1) r.kept = sym (map-map (λ (e : Entry × ℕ). e.1) numbered o.kept.items) ∙ ap (map (λ (e : Entry × ℕ). e.1)) kept in
+    let entries : map (λ (e : Entry × ℕ). e.0) o.kept.items ≡ map (λ (e : Entry × ℕ). e.0) r.kept = ap (map (λ (e : Entry × ℕ). e.0)) kept in
+    let numbers : map (λ (e : Entry × ℕ). e.1) o.kept.items ≡ map (λ (e : Entry × ℕ). e.1) r.kept = ap (map (λ (e : Entry × ℕ). e.1)) kept in
     let flat : IsFlat (now_of o) = subst IsFlat (sym now) R.flat in
     let held : EachPort IsHeld (now_of o).ports = subst (λ x. EachPort IsHeld x.ports) (sym now) R.held in
     record {
-      history = ap (λ x. after t414 x (map (λ n. n.entry) o.kept.items)) cut ∙ ap (after t414 s) entries ∙ history.leads ∙ ap (λ x. Some x) (sym now);
+      history = ap (λ x. after t414 x (map (λ (e : Entry × ℕ). e.0) o.kept.items)) cut ∙ ap (after t414 s) entries ∙ history.leads ∙ ap (λ x. Some x) (sym now);
       sound = flat.sound;
       shaped = record { wires = flat.shaped.wires; few_nodes = flat.shaped.few_nodes; few_ports = flat.shaped.few_ports };
       lines = flat.shaped.lines ∙ sym flat.shaped.wires;
       unmarked = subst (λ x. map plain x.lines ≡ x.lines) (sym now) (plain_lines r.now.lines R.unmarked);
-      numbered = subst (λ least. AreNumbered 0 least (map (λ n. n.number) o.kept.items)) (sym base_is) (subst (AreNumbered 0 base) (sym numbers) history.numbered);
-      next = omega (arith, next_is, history.next, base_is, ap length kept, length-map o.kept.items numbered, o.kept.ok.0);
+      numbered = subst (λ least. AreNumbered 0 least (map (λ (e : Entry × ℕ). e.1) o.kept.items)) (sym base_is) (subst (AreNumbered 0 base) (sym numbers) history.numbered);
+      next = omega (arith, next_is, history.next, base_is, ap length kept, o.kept.ok.0);
       few = omega (arith, next_is, R.few);
       age = age;
       ranged = subst AreInRange (sym entries) (ranged_entries r.kept R.ranged);

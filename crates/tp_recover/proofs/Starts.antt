@@ -1,5 +1,5 @@
 -- What was read of an area before its groups can be replayed from.
-use Rattle.std.proofs.Common.{◌≡◌, ℕ, zero, suc, ◌<◌, ◌≤◌, List, [], ◌∷◌, length, map, get_or, refl, ap, subst, ◌∙◌, arith, true, Option, Some, None, slice_get}
+use Rattle.std.proofs.Common.{◌≡◌, ℕ, zero, suc, ◌<◌, ◌≤◌, List, [], ◌∷◌, length, map, get_or, ap, subst, ◌∙◌, arith, true, Option, Some, None, slice_get}
 use Rattle.std.specs.Prelude.{All, ◌&&◌, Vec, vec_len}
 use Rattle.std.specs.declared.alloc.Global.{Global}
 use Rattle.std.proofs.lemmas.Bool.{and_parts, false≢true}

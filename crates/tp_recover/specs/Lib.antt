@@ -5,4 +5,7 @@ pub mod Opens
 pub mod Parts
 pub mod Ports
 pub mod Reading
+pub mod RowsAnswers
+pub mod RowsInside
+pub mod RowsRead
 pub mod Starts

@@ -31,5 +31,5 @@ pub record IsInside (o : Inside) : Type 0 where
   pub nodes : AllByRecursion IsNodeOfBytes o.cut.network.nodes
   pub age : o.generation < NUMBER_LIMIT
   pub leads : LeadsTo (replay_from o.cut.network o.base) o.replay
-  pub behind : area_start o.head.area o.second + AREA_HEAD_BYTES ≤ o.end
-  pub inside : o.end < area_start o.head.area o.second + o.head.area
+  pub behind : area_start o.head.areas o.second + AREA_HEAD_BYTES ≤ o.end
+  pub inside : o.end < area_start o.head.areas o.second + o.head.areas.length

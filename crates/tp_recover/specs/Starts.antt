@@ -32,8 +32,8 @@ read_of start = read_as start.front start.cut.network
 -- what stands in front of an area's groups
 abbrev pub read_in : Head → Bool → List ℕ → Result Read OpenFault
 read_in head second content = do
-  front ← front_given head.topology (area_start head.area second) content
-  cut ← cut_in t414_ends head.topology (area_start head.area second + 1) content
+  front ← front_given head.topology (area_start head.areas second) content
+  cut ← cut_in t414_ends head.topology (area_start head.areas second + 1) content
   Ok (read_as front cut)
 
 -- Nothing is replayed so far, the cut is one of that head's topology, whose nodes were read of bytes, and the generation is one.
@@ -46,7 +46,7 @@ pub record IsStart (head : Head) (start : Start) : Type 0 where
 -- what is read of the groups of an area
 abbrev pub groups_of : Head → Bool → List ℕ → Listing
 groups_of head second content =
-    listing 0 (area_start head.area second + 1 + groups_place head.topology) (drop (groups_place head.topology) content)
+    listing 0 (area_start head.areas second + 1 + groups_place head.topology) (drop (groups_place head.topology) content)
 
 -- what is opened, by what was read and what was replayed, up to a closed gate that stands here
 abbrev pub opened_with : Head → Bool → Read → Replay NodeState × ℕ → Opened

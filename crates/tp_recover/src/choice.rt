@@ -2,7 +2,7 @@
 
 ghost use Rattle.std.specs.Prelude.{◌≡◌, ◌+◌, ◌*◌, ◌^◌, ◌<◌, ◌≤◌, length};
 ghost use Rattle.tp_model.specs.DiskHistory.{Counts};
-ghost use Rattle.tp_model.specs.Device.{area_start};
+ghost use Rattle.tp_model.specs.Device.{areas_end};
 ghost use Rattle.tp_model.specs.Opening.{choice, chosen_area};
 ghost use Rattle.tp_recover.specs.Reading.{has_read, found, Answers, IsKept, LeavesNothingNew, TakesNone};
 ghost use Rattle.tp_layout.specs.Fronts.{area_front};
@@ -11,8 +11,7 @@ use crate::device::read_array;
 use crate::unopened::Unopened;
 use tp_disk::Disk;
 use tp_layout::{AREA_FRONT_BYTES, AreaFront, area_front, area_start};
-use tp_model::OpenFault;
-use tp_model::limits::HEAD_BYTES;
+use tp_model::{OpenFault, TwoAreas};
 
 /// Reads the front of the area that begins at `start`.
 fn read_area_front<D: Disk>(disk: &mut D, start: u64) -> Result<AreaFront, Unopened>
@@ -41,19 +40,19 @@ fn choose(at: u64, first: AreaFront, second: AreaFront) -> Result<bool, OpenFaul
     }
 }
 
-/// Reads which area of a device is taken: whether it is the second one. Each area has `area` bytes.
-pub fn read_choice<D: Disk>(disk: &mut D, area: u64) -> Result<bool, Unopened>
-    requires some { 9 ≤ area }
-    requires inside { HEAD_BYTES + 2 * area ≤ D.size_of disk.old }
-    requires counted { HEAD_BYTES + area < 2 ^ 64 }
+/// Reads which area of a device is taken: whether it is the second one. Its areas are `areas`.
+pub fn read_choice<D: Disk>(disk: &mut D, areas: TwoAreas) -> Result<bool, Unopened>
+    requires some { 9 ≤ areas.length }
+    requires inside { areas_end areas ≤ D.size_of disk.old }
+    requires counted { areas.first + areas.length < 2 ^ 64 }
     ensures takes_none { TakesNone result }
     ensures counts { Counts (has_read result) (D.size_of disk.old) (D.size_of disk.new) (D.failures_of disk.old) (D.failures_of disk.new) }
     ensures kept { D.keeps → IsKept result (D.state disk.old).now (D.state disk.new).now }
     ensures leaves { D.keeps → LeavesNothingNew (D.state disk.old) (D.state disk.new) }
-    ensures is { D.keeps → Answers (λ second. second) (chosen_area area (D.state disk.old).now.bytes) result }
+    ensures is { D.keeps → Answers (λ second. second) (chosen_area areas (D.state disk.old).now.bytes) result }
 {
-    let first = read_area_front(disk, area_start(area, false))?;
-    let start = area_start(area, true);
+    let first = read_area_front(disk, area_start(areas, false))?;
+    let start = area_start(areas, true);
     let second = read_area_front(disk, start)?;
     match choose(start, first, second) {
         Ok(second) => Ok(second),

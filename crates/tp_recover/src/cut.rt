@@ -3,7 +3,7 @@
 ghost use Rattle.std.specs.Prelude.{◌≡◌, ◌+◌, ◌*◌, ◌≤◌, ◌<◌, ◌^◌, ℕ, true, Ok, IfOk, map, length, sum_by};
 ghost use Rattle.std.specs.List.{AllByRecursion};
 ghost use Rattle.tp_law_machine.specs.NodeOfBytes.{IsNodeOfBytes};
-ghost use Rattle.tp_model.specs.Device.{area_start, content_of};
+ghost use Rattle.tp_model.specs.Device.{area_start, areas_end, content_of};
 ghost use Rattle.tp_model.specs.DiskHistory.{Counts};
 ghost use Rattle.tp_model.specs.Flight.{flights_in};
 ghost use Rattle.tp_model.specs.Journal.{image_length};
@@ -22,12 +22,13 @@ ghost use Rattle.tp_recover.specs.Reading.{has_read, Answers, IsKept, LeavesNoth
 use crate::flights::{CutParts, flights};
 use crate::line::read_lines;
 use crate::node::read_nodes;
+use crate::places::places_in;
 use crate::port::read_ports;
 use crate::unopened::Unopened;
 use std::alloc::{AllocError, Global};
 use tp_disk::Disk;
-use tp_layout::{Head, LineTokens, Places, area_start};
-use tp_model::limits::{HEAD_BYTES, LINE_BYTES, MAX_NODES, MAX_PORTS, PORT_BYTES};
+use tp_layout::{Head, LineTokens, Places};
+use tp_model::limits::{LINE_BYTES, MAX_NODES, MAX_PORTS, PORT_BYTES};
 use tp_model::{OpenFault, Token, WireEnd};
 use tp_net::MAX_LINES;
 use tp_node::Node;
@@ -111,7 +112,7 @@ fn check_flights(wires: &[Option<WireEnd>], cut: &Cut, at: u64) -> Result<(), Op
     requires few { length cut.now.nodes.items ≤ MAX_NODES }
     requires few_ports { length cut.now.ports.items ≤ MAX_PORTS }
     requires wired { length wires.now ≡ 4 * length cut.now.nodes.items + length cut.now.ports.items }
-    requires fits { at + 2 ^ 32 < 2 ^ 64 }
+    requires fits { at + LINE_BYTES * length wires.now < 2 ^ 64 }
     ensures { result ≡ flights_in t414_ends (cut_network wires.now cut.now) at 0 (length wires.now) }
 {
     let parts = CutParts {
@@ -133,7 +134,7 @@ pub fn read_cut<D: Disk>(
     second: bool,
     base: u64,
 ) -> Result<Cut, Unopened>
-    requires { HEAD_BYTES + 2 * head.now.area ≤ D.size_of disk.old }
+    requires { areas_end head.now.areas ≤ D.size_of disk.old }
     ensures counts { Counts (has_read result) (D.size_of disk.old) (D.size_of disk.new) (D.failures_of disk.old) (D.failures_of disk.new) }
     ensures kept { D.keeps → IsKept result (D.state disk.old).now (D.state disk.new).now }
     ensures leaves { D.keeps → LeavesNothingNew (D.state disk.old) (D.state disk.new) }
@@ -143,12 +144,11 @@ pub fn read_cut<D: Disk>(
     ensures cut { base < NUMBER_LIMIT → IfOk result (λ cut. IsCut t414_ends head.now.topology base (cut_network head.now.topology.wires cut)) }
     ensures images { IfOk result (λ cut. AllByRecursion IsNodeOfBytes (map live cut.nodes.items)) }
     ensures thawed { IfOk result (λ cut. AreThawed cut.nodes.items) }
-    ensures is { D.keeps → base ≡ base_of (content_of head.now.area second (D.state disk.old).now.bytes)
-        → Answers (cut_network head.now.topology.wires) (cut_in t414_ends head.now.topology (area_start head.now.area second + 1) (content_of head.now.area second (D.state disk.old).now.bytes)) result }
+    ensures is { D.keeps → base ≡ base_of (content_of head.now.areas second (D.state disk.old).now.bytes)
+        → Answers (cut_network head.now.topology.wires) (cut_in t414_ends head.now.topology (area_start head.now.areas second + 1) (content_of head.now.areas second (D.state disk.old).now.bytes)) result }
 {
     let topology = head.topology();
-    let start = area_start(head.area(), second);
-    let places = Places::of(topology, start + 1);
+    let places = places_in(head, second);
     let cut = read_records(
         alloc,
         disk,

@@ -114,7 +114,7 @@ pub(crate) fn flights(parts: CutParts<'_>, at: u64) -> Result<(), OpenFault>
     requires few { length parts.nodes.now ≤ MAX_NODES }
     requires few_ports { length parts.ports.now ≤ MAX_PORTS }
     requires wired { length parts.wires.now ≡ 4 * length parts.nodes.now + length parts.ports.now }
-    requires fits { at + 2 ^ 32 < 2 ^ 64 }
+    requires fits { at + LINE_BYTES * length parts.wires.now < 2 ^ 64 }
     ensures { result ≡ flights_in t414_ends (network_in parts.entry) at 0 (length parts.entry.wires.now) }
 {
     for line in 0..parts.wires.len() {

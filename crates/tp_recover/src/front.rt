@@ -1,7 +1,7 @@
 //! The fields in front of an area's node images.
 
 ghost use Rattle.std.specs.Prelude.{◌≡◌, ◌+◌, ◌*◌, ◌≤◌, ◌<◌, length, IfOk};
-ghost use Rattle.tp_model.specs.Device.{area_start, content_of};
+ghost use Rattle.tp_model.specs.Device.{area_start, areas_end, content_of};
 ghost use Rattle.tp_model.specs.DiskHistory.{Counts};
 ghost use Rattle.tp_layout.specs.Fronts.{front_given};
 ghost use Rattle.tp_recover.specs.Reading.{has_read, Answers, IsKept, LeavesNothingNew, TakesNone};
@@ -10,21 +10,21 @@ use crate::device::read_array;
 use crate::unopened::Unopened;
 use tp_disk::Disk;
 use tp_layout::{CutFront, FIELDS_BYTES, Head, area_start, cut_front, cut_length};
-use tp_model::limits::{HEAD_BYTES, NUMBER_LIMIT};
+use tp_model::limits::NUMBER_LIMIT;
 
 /// Reads the fields in front of an area's node images.
 pub fn read_front<D: Disk>(disk: &mut D, head: &Head, second: bool) -> Result<CutFront, Unopened>
-    requires { HEAD_BYTES + 2 * head.now.area ≤ D.size_of disk.old }
+    requires { areas_end head.now.areas ≤ D.size_of disk.old }
     ensures takes_none { TakesNone result }
     ensures counts { Counts (has_read result) (D.size_of disk.old) (D.size_of disk.new) (D.failures_of disk.old) (D.failures_of disk.new) }
     ensures kept { D.keeps → IsKept result (D.state disk.old).now (D.state disk.new).now }
     ensures leaves { D.keeps → LeavesNothingNew (D.state disk.old) (D.state disk.new) }
     ensures few { IfOk result (λ front. front.base < NUMBER_LIMIT) }
     ensures age { IfOk result (λ front. front.generation < NUMBER_LIMIT) }
-    ensures is { D.keeps → Answers (λ front. front) (front_given head.now.topology (area_start head.now.area second) (content_of head.now.area second (D.state disk.old).now.bytes)) result }
+    ensures is { D.keeps → Answers (λ front. front) (front_given head.now.topology (area_start head.now.areas second) (content_of head.now.areas second (D.state disk.old).now.bytes)) result }
 {
     let wanted = cut_length(head.topology());
-    let start = area_start(head.area(), second);
+    let start = area_start(head.areas(), second);
     let bytes: [u8; FIELDS_BYTES] = read_array(disk, start + 1)?;
     match cut_front(&bytes, wanted, start) {
         Ok(front) => Ok(front),

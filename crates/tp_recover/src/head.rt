@@ -1,6 +1,7 @@
 //! The head of a device.
 
 ghost use Rattle.std.specs.Prelude.{◌≡◌, ◌+◌, ◌*◌, ◌≤◌, ◌<◌, ◌^◌, IfOk};
+ghost use Rattle.tp_model.specs.Device.{areas_end};
 ghost use Rattle.tp_model.specs.Head.{head_of};
 ghost use Rattle.tp_model.specs.DiskHistory.{Counts};
 ghost use Rattle.tp_recover.specs.Reading.{has_read, Answers, IsKept, LeavesNothingNew, TakesNone};
@@ -18,7 +19,7 @@ pub fn read_head<D: Disk>(disk: &mut D) -> Result<Head, Unopened>
     ensures counts { Counts (has_read result) (D.size_of disk.old) (D.size_of disk.new) (D.failures_of disk.old) (D.failures_of disk.new) }
     ensures kept { D.keeps → IsKept result (D.state disk.old).now (D.state disk.new).now }
     ensures leaves { D.keeps → LeavesNothingNew (D.state disk.old) (D.state disk.new) }
-    ensures inside { IfOk result (λ head. HEAD_BYTES + 2 * head.area ≤ D.size_of disk.old) }
+    ensures inside { IfOk result (λ head. areas_end head.areas ≤ D.size_of disk.old) }
     ensures counted { IfOk result (λ head. D.size_of disk.old < 2 ^ 64) }
     ensures is { D.keeps → Answers (λ head. head) (head_of (D.state disk.old).now.bytes) result }
 {

@@ -1,6 +1,7 @@
 //! Opening a device: its head, the choice of an area, the cut, and the groups behind it.
 #![tactic(auto)]
 
+mod ahead;
 mod choice;
 mod cut;
 mod device;
@@ -11,13 +12,16 @@ mod head;
 mod line;
 mod node;
 mod opening;
+mod places;
 mod port;
 mod roomy;
+mod rows;
 mod start;
 mod state;
 mod store;
 mod unopened;
 
+pub use ahead::read_rows;
 pub use choice::read_choice;
 pub use cut::{Cut, read_cut};
 pub use front::read_front;
@@ -25,6 +29,7 @@ pub use groups::replay_area;
 pub use head::read_head;
 pub use opening::{Opened, open};
 pub use roomy::books_find_room;
+pub use rows::Rows;
 pub use store::open_store;
 pub use tp_law_device::{crashes_hold, every_run_holds};
 pub use unopened::Unopened;

@@ -17,8 +17,8 @@ ghost use Rattle.tp_area.specs.Tails.{tail_refusal};
 /// tail of a whole cut as too long. The function does nothing; its contract is the law.
 pub fn books_find_room()
     ensures appended { (bytes : List ℕ) (o : Opened) (floor entries count : ℕ) → AllByRecursion (λ byte. byte < 256) bytes → verdict bytes ≡ Ok o
-        → FitsRoom (Some (room o.head.topology o.head.area)) floor entries → floor ≤ length o.kept → 1 ≤ count → length o.kept + count ≤ entries
+        → FitsRoom (Some (room o.head.topology o.head.areas.length)) floor entries → floor ≤ length o.kept → 1 ≤ count → length o.kept + count ≤ entries
         → append_refusal false (place_at o) count ≡ None }
-    ensures put { (bytes : List ℕ) (o : Opened) (place : Place) (tail : List (Entry × ℕ)) → verdict bytes ≡ Ok o → place.area ≡ o.head.area → AllByRecursion (λ e. IsSpelt e.0 e.1) tail
-        → FitsRoom (Some (room o.head.topology o.head.area)) 0 (length tail) → tail_refusal false place o.head.topology tail ≡ None }
+    ensures put { (bytes : List ℕ) (o : Opened) (place : Place) (tail : List (Entry × ℕ)) → verdict bytes ≡ Ok o → place.areas ≡ o.head.areas → AllByRecursion (λ e. IsSpelt e.0 e.1) tail
+        → FitsRoom (Some (room o.head.topology o.head.areas.length)) 0 (length tail) → tail_refusal false place o.head.topology tail ≡ None }
 {}

@@ -2,9 +2,9 @@
 
 ghost use Rattle.std.specs.Prelude.{◌≡◌, ◌+◌, ◌*◌, ◌≤◌, All, IfOk, vec_len};
 ghost use Rattle.tp_port.specs.Parts.{port_of};
-ghost use Rattle.tp_model.specs.Device.{content_of};
+ghost use Rattle.tp_model.specs.Device.{areas_end, content_of};
 ghost use Rattle.tp_model.specs.DiskHistory.{Counts};
-ghost use Rattle.tp_model.specs.declared.limits.TheConstants.{HEAD_BYTES, MAX_HELD};
+ghost use Rattle.tp_model.specs.declared.limits.TheConstants.{MAX_HELD};
 ghost use Rattle.tp_net.specs.declared.line.TheConstants.{LINE_TOKENS};
 ghost use Rattle.tp_recover.specs.Cuts.{cut_network};
 ghost use Rattle.tp_recover.specs.Nodes.{AreThawed};
@@ -64,12 +64,12 @@ pub(crate) fn read_start<D: Disk>(
     head: &Head,
     second: bool,
 ) -> Result<Start, Unopened>
-    requires { HEAD_BYTES + 2 * head.now.area ≤ D.size_of disk.old }
+    requires { areas_end head.now.areas ≤ D.size_of disk.old }
     ensures counts { Counts (has_read result) (D.size_of disk.old) (D.size_of disk.new) (D.failures_of disk.old) (D.failures_of disk.new) }
     ensures kept { D.keeps → IsKept result (D.state disk.old).now (D.state disk.new).now }
     ensures leaves { D.keeps → LeavesNothingNew (D.state disk.old) (D.state disk.new) }
     ensures start { IfOk result (IsStart head.now) }
-    ensures is { D.keeps → Answers read_of (read_in head.now second (content_of head.now.area second (D.state disk.old).now.bytes)) result }
+    ensures is { D.keeps → Answers read_of (read_in head.now second (content_of head.now.areas second (D.state disk.old).now.bytes)) result }
 {
     let front = read_front(disk, head, second)?;
     let cut = read_cut(alloc, disk, head, second, front.base)?;

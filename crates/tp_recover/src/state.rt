@@ -1,10 +1,9 @@
 //! The state that a book is opened from.
 
-ghost use Rattle.std.specs.Prelude.{◌≡◌, if◌then◌else◌, map, Some, IfOk};
+ghost use Rattle.std.specs.Prelude.{◌≡◌, if◌then◌else◌, Some, IfOk};
 ghost use Rattle.tp_book.specs.Opened.{cut_of, now_of, IsOpened};
 ghost use Rattle.tp_model.specs.Journal.{room};
 ghost use Rattle.tp_model.specs.Opening.{next_of};
-ghost use Rattle.tp_replay.specs.Replaying.{numbered};
 
 use crate::opening::Opened;
 use std::alloc::{AllocError, Global};
@@ -14,9 +13,9 @@ use tp_layout::journal_room;
 impl Opened {
     /// The bytes that groups may fill in an area, to which a book's journal is bound.
     pub fn journal_room(&self) -> u64
-        ensures { result ≡ room self.now.head.topology self.now.head.area }
+        ensures { result ≡ room self.now.head.topology self.now.head.areas.length }
     {
-        journal_room(self.head.topology(), self.head.area())
+        journal_room(self.head.topology(), self.head.areas().length)
     }
 
     /// The state that a book is opened from: the network's parts are made anew, and the entries are moved.
@@ -27,14 +26,14 @@ impl Opened {
         ensures cut { IfOk result (λ state. cut_of state ≡ self.cut) }
         ensures now { IfOk result (λ state. now_of state ≡ self.now) }
         ensures base { IfOk result (λ state. state.base ≡ self.base) }
-        ensures kept { IfOk result (λ state. map numbered state.kept.items ≡ self.kept) }
+        ensures kept { IfOk result (λ state. state.kept.items ≡ self.kept) }
         ensures next { IfOk result (λ state. state.next ≡ next_of self) }
         ensures generation { IfOk result (λ state. state.generation ≡ self.generation) }
-        ensures area { IfOk result (λ state. state.area ≡ Some self.head.area) }
+        ensures area { IfOk result (λ state. state.area ≡ Some self.head.areas.length) }
         ensures open_area { IfOk result (λ state. state.open_area ≡ (if self.second then 1 else 0)) }
     {
         let _topology = self.head.topology();
-        let area = self.head.area();
+        let area = self.head.areas().length;
         let (mut network, kept, next) = self.replay.into_parts();
         let net = network.parts(alloc)?;
         Ok(NetState {

@@ -2,11 +2,11 @@
 
 ghost use Rattle.std.specs.Prelude.{◌≡◌, ◌+◌, ◌*◌, ◌^◌, ◌<◌, ◌≤◌, true, false, Ok, Err, IfOk};
 ghost use Rattle.tp_area.specs.Places.{place_at};
-ghost use Rattle.tp_model.specs.Device.{area_start};
+ghost use Rattle.tp_model.specs.Device.{area_start, areas_end};
 ghost use Rattle.tp_model.specs.Disk.{Sync, done};
 ghost use Rattle.tp_model.specs.DiskHistory.{Counts};
 ghost use Rattle.tp_model.specs.Opening.{verdict};
-ghost use Rattle.tp_model.specs.declared.limits.TheConstants.{AREA_HEAD_BYTES, HEAD_BYTES};
+ghost use Rattle.tp_model.specs.declared.limits.TheConstants.{AREA_HEAD_BYTES};
 ghost use Rattle.tp_recover.specs.Reading.{Answers, LeavesNothingNew};
 ghost use Rattle.tp_recover.specs.declared.unopened.Unopened.TheVariants.{ReadFailed};
 
@@ -20,11 +20,11 @@ impl Opened {
     /// Where the next group goes: within the open area, behind its head.
     pub fn place(&self) -> Place
         ensures value { result ≡ place_at self.now }
-        ensures behind { area_start result.area result.second + AREA_HEAD_BYTES ≤ result.end }
-        ensures inside { result.end < area_start result.area result.second + result.area }
+        ensures behind { area_start result.areas result.second + AREA_HEAD_BYTES ≤ result.end }
+        ensures inside { result.end < area_start result.areas result.second + result.areas.length }
     {
         Place {
-            area: self.head().area(),
+            areas: self.head().areas(),
             second: self.second(),
             generation: self.generation(),
             end: self.end(),
@@ -34,7 +34,7 @@ impl Opened {
 
     /// The store over the device that this was read of.
     pub fn store<D: Disk>(&self, disk: D) -> Store<D>
-        requires whole { HEAD_BYTES + 2 * self.now.head.area ≤ D.size_of disk }
+        requires whole { areas_end self.now.head.areas ≤ D.size_of disk }
         requires counted { D.size_of disk < 2 ^ 64 }
         requires read { D.keeps → verdict (D.state disk).now.bytes ≡ Ok self.now }
         ensures disk { result.disk ≡ disk }

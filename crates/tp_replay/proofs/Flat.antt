@@ -1,6 +1,6 @@
 -- Every entry keeps what networks in one thread keep, and what it sends finds room.
 use Rattle.std.proofs.Common.{◌≡◌, ℕ, ◌<◌, ◌≤◌, inl, inr, List, length, sym, ap, subst, ◌∙◌, arith, Option, Some, None, slice_get}
-use Rattle.std.specs.Prelude.{nat_lt, nat_le, ◌&&◌}
+use Rattle.std.specs.Prelude.{nat_lt, nat_le, ◌&&◌, length}
 use Rattle.std.specs.Option.{option_map}
 use Rattle.std.proofs.lemmas.Bool.{cases_eq}
 use Rattle.std.proofs.lemmas.Option.{slice_get_within}
@@ -85,13 +85,13 @@ module _ (s : Network NodeState) (F : IsFlat s) (e : Entry) (t : Network NodeSta
   shape = step_shape t414 has_four_links s e t S
 
   now_stays : TakesByte e → Stays S.now
-  now_stays low = does_stays s e S.was (S.now, S.sends) (own_stays s F (process s e) S.was S.own_was) low S.change
+  now_stays low = does_stays s e S.was (S.now, S.sends) (own_stays s F (process s.wires (length s.nodes) e) S.was S.own_was) low S.change
 
   nodes_step : TakesByte e → (i : ℕ) (n : NodeState) → slice_get t.nodes i ≡ Some n → IsNodeOfBytes n
   nodes_step low i n at =
       let below : i < length t.nodes = slice_get_within t.nodes i n at in
       let here : own t i ≡ Some (OfNode n) = own-node t i (λ same. omega arith) ∙ ap (option_map OfNode) at in
-      elim (cases_eq i (process s e)) [
+      elim (cases_eq i (process s.wires (length s.nodes) e)) [
         | inl mine ↦ stays_node S.now n (sym (step_own_same t414 has_four_links s e t S) ∙ ap (own t) (sym mine) ∙ here) (now_stays low)
         | inr other ↦ F.nodes i n (own_node s i n (sym (step_own_other t414 has_four_links s e t S i other) ∙ here)).1
       ]
@@ -123,7 +123,7 @@ module _ (s : Network NodeState) (F : IsFlat s) (e : Entry) (t : Network NodeSta
   pub room_step : HasRoom (has_wire s.wires) S.out S.sends
   room_step =
       room_before (has_wire s.wires) S.out S.sends
-      (λ l y. omega (arith, length_taken s.lines (takes s e) S.out S.takes_out, F.sound.there l y))
+      (λ l y. omega (arith, length_taken s.lines (takes s.wires (length s.nodes) e) S.out S.takes_out, F.sound.there l y))
       (λ l. subst (λ ls. length (on_line ls l) ≤ 3) (step_lines t414 has_four_links s e t S) (omega (arith, line_room sound_step l, marked_step l)))
 
 -- Every entry keeps it.

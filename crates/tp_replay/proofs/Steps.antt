@@ -1,5 +1,5 @@
 -- Each kind of entry, where it is possible: a step of the network.
-use Rattle.std.proofs.Common.{◌≡◌, ℕ, ◌+◌, ◌*◌, ◌<◌, ◌≤◌, true, cond, List, [], ◌∷◌, length, map, set, drop, refl, ap, ◌∙◌, arith, Option, Some, None, slice_get}
+use Rattle.std.proofs.Common.{◌≡◌, ℕ, ◌+◌, ◌*◌, ◌<◌, ◌≤◌, true, cond, List, [], ◌∷◌, length, map, set, drop, refl, ap, ◌∙◌, Some, None, slice_get}
 use Rattle.std.specs.Prelude.{nat_le, ◌&&◌}
 use Rattle.std.specs.Option.{option_map}
 use Rattle.std.proofs.lemmas.Bool.{lt-ltb, le-leb}
@@ -11,7 +11,7 @@ use Rattle.tp_model.specs.declared.limits.TheConstants.{MAX_STEPS}
 use Rattle.tp_model.specs.NodeState.{NodeState}
 use Rattle.tp_model.specs.Node.{t414, took}
 use Rattle.tp_model.specs.Network.{steps, Port, Network, OfNode, OfHost, own, put, receiver, has_wire, process_at, on_line, is_first, taken, sent}
-use Rattle.tp_model.specs.Entries.{process, takes, of_node, of_port, receives, port_took, handed_in, confirmed, does}
+use Rattle.tp_model.specs.Entries.{process, takes, of_node, receives, port_took, handed_in, confirmed, does}
 use Rattle.tp_law_network.proofs.Lines.{cons_taken}
 use Rattle.tp_law_network.proofs.Local.{Step, own-host}
 pub use Rattle.tp_port.proofs.Owns.{own_there}

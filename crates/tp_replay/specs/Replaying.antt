@@ -1,19 +1,13 @@
 -- What is replayed so far, in its fields.
-use Rattle.std.specs.Prelude.{◌<◌, ℕ, map}
-use Rattle.tp_model.specs.declared.entry.Entry.{Entry}
+use Rattle.std.specs.Prelude.{◌<◌}
 use Rattle.tp_model.specs.declared.limits.TheConstants.{NUMBER_LIMIT}
 use Rattle.tp_model.specs.NodeState.{NodeState}
 use Rattle.tp_model.specs.Replay.{Replay}
 use Rattle.tp_port.specs.Counted.{AreCounted}
-use Rattle.tp_book.specs.declared.note.Numbered.{Numbered}
 use Rattle.tp_replay.specs.declared.replaying.Replay.TheInside.{Inside}
 
--- an entry with its number
-abbrev pub numbered : Numbered → Entry × ℕ
-numbered n = (n.entry, n.number)
-
 abbrev pub replay_of : Inside → Replay NodeState
-replay_of r = record { now = r.network; kept = map numbered r.kept.items; next = r.next; least = r.least }
+replay_of r = record { now = r.network; kept = r.kept.items; next = r.next; least = r.least }
 
 -- A number is left for the next entry, and what ports have counted is no more than there are entries.
 pub record IsReplay (r : Inside) : Type 0 where

@@ -52,6 +52,15 @@ impl FlatNetwork {
         }
     }
 
+    /// The wires, the nodes, the lines and the ports.
+    pub fn into_fields(self) -> (Vec<Option<WireEnd>>, Vec<Node>, Lines, Vec<HostPort>)
+        ensures is { network_of result.0.items result.1.items result.2 result.3.items ≡ self }
+        ensures flat { IsFlat self }
+        ensures thawed { AreThawed result.1.items }
+    {
+        (self.wires, self.nodes, self.lines, self.ports)
+    }
+
     /// What every flat network keeps. It does nothing.
     pub fn known(&self)
         ensures { IsFlat self.now }

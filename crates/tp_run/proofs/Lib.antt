@@ -6,3 +6,4 @@ mod Shown
 pub mod Slips
 pub mod Compacts
 pub mod Worked
+pub mod Composes

@@ -1,20 +1,16 @@
--- What is made of a device that opened, and what the flusher is first told.
-use Rattle.std.proofs.Common.{◌≡◌, ℕ, ◌+◌, List, [], length, take, Option, Some, sym, ap, ◌∙◌, append-nil}
-use Rattle.std.specs.Prelude.{get_or, map}
-use Rattle.std.proofs.lemmas.List.{length-map}
+-- What is made of a device that opened.
+use Rattle.std.proofs.Common.{◌≡◌, ℕ, [], length, Option, sym, ap, ◌∙◌}
+use Rattle.std.specs.Prelude.{get_or}
 use Rattle.tp_model.specs.NodeState.{NodeState}
 use Rattle.tp_model.specs.Node.{t414_ends}
 use Rattle.tp_model.specs.Network.{Network, Port}
 use Rattle.tp_model.specs.Snapshot.{MarkedNetwork}
-use Rattle.tp_model.specs.Opening.{Opened, held_of, next_of}
-use Rattle.tp_model.specs.Runs.{World, reopened}
+use Rattle.tp_model.specs.Opening.{Opened, next_of}
 use Rattle.tp_model.specs.Spelling.{IsCut}
-use Rattle.tp_replay.specs.Replaying.{numbered}
 use Rattle.tp_book.specs.declared.state.NetState.{NetState}
 use Rattle.tp_book.specs.Opened.{now_of, opened_book}
 use Rattle.tp_mark.specs.Seen.{RaiserValue}
 use Rattle.tp_shared.specs.Parted.{PartsValue}
-use Rattle.tp_shared.specs.Told.{IsFirst, told_of}
 use Rattle.tp_flush.specs.Made.{StandsFor}
 use Rattle.tp_flush.proofs.Made.{next_is}
 use Rattle.tp_run.specs.Outset.{outset_in, outset_of, outset_with}
@@ -23,22 +19,11 @@ abbrev fresh : Port
 fresh = record { pending = []; in_base = 0; outputs = []; out_base = 0 }
 
 -- a port stands in it as in what was opened
-pub outset_is : (s : NetState) (o : Opened) (room : Option ℕ) (port : ℕ) → now_of s ≡ o.now → s.base ≡ o.base → map numbered s.kept.items ≡ o.kept
+pub outset_is : (s : NetState) (o : Opened) (room : Option ℕ) (port : ℕ) → now_of s ≡ o.now → s.base ≡ o.base → s.kept.items ≡ o.kept
     → outset_of (opened_book s room) port ≡ outset_in o port
 outset_is s o room port now base kept =
     ap (λ next. outset_with port next (get_or (now_of s).ports port fresh)) (next_is s o room base kept)
     ∙ ap (λ (n : Network NodeState). outset_with port (next_of o) (get_or n.ports port fresh)) now
-
--- what is first told of their book is the world that goes on from what was opened
-pub first_told : (before : World NodeState) (o : Opened) (parts : PartsValue) (raiser : RaiserValue) (bytes : List ℕ) (first : ℕ) → StandsFor o parts raiser → parts.first ≡ first
-    → IsFirst (told_of before first (record { book = parts.book; all = [] })) (reopened before bytes (held_of o) o.now)
-first_told before o parts raiser bytes first S at = record {
-  net = S.book;
-  base = S.base;
-  journal =
-      append-nil (take first before.journal)
-      ∙ ap (λ n. take n before.journal) (sym at ∙ S.first ∙ ap (λ n. o.base + n) (sym (length-map o.kept (λ e. e.0))));
-}
 
 -- their network is of the kept cut's shape
 pub shape_is : (o other : Opened) (parts : PartsValue) (raiser : RaiserValue) → other ≡ o → StandsFor o parts raiser → IsCut t414_ends o.head.topology o.base o.cut

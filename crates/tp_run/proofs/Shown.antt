@@ -19,7 +19,7 @@ use Rattle.tp_law_runs.proofs.Walks.{chain_leads}
 use Rattle.tp_book.specs.Book.{BookValue, next_number, world_of}
 use Rattle.tp_book.specs.Calls.{marks_of}
 use Rattle.tp_book.specs.Host.{after_confirm, port_in, shown_from, shown_of, shown_upto_of, with_confirmed}
-use Rattle.tp_shared.specs.Entries.{confirm_entries}
+use Rattle.tp_book.specs.Acts.{confirm_entries}
 use Rattle.tp_shared.specs.Receipted.{Receipted}
 use Rattle.tp_host.specs.Receipts.{IsFor}
 use Rattle.tp_flush.specs.Ahead.{IsAhead}

@@ -12,7 +12,7 @@ use Rattle.tp_model.specs.Network.{Network}
 use Rattle.tp_book.specs.Book.{BookValue, next_number}
 use Rattle.tp_book.specs.Host.{accepted_of, after_input, port_in, shown_from, shown_of, shown_upto_of}
 use Rattle.tp_book.specs.Calls.{marks_of}
-use Rattle.tp_shared.specs.Entries.{confirm_entries}
+use Rattle.tp_book.specs.Acts.{confirm_entries}
 use Rattle.tp_shared.specs.Receipted.{AreBelow, Receipted}
 use Rattle.tp_flush.specs.Settled.{Stand}
 use Rattle.tp_flush.proofs.Settling.{below_more}

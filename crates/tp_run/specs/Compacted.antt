@@ -3,14 +3,12 @@ use Rattle.std.specs.Prelude.{◌≡◌, ◌≤◌, ◌⊎◌, ℕ, ◌+◌, Lis
 use Rattle.tp_model.specs.declared.entry.Entry.{Entry}
 use Rattle.tp_model.specs.declared.opening.OpenFault.{OpenFault}
 use Rattle.tp_model.specs.NodeState.{NodeState}
-use Rattle.tp_model.specs.Node.{t414}
 use Rattle.tp_model.specs.Network.{Network}
 use Rattle.tp_model.specs.Topology.{Topology}
 use Rattle.tp_model.specs.Opening.{Opened}
 use Rattle.tp_model.specs.Disk.{MayBe}
 use Rattle.tp_model.specs.DiskHistory.{State, LeavesOnly}
-use Rattle.tp_model.specs.DeviceAreas.{device_areas}
-use Rattle.tp_model.specs.Walks.{RecoversTo}
+use Rattle.tp_flush.specs.Follows.{Follows}
 use Rattle.tp_layout.specs.Capacity.{capacity, journal_of}
 use Rattle.tp_run.specs.declared.compacting.Compaction.{Compaction}
 use Rattle.tp_run.specs.declared.compacting.CompactFault.{CompactFault}
@@ -42,12 +40,12 @@ pub record Grown (verdict : Result Opened OpenFault) (done : Compaction) : Type 
   pub opened : Opened
   pub is : verdict ≡ Ok opened
   pub generation : done.generation ≡ opened.generation + 1
-  pub room : done.room ≤ entries_of opened.head.topology opened.head.area
+  pub room : done.room ≤ entries_of opened.head.topology opened.head.areas.length
 
--- A crash at any moment leaves what one just before might have left, or what opens to where a prefix of the journal leads. Once it
--- was done, the prefix has each entry below the answered number.
+-- A crash at any moment leaves what one just before might have left, or what opens to where a prefix of the journal leads, with all that
+-- the device had as it was opened: that is the journal's beginning, and the next number is no less than it was. Once it was done, the
+-- prefix has each entry below the answered number.
 pub record Compacted (start : Network NodeState) (result : Result Compaction CompactFault) (old new : State) : Type 0 where
   pub journal : List Entry
-  pub first : ℕ
-  pub leaves : LeavesOnly old new (λ left. MayBe old.now left ⊎ RecoversTo t414 device_areas start journal first left)
-  pub stored : IfOk result (λ done. (left : List ℕ) → MayBe new.now left → RecoversTo t414 device_areas start journal done.next left)
+  pub leaves : LeavesOnly old new (λ left. MayBe old.now left ⊎ Follows start journal 0 old.now.bytes left)
+  pub stored : IfOk result (λ done. (left : List ℕ) → MayBe new.now left → Follows start journal done.next old.now.bytes left)

@@ -1,4 +1,5 @@
 pub mod Compacted
+pub mod Composed
 pub mod Accounted
 pub mod Every
 pub mod Faults

@@ -12,6 +12,7 @@ use Rattle.tp_model.specs.DeviceAreas.{device_areas}
 use Rattle.tp_model.specs.Opening.{Opened, next_of, verdict}
 use Rattle.tp_model.specs.Walks.{RecoversTo}
 use Rattle.tp_shared.specs.Receipted.{AreBelow}
+use Rattle.tp_flush.specs.Follows.{Follows}
 pub use Rattle.tp_flush.specs.History.{History}
 use Rattle.tp_flush.specs.Settled.{RecoversWith, Stand}
 use Rattle.tp_run.specs.Accounted.{Accounted}
@@ -77,13 +78,13 @@ pub record IsPrinted (start : Network NodeState) (journal : List Entry) (port : 
   pub since : LeavesOnly there new (RecoversTo t414 device_areas start journal number)
 
 -- A crash at any moment of the run leaves what one just before might have left, or what opens to where a prefix of the journal leads,
--- with all that the device had as it was opened. After a run that was done, the prefix has each entry below the answered number, and
--- the input and what confirms the output are among them; with those of the workers' turns they are all that the journal has since the
--- opening. However it ended, nothing was printed, or outputs of the port where entries lead that whatever a crash leaves has.
+-- with all that the device had as it was opened: that is the journal's beginning, and the next number is no less than it was. After a run
+-- that was done, the prefix has each entry below the answered number, and the input and what confirms the output are among them; with
+-- those of the workers' turns they are all that the journal has since the opening. However it ended, nothing was printed, or outputs of
+-- the port where entries lead that whatever a crash leaves has.
 pub record Ran (start : Network NodeState) (job : Job) (input : List ℕ) (was now : Option (List ℕ)) (result : Result ℕ RunFault) (old new : State) : Type 0 where
   pub journal : List Entry
-  pub first : ℕ
-  pub leaves : LeavesOnly old new (λ left. MayBe old.now left ⊎ RecoversTo t414 device_areas start journal first left)
-  pub stored : IfOk result (λ next. (left : List ℕ) → MayBe new.now left → RecoversTo t414 device_areas start journal next left)
+  pub leaves : LeavesOnly old new (λ left. MayBe old.now left ⊎ Follows start journal 0 old.now.bytes left)
+  pub stored : IfOk result (λ next. (left : List ℕ) → MayBe new.now left → Follows start journal next old.now.bytes left)
   pub carried : IfOk result (λ next. Carried start journal job input was now next old new)
   pub printed : (now ≡ was) ⊎ IsPrinted start journal job.port was now old new

@@ -169,23 +169,23 @@ fn compact_parts<J: Naming, D: Disk, R: Wait>(
 ) -> (D, Result<Compaction, CompactFault>)
     requires names { Names J.roll J.first J.start J.node J.mark J.flusher J.room parts }
     requires stands { StandsFor opened.value parts raiser }
-    requires bound { parts.book.room ≡ Some (room opened.value.head.topology opened.value.head.area) }
+    requires bound { parts.book.room ≡ Some (room opened.value.head.topology opened.value.head.areas.length) }
     requires cut { IsCut t414_ends opened.value.head.topology opened.value.base opened.value.cut }
     requires bytes { AllByRecursion IsNodeOfBytes opened.value.cut.nodes }
     requires place { store.place ≡ place_at opened.value }
     requires topology { topology ≡ opened.value.head.topology }
-    requires roomy { is_roomy opened.value.head.topology opened.value.head.area ≡ true }
+    requires roomy { is_roomy opened.value.head.topology opened.value.head.areas.length ≡ true }
     requires unbroken { store.broken ≡ false }
     requires read { D.keeps → verdict (D.state store.disk).now.bytes ≡ Ok opened.value }
     requires synced { D.keeps → IsSynced (D.state store.disk) }
     ensures size { D.size_of result.0 ≡ D.size_of store.disk }
     ensures kept { D.keeps → Began J.formatted J.before (D.state store.disk).now.bytes → Compacted J.formatted result.1 (D.state store.disk) (D.state result.0) }
     ensures switched { IfOk result.1 (λ done. done.generation ≡ store.place.generation + 1) }
-    ensures room { IfOk result.1 (λ done. done.room ≤ entries_of topology store.place.area) }
+    ensures room { IfOk result.1 (λ done. done.room ≤ entries_of topology store.place.areas.length) }
     ensures begun { IfErr result.1 IsBegun }
 {
     let (shared, key) = Shared::<J>::start(parts);
-    let journal = JournalRoom::of(&topology, store.place.area);
+    let journal = JournalRoom::of(&topology, store.place.areas.length);
     let mut flusher = Flusher::over(opened, topology, store, key, raiser);
     flusher.known();
     let done = switch_all(rt, alloc, &shared, &mut flusher, journal);
@@ -219,7 +219,7 @@ pub fn compact<D: Disk, R: Wait>(
     opened.known();
     let known = Snapshot::of(&opened);
     let topology = topology_of(&opened);
-    let _area = opened.head().area();
+    let _areas = opened.head().areas();
     let store = opened.store(disk);
     let Ok((parts, raiser, _)) = parts_of(alloc, opened, 0, 0) else {
         return (store.into_disk(), Err(CompactFault::Memory));

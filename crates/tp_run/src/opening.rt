@@ -53,7 +53,7 @@ pub(crate) fn parts_of(
 ) -> Result<(Parts, Raiser, Outset), AllocError>
     requires { port < opened.head.topology.ports }
     ensures parts { IfOk result (λ made. StandsFor opened made.0 made.1) }
-    ensures bound { IfOk result (λ made. made.0.book.room ≡ Some (room opened.head.topology opened.head.area)) }
+    ensures bound { IfOk result (λ made. made.0.book.room ≡ Some (room opened.head.topology opened.head.areas.length)) }
     ensures outset { IfOk result (λ made. made.2 ≡ outset_in opened port) }
 {
     opened_books_begin();

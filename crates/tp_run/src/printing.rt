@@ -4,7 +4,7 @@ ghost use Rattle.std.specs.Prelude.{◌≡◌, ◌<◌, ◌≤◌, length, IfOk,
 ghost use Rattle.std.specs.Io.KnownBytes.{Appends};
 ghost use Rattle.tp_book.specs.Book.{next_number};
 ghost use Rattle.tp_book.specs.Host.{after_confirm, port_in, shown_from, shown_of, shown_upto_of};
-ghost use Rattle.tp_shared.specs.Entries.{confirm_entries};
+ghost use Rattle.tp_book.specs.Acts.{confirm_entries};
 ghost use Rattle.tp_host.specs.Receipts.{IsFor};
 ghost use Rattle.tp_run.specs.Faults.{IsBegun, IsLate};
 ghost use Rattle.tp_run.specs.Output.{AppendsFront, AreOutputs, AreShown, IsForOutput, Printed, PrintedOf, ShowsAll};

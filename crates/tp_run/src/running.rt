@@ -60,14 +60,14 @@ fn run_parts<J: Naming + Send + Sync, D: Disk + Send + Drop, O: Write, R: Thread
     requires port { job.port < opened.value.head.topology.ports }
     requires names { Names J.roll J.first J.start J.node J.mark J.flusher J.room parts }
     requires stands { StandsFor opened.value parts raiser }
-    requires bound { parts.book.room ≡ Some (room opened.value.head.topology opened.value.head.area) }
+    requires bound { parts.book.room ≡ Some (room opened.value.head.topology opened.value.head.areas.length) }
     requires cut { IsCut t414_ends opened.value.head.topology opened.value.base opened.value.cut }
     requires bytes { AllByRecursion IsNodeOfBytes opened.value.cut.nodes }
     requires outset { outset ≡ outset_in opened.value job.port }
     requires place { store.place ≡ place_at opened.value }
     requires topology { topology ≡ opened.value.head.topology }
     requires network { J.start ≡ opened.value.cut }
-    requires roomy { is_roomy opened.value.head.topology opened.value.head.area ≡ true }
+    requires roomy { is_roomy opened.value.head.topology opened.value.head.areas.length ≡ true }
     requires unbroken { store.broken ≡ false }
     requires read { D.keeps → verdict (D.state store.disk).now.bytes ≡ Ok opened.value }
     requires synced { D.keeps → IsSynced (D.state store.disk) }
@@ -87,7 +87,7 @@ fn run_parts<J: Naming + Send + Sync, D: Disk + Send + Drop, O: Write, R: Thread
     ) else {
         return (store.into_disk(), Err(RunFault::Memory));
     };
-    let every = every_of(job.every, &topology, store.place.area);
+    let every = every_of(job.every, &topology, store.place.areas.length);
     let flusher = Flusher::over(opened, topology, store, key, raiser);
     flusher.known();
     stored_slips_are_recovered();
@@ -134,7 +134,7 @@ pub fn run<D: Disk + Send + Drop, O: Write, R: Threads + Wait + Sync>(
     opened.known();
     let known = Snapshot::of(&opened);
     let topology = topology_of(&opened);
-    let _area = opened.head().area();
+    let _areas = opened.head().areas();
     let store = opened.store(disk);
     let Ok((parts, raiser, outset)) = parts_of(alloc, opened, job.spare, job.port) else {
         return (store.into_disk(), Err(RunFault::Memory));

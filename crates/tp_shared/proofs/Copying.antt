@@ -14,6 +14,11 @@ use Rattle.tp_shared.specs.declared.told.Told.{Told}
 pub take_some : {A : Type 0} (xs : List A) (i : ℕ) (x : A) → slice_get xs i ≡ Some x → take (i + 1) xs ≡ take i xs ++ x ∷ []
 take_some xs i x e = take_more xs i x (slice_get_within xs i x e) ∙ ap (λ y. take i xs ++ y ∷ []) (get_or_from_slice_get xs i x x e)
 
+-- what holds where two facts do
+pub if_both : {A E : Type 0} (P Q R : A → Type 0) (r : Result A E) → ((x : A) → P x → Q x → R x) → IfOk r P → IfOk r Q → IfOk r R
+if_both P Q R (Ok x) both p q = both x p q
+if_both P Q R (Err e) both p q = tt
+
 -- there is a copy, and no node's pages are kept
 pub copy_found : {A E : Type 0} (P : A → Type 0) (found : Result (Option A) E) (thawed whole : Bool) → IfOk found (λ given. IfSome given P) → IfOk found (λ given. is_some given ≡ (thawed && whole)) → has_copy found ≡ true
     → (copy : A) × P copy × (thawed ≡ true)
@@ -31,4 +36,4 @@ thawed_all (s ∷ ss) e = let P = and_parts (not s.frozen) (list_all (λ s. not 
 
 -- whatever is told of pages
 pub since_flag : (t : Told) (flag : Bool) → Since (record t { thawed = flag }) t
-since_flag t flag = record { acts = []; none = tt; net = no_act t.net; base = refl; journal = refl }
+since_flag t flag = record { acts = []; none = tt; net = no_act t.net; base = refl; journal = refl; numbered = refl }

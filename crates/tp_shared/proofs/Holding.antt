@@ -1,5 +1,5 @@
 -- What a hold of the book's lock does for a node.
-use Rattle.std.proofs.Common.{◌≡◌, ℕ, Bool, true, false, cond, inl, inr, List, [], ◌∷◌, length, set, refl, sym, ap, subst, ◌∙◌, Option, Some, None, slice_get}
+use Rattle.std.proofs.Common.{◌≡◌, ℕ, Bool, true, false, cond, inl, inr, List, [], ◌∷◌, length, map, set, refl, sym, ap, subst, ◌∙◌, Option, Some, None, slice_get}
 use Rattle.std.specs.Prelude.{◌==◌, ◌+◌, ◌*◌, Result, Ok, Err, is_ok, IfErr}
 use Rattle.std.specs.List.{AllByRecursion}
 use Rattle.tp_law_network.proofs.Local.{process_same}
@@ -11,7 +11,7 @@ use Rattle.tp_model.specs.Acts.{Act, Journal}
 use Rattle.tp_model.specs.Runs.{is_trim}
 use Rattle.tp_port.proofs.Lists.{set_back}
 use Rattle.tp_node.specs.NodeContents.{NodeContents}
-use Rattle.tp_book.specs.Acts.{run_acts}
+use Rattle.tp_book.specs.Acts.{run_acts, run_entries}
 use Rattle.tp_book.specs.declared.refusal.Refusal.{Refusal}
 use Rattle.tp_book.specs.declared.refusal.Refusal.TheVariants.{JournalFull, StoreBroken, Memory, NothingToTake, SnapshotRunning, PortFull}
 use Rattle.tp_book.specs.Book.{BookValue}
@@ -22,7 +22,7 @@ use Rattle.tp_turn.specs.Fronts.{IsStop, OnWire}
 use Rattle.tp_turn.specs.Stages.{Breaks, Opens}
 use Rattle.tp_shared.specs.Agreement.{Agreement}
 use Rattle.tp_shared.specs.BookActs.{Grown, NodeActed}
-use Rattle.tp_shared.specs.Entries.{Takes, TakesOf, IsTurnRefusal, run_entries}
+use Rattle.tp_shared.specs.Entries.{Takes, TakesOf, IsTurnRefusal}
 use Rattle.tp_shared.proofs.Untrimmed.{AreTurnActs, untrimmed, taken, settles_turn, breaks_turn}
 
 -- ## Whose entries
@@ -34,7 +34,7 @@ takes_like s t number (Take line token ∷ es) w n all = (sym (process_same s t 
 takes_like s t number (HostIn p x ∷ es) w n all = (all.0, takes_like s t number es w n all.1)
 takes_like s t number (Confirm p upto ∷ es) w n all = (all.0, takes_like s t number es w n all.1)
 
--- the same of a network with the same wires and as many nodes
+-- takes are those of another network with these wires and as many nodes
 pub takes_of_like : (s t : Network NodeState) (number : ℕ) (r : Result ℕ Refusal) (es : List Entry) → t.wires ≡ s.wires → length t.nodes ≡ length s.nodes → TakesOf t number r es → TakesOf s number r es
 takes_of_like s t number (Ok count) es w n takes = (takes.0, takes_like s t number es w n takes.1)
 takes_of_like s t number (Err e) es w n takes = takes_like s t number es w n takes
@@ -47,6 +47,7 @@ grown_like One Other b new like G = record {
   are = like (entries_in G.acts) G.are;
   start = G.start;
   entries_are = G.entries_are;
+  numbers = G.numbers;
   history = G.history;
   base = G.base;
   ready = G.ready;
@@ -68,6 +69,7 @@ module _ (Are : List Entry → Type 0) (number : ℕ) (acts : List Act) (b mid :
     are = are;
     start = A.grew.start;
     entries_are = A.grew.entries_are;
+    numbers = A.grew.numbers;
     history = A.grew.history;
     base = A.grew.base;
     ready = A.grew.ready;
@@ -95,6 +97,7 @@ module _ (Are : List Entry → Type 0) (number : ℕ) (acts : List Act) (b mid :
       are = are;
       start = A.grew.start;
       entries_are = A.grew.entries_are;
+      numbers = A.grew.numbers;
       history = A.grew.history;
       base = A.grew.base;
       ready = A.grew.ready;
@@ -154,11 +157,11 @@ opens_refused number (Err e) s t D = breaks_refused number e s t D.acts D.did
 
 -- ## A run
 
-run_taken : (number count : ℕ) (none : Bool) → AllByRecursion (λ act. is_trim act ≡ false) (cond none [] (Journal (Run number count) ∷ []))
+run_taken : (number count : ℕ) (none : Bool) → AllByRecursion (λ act. is_trim act ≡ false) (map Journal (cond none [] (Run number count ∷ [])))
 run_taken number count true = tt
 run_taken number count false = (refl, tt)
 
-run_listed : (number count : ℕ) (none : Bool) → entries_in (cond none [] (Journal (Run number count) ∷ [])) ≡ cond none [] (Run number count ∷ [])
+run_listed : (number count : ℕ) (none : Bool) → entries_in (map Journal (cond none [] (Run number count ∷ []))) ≡ cond none [] (Run number count ∷ [])
 run_listed number count true = refl
 run_listed number count false = refl
 
@@ -172,6 +175,7 @@ acted_run b new number count n A = record {
     are = run_listed number count (count == 0);
     start = A.grew.start;
     entries_are = A.grew.entries_are;
+    numbers = A.grew.numbers;
     history = A.grew.history;
     base = A.grew.base;
     ready = A.grew.ready;

@@ -1,8 +1,8 @@
 -- What the host does to a book.
 use Rattle.std.proofs.Common.{◌≡◌, ℕ, Bool, true, false, cond, List, [], ◌∷◌, ◌++◌, map, length, refl, sym, ap, ◌∙◌, Option, Some, None}
 use Rattle.std.specs.Prelude.{nat_le, is_some, Result, Ok, Err, IfErr}
-use Rattle.std.specs.List.{AllByRecursion}
-use Rattle.std.proofs.lemmas.List.{append-nil}
+use Rattle.std.specs.List.{AllByRecursion, range_with_len}
+use Rattle.std.proofs.lemmas.List.{append-nil, length-map}
 use Rattle.tp_model.specs.declared.entry.Entry.{Entry}
 use Rattle.tp_model.specs.declared.entry.Entry.TheVariants.{HostIn, Confirm}
 use Rattle.tp_model.specs.Node.{t414}
@@ -11,8 +11,8 @@ use Rattle.tp_model.specs.Runs.{is_trim}
 use Rattle.tp_snap.specs.Needs.{has_recorded_in}
 use Rattle.tp_book.specs.declared.refusal.Refusal.{Refusal}
 use Rattle.tp_book.specs.declared.refusal.Refusal.TheVariants.{JournalFull, StoreBroken, Memory, NothingToTake, SnapshotRunning, PortFull}
-use Rattle.tp_book.specs.Acts.{input_acts, confirm_acts}
-use Rattle.tp_book.specs.Book.{BookValue, agreed, world_of}
+use Rattle.tp_book.specs.Acts.{input_acts, confirm_acts, confirm_entries}
+use Rattle.tp_book.specs.Book.{BookValue, agreed, next_number, world_of}
 use Rattle.tp_book.specs.Host.{after_input, after_confirm, with_confirmed, port_in}
 use Rattle.tp_model.specs.Journal.{is_full_for_snapshot}
 use Rattle.tp_model.specs.Snapshot.{Snapshot}
@@ -23,7 +23,7 @@ use Rattle.tp_turn.specs.Moments.{entries_in}
 use Rattle.tp_turn.specs.Hosted.{HostAdded, HostDone, HostTurns}
 use Rattle.tp_turn.proofs.Fronted.{collected_recorded}
 use Rattle.tp_shared.specs.BookActs.{Grown, HostActed}
-use Rattle.tp_shared.specs.Entries.{TakesOf, IsTurnRefusal, confirm_entries}
+use Rattle.tp_shared.specs.Entries.{TakesOf, IsTurnRefusal}
 use Rattle.tp_shared.proofs.Untrimmed.{untrimmed, taken, host_turns}
 
 -- ## Bytes handed in
@@ -36,6 +36,9 @@ inputs_listed : (port : ℕ) (bytes : List ℕ) → entries_in (input_acts port 
 inputs_listed port [] = refl
 inputs_listed port (x ∷ xs) = ap (λ es. HostIn port x ∷ es) (inputs_listed port xs)
 
+inputs_many : (port : ℕ) (bytes : List ℕ) → length bytes ≡ length (entries_in (input_acts port bytes))
+inputs_many port bytes = sym (ap length (inputs_listed port bytes) ∙ length-map bytes (HostIn port))
+
 pub hosted_input : (b new : BookValue) (port : ℕ) (bytes : List ℕ) → new ≡ after_input b port bytes → agreed new.state ≡ agreed b.state → acted t414 (world_of b) (input_acts port bytes) ≡ Some (world_of new)
     → HostActed (λ entries. entries ≡ map (HostIn port) bytes) b new
 hosted_input b new port bytes is same act = record {
@@ -46,6 +49,7 @@ hosted_input b new port bytes is same act = record {
     are = inputs_listed port bytes;
     start = ap (λ x. x.state.start) is;
     entries_are = ap (λ x. x.state.entries) is ∙ ap (λ es. b.state.entries ++ es) (sym (inputs_listed port bytes));
+    numbers = ap (λ x. x.numbers) is ∙ ap (λ count. b.numbers ++ range_with_len (next_number b) count) (inputs_many port bytes);
     history = ap (λ x. x.history) is ∙ ap (λ es. b.history ++ es) (sym (inputs_listed port bytes));
     base = ap (λ x. x.base) is;
     ready = ap (λ x. x.ready) is;
@@ -64,7 +68,7 @@ pub hosted_confirm : (b new : BookValue) (port upto : ℕ) → new ≡ after_con
     → HostActed (λ entries. entries ≡ confirm_entries b port upto) b new
 hosted_confirm b new port upto is same act = go (nat_le upto (port_in b port).out_base) is act
   where
-    go : (before : Bool) → new ≡ cond before b (with_confirmed b port upto) → acted t414 (world_of b) (cond before [] (Journal (Confirm port upto) ∷ [])) ≡ Some (world_of new)
+    go : (before : Bool) → new ≡ cond before b (with_confirmed b port upto) → acted t414 (world_of b) (map Journal (cond before [] (Confirm port upto ∷ []))) ≡ Some (world_of new)
         → HostActed (λ entries. entries ≡ cond before [] (Confirm port upto ∷ [])) b new
     go true e act = record {
       grown = record {
@@ -74,6 +78,7 @@ hosted_confirm b new port upto is same act = go (nat_le upto (port_in b port).ou
         are = refl;
         start = ap (λ x. x.state.start) e;
         entries_are = ap (λ x. x.state.entries) e ∙ sym (append-nil b.state.entries);
+        numbers = ap (λ x. x.numbers) e ∙ sym (append-nil b.numbers);
         history = ap (λ x. x.history) e ∙ sym (append-nil b.history);
         base = ap (λ x. x.base) e;
         ready = ap (λ x. x.ready) e;
@@ -93,6 +98,7 @@ hosted_confirm b new port upto is same act = go (nat_le upto (port_in b port).ou
         are = refl;
         start = ap (λ x. x.state.start) e;
         entries_are = ap (λ x. x.state.entries) e;
+        numbers = ap (λ x. x.numbers) e;
         history = ap (λ x. x.history) e;
         base = ap (λ x. x.base) e;
         ready = ap (λ x. x.ready) e;
@@ -116,6 +122,7 @@ hosted_by Are acts b new A none are = record {
     are = are;
     start = A.grew.start;
     entries_are = A.grew.entries_are;
+    numbers = A.grew.numbers;
     history = A.grew.history;
     base = A.grew.base;
     ready = A.grew.ready;
@@ -171,6 +178,7 @@ begun_grown b new is act = record {
   are = refl;
   start = ap (λ x. x.state.start) is;
   entries_are = ap (λ x. x.state.entries) is ∙ sym (append-nil b.state.entries);
+  numbers = ap (λ x. x.numbers) is ∙ sym (append-nil b.numbers);
   history = ap (λ x. x.history) is ∙ sym (append-nil b.history);
   base = ap (λ x. x.base) is;
   ready = ap (λ x. x.ready) is;
@@ -189,6 +197,7 @@ hosted_broken b new is = record {
     are = refl;
     start = ap (λ x. x.state.start) is;
     entries_are = ap (λ x. x.state.entries) is ∙ sym (append-nil b.state.entries);
+    numbers = ap (λ x. x.numbers) is ∙ sym (append-nil b.numbers);
     history = ap (λ x. x.history) is ∙ sym (append-nil b.history);
     base = ap (λ x. x.base) is;
     ready = ap (λ x. x.ready) is;

@@ -15,4 +15,5 @@ pub mod Resealing
 pub mod Copying
 pub mod Trims
 pub mod Closing
+pub mod Positioned
 pub mod Keeping

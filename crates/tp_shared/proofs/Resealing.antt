@@ -20,7 +20,7 @@ sealed_set names seals b i was now S at I j t e = elim (cases_eq j i) [
   | inr other ↦ S j t (sym (slice_get-set_other seals i j now other) ∙ e)
 ]
 
--- the same seal again
+-- a seal that shows what it showed
 pub sealed_again : (names : ℕ → ℕ) (seals : List NodeSeal) (b : BookValue) (i : ℕ) (was now : NodeSeal) → Sealed names seals b → slice_get seals i ≡ Some was
     → now.seal.name ≡ was.seal.name → now.seal.value ≡ was.seal.value → now.frozen ≡ was.frozen → Sealed names (set seals i now) b
 sealed_again names seals b i was now S at name value frozen =

@@ -1,6 +1,6 @@
 -- What the acts of a turn are: a node records, a token is taken, a Marker is taken. None of them is a trim, and their entries are Takes.
 use Rattle.std.proofs.Common.{◌≡◌, ℕ, zero, suc, Bool, true, false, cond, inl, inr, List, [], ◌∷◌, ◌++◌, ◌+◌, ◌*◌, length, refl, sym, subst, Option, Some, None}
-use Rattle.std.specs.Prelude.{Result, Ok, Err}
+use Rattle.std.specs.Prelude.{Result, Ok, Err, length}
 use Rattle.std.specs.List.{AllByRecursion}
 use Rattle.tp_model.specs.declared.link.Token.{Token}
 use Rattle.tp_model.specs.declared.link.Token.TheVariants.{Data, Ack, Marker}
@@ -48,7 +48,7 @@ untrimmed (Journal entry ∷ acts) all = (refl, untrimmed acts all.1)
 untrimmed (Close line ∷ acts) all = (refl, untrimmed acts all.1)
 untrimmed (Trim ∷ acts) all = absurd all.0
 
-pub taken : (s : Network NodeState) (number : ℕ) (acts : List Act) → AreTurnActs acts → AllByRecursion (λ e. process s e ≡ number) (entries_in acts) → Takes s number (entries_in acts)
+pub taken : (s : Network NodeState) (number : ℕ) (acts : List Act) → AreTurnActs acts → AllByRecursion (λ e. process s.wires (length s.nodes) e ≡ number) (entries_in acts) → Takes s number (entries_in acts)
 taken s number [] all own = tt
 taken s number (Begin ∷ acts) all own = absurd all.0
 taken s number (Record node ∷ acts) all own = taken s number acts all.1 own

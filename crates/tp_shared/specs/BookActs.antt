@@ -1,16 +1,16 @@
 -- What is done to a book while its lock is held.
-use Rattle.std.specs.Prelude.{◌≡◌, ◌≢◌, ℕ, false, List, ◌++◌, set, get_or, Some, None}
-use Rattle.std.specs.List.{AllByRecursion}
+use Rattle.std.specs.Prelude.{◌≡◌, ◌≢◌, ℕ, false, List, ◌++◌, length, set, get_or, Some, None}
+use Rattle.std.specs.List.{AllByRecursion, range_with_len}
 use Rattle.tp_model.specs.declared.entry.Entry.{Entry}
 use Rattle.tp_model.specs.Node.{t414}
 use Rattle.tp_model.specs.Acts.{Act, acted}
 use Rattle.tp_model.specs.Runs.{is_trim}
 use Rattle.tp_snap.specs.Needs.{has_recorded_in}
-use Rattle.tp_book.specs.Book.{BookValue, agreed, world_of}
+use Rattle.tp_book.specs.Book.{BookValue, agreed, next_number, world_of}
 use Rattle.tp_turn.specs.Moments.{entries_in}
 use Rattle.tp_shared.specs.Agreement.{Agreement}
 
--- Acts were done, none of them a trim. The book has their entries more, which are so.
+-- Acts were done, none of them a trim. The book has their entries more, which are so, under the numbers that come next.
 pub record Grown (Are : List Entry → Type 0) (old new : BookValue) : Type 0 where
   pub acts : List Act
   pub none : AllByRecursion (λ act. is_trim act ≡ false) acts
@@ -18,6 +18,7 @@ pub record Grown (Are : List Entry → Type 0) (old new : BookValue) : Type 0 wh
   pub are : Are (entries_in acts)
   pub start : new.state.start ≡ old.state.start
   pub entries_are : new.state.entries ≡ old.state.entries ++ entries_in acts
+  pub numbers : new.numbers ≡ old.numbers ++ range_with_len (next_number old) (length (entries_in acts))
   pub history : new.history ≡ old.history ++ entries_in acts
   pub base : new.base ≡ old.base
   pub ready : new.ready ≡ old.ready

@@ -1,20 +1,18 @@
 -- What entries are of which process.
-use Rattle.std.specs.Prelude.{◌≡◌, ℕ, ◌==◌, nat_le, if◌then◌else◌, List, [], ◌∷◌, length, Result, Ok, Err}
+use Rattle.std.specs.Prelude.{◌≡◌, ℕ, List, length, Result, Ok, Err}
 use Rattle.std.specs.List.{AllByRecursion}
 use Rattle.tp_model.specs.declared.entry.Entry.{Entry}
 use Rattle.tp_model.specs.declared.entry.Entry.TheVariants.{Run, Take, HostIn, Confirm}
 use Rattle.tp_model.specs.NodeState.{NodeState}
 use Rattle.tp_model.specs.Network.{Network}
 use Rattle.tp_model.specs.Entries.{process}
-use Rattle.tp_book.specs.Book.{BookValue}
-use Rattle.tp_book.specs.Host.{port_in}
 use Rattle.tp_book.specs.declared.refusal.Refusal.{Refusal}
 use Rattle.tp_book.specs.declared.refusal.Refusal.TheVariants.{JournalFull, StoreBroken, Memory, NothingToTake, SnapshotRunning, PortFull}
 
 -- a Take of this process
 abbrev pub IsTakeBy : Network NodeState → ℕ → Entry → Type 0
 IsTakeBy start number (Run i k) = ⊥
-IsTakeBy start number (Take line token) = process start (Take line token) ≡ number
+IsTakeBy start number (Take line token) = process start.wires (length start.nodes) (Take line token) ≡ number
 IsTakeBy start number (HostIn p x) = ⊥
 IsTakeBy start number (Confirm p upto) = ⊥
 
@@ -39,11 +37,3 @@ IsTurnRefusal Memory = Unit {0}
 IsTurnRefusal NothingToTake = ⊥
 IsTurnRefusal SnapshotRunning = ⊥
 IsTurnRefusal PortFull = ⊥
-
--- a run's entry; none without a step
-abbrev pub run_entries : ℕ → ℕ → List Entry
-run_entries node count = if count == 0 then [] else Run node count ∷ []
-
--- the entry of outputs that are confirmed; none up to a position that was confirmed before
-abbrev pub confirm_entries : BookValue → ℕ → ℕ → List Entry
-confirm_entries b port upto = if nat_le upto (port_in b port).out_base then [] else Confirm port upto ∷ []

@@ -13,7 +13,7 @@ pub record Noted (Are : List Entry → Type 0) (first : ℕ) (old new : Stage) (
   pub seat : seat_new ≡ seat_old ++ enumerate_from (first + length old.all) entries
   pub below : AllByRecursion (λ x. x.0 < first + length old.all) seat_old
 
--- The same for whoever doesn't see the book: the numbers follow one another.
+-- What a seat gained, for whoever doesn't see the book: the numbers follow one another.
 pub record Gained (Are : List Entry → Type 0) (seat_old seat_new : List (ℕ × Entry)) : Type 0 where
   pub next : ℕ
   pub entries : List Entry

@@ -1,6 +1,7 @@
 pub mod Agreement
 pub mod Entries
 pub mod BookActs
+pub mod Positions
 pub mod Seals
 pub mod Told
 pub mod SlipCount

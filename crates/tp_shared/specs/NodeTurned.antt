@@ -3,7 +3,8 @@ use Rattle.std.specs.Prelude.{◌≡◌, ◌≤◌, ℕ, List}
 use Rattle.tp_model.specs.declared.entry.Entry.{Entry}
 use Rattle.tp_model.specs.NodeState.{NodeState}
 use Rattle.tp_model.specs.Network.{Network}
-use Rattle.tp_shared.specs.Entries.{CountedTakes, run_entries}
+use Rattle.tp_book.specs.Acts.{run_entries}
+use Rattle.tp_shared.specs.Entries.{CountedTakes}
 use Rattle.tp_shared.specs.Gains.{Gained}
 use Rattle.tp_shared.specs.declared.node_turn.NodeTurn.{NodeTurn}
 

@@ -9,10 +9,11 @@ use Rattle.tp_shared.specs.Agreement.{Agreement}
 use Rattle.tp_shared.specs.declared.place.Place.{Place}
 use Rattle.tp_shared.specs.declared.seal.NodeSeal.{NodeSeal}
 
--- the book, and all entries since it was opened
+-- The book, all entries since it was opened, and a position from which on its entries have their positions as numbers.
 pub record Stage : Type 0 where
   pub book : BookValue
   pub all : List Entry
+  pub numbered_from : ℕ
 
 -- A seal of this name shows the book's agreed node, and whether a run of it is reserved. While the node is frozen, it has recorded
 -- in a snapshot that runs, and is kept as the book has it frozen. Beside the seal stands whether it is.

@@ -8,6 +8,7 @@ use Rattle.tp_model.specs.NodeState.{NodeState}
 use Rattle.tp_model.specs.Network.{Network}
 use Rattle.tp_model.specs.Runs.{World}
 use Rattle.tp_book.specs.Book.{BookValue}
+use Rattle.tp_shared.specs.Positions.{IsNumberedFrom}
 use Rattle.tp_shared.specs.Seals.{Sealed, IsTied}
 use Rattle.tp_shared.specs.Thawed.{ThawedAsTold}
 use Rattle.tp_shared.specs.Told.{Since, told_of}
@@ -39,7 +40,7 @@ pub record AreTogether (roll_name first : ℕ) (start : Network NodeState) (node
   -- the flusher has the key of this seal
   pub flusher_is : told.name ≡ flusher
   -- from what the flusher was told, acts that are no trim lead to the book as it is
-  pub since : Since told.value (told_of before first (record { book = book; all = roll.items }))
+  pub since : Since told.value (told_of before first (record { book = book; all = roll.items; numbered_from = told.value.numbered_from }))
   -- the network has a place for a wire at each of four links a node, and at each port
   pub wire_count : length start.wires ≡ 4 * length start.nodes + length start.ports
   -- the book counts with the bytes that groups may fill on the device
@@ -48,3 +49,7 @@ pub record AreTogether (roll_name first : ℕ) (start : Network NodeState) (node
   pub floor : book.floor ≤ first - book.base
   -- where the flusher was told that the cut is whole and no node's pages are kept, none is kept since
   pub thawed : ThawedAsTold told.value seals
+  -- from the position that was told on the entries have their positions as numbers
+  pub numbered : IsNumberedFrom told.value.numbered_from book
+  -- it isn't behind the entries that were told
+  pub reaches : told.value.numbered_from ≤ told.value.base + length told.value.net.entries

@@ -22,7 +22,7 @@ fn copy_line(lines: &mut Lines, line: usize, from: &Lines)
     }
 }
 
-/// The same lines again.
+/// A copy of lines.
 pub(crate) fn copy_lines(alloc: Global, from: &Lines) -> Result<Lines, AllocError>
     ensures { IfOk result (λ lines. lines ≡ from.now) }
 {
@@ -44,7 +44,7 @@ fn copy_port(alloc: Global, port: &PortParts) -> Result<PortParts, AllocError>
     })
 }
 
-/// The same ports again.
+/// A copy of ports.
 pub(crate) fn copy_ports(alloc: Global, ports: &[PortParts]) -> Result<Vec<PortParts>, AllocError>
     ensures { IfOk result (λ parts. map port_of parts.items ≡ map port_of ports.now) }
 {

@@ -3,8 +3,8 @@
 ghost use Rattle.std.specs.Prelude.{◌≡◌, [], Some, None, true, false, slice_get, is_ok, IfErr};
 ghost use Rattle.tp_snap.specs.Needs.{has_recorded_in};
 ghost use Rattle.tp_shared.specs.BookActs.{NodeActed};
-ghost use Rattle.tp_shared.specs.Entries.{IsTurnRefusal, TakesOf, run_entries};
-ghost use Rattle.tp_book.specs.Acts.{run_acts};
+ghost use Rattle.tp_shared.specs.Entries.{IsTurnRefusal, TakesOf};
+ghost use Rattle.tp_book.specs.Acts.{run_acts, run_entries};
 ghost use Rattle.tp_book.specs.Calls.{without_run};
 ghost use Rattle.tp_turn.specs.Moments.{Added, Done, IsNodeOf, moment};
 ghost use Rattle.tp_turn.specs.Settled.{Records};

@@ -1,11 +1,12 @@
 //! What the host does while the book's lock is held.
 
 ghost use Rattle.std.specs.Prelude.{◌≡◌, ◌<◌, ◌≤◌, ◌+◌, [], Some, length, map, IfOk, IfErr, IsOk, OnErr};
+ghost use Rattle.tp_book.specs.Acts.{confirm_entries};
 ghost use Rattle.tp_book.specs.Book.{next_number};
 ghost use Rattle.tp_book.specs.Host.{after_input, input_refusal, port_in, accepted_of, after_confirm, confirm_refusal};
 ghost use Rattle.tp_book.specs.Refusals.{IsAnswer};
 ghost use Rattle.tp_model.specs.declared.entry.Entry.TheVariants.{HostIn};
-ghost use Rattle.tp_shared.specs.Entries.{IsTurnRefusal, TakesOf, confirm_entries};
+ghost use Rattle.tp_shared.specs.Entries.{IsTurnRefusal, TakesOf};
 ghost use Rattle.tp_shared.specs.Gains.{Noted};
 ghost use Rattle.tp_shared.specs.TurnsMade.{IsBookOf};
 ghost use Rattle.tp_turn.specs.Hosted.{HostDone, HostTurns};

@@ -5,12 +5,13 @@ ghost use Rattle.tp_law_machine.specs.NodeOfBytes.{IsNodeOfBytes};
 ghost use Rattle.tp_model.specs.Network.{steps};
 ghost use Rattle.tp_model.specs.Node.{t414};
 ghost use Rattle.tp_model.specs.declared.limits.TheConstants.{MAX_STEPS};
-ghost use Rattle.tp_shared.specs.Entries.{IsTurnRefusal, TakesOf, run_entries};
+ghost use Rattle.tp_shared.specs.Entries.{IsTurnRefusal, TakesOf};
 ghost use Rattle.tp_shared.specs.Gains.{Noted};
+ghost use Rattle.tp_shared.specs.Positions.{IsNumberedFrom};
 ghost use Rattle.tp_shared.specs.Seals.{Shows, Sealed, IsTied};
 ghost use Rattle.tp_shared.specs.Told.{told_of};
 ghost use Rattle.tp_shared.specs.TurnsMade.{IsBookOf};
-ghost use Rattle.tp_book.specs.Acts.{run_acts};
+ghost use Rattle.tp_book.specs.Acts.{run_acts, run_entries};
 ghost use Rattle.tp_book.specs.Calls.{without_run};
 ghost use Rattle.tp_turn.specs.Moments.{Added, IsNodeOf, moment};
 ghost use Rattle.tp_turn.specs.Stages.{Opens};
@@ -31,7 +32,7 @@ use tp_token::{Roll, Seal, agree, turn};
 use tp_turn::Stretch;
 
 /// The book, the seal of each node, the roll of all entries since the opening, and the seal of what the flusher was told. Contracts
-/// see the book, and the roll.
+/// see the book, the roll, and from which position on entries have their positions as numbers.
 #[derive(Drop)]
 pub struct Locked<J: Naming> {
     pub(crate) book: Book,
@@ -47,7 +48,7 @@ impl<J: Naming> Model for Locked<J> {
 
     ghost Value = { Stage };
 
-    ghost view = { λ l. record { book = l.book; all = l.roll.items } };
+    ghost view = { λ l. record { book = l.book; all = l.roll.items; numbered_from = l.told.value.numbered_from } };
 
     ghost invariant = { λ l. AreTogether J.roll J.first J.start J.node J.flusher J.room J.before l.book l.seals.items l.roll l.told };
 }
@@ -67,9 +68,10 @@ impl<J: Naming> Locked<J> {
         requires roll { (roll.name ≡ J.roll) × (roll.first ≡ J.first) × (roll.items ≡ []) }
         requires tied { IsTied J.first roll.items book }
         requires room { (book.room ≡ J.room) × (book.floor ≤ J.first - book.base) }
-        requires told { (told.name ≡ J.flusher) × (told.value ≡ told_of J.before J.first (record { book = book; all = [] })) }
-        ensures { result ≡ record { book = book; all = [] } }
+        requires told { (told.name ≡ J.flusher) × (told.value ≡ told_of J.before J.first (record { book = book; all = []; numbered_from = J.first })) }
+        ensures { result ≡ record { book = book; all = []; numbered_from = J.first } }
     {
+        let _count = book.entries().len();
         Locked {
             book,
             seals,
@@ -86,9 +88,11 @@ impl<J: Naming> Locked<J> {
         &self.book
     }
 
-    /// All entries since the opening are the book's, under the numbers from the first on. It does nothing.
+    /// All entries since the opening are the book's, under the numbers from the first on, and from a position on the entries have their
+    /// positions as numbers. It does nothing.
     pub fn known(&self)
         ensures tied { IsTied J.first self.now.all self.now.book }
+        ensures numbered { IsNumberedFrom self.now.numbered_from self.now.book }
         ensures nodes { length self.now.book.state.start.nodes ≡ length J.start.nodes }
         ensures ports { length self.now.book.state.ports ≡ length J.start.ports }
     {

@@ -35,7 +35,7 @@ impl<J: Naming> Locked<J> {
         agree(&mut here.seal, &mut place.key);
     }
 
-    /// The same, and the flusher is told of the book.
+    /// Changes nothing, and the flusher is told of the book. Where the node is frozen, it is as the told network has it recorded.
     pub(crate) fn tell_frozen(&mut self, place: &mut Place, key: &mut Key<Told>, number: u8)
         requires there { number < length J.start.nodes }
         requires named { place.old.key.name ≡ J.node number }

@@ -60,7 +60,7 @@ impl<J: Naming> Shared<J> {
         requires { Names J.roll J.first J.start J.node J.mark J.flusher J.room parts }
         ensures first { J.first ≡ parts.first }
         ensures room { J.room ≡ parts.book.room }
-        ensures key { (result.1.name ≡ J.flusher) × (result.1.value ≡ told_of J.before J.first (record { book = parts.book; all = [] })) }
+        ensures key { (result.1.name ≡ J.flusher) × (result.1.value ≡ told_of J.before J.first (record { book = parts.book; all = []; numbered_from = J.first })) }
     {
         let now = Told::first::<J>(&parts);
         parts.book.known();

@@ -10,15 +10,17 @@ use crate::locked::Locked;
 use crate::naming::Naming;
 use crate::parts::Parts;
 use std::marker::Model;
+use tp_token::Key;
 
-/// A network with its book, how many entries the kept cut holds, and the journal; and whether its cut is whole and no node's pages
-/// are kept any more. It has no bytes: contracts alone see it.
+/// A network with its book, how many entries the kept cut holds, and the journal; whether its cut is whole and no node's pages are
+/// kept any more; and from which position on the entries have their positions as numbers. It has no bytes: contracts alone see it.
 #[derive(Drop)]
 pub struct Told {
     pub ghost net: { MarkedNetwork NodeState },
     pub ghost base: { ℕ },
     pub ghost journal: { List Entry },
     pub ghost thawed: { Bool },
+    pub ghost numbered_from: { ℕ },
 }
 
 impl Model for Told {
@@ -26,7 +28,7 @@ impl Model for Told {
 }
 
 impl Told {
-    ghost use Rattle.std.specs.Prelude.{◌≡◌, [], true};
+    ghost use Rattle.std.specs.Prelude.{◌≡◌, ◌+◌, [], true, length};
     ghost use Rattle.tp_shared.specs.TrimmedTo.{trim_of};
     ghost use Rattle.tp_shared.specs.Told.{told_of};
     ghost use Rattle.tp_shared.specs.declared.told.Told.{Told};
@@ -46,11 +48,13 @@ impl Told {
         Told::of(locked)
     }
 
-    /// What is told of the book once it is trimmed to its whole cut.
-    pub(crate) fn trimmed<J: Naming>(locked: &Locked<J>) -> Told
-        ensures { result ≡ told_of J.before J.first (record { book = trim_of locked.now.book; all = locked.now.all }) }
+    /// What is told of the book once it is trimmed to its whole cut, where `key` shows what was told of that before. The entries
+    /// behind those have their positions as numbers.
+    pub(crate) fn trimmed<J: Naming>(locked: &Locked<J>, key: &Key<Told>) -> Told
+        ensures { result ≡ told_of J.before J.first (record { book = trim_of locked.now.book; all = locked.now.all; numbered_from = key.now.value.base + length key.now.value.net.entries }) }
     {
-        Told::of(locked)
+        let both = (locked, key);
+        Told::of(&both)
     }
 
     // What is told of a book whose cut is whole, while no node's pages are kept.
@@ -73,7 +77,7 @@ impl Told {
 
     /// What is first told of the book of parts.
     pub(crate) fn first<J: Naming>(parts: &Parts) -> Told
-        ensures { result ≡ told_of J.before J.first (record { book = parts.now.book; all = [] }) }
+        ensures { result ≡ told_of J.before J.first (record { book = parts.now.book; all = []; numbered_from = J.first }) }
     {
         Told::of(parts)
     }

@@ -1,10 +1,8 @@
 -- Markers that are sent one after another.
-use Rattle.std.proofs.Common.{◌≡◌, ℕ, zero, suc, ◌+◌, ◌*◌, ◌-◌, ◌<◌, Bool, List, [], ◌∷◌, ap, sym, subst, ◌∙◌, arith, refl}
-use Rattle.tp_model.specs.declared.link.Token.{Token}
+use Rattle.std.proofs.Common.{◌≡◌, ℕ, suc, ◌+◌, ◌*◌, ◌-◌, ◌<◌, [], ◌∷◌, ap, ◌∙◌, arith}
 use Rattle.tp_model.specs.declared.link.Token.TheVariants.{Marker}
-use Rattle.tp_model.specs.Network.{pushed, sent}
 use Rattle.tp_model.specs.Snapshot.{host_markers, node_markers}
-use Rattle.tp_port.specs.Room.{HasRoom, from_line}
+use Rattle.tp_port.specs.Room.{from_line}
 
 -- the ports that are left, where there is one
 pub ports_left : (N ports done : ℕ) → done < ports → host_markers N (ports - done) ≡ (4 * N + (ports - 1 - done), Marker) ∷ host_markers N (ports - (done + 1))

@@ -1,5 +1,5 @@
 -- A running snapshot as its fields.
-use Rattle.std.specs.Prelude.{◌≡◌, ℕ, Bool, if◌then◌else◌, List, [], ◌∷◌, length, Option, Some, None, vec_len}
+use Rattle.std.specs.Prelude.{◌≡◌, ℕ, Bool, if◌then◌else◌, List, [], ◌∷◌, length, Option, Some, None}
 use Rattle.tp_model.specs.Snapshot.{Snapshot}
 use Rattle.tp_snap.specs.declared.running.Running.TheInside.{Inside}
 

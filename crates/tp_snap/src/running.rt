@@ -1,21 +1,21 @@
 //! A snapshot that runs.
 
 ghost use Rattle.std.specs.Prelude.{◌≡◌, ◌+◌, ◌<◌, ◌≤◌, ◌^◌, ◌++◌, ℕ, IfOk, Option, Some, List, length, map, get_or, true, not, ◌||◌, ◌∷◌, []};
-ghost use Rattle.std.specs.List.{list_all};
+ghost use Rattle.std.specs.List.{AllByRecursion, list_all};
 ghost use Rattle.std.specs.Option.{option_copied};
 ghost use Rattle.tp_model.specs.Markers.{before};
-ghost use Rattle.tp_model.specs.Network.{has_wire, is_wired, on_line, pushed};
+ghost use Rattle.tp_model.specs.Network.{has_wire, is_wired, on_line, pushed, sent};
 ghost use Rattle.tp_net.specs.declared.line.TheConstants.{LINE_TOKENS};
 ghost use Rattle.tp_model.specs.Snapshot.{first_snapshot, with_count, with_closed, closed_over, collected, has_recorded, is_closed};
 ghost use Rattle.tp_model.specs.WholeCut.{WholeCut, all_closed, whole_of};
 ghost use Rattle.tp_model.specs.declared.wire.WireEnd.{WireEnd};
 ghost use Rattle.tp_port.specs.Room.{HasRoom};
-ghost use Rattle.tp_snap.specs.Counted.{takes_of, FitsIn};
+ghost use Rattle.tp_snap.specs.Counted.{FitsIn};
 
 use crate::cut::Cut;
 use std::alloc::{AllocError, Global};
 use std::marker::Model;
-use tp_model::{Entry, Token, WireEnd};
+use tp_model::{Token, WireEnd};
 use tp_net::Lines;
 use tp_port::HostPort;
 
@@ -150,19 +150,26 @@ impl Running {
         }
     }
 
-    /// An entry of a process belongs to the cut, or what it takes to a line of the cut, or neither.
-    #[tactic(auto, unfolding(tp_model::specs::Network::sent))]
-    pub(crate) fn collect(&mut self, process: usize, entry: Entry)
-        requires { FitsIn self.old process entry }
-        ensures { self.new ≡ collected process (takes_of entry) self.old }
+    /// Tokens that are taken from lines in order belong to them in the cut, where they aren't closed.
+    fn collect_all(&mut self, tokens: &[(u16, Token)])
+        requires there { AllByRecursion (λ m. (m.0 < length self.old.closed) × (m.0 < length self.old.lines)) tokens.now }
+        requires room { HasRoom (λ line. not (is_closed self.old line)) self.old.lines tokens.now }
+        ensures { self.new ≡ record self.old { lines = sent (λ line. not (is_closed self.old line)) self.old.lines tokens.now } }
     {
-        if !self.has_recorded(process) {
-            self.cut.grow();
-            return;
+        for m in tokens {
+            self.collect_token(m.0 as usize, m.1);
         }
-        match entry {
-            Entry::Take { line, token } => self.collect_token(line as usize, token),
-            Entry::Run { .. } | Entry::HostIn { .. } | Entry::Confirm { .. } => {}
+    }
+
+    /// An entry of a process belongs to the cut, or what it takes to lines of the cut, or neither.
+    pub(crate) fn collect(&mut self, process: usize, tokens: &[(u16, Token)])
+        requires { FitsIn self.old process tokens.now }
+        ensures { self.new ≡ collected process tokens.now self.old }
+    {
+        if self.has_recorded(process) {
+            self.collect_all(tokens);
+        } else {
+            self.cut.grow();
         }
     }
 

@@ -2,23 +2,21 @@
 use Rattle.std.specs.Prelude.{◌⊎◌, ℕ, List, Result, Ok, Err, IfOk}
 use Rattle.tp_model.specs.declared.entry.Entry.{Entry}
 use Rattle.tp_model.specs.NodeState.{NodeState}
-use Rattle.tp_model.specs.Node.{t414}
 use Rattle.tp_model.specs.Network.{Network}
 use Rattle.tp_model.specs.Disk.{MayBe}
 use Rattle.tp_model.specs.DiskHistory.{State, LeavesOnly}
-use Rattle.tp_model.specs.DeviceAreas.{device_areas}
-use Rattle.tp_model.specs.Walks.{RecoversTo}
+use Rattle.tp_flush.specs.Follows.{Follows}
 use Rattle.tp_stream_ends.specs.declared.ending.Ended.{Ended}
 use Rattle.tp_stream.specs.declared.fault.StreamFault.{StreamFault}
 use Rattle.tp_stream.specs.declared.fault.StreamFault.TheVariants.{Opening, Spare, Port, Unnamed, Short, Long, Gone, NotShown, ShortInput, InputFailed, OutputFailed, FlushFailed, JournalFull, Memory}
 
 -- A crash at any moment of the stream leaves what one just before might have left, or what opens to where a prefix of the journal leads,
--- with all that the device had as it was opened. After a stream that was done, the prefix has each entry below the answered number.
+-- with all that the device had as it was opened: that is the journal's beginning, and the next number is no less than it was. After a
+-- stream that was done, the prefix has each entry below the answered number.
 pub record Streamed (start : Network NodeState) (result : Result Ended StreamFault) (old new : State) : Type 0 where
   pub journal : List Entry
-  pub first : ℕ
-  pub leaves : LeavesOnly old new (λ left. MayBe old.now left ⊎ RecoversTo t414 device_areas start journal first left)
-  pub stored : IfOk result (λ ended. (left : List ℕ) → MayBe new.now left → RecoversTo t414 device_areas start journal ended.next left)
+  pub leaves : LeavesOnly old new (λ left. MayBe old.now left ⊎ Follows start journal 0 old.now.bytes left)
+  pub stored : IfOk result (λ ended. (left : List ℕ) → MayBe new.now left → Follows start journal ended.next old.now.bytes left)
 
 -- the device isn't written
 abbrev pub IsUnbegun : {A : Type 0} → Result A StreamFault → Type 0

@@ -48,7 +48,7 @@ pub(crate) fn parts_of<S: Sink, I: Source, L: Listener>(
     listener: &mut L,
 ) -> Result<(Parts, Raiser), StreamFault>
     ensures parts { IfOk result (λ made. StandsFor opened made.0 made.1) }
-    ensures bound { IfOk result (λ made. made.0.book.room ≡ Some (room opened.head.topology opened.head.area)) }
+    ensures bound { IfOk result (λ made. made.0.book.room ≡ Some (room opened.head.topology opened.head.areas.length)) }
     ensures begun { OnOk result (AllMayBegin (stands_opened opened) (map given_of streams.old.outputs.items)) }
     ensures inputs { OnOk result (AllHaveAccepted (accepted_opened opened) (map (λ i. given_input i.port (I.input i.source)) streams.old.inputs.items)) }
     ensures refused { IfErr result (λ fault. (fault ≡ Memory) ⊎ IsNotBegun (length opened.now.ports) (stands_opened opened) (accepted_opened opened) (map given_of streams.old.outputs.items) (map (λ i. given_input i.port (I.input i.source)) streams.old.inputs.items) fault) }

@@ -2,7 +2,7 @@
 
 ghost use Rattle.std.specs.Prelude.{◌≡◌, ◌<◌, ◌≤◌, ◌+◌, length, IfOk, OnOk, IfErr, OnErr};
 ghost use Rattle.tp_book.specs.Host.{after_confirm, port_in, shown_from, shown_upto_of};
-ghost use Rattle.tp_shared.specs.Entries.{confirm_entries};
+ghost use Rattle.tp_book.specs.Acts.{confirm_entries};
 ghost use Rattle.tp_host.specs.Receipts.{IsFor};
 ghost use Rattle.tp_stream_ends.specs.Held.{HasPut, KeepsFront};
 ghost use Rattle.tp_stream_ends.specs.Outputs.{Grew, given_of};
@@ -13,6 +13,8 @@ ghost use Rattle.tp_stream.specs.Outcomes.{IsStepFault, step_fault_of};
 use crate::fault::StreamFault;
 use crate::standing::Standing;
 use tp_book::Book;
+use tp_disk::Disk;
+use tp_flush::Flusher;
 use tp_host::{ConfirmFault, confirm};
 use tp_shared::{Locked, Naming, Receipt};
 use tp_stream_ends::{Output, Sink, SinkFault};
@@ -105,17 +107,22 @@ pub(crate) fn begin<S: Sink>(
     set_out(output, stand)
 }
 
-/// Puts, at their positions, all outputs that `mark` shows behind those that were put, and makes them safe.
+/// Puts, at their positions, all outputs that the flusher's mark shows behind those that were put, and makes them safe.
 #[tactic(auto, using(tp_stream_ends::proofs::Sinks::front_stays))]
-fn put_shown<S: Sink>(output: &mut Output<S>, book: &Book, mark: u64) -> Result<(), StepFault>
+fn put_shown<J: Naming, D: Disk, S: Sink>(
+    output: &mut Output<S>,
+    book: &Book,
+    flusher: &Flusher<J, D>,
+) -> Result<(), StepFault>
     requires there { output.old.port < length book.now.state.ports }
-    ensures put { OnOk result (Grew (shown_from book.now output.old.port mark output.old.next) output.old output.new) }
-    ensures shown { OnOk result (output.new.next ≡ shown_upto_of book.now output.old.port mark) }
+    ensures put { OnOk result (Grew (shown_from book.now output.old.port flusher.now.world.mark output.old.next) output.old output.new) }
+    ensures shown { OnOk result (output.new.next ≡ shown_upto_of book.now output.old.port flusher.now.world.mark) }
     ensures front { KeepsFront output.old.next output.old.held output.new.held }
     ensures failed { OnErr result (output.new ≡ record output.old { held = output.new.held }) }
     ensures begun { IfErr result IsStepFault }
 {
     output.known();
+    let mark = flusher.mark();
     let (port, from) = (output.port(), output.put());
     let upto = book.shown_upto(port, mark);
     if from < book.out_base(port) || upto < from {
@@ -129,10 +136,10 @@ fn put_shown<S: Sink>(output: &mut Output<S>, book: &Book, mark: u64) -> Result<
 }
 
 /// Journals, under the book's lock, that the host has all outputs that were put. Where it is refused nothing is confirmed.
-fn confirm_put<J: Naming, S: Sink>(
+fn confirm_put<J: Naming, D: Disk, S: Sink>(
     output: &mut Output<S>,
     held: &mut Locked<J>,
-    mark: u64,
+    flusher: &Flusher<J, D>,
 ) -> Result<Receipt<J>, StreamFault>
     requires there { output.old.port < length held.old.book.state.ports }
     ensures book { IfOk result (λ receipt. held.new.book ≡ after_confirm held.old.book output.old.port output.old.next) }
@@ -141,7 +148,7 @@ fn confirm_put<J: Naming, S: Sink>(
     ensures err { OnErr result ((held.new ≡ held.old) × (output.new ≡ output.old)) }
     ensures begun { IfErr result IsBegun }
 {
-    match confirm(held, output.port(), mark, output.put()) {
+    match confirm(held, output.port(), flusher.mark(), output.put()) {
         Ok(receipt) => {
             output.confirm();
             Ok(receipt)
@@ -150,17 +157,18 @@ fn confirm_put<J: Naming, S: Sink>(
     }
 }
 
-/// A step, under the book's lock: puts what `mark` shows and wasn't put, at its positions, makes it safe, and confirms up to there.
-/// Where putting it or making it safe fails, or whoever takes it has gone, nothing is confirmed.
-pub(crate) fn step<J: Naming, S: Sink>(
+/// A step, under the book's lock: puts what the flusher's mark shows and wasn't put, at its positions, makes it safe, and confirms up to
+/// there. So what is put and confirmed was put out by entries that the flusher has stored. Where putting it or making it safe fails, or
+/// whoever takes it has gone, nothing is confirmed.
+pub(crate) fn step<J: Naming, D: Disk, S: Sink>(
     output: &mut Output<S>,
     held: &mut Locked<J>,
-    mark: u64,
+    flusher: &Flusher<J, D>,
 ) -> Result<Receipt<J>, StepFault>
     requires there { output.old.port < length held.old.book.state.ports }
-    ensures put { OnOk result (output.new.next ≡ output.old.next + length (shown_from held.old.book output.old.port mark output.old.next)) }
-    ensures bytes { OnOk result (HasPut output.old.next (shown_from held.old.book output.old.port mark output.old.next) output.old.held output.new.held) }
-    ensures shown { OnOk result (output.new.next ≡ shown_upto_of held.old.book output.old.port mark) }
+    ensures put { OnOk result (output.new.next ≡ output.old.next + length (shown_from held.old.book output.old.port flusher.now.world.mark output.old.next)) }
+    ensures bytes { OnOk result (HasPut output.old.next (shown_from held.old.book output.old.port flusher.now.world.mark output.old.next) output.old.held output.new.held) }
+    ensures shown { OnOk result (output.new.next ≡ shown_upto_of held.old.book output.old.port flusher.now.world.mark) }
     ensures book { IfOk result (λ receipt. held.new.book ≡ after_confirm held.old.book output.old.port output.new.next) }
     ensures receipt { IfOk result (IsFor (confirm_entries held.old.book output.old.port output.new.next)) }
     ensures confirmed { OnOk result (output.new.confirmed ≡ output.new.next) }
@@ -168,8 +176,8 @@ pub(crate) fn step<J: Naming, S: Sink>(
     ensures front { KeepsFront output.old.next output.old.held output.new.held }
     ensures begun { IfErr result IsStepFault }
 {
-    match put_shown(output, held.book(), mark) {
-        Ok(()) => match confirm_put(output, held, mark) {
+    match put_shown(output, held.book(), flusher) {
+        Ok(()) => match confirm_put(output, held, flusher) {
             Ok(receipt) => Ok(receipt),
             Err(fault) => Err(StepFault::Fault(fault)),
         },

@@ -7,6 +7,8 @@ use crate::fault::StreamFault;
 use crate::output::StepFault;
 use crate::pace::Pace;
 use std::sync::Wait;
+use tp_disk::Disk;
+use tp_flush::Flusher;
 use tp_model::limits::MAX_HELD;
 use tp_shared::{Naming, Shared};
 use tp_stream_ends::{Input, Output, Sink, Source, Streams};
@@ -50,10 +52,10 @@ pub(crate) fn can_confirm<J: Naming, R: Wait>(rt: &R, shared: &Shared<J>, pace: 
 }
 
 /// A step of a port's output, which takes the book's lock.
-fn step_output<J: Naming, S: Sink, R: Wait>(
+fn step_output<J: Naming, D: Disk, S: Sink, R: Wait>(
     rt: &R,
     shared: &Shared<J>,
-    mark: u64,
+    flusher: &Flusher<J, D>,
     output: &mut Output<S>,
 ) -> Result<Pumped, StreamFault>
     ensures { IfErr result IsBegun }
@@ -64,7 +66,7 @@ fn step_output<J: Naming, S: Sink, R: Wait>(
     if output.port() >= shared.ports() {
         return Err(StreamFault::OutputFailed(output.port()));
     }
-    match crate::output::step(output, &mut held, mark) {
+    match crate::output::step(output, &mut held, flusher) {
         Ok(_) => Ok(Pumped::of(output.put() > before)),
         Err(StepFault::Gone) => Ok(Pumped::Gone),
         Err(StepFault::Fault(fault)) => Err(fault),
@@ -72,17 +74,17 @@ fn step_output<J: Naming, S: Sink, R: Wait>(
 }
 
 /// A step of each output, also behind one whose taker has gone.
-fn step_outputs<J: Naming, S: Sink, R: Wait>(
+fn step_outputs<J: Naming, D: Disk, S: Sink, R: Wait>(
     rt: &R,
     shared: &Shared<J>,
-    mark: u64,
+    flusher: &Flusher<J, D>,
     outputs: &mut [Output<S>],
 ) -> Result<Pumped, StreamFault>
     ensures { IfErr result IsBegun }
 {
     let mut pumped = Pumped::Nothing;
     for output in outputs.iter_mut() {
-        pumped = pumped.then(step_output(rt, shared, mark, output)?);
+        pumped = pumped.then(step_output(rt, shared, flusher, output)?);
     }
     Ok(pumped)
 }
@@ -137,19 +139,19 @@ fn step_inputs<J: Naming, I: Source, R: Wait>(
     Ok(Pumped::of(has_moved))
 }
 
-/// A step of each stream, where the mark is `mark`. Where none has moved, and it may wait, it waits for input that hasn't come yet.
+/// A step of each stream. Outputs are put and confirmed up to the flusher's mark. Where none has moved, and it may wait, it waits for input that hasn't come yet.
 /// Where whoever takes an output has gone, no port takes more.
-pub(crate) fn pump<J: Naming, S: Sink, I: Source, R: Wait>(
+pub(crate) fn pump<J: Naming, D: Disk, S: Sink, I: Source, R: Wait>(
     rt: &R,
     shared: &Shared<J>,
     pace: Pace,
-    mark: u64,
+    flusher: &Flusher<J, D>,
     may_wait: bool,
     streams: &mut Streams<S, I>,
 ) -> Result<Pumped, StreamFault>
     ensures { IfErr result IsBegun }
 {
-    let put = step_outputs(rt, shared, mark, &mut streams.outputs)?;
+    let put = step_outputs(rt, shared, flusher, &mut streams.outputs)?;
     if put == Pumped::Gone {
         return Ok(Pumped::Gone);
     }

@@ -100,13 +100,13 @@ fn make_turns<J: Naming, R: Wait>(
 
 /// A step of each stream, which waits for input where nothing else is left to do, and then turns. Where the journal has no room for the
 /// confirms, a snapshot is brought to its end before one is made. Answers why it is over, where it is.
-fn go_on<J: Naming, S: Sink, I: Source, L: Listener, R: Wait>(
+fn go_on<J: Naming, D: Disk, S: Sink, I: Source, L: Listener, R: Wait>(
     rt: &R,
     alloc: Global,
     shared: &Shared<J>,
     pace: Pace,
     going: &mut Going<J>,
-    mark: u64,
+    flusher: &Flusher<J, D>,
     streams: &mut Streams<S, I>,
     listener: &mut L,
 ) -> Result<Option<Ending>, StreamFault>
@@ -120,11 +120,12 @@ fn go_on<J: Naming, S: Sink, I: Source, L: Listener, R: Wait>(
         return Ok(None);
     }
     let may_wait = may_wait(pace.task, &going.turns, shared.nodes());
-    let pumped = pump(rt, shared, pace, mark, may_wait, streams)?;
+    let pumped = pump(rt, shared, pace, flusher, may_wait, streams)?;
     let over = are_over(&streams.inputs);
     if let Some(why) = ending(pace.task, &going.turns, shared.nodes(), pumped, over) {
         return Ok(Some(why));
     }
+    let mark = flusher.mark();
     tell(rt, shared, pace, going, mark, &streams.outputs, listener);
     make_turns(rt, alloc, shared, pace, going, pumped, over)?;
     Ok(None)
@@ -148,8 +149,8 @@ fn cycle<J: Naming, D: Disk, S: Sink, I: Source, L: Listener, R: Wait>(
     ensures rested { OnOk result (HaveRested J.start going.new.turns.whose going.new.turns.idle) }
     ensures begun { IfErr result IsBegun }
 {
-    let mark = flush(rt, alloc, shared, flusher)?;
-    go_on(rt, alloc, shared, pace, going, mark, streams, listener)
+    flush(rt, alloc, shared, flusher)?;
+    go_on(rt, alloc, shared, pace, going, flusher, streams, listener)
 }
 
 /// All cycles, until nothing more is to be done or one is refused; and whether each process had nothing to do in its last turn.

@@ -76,12 +76,12 @@ fn stream_parts<J: Naming, D: Disk + Drop, S: Sink, I: Source, L: Listener, R: W
     requires quantum { task.quantum ≤ MAX_STEPS }
     requires names { Names J.roll J.first J.start J.node J.mark J.flusher J.room parts }
     requires stands { StandsFor opened.value parts raiser }
-    requires bound { parts.book.room ≡ Some (room opened.value.head.topology opened.value.head.area) }
+    requires bound { parts.book.room ≡ Some (room opened.value.head.topology opened.value.head.areas.length) }
     requires cut { IsCut t414_ends opened.value.head.topology opened.value.base opened.value.cut }
     requires bytes { AllByRecursion IsNodeOfBytes opened.value.cut.nodes }
     requires place { store.place ≡ place_at opened.value }
     requires topology { topology ≡ opened.value.head.topology }
-    requires roomy { is_roomy opened.value.head.topology opened.value.head.area ≡ true }
+    requires roomy { is_roomy opened.value.head.topology opened.value.head.areas.length ≡ true }
     requires unbroken { store.broken ≡ false }
     requires read { D.keeps → verdict (D.state store.disk).now.bytes ≡ Ok opened.value }
     requires synced { D.keeps → IsSynced (D.state store.disk) }
@@ -92,7 +92,7 @@ fn stream_parts<J: Naming, D: Disk + Drop, S: Sink, I: Source, L: Listener, R: W
     ensures begun { IfErr result.1 IsBegun }
 {
     let (shared, key) = Shared::<J>::start(parts);
-    let pace = pace_of(task, &topology, store.place.area);
+    let pace = pace_of(task, &topology, store.place.areas.length);
     let flusher = Flusher::over(opened, topology, store, key, raiser);
     flusher.known();
     let (flusher, done) = serve(rt, alloc, &shared, pace, flusher, streams, listener);
@@ -144,7 +144,7 @@ pub fn stream<D: Disk + Drop, S: Sink, I: Source, L: Listener, R: Wait>(
     opened.known();
     let known = Snapshot::of(&opened);
     let topology = topology_of(&opened);
-    let _area = opened.head().area();
+    let _areas = opened.head().areas();
     let store = opened.store(disk);
     let (parts, raiser) = match parts_of(alloc, opened, task.spare, streams, listener) {
         Ok(made) => made,

@@ -41,10 +41,10 @@ pub struct Opening<D: Disk> {
     raiser: Raiser,
     store: Store<D>,
     pub ghost made: { StandsFor opened.value parts raiser },
-    pub ghost bound: { parts.book.room ≡ Some (room opened.value.head.topology opened.value.head.area) },
+    pub ghost bound: { parts.book.room ≡ Some (room opened.value.head.topology opened.value.head.areas.length) },
     pub ghost first_is: { first ≡ parts.first },
     pub ghost topology_is: { topology ≡ opened.value.head.topology },
-    pub ghost roomy: { is_roomy opened.value.head.topology opened.value.head.area ≡ true },
+    pub ghost roomy: { is_roomy opened.value.head.topology opened.value.head.areas.length ≡ true },
     pub ghost place: { store.place ≡ place_at opened.value },
     pub ghost unbroken: { store.broken ≡ false },
     pub ghost read: { D.keeps → verdict (D.state store.disk).now.bytes ≡ Ok opened.value },
@@ -54,7 +54,7 @@ pub struct Opening<D: Disk> {
 /// The book and the nodes of what was opened, and the raiser of their mark.
 fn parts_of(alloc: Global, opened: Opened, spare: usize) -> Result<(Parts, Raiser), AllocError>
     ensures parts { IfOk result (λ made. StandsFor opened made.0 made.1) }
-    ensures bound { IfOk result (λ made. made.0.book.room ≡ Some (room opened.head.topology opened.head.area)) }
+    ensures bound { IfOk result (λ made. made.0.book.room ≡ Some (room opened.head.topology opened.head.areas.length)) }
 {
     opened_books_begin();
     opened.known();
@@ -87,7 +87,7 @@ pub fn opening_with<D: Disk + Drop>(
     opened.known();
     let known = Snapshot::of(&opened);
     let topology = topology_of(&opened);
-    let _area = opened.head().area();
+    let _areas = opened.head().areas();
     let first = opened.next();
     let store = opened.store(disk);
     let Ok((parts, raiser)) = parts_of(alloc, opened, spare) else {

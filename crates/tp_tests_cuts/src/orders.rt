@@ -108,7 +108,7 @@ fn choose(
 fn is_right(alloc: Global, play: &mut Play, first: &[u8], second: &[u8]) -> Result<bool, Fail> {
     let replayed = comes_first(alloc, play, first, second)?;
     let gathered = play.plain.is_gathered(alloc, play.net.book())?;
-    let trimmed = play.net.take_in() && play.plain.is_behind(alloc, play.net.book())?;
+    let trimmed = play.net.take_in() && play.plain.is_behind(play.net.book());
     Ok(replayed && gathered && trimmed)
 }
 

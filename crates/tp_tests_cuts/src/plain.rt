@@ -2,7 +2,7 @@
 
 use crate::network::{LINES, PROCESSES, WIRES};
 use std::alloc::{AllocError, Global};
-use tp_book::Book;
+use tp_book::{Book, Numbered};
 use tp_model::{Entry, Token, WireEnd};
 use tp_snap::Cut;
 
@@ -126,11 +126,15 @@ impl Plain {
     }
 
     /// Whether `entries` are those outside the cut, each with its place among all as its number.
-    fn are_outside(&self, entries: &[(Entry, u64)]) -> bool {
+    fn are_outside(&self, entries: &[Numbered]) -> bool {
         let mut at = 0usize;
         for (number, made) in self.made.iter().enumerate() {
             if !made.inside {
-                if entries.get(at) != Some(&(made.entry, number as u64)) {
+                let wanted = Numbered {
+                    entry: made.entry,
+                    number: number as u64,
+                };
+                if entries.get(at) != Some(&wanted) {
                     return false;
                 }
                 at = at.saturating_add(1);
@@ -161,13 +165,9 @@ impl Plain {
     }
 
     /// Whether the book went on from the cut, and the entries outside it kept their numbers.
-    pub(crate) fn is_behind(&self, alloc: Global, book: &Book) -> Result<bool, AllocError> {
-        let mut entries = Vec::new(alloc);
-        for numbered in book.entries() {
-            entries.push((numbered.entry, numbered.number))?;
-        }
+    pub(crate) fn is_behind(&self, book: &Book) -> bool {
         let numbers = book.base() == self.size() && book.next() == self.made.len() as u64;
         let ended = book.whole().is_none() && book.generation() == 2;
-        Ok(numbers && ended && self.are_outside(&entries))
+        numbers && ended && self.are_outside(book.entries())
     }
 }

@@ -144,7 +144,7 @@ fn is_cut(alloc: Global, book: &Book, story: &Story) -> Result<bool, AllocError>
         return Ok(false);
     };
     let tail = book.tail(alloc)?;
-    let outside = tail.entries() == story.tail && tail.upto() == story.next;
+    let outside = are_entries(tail.entries(), story.tail) && tail.upto() == story.next;
     let counts = cut.counts() == story.counts.as_slice() && cut.size() == story.size;
     let ports = match cut.ports() {
         [port] => is_port(port, story.pending),

@@ -9,7 +9,8 @@ use Rattle.tp_model.specs.declared.entry.Entry.TheVariants.{Run}
 use Rattle.tp_model.specs.NodeState.{NodeState}
 use Rattle.tp_model.specs.Network.{Network}
 use Rattle.tp_node.specs.RunEnd.{RunEnd}
-use Rattle.tp_shared.specs.Entries.{CountedTakes, run_entries}
+use Rattle.tp_book.specs.Acts.{run_entries}
+use Rattle.tp_shared.specs.Entries.{CountedTakes}
 use Rattle.tp_shared.specs.Gains.{Gained}
 use Rattle.tp_shared.specs.Receipted.{Receipted}
 use Rattle.tp_host.specs.Receipts.{IsFor}

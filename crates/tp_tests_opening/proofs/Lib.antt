@@ -1,2 +1,3 @@
 pub mod EachPasses
+pub mod Numbered
 pub mod Spelt

@@ -11,9 +11,10 @@ ghost use Rattle.tp_tests_opening.specs.TailOf.{AreTailOf};
 
 use crate::devices::{Held, replayed};
 use crate::possible::is_in_range;
-use std::alloc::Global;
+use std::alloc::{AllocError, Global};
 use std::test::Fail;
 use tp_area::{Store, StoreFault};
+use tp_book::Numbered;
 use tp_disk::Disk;
 use tp_model::limits::{IMAGE_HEAD_BYTES, MAX_HELD, PAGE_BYTES};
 use tp_model::{Entry, Token, WireEnd};
@@ -36,7 +37,17 @@ pub(crate) struct Cut<'a> {
 pub(crate) struct Pieces {
     held: Held,
     lines: Lines,
-    tail: Vec<(Entry, u64)>,
+    tail: Vec<Numbered>,
+}
+
+/// Entries with the numbers beside them.
+fn numbered_of(alloc: Global, tail: &[(Entry, u64)]) -> Result<Vec<Numbered>, AllocError> {
+    let mut all = Vec::with_capacity(alloc, tail.len())?;
+    for (entry, number) in tail {
+        let (entry, number) = (*entry, *number);
+        all.push(Numbered { entry, number })?;
+    }
+    Ok(all)
 }
 
 impl Pieces {
@@ -52,7 +63,7 @@ impl Pieces {
         Ok(Pieces {
             held,
             lines,
-            tail: Vec::from_slice(alloc, cut.tail)?,
+            tail: numbered_of(alloc, cut.tail)?,
         })
     }
 }
@@ -93,18 +104,19 @@ fn is_port(base: u64, port: &PortParts) -> bool
 }
 
 /// Whether entries may stand behind a cut of `base` entries, in groups.
-fn are_behind(base: u64, tail: &[(Entry, u64)]) -> bool
+fn are_behind(base: u64, tail: &[Numbered]) -> bool
     ensures { result ≡ true → AreTailOf base tail.now }
 {
     if base > 1_000 || tail.len() > 1_000 {
         return false;
     }
     let mut least = 0;
-    for (i, (entry, number)) in tail.iter().enumerate() {
-        if *number < least || *number > base + i as u64 || !is_in_range(*entry) {
+    for i in 0..tail.len() {
+        let one = tail[i];
+        if one.number < least || one.number > base + i as u64 || !is_in_range(one.entry) {
             return false;
         }
-        least = *number + 1;
+        least = one.number + 1;
     }
     true
 }

@@ -9,11 +9,11 @@ use Rattle.tp_model.specs.declared.entry.Entry.{Entry}
 use Rattle.tp_model.specs.declared.entry.Entry.TheVariants.{Run, Take, HostIn, Confirm}
 use Rattle.tp_model.specs.NodeState.{NodeState}
 use Rattle.tp_model.specs.Network.{◌>>=◌, steps, Network, OfHost, has_wire, own, put, taken, pushed, sent, same_token}
-use Rattle.tp_model.specs.Entries.{process, takes, does, of_port, receives}
+use Rattle.tp_model.specs.Entries.{process, takes, does, of_port, receives, acts}
 use Rattle.tp_model.specs.Step.{step_of}
 use Rattle.tp_model.specs.Node.{t414, node_step, took}
 use Rattle.tp_law_parts.specs.Piece.{Piece, from_piece}
-use Rattle.tp_law_parts.specs.InPiece.{acts, next_in}
+use Rattle.tp_law_parts.specs.InPiece.{next_in}
 use Rattle.tp_parts.specs.Blocked.{IsBlocked}
 use Rattle.tp_parts.specs.FirstNode.{HasNoNode, IsFirstNode}
 use Rattle.tp_tests_parts.specs.declared.side.Side.{Side}
@@ -61,7 +61,7 @@ node_after-past Second out held line token = rw (ne_eqb (past line) 4 (λ e. ome
 -- a part after a Take there, by whether the line counts as a node's
 abbrev take_past : Piece → Network NodeState → ℕ → Token → Bool → Option (Network NodeState)
 take_past has s line token b =
-    taken s.lines (cond (has (cond b (past line / 4) 2)) ((past line, token) ∷ []) []) >>= λ lines. cond (has (process s (Take (past line) token))) (acts t414 s lines (Take (past line) token)) (Some (record s { lines = lines }))
+    taken s.lines (cond (has (cond b (past line / 4) 2)) ((past line, token) ∷ []) []) >>= λ lines. cond (has (process s.wires (length s.nodes) (Take (past line) token))) (acts t414 s lines (Take (past line) token)) (Some (record s { lines = lines }))
 
 next_in-past : (side : Side) (out held : Option ℕ) (line : ℕ) (token : Token) → next_in t414 (node_piece side) (pair_network side out held) (Take (past line) token) ≡ Some (pair_network side out held)
 unfolding next_in from_piece taken process takes
@@ -128,7 +128,7 @@ part_goes side now out held out_now held_now e false stays h = inl (next_in-pair
 
 -- the host runs nothing
 host_runs_not : (i count : ℕ) (b : Bool)
-    → ((cond b (Some (OfHost [])) None) >>= λ before. does t414 pair_wires 2 (Run i count) before >>= λ change. Some (put (record host_network { lines = sent (has_wire pair_wires) host_network.lines change.1 }) (process host_network (Run i count)) change.0)) ≡ None
+    → ((cond b (Some (OfHost [])) None) >>= λ before. does t414 pair_wires 2 (Run i count) before >>= λ change. Some (put (record host_network { lines = sent (has_wire pair_wires) host_network.lines change.1 }) (process host_network.wires (length host_network.nodes) (Run i count)) change.0)) ≡ None
 unfolding does
 host_runs_not i count true = refl
 host_runs_not i count false = refl

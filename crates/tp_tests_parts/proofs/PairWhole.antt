@@ -6,7 +6,7 @@ use Rattle.tp_model.specs.declared.wire.WireEnd.TheVariants.{Link}
 use Rattle.tp_model.specs.Network.{own, put, taken, sent, has_wire, receiver, back, on_line}
 use Rattle.tp_model.specs.declared.link.Token.TheVariants.{Data}
 use Rattle.tp_model.specs.declared.entry.Entry.TheVariants.{Take}
-use Rattle.tp_model.specs.Entries.{process, takes, does, receives, next}
+use Rattle.tp_model.specs.Entries.{process, takes, does, receives, next, acts}
 use Rattle.tp_model.specs.Markers.{markers}
 use Rattle.tp_model.specs.Node.{t414, t414_ends, took}
 use Rattle.tp_model.specs.Order.{after}
@@ -187,10 +187,10 @@ pair_is_whole = record { sound = pair_sound; unmarked = unmarked; covers = whole
 
 -- Each node takes the other's byte.
 pub pair_ends : after t414 pair_whole (Take 0 (Data 65) ∷ Take 4 (Data 66) ∷ []) ≡ Some pair_end
-unfolding after next process takes taken own put does receives took sent
+unfolding after next acts process takes taken own put does receives took sent
 pair_ends = refl
 
 -- The first node takes the other's byte; another byte than its own it hasn't sent.
 pub pair_stops : reach (next t414) pair_whole (Take 4 (Data 66) ∷ Take 0 (Data 66) ∷ []) ≡ 1
-unfolding reach next process takes taken own put does receives took sent
+unfolding reach next acts process takes taken own put does receives took sent
 pair_stops = refl

@@ -12,6 +12,7 @@ use Rattle.tp_model.specs.declared.limits.TheConstants.{MAX_HELD}
 use Rattle.tp_model.specs.Node.{t414}
 use Rattle.tp_model.specs.Network.{Port}
 use Rattle.tp_model.specs.Numbers.{AreNumbered}
+use Rattle.tp_model.specs.declared.entry.Entry.{Entry}
 use Rattle.tp_model.specs.Order.{after}
 use Rattle.tp_model.specs.Markers.{plain}
 use Rattle.tp_book.specs.declared.state.NetState.{NetState}
@@ -60,13 +61,13 @@ pub lone_opened : (s : NetState) → network_of s.net ≡ lone_network → cut_o
     → All (λ port. vec_len port.pending ≤ MAX_HELD) s.net.ports.items → All (λ port. vec_len port.outputs ≤ MAX_HELD) s.net.ports.items → IsOpened s
 unfolding after
 lone_opened s is cut kept base next generation pending outputs = record {
-  history = ap (λ es. after t414 (cut_of s) (map (λ n. n.entry) es)) kept ∙ ap Some (cut ∙ sym is);
+  history = ap (λ es. after t414 (cut_of s) (map (λ (e : Entry × ℕ). e.0) es)) kept ∙ ap Some (cut ∙ sym is);
   sound = subst (Sound t414_ends) (sym is) lone_sound;
   shaped = subst IsNetwork (sym is) (record { wires = refl; few_nodes = omega arith; few_ports = omega arith });
   lines = ap (λ net. length net.lines) is ∙ sym (ap (λ net. length net.wires) is);
   unmarked = ap (λ net. map plain net.lines) is ∙ sym (ap (λ net. net.lines) is);
-  ranged = subst (λ given. AreInRange (map (λ n. n.entry) given)) (sym kept) tt;
-  numbered = subst (λ ns. AreNumbered 0 s.base (map (λ n. n.number) ns)) (sym kept) tt;
+  ranged = subst (λ given. AreInRange (map (λ (e : Entry × ℕ). e.0) given)) (sym kept) tt;
+  numbered = subst (λ ns. AreNumbered 0 s.base (map (λ (e : Entry × ℕ). e.1) ns)) (sym kept) tt;
   next = omega (arith, base, next, s.kept.ok.0, ap length kept);
   few = omega (arith, next);
   age = omega (arith, generation);

@@ -2,7 +2,7 @@
 
 ghost use Rattle.tp_model.specs.EntryBytes.{IsSpelt};
 
-use tp_entry::{BadEntry, get, put};
+use tp_entry::{BadEntry, Numbered, get, put};
 use tp_model::Entry;
 use tp_model::Token::{Ack, Data};
 
@@ -10,9 +10,10 @@ use tp_model::Token::{Ack, Data};
 fn is_spelt(entry: Entry, number: u64, bytes: [u8; 16]) -> bool
     requires { IsSpelt entry number }
 {
+    let numbered = Numbered { entry, number };
     let mut written = [0xEE; 16];
-    put(&entry, number, &mut written);
-    written == bytes && get(&bytes) == Ok((entry, number))
+    put(&numbered, &mut written);
+    written == bytes && get(&bytes) == Ok(numbered)
 }
 
 #[test]

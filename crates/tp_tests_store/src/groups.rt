@@ -2,7 +2,7 @@
 
 use std::alloc::{AllocError, Global};
 use std::test::Fail;
-use tp_entry::{BadEntry, get, put_group_body, read_group};
+use tp_entry::{BadEntry, Numbered, get, put_group_body, read_group};
 use tp_model::Token::Ack;
 use tp_model::{BadGroup, Entry};
 
@@ -29,7 +29,7 @@ fn changed(alloc: Global, at: usize, byte: u8) -> Result<Vec<u8>, AllocError> {
 }
 
 /// Whether the bytes are a group of one entry, which reads as wanted.
-fn reads_as(bytes: &[u8], want: Result<(Entry, u64), BadEntry>) -> Result<bool, BadGroup> {
+fn reads_as(bytes: &[u8], want: Result<Numbered, BadEntry>) -> Result<bool, BadGroup> {
     let Some(group) = read_group(bytes)? else {
         return Ok(false);
     };
@@ -41,7 +41,13 @@ fn reads_as(bytes: &[u8], want: Result<(Entry, u64), BadEntry>) -> Result<bool, 
 
 #[test]
 fn one_entry_is_read(rt: HostRuntime) {
-    let told = reads_as(&ONE_ENTRY, Ok((Entry::Run { node: 0, count: 5 }, 7)));
+    let told = reads_as(
+        &ONE_ENTRY,
+        Ok(Numbered {
+            entry: Entry::Run { node: 0, count: 5 },
+            number: 7,
+        }),
+    );
     assert!(rt; told == Ok(true));
 }
 
@@ -105,14 +111,17 @@ const TWO_ENTRIES: [u8; 48] = [
 #[test]
 fn two_entries_are_written(rt: HostRuntime) {
     let entries = [
-        (Entry::Run { node: 0, count: 5 }, 7),
-        (
-            Entry::Take {
+        Numbered {
+            entry: Entry::Run { node: 0, count: 5 },
+            number: 7,
+        },
+        Numbered {
+            entry: Entry::Take {
                 line: 4,
                 token: Ack,
             },
-            9,
-        ),
+            number: 9,
+        },
     ];
     let mut written = [0xEE; 50];
     put_group_body(&entries, &mut written);

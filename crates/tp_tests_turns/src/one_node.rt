@@ -53,7 +53,8 @@ fn are(entries: &[Numbered], wanted: &[Entry]) -> bool {
         return false;
     }
     for at in 0..wanted.len() {
-        if entries[at].number != at as u64 || entries[at].entry != wanted[at] {
+        let one = entries[at];
+        if one.number != at as u64 || one.entry != wanted[at] {
             return false;
         }
     }

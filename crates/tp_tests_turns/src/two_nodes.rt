@@ -93,10 +93,9 @@ fn is_cut(alloc: Global, book: &Book) -> Result<bool, Fail> {
         return Ok(false);
     };
     let tail = book.tail(alloc)?;
+    let entries = ENTRIES.as_slice();
     let byte = cut.lines().count() == 9 && cut.lines().get(0, 0) == Some(Token::Data(0x58));
-    let outside = tail.entries().len() == 1
-        && tail.entries().first() == Some(&(ENTRIES[1].entry, 1))
-        && tail.upto() == 2;
+    let outside = tail.entries() == &entries[1..] && tail.upto() == 2;
     Ok(byte && outside && cut.size() == 1 && cut.counts() == [1, 0, 0].as_slice())
 }
 
@@ -106,8 +105,8 @@ fn is_behind(net: &Net) -> bool {
         [first, second] => second.holds(0) && !first.holds(0) && first.waits(0),
         _ => false,
     };
-    let book = net.book();
-    held && book.base() == 1 && book.next() == 2 && book.entries() == &ENTRIES[1..]
+    let (book, entries) = (net.book(), ENTRIES.as_slice());
+    held && book.base() == 1 && book.next() == 2 && book.entries() == &entries[1..]
 }
 
 /// The first step of the day that isn't as it was told.
@@ -125,7 +124,8 @@ fn first_other(alloc: Global, net: &mut Net) -> Option<Step> {
 
 /// Whether the cut is whole then, and the network goes on from it.
 fn is_taken_in(alloc: Global, net: &mut Net, flat: &mut FlatNetwork) -> Result<bool, Fail> {
-    let entries = net.book().entries() == ENTRIES.as_slice();
+    let wanted = ENTRIES.as_slice();
+    let entries = net.book().entries() == wanted;
     let cut = is_cut(alloc, net.book())?;
     let tokens = take_in(alloc, net, flat)?;
     Ok(entries && cut && tokens == Some(1) && is_behind(net))

@@ -1,7 +1,7 @@
 -- A book of one node and one port that has no device, and in which no snapshot runs: what acts journal in it, and why it refuses nothing
 -- but for want of memory.
-use Rattle.std.proofs.Common.{◌≡◌, ℕ, ◌+◌, ◌<◌, Bool, true, false, inl, inr, List, [], ◌∷◌, length, refl, sym, ap, subst, ◌∙◌, arith, length-append, Option, Some, None, get_or}
-use Rattle.std.specs.Prelude.{◌⊎◌, ◌-◌, count_by, is_none, nat_lt, Err}
+use Rattle.std.proofs.Common.{◌≡◌, ℕ, ◌+◌, ◌<◌, Bool, true, false, inl, inr, List, [], ◌∷◌, length, refl, sym, ap, subst, ◌∙◌, arith, Option, Some, None, get_or}
+use Rattle.std.specs.Prelude.{◌⊎◌, ◌-◌, count_by, is_none, nat_lt, Err, length}
 use Rattle.std.specs.Option.{option_map}
 use Rattle.std.proofs.lemmas.Bool.{cases_Bool, le-ltb}
 use Rattle.tp_model.specs.declared.link.Token.{Token}
@@ -32,6 +32,7 @@ use Rattle.tp_book.proofs.TakeRefused.{full_for_any}
 use Rattle.tp_turn.specs.Books.{Grew}
 use Rattle.tp_turn.specs.Fronts.{front_act}
 use Rattle.tp_turn.specs.Moments.{entries_in}
+use Rattle.tp_turn.proofs.Grown.{grew_next}
 use Rattle.tp_trial.specs.Lone.{IsLoneBook, Made, value_of}
 use Rattle.tp_trial.specs.Turns.{TookSo, port_there}
 
@@ -45,7 +46,7 @@ pub record Goes (es : List Entry) (a b : BookValue) : Type 0 where
 
 record Journalled (w v : MarkedNetwork NodeState) (e : Entry) : Type 0 where
   leads : next t414 w.live e ≡ Some v.live
-  snapshot : v.snapshot ≡ option_map (collected (process w.start e) (takes w.live e)) w.snapshot
+  snapshot : v.snapshot ≡ option_map (collected (process w.start.wires (length w.start.nodes) e) (takes w.live.wires (length w.live.nodes) e)) w.snapshot
 
 one_journalled : (w v : MarkedNetwork NodeState) (e : Entry) → acted t414 w (Journal e ∷ []) ≡ Some v → Journalled w v e
 unfolding acted happens
@@ -79,7 +80,7 @@ goes es a b L G many idle leads = record {
     many = many ∙ L.many;
     ports = (after_shape t414 has_four_links (network_now a) (network_now b) es leads).ports ∙ L.ports;
   };
-  count = omega (arith, G.base, ap length G.entries_are, length-append a.state.entries es);
+  count = grew_next es a b G;
 }
 
 module _ (a b : BookValue) (L : IsLoneBook a) (acts : List Act) (did : acted t414 (world_of a) acts ≡ Some (world_of b)) (grew : Grew (entries_in acts) a b) (many : length (agreed b.state) ≡ length (agreed a.state)) where
@@ -88,7 +89,7 @@ module _ (a b : BookValue) (L : IsLoneBook a) (acts : List Act) (did : acted t41
   goes_one e are =
       let J = one_journalled (world_of a) (world_of b) e (subst (λ x. acted t414 (world_of a) x ≡ Some (world_of b)) are did) in
       goes (e ∷ []) a b L (subst (λ x. Grew (entries_in x) a b) are grew) many
-      (J.snapshot ∙ ap (option_map (collected (process a.state.start e) (takes (network_now a) e))) L.idle)
+      (J.snapshot ∙ ap (option_map (collected (process a.state.start.wires (length a.state.start.nodes) e) (takes (network_now a).wires (length (network_now a).nodes) e))) L.idle)
       (after_one t414 (network_now a) e ∙ J.leads)
 
   -- nothing was done

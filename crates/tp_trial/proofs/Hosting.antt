@@ -72,7 +72,7 @@ ends_so line count NoFrame b L left h = absurd h
 ends_so line count PortFull b L left h = record { few = omega (arith, h.0); all = λ less. left_so line PortFull b L (left (omega (arith, less))) h.1; room = refl }
 ends_so line count JournalFull b L left h = absurd (host_not_full b L (left (omega (arith, h.0))) line h.1)
 
--- the same, at a line for which the journal had room
+-- All that may be taken was taken, and the line wasn't left for want of room in the journal.
 record LeftBy (act : Part) (why : Left) (a b : BookValue) : Type 0 where
   leads : Leads act TAKES a b
   room : is_for_room why ≡ false

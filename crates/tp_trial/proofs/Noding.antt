@@ -1,5 +1,5 @@
 -- A turn of the node, as workers make it, is one of a trial.
-use Rattle.std.proofs.Common.{◌≡◌, ℕ, zero, suc, ◌+◌, ◌*◌, ◌<◌, ◌≤◌, true, false, cond, inl, inr, List, [], ◌∷◌, length, refl, sym, ap, subst, ◌∙◌, arith, add-one, length-set, eq-eqb, ne_eqb, Option, Some, None, slice_get}
+use Rattle.std.proofs.Common.{◌≡◌, ℕ, zero, suc, ◌+◌, ◌*◌, ◌<◌, ◌≤◌, false, cond, inl, inr, List, [], ◌∷◌, length, map, refl, sym, ap, subst, ◌∙◌, arith, add-one, length-set, eq-eqb, ne_eqb, Option, Some, None, slice_get}
 use Rattle.std.specs.Prelude.{is_some, Ok, Err}
 use Rattle.std.proofs.lemmas.Bool.{cases_eq, true≢false}
 use Rattle.tp_model.specs.declared.entry.Entry.TheVariants.{Run}
@@ -158,7 +158,7 @@ module _ (quantum : ℕ) (ran : RunEnd) (s t : Moment) (acts : List Act) (C : Is
   runs : Leads (RanOn quantum 0) 1 s t
   runs = elim (cases_eq ran.count 0) [
     | inl none ↦
-        let G = goes_none s.book t.book C.book acts R.added.did R.added.grew many (R.are ∙ ap (λ test. cond test [] (Journal (Run 0 ran.count) ∷ [])) (eq-eqb ran.count 0 none)) in
+        let G = goes_none s.book t.book C.book acts R.added.did R.added.grew many (R.are ∙ ap (λ test. map Journal (cond test [] (Run 0 ran.count ∷ []))) (eq-eqb ran.count 0 none)) in
         record {
           calm = record { book = G.book; thawed = thawed };
           made = record {
@@ -169,7 +169,7 @@ module _ (quantum : ℕ) (ran : RunEnd) (s t : Moment) (acts : List Act) (C : Is
           };
         }
     | inr some ↦
-        let G = goes_one s.book t.book C.book acts R.added.did R.added.grew many (Run 0 ran.count) (R.are ∙ ap (λ test. cond test [] (Journal (Run 0 ran.count) ∷ [])) (ne_eqb ran.count 0 some)) in
+        let G = goes_one s.book t.book C.book acts R.added.did R.added.grew many (Run 0 ran.count) (R.are ∙ ap (λ test. map Journal (cond test [] (Run 0 ran.count ∷ []))) (ne_eqb ran.count 0 some)) in
         record {
           calm = record { book = G.book; thawed = thawed };
           made = record {

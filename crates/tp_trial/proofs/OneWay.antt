@@ -1,4 +1,4 @@
--- Turns have one outcome: from one network the same turns make the same entries, and end in the same network.
+-- Turns have one outcome: from one network a number of turns makes one list of entries, and ends in one network.
 use Rattle.std.proofs.Common.{◌≡◌, ℕ, zero, suc, ◌+◌, ◌*◌, ◌%◌, ◌<◌, ◌≤◌, Bool, true, false, cond, inl, inr, List, [], ◌∷◌, ◌++◌, length, map, drop, get_or, refl, sym, ap, subst, ◌∙◌, arith, Option, Some, None, slice_get, eq-eqb, ne_eqb}
 use Rattle.std.specs.Prelude.{◌==◌, ◌&&◌, nat_lt, nat_le}
 use Rattle.std.specs.Option.{option_map}
@@ -24,7 +24,8 @@ use Rattle.tp_replay.proofs.Steps.{node_after, run_step}
 use Rattle.tp_turn.specs.declared.take.TheConstants.{TAKES}
 use Rattle.tp_trial.specs.Tried.{lone_network}
 use Rattle.tp_turn.specs.Turns.{Then, InOrder}
-use Rattle.tp_trial.specs.Turns.{IsLeft, port_there, TookAll, TookBack, TookIn, RanOn, run_entries, IsTurnOf, AreTurns}
+use Rattle.tp_trial.specs.Turns.{IsLeft, port_there, TookAll, TookBack, TookIn, RanOn, IsTurnOf, AreTurns}
+use Rattle.tp_book.specs.Acts.{run_entries}
 use Rattle.tp_book.specs.Refusals.{takeable_of, is_full_for}
 use Rattle.tp_trial.specs.Output.{IsOutput}
 
@@ -32,7 +33,7 @@ use Rattle.tp_trial.specs.Output.{IsOutput}
 not_both : {A : Type 0} (o : Option A) (x : A) → o ≡ None → o ≡ Some x → ⊥
 not_both o x none some = cc
 
--- an act that makes the same entries from one network, and ends in the same one
+-- an act that makes one list of entries from a network, and ends in one network
 abbrev OneWay : (Network NodeState → List Entry → Network NodeState → Type 0) → Type 0
 OneWay act = (s t u : Network NodeState) (xs ys : List Entry) → act s xs t → act s ys u → (xs ≡ ys) × (t ≡ u)
 
@@ -103,7 +104,7 @@ same_takes line (suc most) s t u (x ∷ xs) (y ∷ ys) few less a b all none =
     let rest = same_takes line most N.0 t u xs ys (omega (arith, few)) (omega (arith, less)) N.2 (ap (λ v. after t414 v (map (λ token. Take line token) ys)) next_is ∙ M.2) (λ l. all (omega (arith, l))) (λ l. none (omega (arith, l))) in
     ap (λ z. z ∷ xs) same ∙ ap (λ zs. y ∷ zs) rest
 
--- one network behind the same entries
+-- one network behind one list of entries
 same_end : (s t u : Network NodeState) (xs ys : List Entry) → xs ≡ ys → after t414 s xs ≡ Some t → after t414 s ys ≡ Some u → t ≡ u
 same_end s t u xs ys same a b = let both : Some t ≡ Some u = sym a ∙ ap (after t414 s) same ∙ b in cc
 

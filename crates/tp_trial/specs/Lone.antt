@@ -52,7 +52,7 @@ pub record Made (act : Network NodeState → List Entry → Network NodeState �
   pub counted : new.entries ≡ old.entries + length entries
   pub did : act old.network entries new.network
 
--- the same, of a node with its book
+-- Such an act was done, and a node with its book has gone on by it.
 pub record Went (act : Network NodeState → List Entry → Network NodeState → Type 0) (most : ℕ) (old new : Lone) : Type 0 where
   pub made : Made act most (lone_of old) (lone_of new)
   pub lone : IsLone new

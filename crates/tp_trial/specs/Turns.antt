@@ -1,16 +1,17 @@
 -- What turns of a trial do to its network. A part of a turn is seen as the network before it, its entries in order, and the network
 -- after it.
-use Rattle.std.specs.Prelude.{◌≡◌, ◌<◌, ◌≤◌, ◌⊎◌, ℕ, ◌+◌, ◌*◌, ◌%◌, ◌==◌, Bool, true, false, if◌then◌else◌, List, [], ◌∷◌, map, length, get_or, Option, Some, None, slice_get}
+use Rattle.std.specs.Prelude.{◌≡◌, ◌<◌, ◌≤◌, ◌⊎◌, ℕ, ◌+◌, ◌*◌, ◌%◌, ◌==◌, Bool, true, false, List, [], map, length, get_or, Option, Some, None, slice_get}
 use Rattle.tp_model.specs.declared.link.Token.{Token}
 use Rattle.tp_model.specs.declared.link.Token.TheVariants.{Marker}
 use Rattle.tp_model.specs.declared.wire.WireEnd.{WireEnd}
 use Rattle.tp_model.specs.declared.wire.WireEnd.TheVariants.{Link, Port as AtPort}
 use Rattle.tp_model.specs.declared.entry.Entry.{Entry}
-use Rattle.tp_model.specs.declared.entry.Entry.TheVariants.{Run, Take}
+use Rattle.tp_model.specs.declared.entry.Entry.TheVariants.{Take}
 use Rattle.tp_model.specs.NodeState.{NodeState}
 use Rattle.tp_model.specs.Node.{node_step, t414}
 use Rattle.tp_model.specs.Network.{Network, Port, receiver, back, on_line}
 use Rattle.tp_model.specs.Order.{after}
+use Rattle.tp_book.specs.Acts.{run_entries}
 use Rattle.tp_book.specs.Refusals.{takeable_of, is_full_for}
 use Rattle.tp_turn.specs.Turns.{Then, InOrder}
 use Rattle.tp_turn.specs.declared.take.TheConstants.{TAKES}
@@ -44,7 +45,7 @@ pub record TookAll (line : ℕ) (s : Network NodeState) (entries : List Entry) (
   pub took : TookSo line count s entries t
   pub all : count < TAKES → IsLeft t line
 
--- the same, for the line that comes back on a wire, where there is a wire
+-- That was done on the line that comes back on a wire; where there is no wire, nothing was.
 abbrev pub TookBack : Option ℕ → Network NodeState → List Entry → Network NodeState → Type 0
 TookBack None s entries t = (entries ≡ []) × (t ≡ s)
 TookBack (Some line) s entries t = TookAll line s entries t
@@ -54,10 +55,6 @@ abbrev pub TookIn : ℕ → Network NodeState → List Entry → Network NodeSta
 TookIn out s entries t = TookBack (back s out) s entries t
 
 -- ## Runs
-
--- a run's entry; none without a step
-abbrev pub run_entries : ℕ → ℕ → List Entry
-run_entries node count = if count == 0 then [] else Run node count ∷ []
 
 -- A node ran for `quantum` steps, or for fewer, after which it has no step.
 pub record RanOn (quantum node : ℕ) (s : Network NodeState) (entries : List Entry) (t : Network NodeState) : Type 0 where

@@ -41,7 +41,7 @@ pub fn try_standing(
     }
 }
 
-/// The output of the same trial.
+/// What port 0 holds after the turns of such a trial.
 pub fn try_output(
     alloc: Global,
     image: &[u8],

@@ -54,7 +54,7 @@ impl Lone {
         }
     }
 
-    /// The same, after which the book forgets what it journalled.
+    /// The turn with this number, after which the book forgets what it journalled.
     fn turn(&mut self, number: u32, quantum: u16) -> Result<(), TryFault>
         requires quantum { quantum ≤ MAX_STEPS }
         requires lone { IsLone self.old }

@@ -1,5 +1,5 @@
 -- Acts of a node one after another.
-use Rattle.std.proofs.Common.{◌≡◌, ◌≢◌, ℕ, ◌+◌, List, [], ◌∷◌, ◌++◌, set, refl, sym, ap, subst, ◌∙◌, add-one, Some, slice_get}
+use Rattle.std.proofs.Common.{◌≡◌, ◌≢◌, ℕ, ◌+◌, List, [], ◌∷◌, ◌++◌, set, refl, sym, ap, subst, ◌∙◌, add-one, Some, slice_get, length}
 use Rattle.std.specs.List.{AllByRecursion}
 use Rattle.std.proofs.lemmas.List.{set-set}
 use Rattle.tp_model.specs.NodeState.{NodeState}
@@ -52,9 +52,9 @@ pub added_more : (number : ℕ) (node last : NodeState) (first second : List Act
 added_more number node last first second a b c A B = record {
   did = acted_more (world_of a) (world_of b) (world_of c) first second A.did B.did;
   grew = subst (λ es. Grew es a c) (sym (entries_more first second)) (grew_more (entries_in first) (entries_in second) a b c A.grew B.grew);
-  own = subst (AllByRecursion (λ e. process a.state.start e ≡ number)) (sym (entries_more first second))
-      (all_append (λ e. process a.state.start e ≡ number) (entries_in first) (entries_in second) A.own
-      (subst (λ s. AllByRecursion (λ e. process s e ≡ number) (entries_in second)) A.grew.start B.own));
+  own = subst (AllByRecursion (λ e. process a.state.start.wires (length a.state.start.nodes) e ≡ number)) (sym (entries_more first second))
+      (all_append (λ e. process a.state.start.wires (length a.state.start.nodes) e ≡ number) (entries_in first) (entries_in second) A.own
+      (subst (λ s. AllByRecursion (λ e. process s.wires (length s.nodes) e ≡ number) (entries_in second)) A.grew.start B.own));
   nodes = B.nodes ∙ ap (λ ns. set ns number last) A.nodes ∙ set-set (agreed a.state) number node last;
   recorded = λ other apart. B.recorded other apart ∙ A.recorded other apart;
   frozen = λ other apart. B.frozen other apart ∙ A.frozen other apart;

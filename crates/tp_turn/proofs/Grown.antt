@@ -1,17 +1,33 @@
 -- Books that grow by one act after another.
-use Rattle.std.proofs.Common.{List, [], ◌++◌, refl, sym, ap, ◌∙◌, append_assoc}
+use Rattle.std.proofs.Common.{◌≡◌, ℕ, ◌+◌, suc, List, [], ◌∷◌, ◌++◌, length, refl, sym, ap, ◌∙◌, arith, append_assoc, length-append}
+use Rattle.std.specs.List.{range_with_len}
 use Rattle.std.proofs.lemmas.List.{append-nil}
 use Rattle.tp_model.specs.declared.entry.Entry.{Entry}
-use Rattle.tp_book.specs.Book.{BookValue}
+use Rattle.tp_book.specs.Book.{BookValue, next_number}
 use Rattle.tp_turn.specs.Books.{Grew}
 
 pub grew_none : (b : BookValue) → Grew [] b b
-grew_none b = record { start = refl; entries_are = sym (append-nil b.state.entries); base = refl; runs = refl; ready = refl; broken = refl; room = refl; history = sym (append-nil b.history); generation = refl; floor = refl }
+grew_none b = record { start = refl; entries_are = sym (append-nil b.state.entries); numbers = sym (append-nil b.numbers); base = refl; runs = refl; ready = refl; broken = refl; room = refl; history = sym (append-nil b.history); generation = refl; floor = refl }
+
+-- numbers behind numbers
+range_more : (n : ℕ) (es fs : List Entry) → range_with_len n (length es) ++ range_with_len (n + length es) (length fs) ≡ range_with_len n (length (es ++ fs))
+range_more n [] fs = let e : n + 0 ≡ n = omega arith in ap (λ k. range_with_len k (length fs)) e
+range_more n (x ∷ es) fs =
+    let e : n + suc (length es) ≡ n + 1 + length es = omega arith in
+    ap (λ ns. n ∷ ns) (ap (λ k. range_with_len (n + 1) (length es) ++ range_with_len k (length fs)) e ∙ range_more (n + 1) es fs)
+
+pub grew_next : (es : List Entry) (a b : BookValue) → Grew es a b → next_number b ≡ next_number a + length es
+grew_next es a b G = let base = G.base in let l = ap length G.entries_are ∙ length-append a.state.entries es in omega (arith, base, l)
 
 pub grew_more : (es fs : List Entry) (a b c : BookValue) → Grew es a b → Grew fs b c → Grew (es ++ fs) a c
 grew_more es fs a b c G H = record {
   start = H.start ∙ G.start;
   entries_are = H.entries_are ∙ ap (λ xs. xs ++ fs) G.entries_are ∙ append_assoc a.state.entries es fs;
+  numbers =
+      H.numbers ∙ ap (λ xs. xs ++ range_with_len (next_number b) (length fs)) G.numbers
+      ∙ append_assoc a.numbers (range_with_len (next_number a) (length es)) (range_with_len (next_number b) (length fs))
+      ∙ ap (λ k. a.numbers ++ (range_with_len (next_number a) (length es) ++ range_with_len k (length fs))) (grew_next es a b G)
+      ∙ ap (λ ns. a.numbers ++ ns) (range_more (next_number a) es fs);
   base = H.base ∙ G.base;
   runs = H.runs ∙ G.runs;
   ready = H.ready ∙ G.ready;

@@ -1,6 +1,6 @@
 -- What the host does at the fronts of lines, one act after another.
-use Rattle.std.proofs.Common.{◌≡◌, ℕ, ◌+◌, ◌*◌, ◌<◌, Bool, true, false, List, [], ◌∷◌, ◌++◌, get_or, length, refl, sym, ap, subst, ◌∙◌, arith, add-one, length-append, Option, Some, None, slice_get}
-use Rattle.std.specs.Prelude.{◌-◌, ◌||◌, Result, Ok, Err}
+use Rattle.std.proofs.Common.{◌≡◌, ℕ, ◌+◌, ◌*◌, ◌<◌, Bool, true, false, List, [], ◌∷◌, ◌++◌, get_or, length, refl, sym, ap, subst, ◌∙◌, arith, add-one, Option, Some, None, slice_get}
+use Rattle.std.specs.Prelude.{◌-◌, ◌||◌, Result, Ok, Err, length}
 use Rattle.std.specs.List.{AllByRecursion}
 use Rattle.std.proofs.lemmas.List.{append-nil}
 use Rattle.tp_model.specs.declared.link.Token.{Token}
@@ -30,7 +30,7 @@ use Rattle.tp_turn.specs.Hosted.{HostAdded, HostDone, PortAtFront, PortIsLeft, P
 use Rattle.tp_turn.specs.declared.left.Left.{Left}
 use Rattle.tp_turn.specs.declared.left.Left.TheVariants.{NoWire, Enough, Empty, Marked, NoFrame, PortFull, JournalFull}
 use Rattle.tp_turn.specs.declared.take.TheConstants.{TAKES}
-use Rattle.tp_turn.proofs.Grown.{grew_none, grew_more}
+use Rattle.tp_turn.proofs.Grown.{grew_none, grew_more, grew_next}
 use Rattle.tp_turn.proofs.Adding.{acted_more, entries_more}
 use Rattle.tp_turn.proofs.Fronted.{front_takes, front_marker, collected_recorded, closed_recorded, close_agreed}
 
@@ -43,9 +43,9 @@ pub host_more : (first second : List Act) (a b c : BookValue) → HostAdded firs
 host_more first second a b c A B = record {
   did = acted_more (world_of a) (world_of b) (world_of c) first second A.did B.did;
   grew = subst (λ es. Grew es a c) (sym (entries_more first second)) (grew_more (entries_in first) (entries_in second) a b c A.grew B.grew);
-  own = subst (AllByRecursion (λ e. process a.state.start e ≡ length a.state.start.nodes)) (sym (entries_more first second))
-      (all_append (λ e. process a.state.start e ≡ length a.state.start.nodes) (entries_in first) (entries_in second) A.own
-      (subst (λ s. AllByRecursion (λ e. process s e ≡ length s.nodes) (entries_in second)) A.grew.start B.own));
+  own = subst (AllByRecursion (λ e. process a.state.start.wires (length a.state.start.nodes) e ≡ length a.state.start.nodes)) (sym (entries_more first second))
+      (all_append (λ e. process a.state.start.wires (length a.state.start.nodes) e ≡ length a.state.start.nodes) (entries_in first) (entries_in second) A.own
+      (subst (λ s. AllByRecursion (λ e. process s.wires (length s.nodes) e ≡ length s.nodes) (entries_in second)) A.grew.start B.own));
   nodes = B.nodes ∙ A.nodes;
   recorded = λ process. B.recorded process ∙ A.recorded process;
   frozen = B.frozen ∙ A.frozen;
@@ -80,7 +80,7 @@ ports_more count earlier full why a b c is A B =
 
 -- ## One act
 
-take_own : (s : Network NodeState) (line port : ℕ) (token : Token) → receiver s.wires line ≡ Some (AtPort port) → process s (Take line token) ≡ length s.nodes
+take_own : (s : Network NodeState) (line port : ℕ) (token : Token) → receiver s.wires line ≡ Some (AtPort port) → process s.wires (length s.nodes) (Take line token) ≡ length s.nodes
 unfolding process
 take_own s line port token goes = rw goes refl
 
@@ -97,7 +97,7 @@ port_taken b new line port goes H nodes act =
     record {
       did = one_act (world_of b) (world_of new) (Journal (Take line (front_of b line))) act;
       grew = subst (Grew (Take line (front_of b line) ∷ []) b) (sym H.is)
-          (record { start = refl; entries_are = refl; base = refl; runs = refl; ready = refl; broken = refl; room = refl; history = refl; generation = refl; floor = refl });
+          (record { start = refl; entries_are = refl; numbers = refl; base = refl; runs = refl; ready = refl; broken = refl; room = refl; history = refl; generation = refl; floor = refl });
       own = (take_own b.state.start line port (front_of b line) goes, tt);
       nodes = nodes;
       recorded = λ process. ap (λ x. has_recorded_in x.state.snapshot process) H.is ∙ collected_recorded b.state.snapshot _ process _;
@@ -115,7 +115,7 @@ port_closed b new line is first act =
     record {
       did = one_act (world_of b) (world_of new) (Close line) act;
       grew = subst (Grew [] b) (sym is)
-          (record { start = refl; entries_are = sym (append-nil b.state.entries); base = refl; runs = refl; ready = refl; broken = refl; room = refl; history = sym (append-nil b.history); generation = refl; floor = refl });
+          (record { start = refl; entries_are = sym (append-nil b.state.entries); numbers = sym (append-nil b.numbers); base = refl; runs = refl; ready = refl; broken = refl; room = refl; history = sym (append-nil b.history); generation = refl; floor = refl });
       own = tt;
       nodes = ap (λ x. agreed x.state) is ∙ close_agreed b line;
       recorded = λ process. ap (λ x. has_recorded_in x.state.snapshot process) is ∙ closed_recorded b.state.snapshot line process;
@@ -167,13 +167,8 @@ port_unwired port a to = record { acts = []; added = host_none a; did = subst (�
 
 -- ## A whole turn
 
-host_next : (acts : List Act) (a b : BookValue) → HostAdded acts a b → next_number b ≡ next_number a + length (entries_in acts)
-host_next acts a b A =
-    let entries : length b.state.entries ≡ length a.state.entries + length (entries_in acts) = ap length A.grew.entries_are ∙ length-append a.state.entries (entries_in acts) in
-    omega (arith, A.grew.base, entries)
-
 pub host_takes : (takes : ℕ) (a b : BookValue) → HostDone (LeavesPorts (length a.state.ports) false) a b → takes ≡ next_number b - next_number a → HostDone (HostTurns (Ok takes)) a b
-host_takes takes a b D many = record { acts = D.acts; added = D.added; did = record { many = omega (arith, many, host_next D.acts a b D.added); did = D.did } }
+host_takes takes a b D many = record { acts = D.acts; added = D.added; did = record { many = omega (arith, many, grew_next (entries_in D.acts) a b D.added.grew); did = D.did } }
 
 pub host_full : (a b : BookValue) → HostDone (LeavesPorts (length a.state.ports) true) a b → HostDone (HostTurns (Err Full)) a b
 host_full a b D = record { acts = D.acts; added = D.added; did = D.did }

@@ -1,18 +1,17 @@
 -- What is done at a line, at a link, and at links in order.
-use Rattle.std.proofs.Common.{◌≡◌, ℕ, ◌+◌, ◌*◌, ◌<◌, List, [], ◌++◌, length, refl, sym, ap, subst, ◌∙◌, arith, add-one, append_assoc, length-append, Option, Some, None, slice_get}
+use Rattle.std.proofs.Common.{◌≡◌, ℕ, ◌+◌, ◌*◌, ◌<◌, [], ◌++◌, refl, sym, ap, subst, ◌∙◌, arith, add-one, append_assoc, Option, Some, None, slice_get}
 use Rattle.std.specs.Prelude.{◌-◌, Result, Ok, Err}
-use Rattle.tp_model.specs.NodeState.{NodeState}
 use Rattle.tp_model.specs.Network.{back}
-use Rattle.tp_model.specs.Acts.{Act}
 use Rattle.tp_book.specs.declared.refusal.Refusal.{Refusal}
-use Rattle.tp_book.specs.Book.{BookValue, agreed, next_number}
+use Rattle.tp_book.specs.Book.{agreed, next_number}
 use Rattle.tp_turn.specs.declared.take.TheConstants.{TAKES}
 use Rattle.tp_turn.specs.declared.left.Left.{Left}
 use Rattle.tp_turn.specs.declared.left.Left.TheVariants.{NoWire, Enough, Empty, Marked, NoFrame, PortFull, JournalFull}
 use Rattle.tp_turn.specs.Turns.{Then, InOrder}
-use Rattle.tp_turn.specs.Moments.{Moment, entries_in, Added, Done}
+use Rattle.tp_turn.specs.Moments.{Moment, entries_in, Done}
 use Rattle.tp_turn.specs.Fronts.{AtFront, IsLeft, IsStop, FrontAnswers, LineEnds, OnLine, OnWire, OnLink}
 use Rattle.tp_turn.specs.Settled.{Records, LeavesLink, Settles, StopsAt, SettledAs}
+use Rattle.tp_turn.proofs.Grown.{grew_next}
 use Rattle.tp_turn.proofs.Adding.{added_none, added_more}
 
 -- ## A line
@@ -101,12 +100,7 @@ module _ (number : ℕ) (a b c : Moment) (link : ℕ) (D : Done number (Then (Re
 
 -- ## How many takes
 
-pub next_more : (number : ℕ) (node : NodeState) (acts : List Act) (a b : BookValue) → Added number node acts a b → next_number b ≡ next_number a + length (entries_in acts)
-next_more number node acts a b A =
-    let entries : length b.state.entries ≡ length a.state.entries + length (entries_in acts) = ap length A.grew.entries_are ∙ length-append a.state.entries (entries_in acts) in
-    omega (arith, A.grew.base, entries)
-
 pub settles_with : (number takes : ℕ) (a b : Moment) → (D : Done number (Settles number) a b) → takes ≡ next_number b.book - next_number a.book → Done number (SettledAs number (Ok takes)) a b
 settles_with number takes a b D many =
-    let more = next_more number b.node.live D.acts a.book b.book D.added in
+    let more = grew_next (entries_in D.acts) a.book b.book D.added.grew in
     record { acts = D.acts; added = D.added; did = record { many = omega (arith, many, more); did = D.did } }

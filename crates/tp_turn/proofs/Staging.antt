@@ -1,6 +1,6 @@
 -- A node's turn in its stages.
 use Rattle.std.proofs.Common.{◌≡◌, ℕ, zero, suc, true, false, cond, inl, inr, List, [], ◌∷◌, set, get_or, refl, sym, ap, subst, ◌∙◌, Some, None, slice_get, eq-eqb, ne_eqb}
-use Rattle.std.specs.Prelude.{Err}
+use Rattle.std.specs.Prelude.{Err, length, map}
 use Rattle.std.specs.List.{AllByRecursion}
 use Rattle.std.proofs.lemmas.Bool.{cases_eq}
 use Rattle.tp_model.specs.declared.link.Token.{Token}
@@ -41,7 +41,7 @@ breaks_at number e s t D = record { acts = D.acts; added = D.added; did = inl D.
 pub run_made : (b : BookValue) (number count : ℕ) (tokens : List (ℕ × Token)) (node : NodeContents) → HasRunOn b number count tokens node → HasRun b number count tokens
 run_made b number count tokens node R = record { before = R.before.live; after = node.live; there = R.is.there; few = R.few; made = R.made }
 
-run_own : (s : Network NodeState) (number count : ℕ) → process s (Run number count) ≡ number
+run_own : (s : Network NodeState) (number count : ℕ) → process s.wires (length s.nodes) (Run number count) ≡ number
 unfolding process
 run_own s number count = refl
 
@@ -62,10 +62,10 @@ module _ (b new : BookValue) (number count : ℕ) (tokens : List (ℕ × Token))
       elim (cases_eq count 0) [
         | inl none ↦
             subst (P (run_acts number count)) (sym (is ∙ ap (λ test. cond test w j) (eq-eqb count 0 none)))
-            (subst (λ acts. P acts w) (sym (ap (λ test. cond test [] (Journal (Run number count) ∷ [])) (eq-eqb count 0 none))) idle)
+            (subst (λ acts. P acts w) (sym (ap (λ test. map Journal (cond test [] (Run number count ∷ []))) (eq-eqb count 0 none))) idle)
         | inr some ↦
             subst (P (run_acts number count)) (sym (is ∙ ap (λ test. cond test w j) (ne_eqb count 0 some)))
-            (subst (λ acts. P acts j) (sym (ap (λ test. cond test [] (Journal (Run number count) ∷ [])) (ne_eqb count 0 some))) ran)
+            (subst (λ acts. P acts j) (sym (ap (λ test. map Journal (cond test [] (Run number count ∷ []))) (ne_eqb count 0 some))) ran)
       ]
 
   recorded : (p : ℕ) → has_recorded_in new.state.snapshot p ≡ has_recorded_in b.state.snapshot p
@@ -78,8 +78,8 @@ module _ (b new : BookValue) (number count : ℕ) (tokens : List (ℕ × Token))
   run_added = record {
     did = act;
     grew = either (λ acts x. Grew (entries_in acts) w x) (grew_none w)
-        (record { start = refl; entries_are = refl; base = refl; runs = refl; ready = refl; broken = refl; room = refl; history = refl; generation = refl; floor = refl });
-    own = either (λ acts x. AllByRecursion (λ e. process b.state.start e ≡ number) (entries_in acts)) tt (run_own b.state.start number count, tt);
+        (record { start = refl; entries_are = refl; numbers = refl; base = refl; runs = refl; ready = refl; broken = refl; room = refl; history = refl; generation = refl; floor = refl });
+    own = either (λ acts x. AllByRecursion (λ e. process b.state.start.wires (length b.state.start.nodes) e ≡ number) (entries_in acts)) tt (run_own b.state.start number count, tt);
     nodes = nodes;
     recorded = λ other apart. recorded other;
     frozen = λ other apart. ap (λ xs. get_or xs other None) frozen;

@@ -96,7 +96,7 @@ pub record OnLine (number line : ℕ) (answer : Result Left Refusal) (s : Moment
   pub did : InOrder (λ at. AtFront number line) count s acts t
   pub ends : LineEnds number line count answer t
 
--- the same on a wire; where there is none, nothing is done
+-- So on a wire; where there is none, nothing is done.
 abbrev pub OnWire : ℕ → Option ℕ → Result Left Refusal → Moment → List Act → Moment → Type 0
 OnWire number None answer s acts t = (answer ≡ Ok left.NoWire) × (acts ≡ []) × (t ≡ s)
 OnWire number (Some line) answer s acts t = OnLine number line answer s acts t

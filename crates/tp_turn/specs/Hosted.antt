@@ -25,7 +25,7 @@ use Rattle.tp_turn.specs.Fronts.{front_act}
 pub record HostAdded (acts : List Act) (old new : BookValue) : Type 0 where
   pub did : acted t414 (world_of old) acts ≡ Some (world_of new)
   pub grew : Grew (entries_in acts) old new
-  pub own : AllByRecursion (λ e. process old.state.start e ≡ length old.state.start.nodes) (entries_in acts)
+  pub own : AllByRecursion (λ e. process old.state.start.wires (length old.state.start.nodes) e ≡ length old.state.start.nodes) (entries_in acts)
   pub nodes : agreed new.state ≡ agreed old.state
   pub recorded : (process : ℕ) → has_recorded_in new.state.snapshot process ≡ has_recorded_in old.state.snapshot process
   pub frozen : new.frozen ≡ old.frozen
@@ -86,7 +86,7 @@ pub record OnPortLine (line : ℕ) (answer : Result Left Refusal) (s : BookValue
   pub did : InOrder (λ at. PortAtFront line) count s acts t
   pub ends : PortLineEnds line count answer t
 
--- the same on a wire; where there is none, nothing is done
+-- So on a wire; where there is none, nothing is done.
 abbrev pub OnPortWire : Option ℕ → Result Left Refusal → BookValue → List Act → BookValue → Type 0
 OnPortWire None answer s acts t = (answer ≡ Ok left.NoWire) × (acts ≡ []) × (t ≡ s)
 OnPortWire (Some line) answer s acts t = OnPortLine line answer s acts t

@@ -1,5 +1,5 @@
 -- A book with a node beside it, and what acts of the node change.
-use Rattle.std.specs.Prelude.{◌≡◌, ℕ, true, List, [], ◌∷◌, ◌≢◌, get_or, set, Some, None, IsSome, slice_get}
+use Rattle.std.specs.Prelude.{◌≡◌, ℕ, true, List, [], ◌∷◌, ◌≢◌, get_or, set, Some, None, IsSome, slice_get, length}
 use Rattle.std.specs.List.{AllByRecursion}
 use Rattle.tp_model.specs.declared.entry.Entry.{Entry}
 use Rattle.tp_model.specs.NodeState.{NodeState}
@@ -43,7 +43,7 @@ entries_in (Trim ∷ acts) = entries_in acts
 pub record Added (number : ℕ) (node : NodeState) (acts : List Act) (old new : BookValue) : Type 0 where
   pub did : acted t414 (world_of old) acts ≡ Some (world_of new)
   pub grew : Grew (entries_in acts) old new
-  pub own : AllByRecursion (λ e. process old.state.start e ≡ number) (entries_in acts)
+  pub own : AllByRecursion (λ e. process old.state.start.wires (length old.state.start.nodes) e ≡ number) (entries_in acts)
   pub nodes : agreed new.state ≡ set (agreed old.state) number node
   pub recorded : (other : ℕ) → other ≢ number → has_recorded_in new.state.snapshot other ≡ has_recorded_in old.state.snapshot other
   pub frozen : (other : ℕ) → other ≢ number → get_or new.frozen other None ≡ get_or old.frozen other None

@@ -78,7 +78,7 @@ fn act_on_line(
     Ok(Left::Enough)
 }
 
-/// The same at the line that comes in on a link, where there is one.
+/// Takes and closes at the line that comes in on a link, where there is one.
 pub(crate) fn act_on_link(
     book: &mut Book,
     node: &mut Node,

@@ -48,7 +48,7 @@ fn act_on_line(book: &mut Book, port: u8, line: u16) -> Result<Left, Refusal>
     Ok(Left::Enough)
 }
 
-/// The same at the line that comes to a port, where there is one.
+/// Takes and closes at the line that comes to a port, where there is one.
 fn act_on_port(book: &mut Book, port: u8) -> Result<Left, Refusal>
     requires there { port < length book.old.state.ports }
     requires idle { book.old.ready ≡ None }

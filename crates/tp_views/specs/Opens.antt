@@ -9,7 +9,7 @@ use Rattle.tp_views.specs.Shown.{shown_text, next_line}
 -- what is said of an opened device beside its network
 abbrev pub front_of : Opened → Front
 front_of o = record {
-  area = o.head.area;
+  area = o.head.areas.length;
   second = o.second;
   generation = o.generation;
   base = o.base;

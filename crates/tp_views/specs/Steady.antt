@@ -5,24 +5,25 @@ use Rattle.tp_layout.specs.declared.front.AreaFront.{AreaFront}
 use Rattle.tp_model.specs.Device.{area_start}
 use Rattle.tp_model.specs.Head.{Head}
 use Rattle.tp_model.specs.Opening.{Opened}
+use Rattle.tp_model.specs.declared.areas.TwoAreas.{TwoAreas}
 use Rattle.tp_model.specs.declared.opening.OpenFault.{OpenFault}
 use Rattle.tp_recover.specs.declared.unopened.Unopened.{Unopened}
 use Rattle.tp_views.specs.declared.steady.Fronts.{Fronts}
 use Rattle.tp_views.specs.declared.steady.Tried.{Tried}
 use Rattle.tp_views.specs.declared.steady.Tried.TheVariants.{Steady, Changed}
 
--- the fronts of the areas of a device, which have this length each; the first one's twice, as a look reads it
-abbrev pub fronts_in : ℕ → List ℕ → Fronts
-fronts_in area bytes = record {
-  area = area;
-  first = area_front (area_start area false) bytes;
-  second = area_front (area_start area true) bytes;
-  again = area_front (area_start area false) bytes;
+-- the fronts of the areas of a device; the first one's twice, as a look reads it
+abbrev pub fronts_in : TwoAreas → List ℕ → Fronts
+fronts_in areas bytes = record {
+  areas = areas;
+  first = area_front (area_start areas false) bytes;
+  second = area_front (area_start areas true) bytes;
+  again = area_front (area_start areas false) bytes;
 }
 
 -- what a look finds, where that is what is said of the head
 abbrev pub looked : Result Head OpenFault → List ℕ → Option Fronts
-looked (Ok head) bytes = Some (fronts_in head.area bytes)
+looked (Ok head) bytes = Some (fronts_in head.areas bytes)
 looked (Err fault) bytes = None
 
 -- the first of two areas counts: its gate is open, and the other one's isn't, or has a lower generation
@@ -48,7 +49,7 @@ abbrev pub IsStill : Option Fronts → Option Fronts → Type 0
 IsStill None None = Unit {0}
 IsStill None (Some after) = ⊥
 IsStill (Some before) None = ⊥
-IsStill (Some before) (Some after) = (after.area ≡ before.area) × HasStayed (counting before) before after
+IsStill (Some before) (Some after) = (after.areas ≡ before.areas) × HasStayed (counting before) before after
 
 -- The answer is one of a moment, and P holds of it.
 abbrev pub OfSteady : (Result Opened Unopened → Type 0) → Tried → Type 0

@@ -6,9 +6,9 @@ use std::alloc::{AllocError, Global};
 use std::fmt::Write;
 use tp_disk::Disk;
 use tp_layout::head_places::VERSION_PLACE;
-use tp_layout::{area_start, image_length};
-use tp_model::OpenFault;
+use tp_layout::image_length;
 use tp_model::limits::HEAD_BYTES;
+use tp_model::{OpenFault, TwoAreas};
 
 /// The bytes of a device at a place, where it has them and they can be read.
 fn bytes_at<D: Disk, const N: usize>(disk: &mut D, at: u64) -> Option<[u8; N]> {
@@ -56,13 +56,14 @@ fn push_node<D: Disk>(
     }
 }
 
-/// Says what is wrong with the head of a device of `size` bytes whose areas have `area` bytes each by its head.
-fn push_head(text: &mut String, size: u64, area: u64) -> Result<(), AllocError> {
-    let needed = area.saturating_mul(2).saturating_add(area_start(0, false));
+/// Says what is wrong with the head of a device of `size` bytes whose areas are these by its head.
+fn push_head(text: &mut String, size: u64, areas: TwoAreas) -> Result<(), AllocError> {
+    let TwoAreas { first, length } = areas;
+    let needed = length.saturating_mul(2).saturating_add(first);
     if size < needed {
         return write!(
             text,
-            "  the device has {size} bytes, and its head says areas of {area}, for which it needs {needed}\n"
+            "  the device has {size} bytes, and its head says areas of {length}, for which it needs {needed}\n"
         );
     }
     write!(
@@ -86,7 +87,7 @@ fn push_damage<D: Disk>(
     let start = place.start;
     write!(text, ", from {start} on\n")?;
     match place.record {
-        Record::Head => push_head(text, size, layout.area),
+        Record::Head => push_head(text, size, layout.areas),
         Record::Image { pages, .. } => push_node(alloc, text, disk, start, pages),
         Record::Front => write!(
             text,
@@ -135,7 +136,7 @@ pub fn push_fault<D: Disk>(
             )
         }
         OpenFault::NoOpenArea => {
-            push_gate(text, disk, area_start(0, false))?;
+            push_gate(text, disk, layout.areas.first)?;
             push_gate(text, disk, layout.second())?;
             write!(text, "  Restore a copy, or make the device anew.\n")
         }

@@ -338,7 +338,7 @@ fn offered(run: &Run, opened: &Opened, input: usize) -> u64 {
 /// How many entries a device's journal takes.
 fn journal_entries(opened: &Opened) -> u64 {
     let head = opened.head();
-    JournalRoom::of(head.topology(), head.area()).capacity()
+    JournalRoom::of(head.topology(), head.areas().length).capacity()
 }
 
 /// Says how full a device's journal is, where a run's input or the confirmation of its output has no room. `input` is how many bytes

@@ -20,7 +20,7 @@ fn front_of(opened: &Opened) -> Front
     ensures { result ≡ front_of opened.now }
 {
     Front {
-        area: opened.head().area(),
+        area: opened.head().areas().length,
         second: opened.second(),
         generation: opened.generation(),
         base: opened.base(),

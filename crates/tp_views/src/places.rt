@@ -3,13 +3,14 @@
 use std::alloc::AllocError;
 use std::fmt::Write;
 use tp_layout::head_places::{AREA_PLACE, NODES_PLACE, PAGES_PLACE, PORTS_PLACE};
-use tp_layout::{FIELDS_BYTES, area_start, image_length};
+use tp_layout::{FIELDS_BYTES, areas_of_length, image_length};
+use tp_model::TwoAreas;
 use tp_model::limits::{HEAD_BYTES, LINE_BYTES, MAX_NODES, MAX_PORTS, PORT_BYTES};
 
 /// What a device's head says of where its records stand.
 #[derive(Clone, Copy)]
 pub(crate) struct Layout {
-    pub(crate) area: u64,
+    pub(crate) areas: TwoAreas,
     nodes: u64,
     ports: u64,
     pages: [u16; MAX_NODES],
@@ -42,10 +43,10 @@ pub(crate) fn layout_of(head: &[u8; HEAD_BYTES]) -> Layout {
             head[PAGES_PLACE + 2 * node + 1],
         ]);
     }
-    let mut area = [0u8; 8];
-    area.copy_from_slice(&head[AREA_PLACE..AREA_PLACE + 8]);
+    let mut length = [0u8; 8];
+    length.copy_from_slice(&head[AREA_PLACE..AREA_PLACE + 8]);
     Layout {
-        area: u64::from_le_bytes(area),
+        areas: areas_of_length(u64::from_le_bytes(length)),
         nodes: u64::from(head[NODES_PLACE]).min(MAX_NODES as u64),
         ports: u64::from(head[PORTS_PLACE]).min(MAX_PORTS as u64),
         pages,
@@ -55,12 +56,12 @@ pub(crate) fn layout_of(head: &[u8; HEAD_BYTES]) -> Layout {
 impl Layout {
     /// Where the second area begins.
     pub(crate) fn second(&self) -> u64 {
-        self.area.saturating_add(area_start(0, true))
+        self.areas.first.saturating_add(self.areas.length)
     }
 
     /// What stands where a damaged record begins.
     pub(crate) fn place(&self, at: u64) -> Place {
-        let first = area_start(0, false);
+        let first = self.areas.first;
         if at < first {
             return Place {
                 record: Record::Head,

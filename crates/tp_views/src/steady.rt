@@ -26,29 +26,30 @@
 //! A read of an area's front is taken to be one of a moment: nine bytes, of which the gate is closed and synced before the others are
 //! written. Who formats a file anew that is read meanwhile isn't found out where the new device's front is what the old one's was.
 
-ghost use Rattle.std.specs.Prelude.{◌≡◌, ◌+◌, ◌*◌, ◌≤◌, ◌<◌, ◌^◌, ◌↔◌, IsTrue, IfErr, IfOk};
+ghost use Rattle.std.specs.Prelude.{◌≡◌, ◌+◌, ◌≤◌, ◌<◌, ◌^◌, ◌↔◌, IsTrue, IfErr, IfOk};
 ghost use Rattle.tp_layout.specs.Fronts.{area_front};
+ghost use Rattle.tp_model.specs.Device.{areas_end};
 ghost use Rattle.tp_model.specs.Disk.{Sync, done};
 ghost use Rattle.tp_model.specs.DiskHistory.{Counts};
 ghost use Rattle.tp_model.specs.Head.{head_of};
 ghost use Rattle.tp_model.specs.Opening.{verdict};
-ghost use Rattle.tp_model.specs.declared.limits.TheConstants.{HEAD_BYTES};
 ghost use Rattle.tp_views.specs.Steady.{HasStayed, IsStill, OfSteady, counting, front_of, fronts_in, is_above, looked};
 ghost use Rattle.tp_recover.specs.Reading.{has_read, found, Answers, IsKept, LeavesNothingNew};
 
 use std::alloc::Global;
 use tp_disk::Disk;
 use tp_layout::{AREA_FRONT_BYTES, AreaFront, area_front, area_start};
+use tp_model::TwoAreas;
 use tp_recover::{Opened, Unopened, open, read_head};
 
 /// How often a device is opened that another process writes meanwhile.
 pub const MAX_TRIES: u32 = 20;
 
-/// What a look finds: the bytes of an area, and the fronts of both, in the order in which they are read: the first area's, the second
+/// What a look finds: where the areas are, and the fronts of both, in the order in which they are read: the first area's, the second
 /// one's, and the first one's again.
 #[derive(Clone, Copy, Debug, PartialEq, Eq)]
 struct Fronts {
-    area: u64,
+    areas: TwoAreas,
     first: AreaFront,
     second: AreaFront,
     again: AreaFront,
@@ -99,23 +100,23 @@ fn read_front<D: Disk>(disk: &mut D, start: u64) -> Result<AreaFront, Unopened>
     }
 }
 
-/// Reads the fronts of a device whose areas have `area` bytes each.
-fn read_fronts<D: Disk>(disk: &mut D, area: u64) -> Result<Fronts, Unopened>
-    requires some { 9 ≤ area }
-    requires inside { HEAD_BYTES + 2 * area ≤ D.size_of disk.old }
-    requires counted { HEAD_BYTES + area < 2 ^ 64 }
+/// Reads the fronts of a device's areas.
+fn read_fronts<D: Disk>(disk: &mut D, areas: TwoAreas) -> Result<Fronts, Unopened>
+    requires some { 9 ≤ areas.length }
+    requires inside { areas_end areas ≤ D.size_of disk.old }
+    requires counted { areas_end areas < 2 ^ 64 }
     ensures counts { Counts (has_read result) (D.size_of disk.old) (D.size_of disk.new) (D.failures_of disk.old) (D.failures_of disk.new) }
     ensures kept { D.keeps → IsKept result (D.state disk.old).now (D.state disk.new).now }
     ensures leaves { D.keeps → LeavesNothingNew (D.state disk.old) (D.state disk.new) }
     ensures refused { IfErr result (λ unopened. unopened ≡ Unopened.ReadFailed) }
-    ensures is { D.keeps → IfOk result (λ fronts. fronts ≡ fronts_in area (D.state disk.old).now.bytes) }
+    ensures is { D.keeps → IfOk result (λ fronts. fronts ≡ fronts_in areas (D.state disk.old).now.bytes) }
 {
-    let start = area_start(area, false);
+    let start = area_start(areas, false);
     let first = read_front(disk, start)?;
-    let second = read_front(disk, area_start(area, true))?;
+    let second = read_front(disk, area_start(areas, true))?;
     let again = read_front(disk, start)?;
     Ok(Fronts {
-        area,
+        areas,
         first,
         second,
         again,
@@ -131,7 +132,11 @@ fn look<D: Disk>(disk: &mut D) -> Result<Option<Fronts>, Unopened>
     ensures is { D.keeps → IfOk result (λ found. found ≡ looked (head_of (D.state disk.old).now.bytes) (D.state disk.old).now.bytes) }
 {
     match read_head(disk) {
-        Ok(head) => Ok(Some(read_fronts(disk, head.area())?)),
+        Ok(head) => {
+            let areas = head.areas();
+            let fronts = read_fronts(disk, areas)?;
+            Ok(Some(fronts))
+        }
         Err(Unopened::Fault(_)) => Ok(None),
         Err(_) => Err(Unopened::ReadFailed),
     }
@@ -153,7 +158,7 @@ fn is_still(before: Option<Fronts>, after: Option<Fronts>) -> bool
 {
     match (before, after) {
         (Some(before), Some(after)) => {
-            after.area == before.area && has_stayed(before.counting(), before, after)
+            after.areas == before.areas && has_stayed(before.counting(), before, after)
         }
         (None, None) => true,
         _ => false,

@@ -8,7 +8,7 @@ use Rattle.tp_model.specs.declared.limits.TheConstants.{MAX_STEPS}
 use Rattle.tp_words.specs.declared.args.Asked.{Asked}
 use Rattle.tp_words.specs.declared.args.Asked.TheVariants.{Help, Try, Format, Run as Runs, Compact, Recover, Show, Check, View as Views}
 use Rattle.tp_words.specs.declared.args.Run.{Run}
-use Rattle.tp_words.specs.declared.args.TheConstants.{MAX_AREA, MAX_WORKERS}
+use Rattle.tp_words.specs.declared.args.TheConstants.{MAX_AREA, MAX_WORKERS, QUANTUM}
 use Rattle.tp_words.specs.declared.views.View.{View}
 use Rattle.tp_words.specs.declared.views.View.TheVariants.{Node, Image, Journal, Pending, Outputs}
 use Rattle.tp_words.specs.Given.{given, IsGivenOr}
@@ -48,7 +48,7 @@ abbrev pub IsTypedRun : List (String Global) → Run → Type 0
 IsTypedRun words run = (has_word (string_bytes run.device) words ≡ true)
     × (given (codes "turns") words ≡ Some (decimal run.turns))
     × IsGivenOr 2 run.workers (given (codes "workers") words)
-    × IsGivenOr 1024 run.quantum (given (codes "quantum") words)
+    × IsGivenOr QUANTUM run.quantum (given (codes "quantum") words)
     × IsGivenOr 4 run.spare (given (codes "spare") words)
     × (given (codes "every") words ≡ option_map decimal run.every)
     × IsGivenOr 0 run.port (given (codes "port") words)

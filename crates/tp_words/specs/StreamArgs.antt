@@ -5,6 +5,7 @@ use Rattle.std.specs.Option.{option_map}
 use Rattle.std.specs.declared.alloc.Global.{Global}
 use Rattle.std.specs.declared.string.String.{String}
 use Rattle.tp_model.specs.declared.limits.TheConstants.{MAX_STEPS}
+use Rattle.tp_words.specs.declared.args.TheConstants.{QUANTUM}
 use Rattle.tp_words.specs.declared.stream_args.StreamAsked.{StreamAsked}
 use Rattle.tp_words.specs.declared.stream_args.StreamAsked.TheVariants.{Help, Run}
 use Rattle.tp_words.specs.declared.stream_args.StreamRun.{StreamRun}
@@ -31,7 +32,7 @@ IsStreamInRange (Run run) = IsStreamRun run × AreEnds run.ends
 abbrev pub IsTypedStream : List (String Global) → StreamRun → Type 0
 IsTypedStream words run = (has_word (string_bytes run.device) words ≡ true)
     × (given (codes "turns") words ≡ option_map decimal run.turns)
-    × IsGivenOr 1024 run.quantum (given (codes "quantum") words)
+    × IsGivenOr QUANTUM run.quantum (given (codes "quantum") words)
     × IsGivenOr 4 run.spare (given (codes "spare") words)
     × (given (codes "every") words ≡ option_map decimal run.every)
     × IsGivenOr 0 run.wait_lock (given (codes "wait-lock") words)

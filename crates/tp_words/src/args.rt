@@ -80,6 +80,9 @@ pub const MAX_TURNS: u64 = 4_294_967_295;
 /// The most threads that make the turns of a run, as many as `tp_run` takes.
 pub const MAX_WORKERS: u8 = 16;
 
+/// How many steps a turn may run, where nothing else is asked for.
+pub const QUANTUM: u16 = 1024;
+
 /// The most seconds that another process is waited for.
 pub const MAX_WAIT: u64 = 4_294_967;
 
@@ -213,12 +216,12 @@ fn asked_run(alloc: Global, words: &[String], found: &ArgMatches) -> Result<Aske
     ensures range { IfOk result IsInRange }
     ensures typed { IfOk result (WasTyped words.now) }
 {
-    let (workers, quantum) = (MAX_WORKERS as u64, MAX_STEPS as u64);
+    let (workers, steps) = (MAX_WORKERS as u64, MAX_STEPS as u64);
     Ok(Asked::Run(Run {
         device: text_of(alloc, words, found, "DEVICE")?,
         turns: turns_of(alloc, words, found)?,
         workers: option_or(alloc, words, found, "workers", 1, workers, 2)? as u8,
-        quantum: option_or(alloc, words, found, "quantum", 1, quantum, 1024)? as u16,
+        quantum: option_or(alloc, words, found, "quantum", 1, steps, QUANTUM as u64)? as u16,
         spare: option_or(alloc, words, found, "spare", 0, u64::MAX, 4)?,
         every: every_of(alloc, words, found)?,
         port: option_or(alloc, words, found, "port", 0, u64::MAX, 0)?,

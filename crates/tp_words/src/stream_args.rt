@@ -6,7 +6,7 @@ ghost use Rattle.std.specs.Option.{option_map};
 ghost use Rattle.tp_words.specs.Given.{given};
 ghost use Rattle.tp_words.specs.StreamArgs.{IsBound, IsStreamInRange, WasStreamTyped};
 
-use crate::args::{ArgFault, MAX_TURNS, MAX_WORDS, every_of, wait_of};
+use crate::args::{ArgFault, MAX_TURNS, MAX_WORDS, QUANTUM, every_of, wait_of};
 use crate::found::{option_number, option_or, text_of};
 use crate::numbers::has_word;
 use crate::stream_ends::{EndsFault, ends_of};
@@ -125,14 +125,14 @@ fn run_of(
     ensures range { IfOk result IsStreamInRange }
     ensures typed { IfOk result (WasStreamTyped words.now) }
 {
-    let quantum = MAX_STEPS as u64;
+    let steps = MAX_STEPS as u64;
     Ok(StreamAsked::Run(StreamRun {
         device: text_of(alloc, words, found, "DEVICE")?,
         turns: turns_of(alloc, words, found)?,
         until_quiet: found.get_flag("until-quiet"),
         stop_on_halt: found.get_flag("stop-on-halt"),
         has_progress: found.get_flag("progress"),
-        quantum: option_or(alloc, words, found, "quantum", 1, quantum, 1024)? as u16,
+        quantum: option_or(alloc, words, found, "quantum", 1, steps, QUANTUM as u64)? as u16,
         spare: option_or(alloc, words, found, "spare", 0, u64::MAX, 4)?,
         every: every_of(alloc, words, found)?,
         ends: ends_of(alloc, found)?,

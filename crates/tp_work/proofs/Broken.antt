@@ -7,7 +7,7 @@ use Rattle.tp_book.specs.declared.refusal.Refusal.{Refusal}
 use Rattle.tp_book.specs.declared.refusal.Refusal.TheVariants as refusal
 use Rattle.tp_shared.specs.Entries.{Takes}
 use Rattle.tp_shared.specs.Gains.{Gained}
-use Rattle.tp_work.specs.Turns.{BrokenOff, Refused, fault_of}
+use Rattle.tp_work.specs.Turns.{Refused, fault_of}
 
 pub broken_off : (start : Network NodeState) (process : ℕ) (old new : List (ℕ × Entry)) (r : Refusal) → process ≤ length start.nodes → Gained (Takes start process) old new
     → Refused start (fault_of r) old new

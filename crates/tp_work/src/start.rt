@@ -54,7 +54,7 @@ impl<J: Naming, G: Gate + Drop> Net<J, G> {
         ensures quantum { IfOk result (λ started. started.0.quantum ≡ quantum) }
         ensures count { IfOk result (λ started. vec_len started.1 ≡ seats) }
         ensures seats { IfOk result (λ started. All (λ seat. (seat.hand ≡ Some started.0.queue) × (seat.slips ≡ [])) started.1.items) }
-        ensures key { IfOk result (λ started. (started.2.name ≡ J.flusher) × (started.2.value ≡ told_of J.before J.first (record { book = parts.book; all = [] }))) }
+        ensures key { IfOk result (λ started. (started.2.name ≡ J.flusher) × (started.2.value ≡ told_of J.before J.first (record { book = parts.book; all = []; numbered_from = J.first }))) }
     {
         let (shared, key) = Shared::start(parts);
         let (queue, hands) = ReadyQueue::start(rt, alloc, shared.nodes(), seats)?;

@@ -14,5 +14,5 @@ pub returns-clause-starts : goal.returns-clause-starts
 returns-clause-starts c = formatted_starts t414
 
 pub returns-clause-recovers : goal.returns-clause-recovers
-returns-clause-recovers c = λ t area images start bytes W events last.
-    run_recovers t414 has_four_links never_marks device_areas (areas_keep t414 t414_ends) start events (formatted_world start bytes) last (formatted_starts t414 t area images start bytes W)
+returns-clause-recovers c = λ t areas images start bytes W events last.
+    run_recovers t414 has_four_links never_marks device_areas (areas_keep t414 t414_ends) start events (formatted_world start bytes) last (formatted_starts t414 t areas images start bytes W)

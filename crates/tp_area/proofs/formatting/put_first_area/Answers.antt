@@ -10,6 +10,7 @@ use Rattle.tp_area.proofs.formatting.put_first_area.Goals as goal
 
 pub returns-clause-put : goal.returns-clause-put
 returns-clause-put g c k =
+    let at = c.args.at in
     let s = g.D.Disk.state c.args.disk.now in
     let t = g.D.Disk.state c.put_piece.new.disk in
     let u = g.D.Disk.state c.put_images.new.disk in
@@ -17,40 +18,43 @@ returns-clause-put g c k =
     let cut = c.args.lengths.cut in
     let images = flat_map (λ image. image.items) c.args.images.now in
     let rest = c.args.lengths.rest in
-    let room : 512 ≤ length s.now.bytes = omega (arith, c.requires.inside, g.met.D.Disk.whole k c.args.disk.now) in
+    let room : at ≤ length s.now.bytes = omega (arith, c.requires.inside, g.met.D.Disk.whole k c.args.disk.now) in
     let front : c.put_front.new.out ≡ area_front cut = c.put_front.ensures ∙ append-nil (area_front cut) in
-    let first : Puts 512 (area_front cut) s t = puts_same 512 c.put_front.new.out (area_front cut) s t front (rw c.area_start-start.ensures at (c.in_ok-put_piece.ensures.put k)) in
+    let first : Puts at (area_front cut) s t = puts_same at c.put_front.new.out (area_front cut) s t front (c.in_ok-put_piece.ensures.put k) in
     let size = length-area_front cut in
     let len = c.requires.images in
-    from_ok c.put_zeros.result (Puts (533 + c.args.lengths.images) (zeros rest) u v) (Puts 512 ((area_front cut ++ images) ++ zeros rest) s v)
-    (puts_three 512 (area_front cut) images (zeros rest) 533 (533 + c.args.lengths.images) s t u v room (omega arith) (omega arith) first (rw c.area_start-start.ensures at (c.in_ok-put_images.ensures.put k)))
-    (rw c.area_start-start.ensures at (c.put_zeros.ensures.put k))
+    from_ok c.put_zeros.result (Puts (at + 21 + c.args.lengths.images) (zeros rest) u v) (Puts at ((area_front cut ++ images) ++ zeros rest) s v)
+    (puts_three at (area_front cut) images (zeros rest) (at + 21) (at + 21 + c.args.lengths.images) s t u v room (omega arith) (omega arith) first (c.in_ok-put_images.ensures.put k))
+    (c.put_zeros.ensures.put k)
 
 pub returns-in_err-put_piece-clause-leaves : goal.returns-in_err-put_piece-clause-leaves
 returns-in_err-put_piece-clause-leaves g c k =
+    let at = c.args.at in
     let front = ap length (c.put_front.ensures ∙ append-nil (area_front c.args.lengths.cut)) ∙ length-area_front c.args.lengths.cut in
-    wider_leaves (512, 21 + c.args.lengths.images + c.args.lengths.rest) (512, length c.put_front.new.out) (g.D.Disk.state c.args.disk.now) (g.D.Disk.state c.put_piece.new.disk)
-    (omega arith, omega arith) (rw c.area_start-start.ensures at (c.put_piece.ensures.leaves k))
+    wider_leaves (at, 21 + c.args.lengths.images + c.args.lengths.rest) (at, length c.put_front.new.out) (g.D.Disk.state c.args.disk.now) (g.D.Disk.state c.put_piece.new.disk)
+    (omega arith, omega arith) (c.put_piece.ensures.leaves k)
 
 pub returns-in_err-put_images-clause-leaves : goal.returns-in_err-put_images-clause-leaves
 returns-in_err-put_images-clause-leaves g c k =
+    let at = c.args.at in
     let all = 21 + c.args.lengths.images + c.args.lengths.rest in
     let s = g.D.Disk.state c.args.disk.now in
     let t = g.D.Disk.state c.put_piece.new.disk in
     let front = ap length (c.put_front.ensures ∙ append-nil (area_front c.args.lengths.cut)) ∙ length-area_front c.args.lengths.cut in
     let len = c.requires.images in
-    let first = wider_leaves (512, all) (512, length c.put_front.new.out) s t (omega arith, omega arith) (rw c.area_start-start.ensures at (c.put_piece.ensures.leaves k)) in
-    then_leaves (512, all) (533, length (flat_map (λ image. image.items) c.args.images.now)) s t (g.D.Disk.state c.put_images.new.disk)
-    (omega arith, omega arith) first (rw c.area_start-start.ensures at (c.put_images.ensures.leaves k))
+    let first = wider_leaves (at, all) (at, length c.put_front.new.out) s t (omega arith, omega arith) (c.put_piece.ensures.leaves k) in
+    then_leaves (at, all) (at + 21, length (flat_map (λ image. image.items) c.args.images.now)) s t (g.D.Disk.state c.put_images.new.disk)
+    (omega arith, omega arith) first (c.put_images.ensures.leaves k)
 
 pub returns-clause-leaves : goal.returns-clause-leaves
 returns-clause-leaves g c k =
+    let at = c.args.at in
     let all = 21 + c.args.lengths.images + c.args.lengths.rest in
     let s = g.D.Disk.state c.args.disk.now in
     let t = g.D.Disk.state c.put_piece.new.disk in
     let u = g.D.Disk.state c.put_images.new.disk in
     let front = ap length (c.put_front.ensures ∙ append-nil (area_front c.args.lengths.cut)) ∙ length-area_front c.args.lengths.cut in
     let len = c.requires.images in
-    let first = wider_leaves (512, all) (512, length c.put_front.new.out) s t (omega arith, omega arith) (rw c.area_start-start.ensures at (c.put_piece.ensures.leaves k)) in
-    let second = then_leaves (512, all) (533, length (flat_map (λ image. image.items) c.args.images.now)) s t u (omega arith, omega arith) first (rw c.area_start-start.ensures at (c.put_images.ensures.leaves k)) in
-    then_leaves (512, all) (533 + c.args.lengths.images, c.args.lengths.rest) s u (g.D.Disk.state c.put_zeros.new.disk) (omega arith, omega arith) second (rw c.area_start-start.ensures at (c.put_zeros.ensures.leaves k))
+    let first = wider_leaves (at, all) (at, length c.put_front.new.out) s t (omega arith, omega arith) (c.put_piece.ensures.leaves k) in
+    let second = then_leaves (at, all) (at + 21, length (flat_map (λ image. image.items) c.args.images.now)) s t u (omega arith, omega arith) first (c.put_images.ensures.leaves k) in
+    then_leaves (at, all) (at + 21 + c.args.lengths.images, c.args.lengths.rest) s u (g.D.Disk.state c.put_zeros.new.disk) (omega arith, omega arith) second (c.put_zeros.ensures.leaves k)

@@ -1,4 +1,4 @@
-use Rattle.std.proofs.Common.{◌++◌, ◌*◌, ap, ◌∙◌, arith, length, length-take, map, take}
+use Rattle.std.proofs.Common.{◌++◌, ap, ◌∙◌, arith, length, length-take, map, take}
 use Rattle.tp_model.specs.Head.{end_byte}
 use Rattle.tp_net.proofs.Topologies.{has_shape, end_byte-bound}
 use Rattle.tp_layout.proofs.HeadBytes.{head_bytes-put}
@@ -20,9 +20,9 @@ pub returns-clause-bytes : goal.returns-clause-bytes
 returns-clause-bytes c =
     let some = c.link_line.ensures in
     c.pad-3.ensures.bytes
-    ∙ head_bytes-put c.args.topology.now c.args.area c.port_count-ports.result c.pages-pages.result.now c.wires.result.now
+    ∙ head_bytes-put c.args.topology.now c.args.areas c.port_count-ports.result c.pages-pages.result.now c.wires.result.now
     c.new-out.result.items c.put.new.out.items c.put-2.new.out.items c.pad.new.out.items c.put-3.new.out.items c.put_pages.new.out.items c.pad-2.new.out.items c.put_ends.new.out.items
-    c.pages-pages.ensures.value c.port_count-ports.ensures.value c.wires.ensures.value
+    c.requires c.pages-pages.ensures.value c.port_count-ports.ensures.value c.wires.ensures.value
     c.new-out.ensures c.put.ensures.bytes c.put-2.ensures.bytes c.pad.ensures.bytes
     (c.put-3.ensures.bytes ∙ ap (λ xs. c.pad.new.out.items ++ xs) c.to_le_bytes.ensures)
     c.put_pages.ensures.bytes c.pad-2.ensures.bytes

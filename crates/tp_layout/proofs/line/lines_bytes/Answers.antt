@@ -1,6 +1,5 @@
-use Rattle.std.proofs.Common.{◌≡◌, ◌++◌, [], length, take, take_all, true, sym, ap, ◌∙◌, arith}
+use Rattle.std.proofs.Common.{◌≡◌, ◌++◌, [], take, take_all, true, sym, ap, ◌∙◌, arith}
 use Rattle.std.specs.Prelude.{flat_map}
-use Rattle.tp_model.specs.declared.link.Token.{Token}
 use Rattle.tp_model.specs.CutImage.{line_bytes}
 use Rattle.tp_model.specs.Spelling.{has_record}
 use Rattle.tp_layout.proofs.Records.{each_at, records_more}

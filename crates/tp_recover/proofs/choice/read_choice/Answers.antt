@@ -5,13 +5,13 @@ use Rattle.tp_recover.proofs.choice.read_choice.Goals as goal
 
 pub returns-in-Ok-clause-is : goal.returns-in-Ok-clause-is
 returns-in-Ok-clause-is g c k =
-    chosen_area-read c.args.area c.area_start.result c.area_start-start.result _ _ c.in_ok-first.first c.in_ok-second.second c.requires.some
+    chosen_area-read c.args.areas c.area_start.result c.area_start-start.result _ _ c.in_ok-first.first c.in_ok-second.second c.requires.some
     c.area_start.ensures (c.in_ok-first.ensures.is k) (c.in_ok-first.ensures.kept k) c.area_start-start.ensures (c.in_ok-second.ensures.is k)
     ∙ sym c.choose.ensures ∙ c.in-Ok.is
 
 pub returns-in-Err-clause-is : goal.returns-in-Err-clause-is
 returns-in-Err-clause-is g c k =
-    chosen_area-read c.args.area c.area_start.result c.area_start-start.result _ _ c.in_ok-first.first c.in_ok-second.second c.requires.some
+    chosen_area-read c.args.areas c.area_start.result c.area_start-start.result _ _ c.in_ok-first.first c.in_ok-second.second c.requires.some
     c.area_start.ensures (c.in_ok-first.ensures.is k) (c.in_ok-first.ensures.kept k) c.area_start-start.ensures (c.in_ok-second.ensures.is k)
     ∙ sym c.choose.ensures ∙ c.in-Err.is
 

@@ -5,7 +5,7 @@ use Rattle.std.proofs.lemmas.List.{length-map}
 use Rattle.tp_model.specs.Device.{area_start, content_of}
 use Rattle.tp_model.specs.Flight.{flights_in}
 use Rattle.tp_model.specs.Node.{t414_ends}
-use Rattle.tp_model.specs.Opening.{base_of, cut_in, lines_place, nodes_place, ports_place}
+use Rattle.tp_model.specs.Opening.{base_of, cut_in}
 use Rattle.tp_model.specs.Results.{◌>>=◌}
 use Rattle.tp_model.specs.Topology.{is_topology, line_count}
 use Rattle.tp_recover.specs.Cuts.{cut_network, records_at}
@@ -24,8 +24,15 @@ lent g c = has_shape c.topology-topology.result.now (subst (λ t. is_topology t 
 
 pub read_records-requires-clause-lines : goal.read_records-requires-clause-lines
 read_records-requires-clause-lines g c =
-    let shape = lent g (goal.at.read_records-requires-clause-lines g c).After-wires in
-    omega (arith, shape.lines, ap length c.wires.ensures.value)
+    let shape = has_shape c.args.head.now.topology c.topology-topology.ensures.valid in
+    let wires = ap length (c.wires.ensures.value ∙ ap (λ s. s.wires) c.topology-topology.ensures.value) in
+    omega (arith, shape.lines, wires, c.places_in-places.ensures.lines, c.places_in-places.ensures.ports)
+
+pub check_flights-requires-clause-fits : goal.check_flights-requires-clause-fits
+check_flights-requires-clause-fits g c =
+    let shape = has_shape c.args.head.now.topology c.topology-topology.ensures.valid in
+    let wires = ap length (c.wires-2.ensures.value ∙ ap (λ s. s.wires) c.topology-topology.ensures.value) in
+    omega (arith, shape.lines, wires, c.places_in-places.ensures.lines, c.places_in-places.ensures.groups, c.places_in-places.ensures.inside, c.places_in-places.ensures.counted)
 
 pub check_flights-requires-clause-few_ports : goal.check_flights-requires-clause-few_ports
 check_flights-requires-clause-few_ports g c =
@@ -39,26 +46,23 @@ check_flights-requires-clause-wired g c =
 
 -- the cut is that of the records that were read
 is_cut : (g : given.Over) (c : After-read_records g) → (k : g.D.Disk.keeps)
-    → c.args.base ≡ base_of (content_of c.args.head.now.area c.args.second (g.D.Disk.state c.args.disk.now).now.bytes)
-    → cut_in t414_ends c.args.head.now.topology (area_start c.args.head.now.area c.args.second + 1) (content_of c.args.head.now.area c.args.second (g.D.Disk.state c.args.disk.now).now.bytes)
-    ≡ (records_at c.pages.result.now c.wires.result.now c.port_count.result c.args.base c.of-places.result (g.D.Disk.state c.args.disk.now).now.bytes >>= tested t414_ends c.of-places.result.lines (line_count c.args.head.now.topology))
+    → c.args.base ≡ base_of (content_of c.args.head.now.areas c.args.second (g.D.Disk.state c.args.disk.now).now.bytes)
+    → cut_in t414_ends c.args.head.now.topology (area_start c.args.head.now.areas c.args.second + 1) (content_of c.args.head.now.areas c.args.second (g.D.Disk.state c.args.disk.now).now.bytes)
+    ≡ (records_at c.pages.result.now c.wires.result.now c.port_count.result c.args.base c.places_in-places.result (g.D.Disk.state c.args.disk.now).now.bytes >>= tested t414_ends c.places_in-places.result.lines (line_count c.args.head.now.topology))
 is_cut g c k base =
     let t = c.args.head.now.topology in
     let value = c.topology-topology.ensures.value in
     let shape = has_shape t c.topology-topology.ensures.valid in
-    let start : c.area_start-start.result ≡ area_start c.args.head.now.area c.args.second = c.area_start-start.ensures ∙ ap (λ a. area_start a c.args.second) c.area.ensures.value in
-    cut_in-records t414_ends t c.args.head.now.area c.args.second c.args.base c.port_count.result c.pages.result.now c.wires.result.now c.of-places.result (g.D.Disk.state c.args.disk.now).now.bytes
-    (area_room t c.args.head.now.area c.area.ensures.roomy) shape.lines
+    cut_in-records t414_ends t c.args.head.now.areas c.args.second c.args.base c.port_count.result c.pages.result.now c.wires.result.now c.places_in-places.result (g.D.Disk.state c.args.disk.now).now.bytes
+    (area_room t c.args.head.now.areas.length c.places_in-places.ensures.roomy) shape.lines
     (c.pages.ensures.value ∙ ap (λ s. s.pages) value) (c.wires.ensures.value ∙ ap (λ s. s.wires) value) (c.port_count.ensures.value ∙ ap (λ s. s.ports) value) base
-    (c.of-places.ensures.nodes ∙ ap (λ s. s + 1 + nodes_place) start)
-    (c.of-places.ensures.lines ∙ ap (λ s. s + 1 + lines_place c.topology-topology.result.now) start ∙ ap (λ s. area_start c.args.head.now.area c.args.second + 1 + lines_place s) value)
-    (c.of-places.ensures.ports ∙ ap (λ s. s + 1 + ports_place c.topology-topology.result.now) start ∙ ap (λ s. area_start c.args.head.now.area c.args.second + 1 + ports_place s) value)
+    c.places_in-places.ensures.nodes c.places_in-places.ensures.lines c.places_in-places.ensures.ports
 
 pub returns-in_err-cut-clause-is : goal.returns-in_err-cut-clause-is
 returns-in_err-cut-clause-is g c k base =
     let told : c.from_residual.result ≡ Err c.in_err-cut.field-0.0 = search rules in
-    cut_error (cut_network c.args.head.now.topology.wires) t414_ends c.of-places.result.lines (line_count c.args.head.now.topology) _
-    (records_at c.pages.result.now c.wires.result.now c.port_count.result c.args.base c.of-places.result (g.D.Disk.state c.args.disk.now).now.bytes) c.in_err-cut.field-0.0 c.from_residual.result
+    cut_error (cut_network c.args.head.now.topology.wires) t414_ends c.places_in-places.result.lines (line_count c.args.head.now.topology) _
+    (records_at c.pages.result.now c.wires.result.now c.port_count.result c.args.base c.places_in-places.result (g.D.Disk.state c.args.disk.now).now.bytes) c.in_err-cut.field-0.0 c.from_residual.result
     (is_cut g (goal.at.returns-in_err-cut-clause-is g c).After-read_records k base) (c.in_err-cut.ensures.is k) told
 
 -- the wires that were lent, both times
@@ -71,12 +75,12 @@ returns-in-Ok-clause-is g c k base =
     let t = c.args.head.now.topology in
     let shape = has_shape t c.topology-topology.ensures.valid in
     let wires = wires_are g (goal.at.returns-in-Ok-clause-is g c).After-wires-2 in
-    cut_ok t414_ends c.of-places.result.lines (line_count t) (cut_network c.wires.result.now c.in_ok-cut.cut) _
-    (records_at c.pages.result.now c.wires.result.now c.port_count.result c.args.base c.of-places.result (g.D.Disk.state c.args.disk.now).now.bytes)
+    cut_ok t414_ends c.places_in-places.result.lines (line_count t) (cut_network c.wires.result.now c.in_ok-cut.cut) _
+    (records_at c.pages.result.now c.wires.result.now c.port_count.result c.args.base c.places_in-places.result (g.D.Disk.state c.args.disk.now).now.bytes)
     (is_cut g (goal.at.returns-in-Ok-clause-is g c).After-read_records k base) (c.in_ok-cut.ensures.is k) c.in-Ok.field-0
-    (ap (λ ws. flights_in t414_ends (cut_network ws c.in_ok-cut.cut) c.of-places.result.lines 0 (line_count t)) wires.0
-    ∙ ap (λ n. flights_in t414_ends (cut_network t.wires c.in_ok-cut.cut) c.of-places.result.lines 0 n) (sym shape.lines)
-    ∙ ap (λ ws. flights_in t414_ends (cut_network ws c.in_ok-cut.cut) c.of-places.result.lines 0 (length ws)) (sym wires.1)
+    (ap (λ ws. flights_in t414_ends (cut_network ws c.in_ok-cut.cut) c.places_in-places.result.lines 0 (line_count t)) wires.0
+    ∙ ap (λ n. flights_in t414_ends (cut_network t.wires c.in_ok-cut.cut) c.places_in-places.result.lines 0 n) (sym shape.lines)
+    ∙ ap (λ ws. flights_in t414_ends (cut_network ws c.in_ok-cut.cut) c.places_in-places.result.lines 0 (length ws)) (sym wires.1)
     ∙ sym c.check_flights.ensures ∙ c.in-Ok.is)
     ∙ ap (λ ws. Ok (cut_network ws c.in_ok-cut.cut)) wires.0
 
@@ -85,12 +89,12 @@ returns-in-Err-clause-is g c k base =
     let t = c.args.head.now.topology in
     let shape = has_shape t c.topology-topology.ensures.valid in
     let wires = wires_are g (goal.at.returns-in-Err-clause-is g c).After-wires-2 in
-    cut_fault t414_ends c.of-places.result.lines (line_count t) (cut_network c.wires.result.now c.in_ok-cut.cut) _
-    (records_at c.pages.result.now c.wires.result.now c.port_count.result c.args.base c.of-places.result (g.D.Disk.state c.args.disk.now).now.bytes) c.in-Err.fault
+    cut_fault t414_ends c.places_in-places.result.lines (line_count t) (cut_network c.wires.result.now c.in_ok-cut.cut) _
+    (records_at c.pages.result.now c.wires.result.now c.port_count.result c.args.base c.places_in-places.result (g.D.Disk.state c.args.disk.now).now.bytes) c.in-Err.fault
     (is_cut g (goal.at.returns-in-Err-clause-is g c).After-read_records k base) (c.in_ok-cut.ensures.is k)
-    (ap (λ ws. flights_in t414_ends (cut_network ws c.in_ok-cut.cut) c.of-places.result.lines 0 (line_count t)) wires.0
-    ∙ ap (λ n. flights_in t414_ends (cut_network t.wires c.in_ok-cut.cut) c.of-places.result.lines 0 n) (sym shape.lines)
-    ∙ ap (λ ws. flights_in t414_ends (cut_network ws c.in_ok-cut.cut) c.of-places.result.lines 0 (length ws)) (sym wires.1)
+    (ap (λ ws. flights_in t414_ends (cut_network ws c.in_ok-cut.cut) c.places_in-places.result.lines 0 (line_count t)) wires.0
+    ∙ ap (λ n. flights_in t414_ends (cut_network t.wires c.in_ok-cut.cut) c.places_in-places.result.lines 0 n) (sym shape.lines)
+    ∙ ap (λ ws. flights_in t414_ends (cut_network ws c.in_ok-cut.cut) c.places_in-places.result.lines 0 (length ws)) (sym wires.1)
     ∙ sym c.check_flights.ensures ∙ c.in-Err.is)
 
 -- the wires and the counts of what was read, which no device has to answer for
@@ -109,9 +113,9 @@ returns-in-Ok-clause-sound g c =
     let t = c.args.head.now.topology in
     let shape = has_shape t c.topology-topology.ensures.valid in
     let wires : c.wires-2.result.now ≡ t.wires = c.wires-2.ensures.value ∙ ap (λ s. s.wires) c.topology-topology.ensures.value in (
-      c.of-places.result.lines,
-      ap (λ n. flights_in t414_ends (cut_network t.wires c.in_ok-cut.cut) c.of-places.result.lines 0 n) (sym shape.lines)
-          ∙ ap (λ ws. flights_in t414_ends (cut_network ws c.in_ok-cut.cut) c.of-places.result.lines 0 (length ws)) (sym wires)
+      c.places_in-places.result.lines,
+      ap (λ n. flights_in t414_ends (cut_network t.wires c.in_ok-cut.cut) c.places_in-places.result.lines 0 n) (sym shape.lines)
+          ∙ ap (λ ws. flights_in t414_ends (cut_network ws c.in_ok-cut.cut) c.places_in-places.result.lines 0 (length ws)) (sym wires)
           ∙ sym c.check_flights.ensures ∙ c.in-Ok.is,
     )
 
@@ -121,12 +125,12 @@ returns-in-Ok-clause-cut g c few =
     let shape = has_shape t c.topology-topology.ensures.valid in
     let wires = wires_are g (goal.at.returns-in-Ok-clause-cut g c).After-wires-2 in
     let cut = c.in_ok-cut.cut in
-    parts_cut t414_ends t c.args.base c.of-places.result.lines (map live cut.nodes.items) (map (λ line. line.items) cut.lines.items) (map port_of cut.ports.items)
+    parts_cut t414_ends t c.args.base c.places_in-places.result.lines (map live cut.nodes.items) (map (λ line. line.items) cut.lines.items) (map port_of cut.ports.items)
     (subst (λ pages. HaveImages pages (map live cut.nodes.items)) (c.pages.ensures.value ∙ ap (λ s. s.pages) c.topology-topology.ensures.value) c.in_ok-cut.ensures.images)
     (ap (λ ws. are_lines ws (map (λ line. line.items) cut.lines.items)) (sym wires.0) ∙ c.in_ok-cut.ensures.lines)
     (length-map cut.ports.items port_of ∙ c.in_ok-cut.ensures.ports ∙ c.port_count.ensures.value ∙ ap (λ s. s.ports) c.topology-topology.ensures.value)
     c.in_ok-cut.ensures.reached
-    (ap (λ n. flights_in t414_ends (cut_network t.wires cut) c.of-places.result.lines 0 n) (sym shape.lines)
-    ∙ ap (λ ws. flights_in t414_ends (cut_network ws cut) c.of-places.result.lines 0 (length ws)) (sym wires.1)
+    (ap (λ n. flights_in t414_ends (cut_network t.wires cut) c.places_in-places.result.lines 0 n) (sym shape.lines)
+    ∙ ap (λ ws. flights_in t414_ends (cut_network ws cut) c.places_in-places.result.lines 0 (length ws)) (sym wires.1)
     ∙ sym c.check_flights.ensures ∙ c.in-Ok.is)
     few

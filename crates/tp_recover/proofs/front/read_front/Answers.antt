@@ -12,15 +12,15 @@ use Rattle.tp_recover.proofs.front.read_front.Goals.{After-cut_front}
 
 -- what the fields say was answered
 is_front : (g : given.Over) (c : After-cut_front g) → (k : g.D.Disk.keeps)
-    → front_given c.args.head.now.topology (area_start c.args.head.now.area c.args.second) (content_of c.args.head.now.area c.args.second (g.D.Disk.state c.args.disk.now).now.bytes) ≡ c.cut_front.result
+    → front_given c.args.head.now.topology (area_start c.args.head.now.areas c.args.second) (content_of c.args.head.now.areas c.args.second (g.D.Disk.state c.args.disk.now).now.bytes) ≡ c.cut_front.result
 is_front g c k =
     let t = c.args.head.now.topology in
-    let area = c.args.head.now.area in
+    let areas = c.args.head.now.areas in
     let xs = (g.D.Disk.state c.args.disk.now).now.bytes in
     let wanted : c.cut_length-wanted.result ≡ cut_length t = c.cut_length-wanted.ensures.value ∙ ap cut_length c.topology.ensures.value in
-    let start : c.area_start-start.result ≡ area_start area c.args.second = c.area_start-start.ensures ∙ ap (λ a. area_start a c.args.second) c.area.ensures.value in
-    front_given-read t (area_start area c.args.second) area c.args.second c.area_start-start.result xs c.in_ok-bytes.bytes
-    (omega (arith, area_room t area c.area.ensures.roomy)) start (sym (found_is _ _ (c.in_ok-bytes.ensures.bytes k)))
+    let start : c.area_start-start.result ≡ area_start areas c.args.second = c.area_start-start.ensures ∙ ap (λ a. area_start a c.args.second) c.areas.ensures.value in
+    front_given-read t (area_start areas c.args.second) areas c.args.second c.area_start-start.result xs c.in_ok-bytes.bytes
+    (omega (arith, area_room t areas.length c.areas.ensures.roomy)) start (sym (found_is _ _ (c.in_ok-bytes.ensures.bytes k)))
     ∙ ap (λ s. front_given t s c.in_ok-bytes.bytes) (sym start)
     ∙ sym (c.cut_front.ensures.is t wanted)
 

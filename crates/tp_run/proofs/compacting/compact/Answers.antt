@@ -36,7 +36,7 @@ returns-clause-kept g c k began =
     let done = c.compact_parts.result.1 in
     let kept : (g.D.Disk.state c.open.new.disk).now.bytes ≡ (g.D.Disk.state c.args.disk).now.bytes = ap (λ (m : Moment). m.bytes) (c.in-Ok.ensures.kept k) in
     let same : (g.D.Disk.state c.store-store.result.disk).now.bytes ≡ (g.D.Disk.state c.args.disk).now.bytes = ap (λ d. (g.D.Disk.state d).now.bytes) c.store-store.ensures.disk ∙ kept in
-    opened_compacted start done (g.D.Disk.state c.args.disk) (g.D.Disk.state c.open.new.disk) (g.D.Disk.state c.compact_parts.result.0) (c.open.ensures.leaves k)
+    opened_compacted start done (g.D.Disk.state c.args.disk) (g.D.Disk.state c.open.new.disk) (g.D.Disk.state c.compact_parts.result.0) (c.open.ensures.leaves k) kept
     (subst (λ d. Compacted start done (g.D.Disk.state d) (g.D.Disk.state c.compact_parts.result.0)) c.store-store.ensures.disk
     (c.compact_parts.ensures.kept k (subst (Began start g.history.before) (sym same) began)))
 
@@ -44,13 +44,13 @@ pub returns-clause-grown : goal.returns-clause-grown
 returns-clause-grown g c k =
     let opened = c.in-Ok.opened in
     let topology = c.topology_of-topology.result in
-    let area = ap (λ (p : Place). p.area) c.store-store.ensures.place in
-    if_both c.compact_parts.result.1 (λ done. done.generation ≡ c.store-store.result.place.generation + 1) (λ done. done.room ≤ entries_of topology c.store-store.result.place.area) _
+    let area = ap (λ (p : Place). p.areas.length) c.store-store.ensures.place in
+    if_both c.compact_parts.result.1 (λ done. done.generation ≡ c.store-store.result.place.generation + 1) (λ done. done.room ≤ entries_of topology c.store-store.result.place.areas.length) _
     (λ done grown room. record {
       opened = opened;
       is = c.in-Ok.ensures.is k;
       generation = grown ∙ ap (λ (p : Place). p.generation + 1) c.store-store.ensures.place;
-      room = subst (λ (t : Topology). done.room ≤ entries_of t opened.head.area) c.topology_of-topology.ensures (subst (λ (bytes : ℕ). done.room ≤ entries_of topology bytes) area room);
+      room = subst (λ (t : Topology). done.room ≤ entries_of t opened.head.areas.length) c.topology_of-topology.ensures (subst (λ (bytes : ℕ). done.room ≤ entries_of topology bytes) area room);
     })
     c.compact_parts.ensures.switched c.compact_parts.ensures.room
 

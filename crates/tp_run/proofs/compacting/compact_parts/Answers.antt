@@ -1,4 +1,7 @@
-use Rattle.std.proofs.Common.{◌≡◌, sym, subst, ◌∙◌}
+use Rattle.std.proofs.Common.{◌≡◌, Ok, sym, subst, ◌∙◌}
+use Rattle.tp_model.specs.DiskHistory.{State}
+use Rattle.tp_model.specs.Opening.{held_of, verdict}
+use Rattle.tp_model.specs.Runs.{reopened}
 use Rattle.tp_flush.specs.Known.{Began}
 use Rattle.tp_run.specs.Compacted.{Compacted}
 use Rattle.tp_run.proofs.Compacts.{walked_compacted}
@@ -13,9 +16,16 @@ over-flusher-requires-clause-first g c = sym c.requires.names.first_is ∙ c.req
 pub returns-clause-kept : goal.returns-clause-kept
 returns-clause-kept g c k began =
     let start = g.J.Naming.formatted in
+    let before = g.J.Naming.before in
+    let opened = c.args.opened.value in
     let old = c.over-flusher.result in
     let new = c.switch_all-done.new.flusher in
     let done = c.switch_all-done.result in
-    let first : Began start g.J.Naming.before old.opened = subst (Began start g.J.Naming.before) (sym c.over-flusher.ensures.opened) began in
-    let kept : Compacted start done old.state new.state = walked_compacted start old new done (c.known.ensures.reached k first) (c.switch_all-done.ensures.walks k first) c.switch_all-done.ensures.stored in
+    let device = sym c.over-flusher.ensures.device.0 in
+    let first : Began start before old.opened = subst (Began start before) (sym c.over-flusher.ensures.opened) began in
+    let there : Began start before old.state.now.bytes = subst (λ (s : State). Began start before s.now.bytes) device began in
+    let reads : verdict old.state.now.bytes ≡ Ok opened = subst (λ (s : State). verdict s.now.bytes ≡ Ok opened) device (c.requires.read k) in
+    let world : old.world ≡ reopened before old.state.now.bytes (held_of opened) opened.now =
+    subst (λ (s : State). old.world ≡ reopened before s.now.bytes (held_of opened) opened.now) device c.over-flusher.ensures.world in
+    let kept : Compacted start done old.state new.state = walked_compacted start before opened old new done there reads world (c.switch_all-done.ensures.walks k first) c.switch_all-done.ensures.stored in
     subst (λ s. Compacted start done (g.D.Disk.state c.args.store.disk) s) (sym c.into_disk.ensures.state) (subst (λ s. Compacted start done s new.state) c.over-flusher.ensures.device.0 kept)

@@ -1,7 +1,8 @@
 use Rattle.std.proofs.Common.{◌≡◌, Ok, Err, ap, sym, subst, ◌∙◌}
 use Rattle.std.specs.Prelude.{IfOk}
 use Rattle.tp_model.specs.DiskHistory.{State}
-use Rattle.tp_model.specs.Opening.{verdict}
+use Rattle.tp_model.specs.Opening.{held_of, verdict}
+use Rattle.tp_model.specs.Runs.{reopened}
 use Rattle.tp_flush.specs.Known.{Began}
 use Rattle.tp_run.specs.declared.fault.RunFault.TheVariants.{Memory}
 use Rattle.tp_model.specs.NodeState.{NodeState}
@@ -37,14 +38,19 @@ returns-clause-ran g c k began =
     let old = c.over-flusher.result in
     let new = c.serve-flusher.result.0 in
     let done = c.serve-flusher.result.1 in
-    let first : Began start g.J.Naming.before old.opened = subst (Began start g.J.Naming.before) (sym c.over-flusher.ensures.opened) began in
-    let reads : verdict old.state.now.bytes ≡ Ok opened = subst (λ (s : State). verdict s.now.bytes ≡ Ok opened) (sym c.over-flusher.ensures.device.0) (c.requires.read k) in
+    let before = g.J.Naming.before in
+    let first : Began start before old.opened = subst (Began start before) (sym c.over-flusher.ensures.opened) began in
+    let device = sym c.over-flusher.ensures.device.0 in
+    let there : Began start before old.state.now.bytes = subst (λ (s : State). Began start before s.now.bytes) device began in
+    let world : old.world ≡ reopened before old.state.now.bytes (held_of opened) opened.now =
+    subst (λ (s : State). old.world ≡ reopened before s.now.bytes (held_of opened) opened.now) device c.over-flusher.ensures.world in
+    let reads : verdict old.state.now.bytes ≡ Ok opened = subst (λ (s : State). verdict s.now.bytes ≡ Ok opened) device (c.requires.read k) in
     let settled =
     subst (λ (s : Network NodeState). IfOk done (Settled start s job (outset_in opened job.port) (input_slips (outset_in opened job.port) input) was now new.world.journal)) c.requires.network
     (subst (λ u. IfOk done (Settled start g.J.Naming.start job u (input_slips u input) was now new.world.journal)) c.requires.outset (c.serve-flusher.ensures.settled k first)) in
     let shown = subst (λ (u : Outset). MayPrint start old new u.port u.confirmed was now) c.requires.outset (c.serve-flusher.ensures.shown k first) in
     let ran : Ran start job input was now done old.state new.state =
-    served_ran c.stored_slips_are_recovered.ensures start opened job input was now old new done reads (c.known.ensures.reached k first) (c.serve-flusher.ensures.walks k first) c.serve-flusher.ensures.stored settled shown in
+    served_ran c.stored_slips_are_recovered.ensures start before opened job input was now old new done there reads world (c.serve-flusher.ensures.walks k first) c.serve-flusher.ensures.stored settled shown in
     subst (λ s. Ran start job input was now done (g.D.Disk.state c.args.store.disk) s) (sym c.into_disk-2.ensures.state) (subst (λ s. Ran start job input was now done s new.state) c.over-flusher.ensures.device.0 ran)
 
 pub serve-flusher-requires-clause-first : goal.serve-flusher-requires-clause-first

@@ -33,7 +33,7 @@ returns-clause-streamed g c k began =
     let done = c.stream_parts.result.1 in
     let kept : (g.D.Disk.state c.open.new.disk).now.bytes ≡ (g.D.Disk.state c.args.disk).now.bytes = ap (λ (m : Moment). m.bytes) (c.in-Ok.ensures.kept k) in
     let same : (g.D.Disk.state c.store-store.result.disk).now.bytes ≡ (g.D.Disk.state c.args.disk).now.bytes = ap (λ d. (g.D.Disk.state d).now.bytes) c.store-store.ensures.disk ∙ kept in
-    opened start done (g.D.Disk.state c.args.disk) (g.D.Disk.state c.open.new.disk) (g.D.Disk.state c.stream_parts.result.0) (c.open.ensures.leaves k)
+    opened start done (g.D.Disk.state c.args.disk) (g.D.Disk.state c.open.new.disk) (g.D.Disk.state c.stream_parts.result.0) (c.open.ensures.leaves k) kept
     (subst (λ d. Streamed start done (g.D.Disk.state d) (g.D.Disk.state c.stream_parts.result.0)) c.store-store.ensures.disk
     (c.stream_parts.ensures.streamed k (subst (Began start g.history.before) (sym same) began)))
 

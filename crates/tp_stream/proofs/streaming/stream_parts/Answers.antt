@@ -1,5 +1,8 @@
-use Rattle.std.proofs.Common.{sym, subst}
+use Rattle.std.proofs.Common.{◌≡◌, Ok, sym, subst}
 use Rattle.std.specs.Prelude.{IfOk}
+use Rattle.tp_model.specs.DiskHistory.{State}
+use Rattle.tp_model.specs.Opening.{held_of, verdict}
+use Rattle.tp_model.specs.Runs.{reopened}
 use Rattle.tp_flush.specs.Known.{Began}
 use Rattle.tp_stream.specs.Streamed.{Streamed}
 use Rattle.tp_stream.specs.Quiet.{IsWhyEnded}
@@ -10,13 +13,19 @@ use Rattle.tp_stream.proofs.streaming.stream_parts.Goals as goal
 pub returns-clause-streamed : goal.returns-clause-streamed
 returns-clause-streamed g c k began =
     let start = g.J.Naming.formatted in
+    let before = g.J.Naming.before in
+    let o = c.args.opened.value in
     let old = c.over-flusher.result in
     let new = c.serve-flusher.result.0 in
     let done = c.serve-flusher.result.1 in
-    let first : Began start g.J.Naming.before old.opened = subst (Began start g.J.Naming.before) (sym c.over-flusher.ensures.opened) began in
+    let device = sym c.over-flusher.ensures.device.0 in
+    let first : Began start before old.opened = subst (Began start before) (sym c.over-flusher.ensures.opened) began in
+    let there : Began start before old.state.now.bytes = subst (λ (s : State). Began start before s.now.bytes) device began in
+    let reads : verdict old.state.now.bytes ≡ Ok o = subst (λ (s : State). verdict s.now.bytes ≡ Ok o) device (c.requires.read k) in
+    let world : old.world ≡ reopened before old.state.now.bytes (held_of o) o.now = subst (λ (s : State). old.world ≡ reopened before s.now.bytes (held_of o) o.now) device c.over-flusher.ensures.world in
     subst (λ s. Streamed start done (g.D.Disk.state c.args.store.disk) s) (sym c.into_disk.ensures.state)
     (subst (λ s. Streamed start done s new.state) c.over-flusher.ensures.device.0
-    (served start old new done (c.known.ensures.reached k first) (c.serve-flusher.ensures.walks k first) c.serve-flusher.ensures.stored))
+    (served start before o old new done there reads world (c.serve-flusher.ensures.walks k first) c.serve-flusher.ensures.stored))
 
 pub returns-clause-why : goal.returns-clause-why
 returns-clause-why g c =

@@ -1,8 +1,6 @@
-use Rattle.std.proofs.Common.{◌≡◌, ℕ, List, Vec, Global, map, Some, subst, sym, ap, ◌∙◌, take_all}
-use Rattle.std.specs.List.{AllZip}
+use Rattle.std.proofs.Common.{◌≡◌, ℕ, List, Vec, Global, map, Some, subst, sym}
 use Rattle.tp_model.specs.Image.{node_at, node_of}
 use Rattle.tp_model.specs.NodeState.{NodeState}
-use Rattle.tp_node.specs.NodeContents.{NodeContents}
 use Rattle.tp_work.proofs.Made.{each_spelt, made_more, made_live, made_each, made_frames, made_all}
 use Rattle.tp_work.proofs.nodes.nodes_of.Goals as goal
 

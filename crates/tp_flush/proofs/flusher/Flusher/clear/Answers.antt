@@ -86,8 +86,9 @@ invariant_of-self-2 g c =
           (put_device g.D.Disk.keeps g.J.Naming.room p.whole.known.world s new p.store.place a.new.self.place p.topology a.result a.new.self.broken (g.D.Disk.failures_of p.store.disk) (g.D.Disk.failures_of a.new.self.disk)
           (subst (λ broken. IsOfDevice g.D.Disk.keeps g.J.Naming.room p.whole.known.world s p.store.place broken p.topology) (unbroken g c) c.self.invariant.5) (answered g c) a.ensures.place
           (λ k. on_ok a.result (Cleared p.store.place s new) (head_of new.now.bytes ≡ Ok (says p.topology p.store.place))
-          (λ P. clear_head p.store.place s new (says p.topology p.store.place) (omega (arith, p.store.whole, g.met.D.Disk.whole k p.store.disk)) (omega (arith, p.store.behind, p.store.inside)) P.called (c.self.invariant.5.head k (unbroken g c))) (a.ensures.cleared k))),
+          (λ P. clear_head p.store.place s new p.topology (omega (arith, p.store.whole, g.met.D.Disk.whole k p.store.disk)) (omega (arith, p.store.behind, p.store.inside)) P.called (c.self.invariant.5.head k (unbroken g c))) (a.ensures.cleared k))),
       subst (λ (k : Known). g.J.Naming.first ≤ k.world.stored) (sym c.of-parts.ensures) (omega (arith, put_stored a.new.self.broken p.whole.known.world new.now, c.self.invariant.6)),
+      subst (λ (k : Known). p.key.value.numbered_from ≤ k.world.stored) (sym c.of-parts.ensures) (omega (arith, put_stored a.new.self.broken p.whole.known.world new.now, c.self.invariant.7)),
     )
 
 abbrev behind : (g : given.Over) (c : goal.After-answer_of g) → Flushing

@@ -69,10 +69,10 @@ walked g c k began =
     (on_ok a.result (PutBehind p.store.place at c.args.bytes.now s new) (Called (put_calls ((other_gate p.store.place + 1 + at, c.args.bytes.now) ∷ [])) s new) (λ P. P.called) (a.ensures.put k))
     (a.ensures.broke k (none g c))
 
-inside : (g : given.Over) (c : goal.After-answer_of g) → piece_place c.self.inside.parts.topology c.args.node c.args.piece + piece_length c.args.piece < c.self.inside.parts.store.place.area
+inside : (g : given.Over) (c : goal.After-answer_of g) → piece_place c.self.inside.parts.topology c.args.node c.args.piece + piece_length c.args.piece < c.self.inside.parts.store.place.areas.length
 inside g c =
     let p = c.self.inside.parts in
-    piece_inside p.topology p.store.place.area c.args.node c.args.piece c.self.invariant.4.roomy
+    piece_inside p.topology p.store.place.areas.length c.args.node c.args.piece c.self.invariant.4.roomy
     (subst (λ (v : Flushing). c.args.node < length v.topology.pages) (sym c.self.view_is) c.requires.node)
     (subst (λ (v : Flushing). c.args.piece ≤ get_or v.topology.pages c.args.node 0) (sym c.self.view_is) c.requires.piece)
 
@@ -101,9 +101,10 @@ invariant_of-self g c =
           (put_device g.D.Disk.keeps g.J.Naming.room p.whole.known.world s new p.store.place a.new.self.place p.topology a.result a.new.self.broken (g.D.Disk.failures_of p.store.disk) (g.D.Disk.failures_of a.new.self.disk)
           (subst (λ broken. IsOfDevice g.D.Disk.keeps g.J.Naming.room p.whole.known.world s p.store.place broken p.topology) (unbroken g c) c.self.invariant.5) (answered g c) a.ensures.place
           (λ k. on_ok a.result (PutBehind p.store.place (piece_place p.topology c.args.node c.args.piece) c.args.bytes.now s new) (head_of new.now.bytes ≡ Ok (says p.topology p.store.place))
-          (λ P. piece_head p.store.place (piece_place p.topology c.args.node c.args.piece) c.args.bytes.now s new (says p.topology p.store.place) (omega (arith, p.store.whole, g.met.D.Disk.whole k p.store.disk)) (omega (arith, inside g c, c.requires.whole)) P.called
+          (λ P. piece_head p.store.place (piece_place p.topology c.args.node c.args.piece) c.args.bytes.now s new p.topology (omega (arith, p.store.whole, g.met.D.Disk.whole k p.store.disk)) (omega (arith, inside g c, c.requires.whole)) P.called
           (c.self.invariant.5.head k (unbroken g c))) (a.ensures.put k))),
       subst (λ (k : Known). g.J.Naming.first ≤ k.world.stored) (sym c.of-parts.ensures) (omega (arith, put_stored a.new.self.broken p.whole.known.world new.now, c.self.invariant.6)),
+      subst (λ (k : Known). p.key.value.numbered_from ≤ k.world.stored) (sym c.of-parts.ensures) (omega (arith, put_stored a.new.self.broken p.whole.known.world new.now, c.self.invariant.7)),
     )
 
 abbrev behind : (g : given.Over) (c : goal.After-answer_of g) → Flushing

@@ -24,4 +24,5 @@ invariant_of-self g c =
           (λ k. subst (λ (v : Flushing). IsPartOut v.topology v.world.net (content_beside v.place v.state) c.args.node (get_or v.topology.pages c.args.node 0)) (sym c.self.view_is) (c.requires.stands k))),
       c.self.invariant.5,
       c.self.invariant.6,
+      c.self.invariant.7,
     )

@@ -1,4 +1,4 @@
-use Rattle.std.proofs.Common.{refl, sym, subst, ap, ◌∙◌, ◌≤◌}
+use Rattle.std.proofs.Common.{refl, sym, subst, ap, ◌∙◌, ◌≤◌, arith}
 use Rattle.tp_model.specs.DiskHistory.{State}
 use Rattle.tp_shared.specs.Told.{IsFirst}
 use Rattle.tp_shared.specs.Pieces.{IsFrozenPage}
@@ -27,6 +27,7 @@ invariant_of-self g c =
       subst (λ (k : Known). IsOfDevice g.D.Disk.keeps g.J.Naming.room k.world s p.store.place p.store.broken p.topology) (sym c.of-parts.ensures)
           (look_device g.D.Disk.keeps g.J.Naming.room p.whole.known.world p.key.value now s p.store.place p.store.broken p.topology c.self.invariant.2 c.frozen_page-found.ensures.since c.self.invariant.5),
       subst (λ (k : Known). g.J.Naming.first ≤ k.world.stored) (sym c.of-parts.ensures) c.self.invariant.6,
+      subst (λ (k : Known). now.numbered_from ≤ k.world.stored) (sym c.of-parts.ensures) (omega (arith, c.frozen_page-found.ensures.since.numbered, c.self.invariant.7)),
     )
 
 abbrev flushing : (g : given.Over) (c : goal.After-parts-2-1 g) → Known → Flushing

@@ -1,7 +1,6 @@
-use Rattle.std.proofs.Common.{◌≡◌, ◌∙◌, length, ap, sym, subst, arith, refl, Some, slice_get}
+use Rattle.std.proofs.Common.{◌∙◌, length, ap, sym, subst, arith, Some}
 use Rattle.std.specs.Prelude.{is_ok, is_some}
 use Rattle.std.proofs.lemmas.List.{length-set}
-use Rattle.std.proofs.lemmas.Option.{slice_get_read}
 use Rattle.tp_turn.specs.Moments.{IsNodeOf, moment}
 use Rattle.tp_turn.specs.Stages.{Opens}
 use Rattle.tp_shared.specs.Agreement.{Agreement}
@@ -10,8 +9,7 @@ use Rattle.tp_shared.specs.Seals.{Stage}
 use Rattle.tp_shared.specs.Gains.{Noted}
 use Rattle.tp_shared.specs.TurnsMade.{IsBookOf}
 use Rattle.tp_shared.proofs.Holding.{acted_like, takes_of_like}
-use Rattle.tp_shared.proofs.Sealing.{floor_after, node_of_seal, sealed_after, tied_after, all_after, noted_by}
-use Rattle.tp_shared.proofs.Telling.{since_more}
+use Rattle.tp_shared.proofs.Sealing.{node_of_seal, sealed_after, noted_by}
 use Rattle.tp_shared.proofs.Thawing.{thaws_set, thawed_at, thawed_recorded}
 use Rattle.tp_shared.proofs.Writing.{as_many}
 use Rattle.tp_shared.proofs.Keeping.{seal_at, acted_written}
@@ -65,8 +63,7 @@ invariant_of-self g c =
     let done = is_ok c.begin-done.result in
     let Are = TakesOf b.state.start c.args.number c.begin-done.result in
     let A = c.begin-done.ensures.acted in
-    let many = as_many c.entries-before.result.now b.state.entries c.entries-before.ensures.entries in
-    acted_written inv A.grown (ap length A.runs ∙ length-set b.runs c.args.number _) (length-set c.self.inside.seals.items c.args.number _)
+    acted_written inv c.entries-before.result.now c.entries-before.ensures.entries c.entries-before.ensures.numbers A.grown (ap length A.runs ∙ length-set b.runs c.args.number _) (length-set c.self.inside.seals.items c.args.number _)
     (sealed_after Are g.J.Naming.node c.self.inside.seals.items b new c.args.number node done
     (record { frozen = c.is_frozen-here.result; seal = c.turn.new.seal }) inv.sealed A c.begin-done.ensures.is
     (omega (arith, inv.seal_count, c.requires.there)) (c.turn.ensures.names.0 ∙ c.agree.ensures.names.0 ∙ S.named)
@@ -75,11 +72,11 @@ invariant_of-self g c =
     (thaws_set c.self.inside.told.value c.self.inside.seals.items c.args.number (record { frozen = c.is_frozen-here.result; seal = c.turn.new.seal }) inv.thawed
     (λ thawed.
     c.is_frozen-here.ensures
-    ∙ ap is_some (c.begin-done.ensures.stays (thawed_recorded g.J.Naming.before g.J.Naming.first c.self.inside.told.value c.self.inside.seals.items (record { book = b; all = c.self.inside.roll.items }) thawed inv.since c.args.number))
+    ∙ ap is_some (c.begin-done.ensures.stays (thawed_recorded g.J.Naming.before g.J.Naming.first c.self.inside.told.value c.self.inside.seals.items (record { book = b; all = c.self.inside.roll.items; numbered_from = c.self.inside.told.value.numbered_from }) thawed inv.since c.args.number))
     ∙ ap (λ (x : Agreement). is_some x.frozen) (sym (ap (λ x. x.state) c.agree.ensures.agreed ∙ c.requires.shows.shown))
     ∙ sym S.flag
     ∙ thawed_at c.self.inside.told.value c.self.inside.seals.items c.args.number here thawed at))
-    c.write_new.ensures.names.0 c.write_new.ensures.first many c.write_new.ensures.roll
+    c.write_new.ensures.names.0 c.write_new.ensures.first c.write_new.ensures.roll
 
 pub returns-clause-noted : goal.returns-clause-noted
 returns-clause-noted g c =
@@ -91,8 +88,8 @@ returns-clause-noted g c =
     let A = acted_like (TakesOf b.state.start c.args.number c.begin-done.result) Are c.args.number (record { node = node.live; frozen = node.frozen; reserved = is_ok c.begin-done.result }) b new
     (λ es. takes_of_like g.J.Naming.start b.state.start c.args.number c.begin-done.result es inv.wires_are inv.count_is) c.begin-done.ensures.acted in
     let many = as_many c.entries-before.result.now b.state.entries c.entries-before.ensures.entries in
-    let old_stage : Stage = record { book = b; all = c.self.inside.roll.items } in
-    let new_stage : Stage = record { book = new; all = c.write_new.new.roll.items } in
+    let old_stage : Stage = record { book = b; all = c.self.inside.roll.items; numbered_from = c.self.inside.told.value.numbered_from } in
+    let new_stage : Stage = record { book = new; all = c.write_new.new.roll.items; numbered_from = c.self.inside.told.value.numbered_from } in
     subst (λ stage. Noted Are g.J.Naming.first stage new_stage c.args.seat.now c.write_new.new.slips.items) c.self.view_is
     (subst (λ seat. Noted Are g.J.Naming.first old_stage new_stage seat c.write_new.new.slips.items) c.seat.view_is
     (noted_by Are b new old_stage new_stage g.J.Naming.first c.self.inside.roll.first (length c.entries-before.result.now) c.seat.inside.slips.items c.write_new.new.slips.items

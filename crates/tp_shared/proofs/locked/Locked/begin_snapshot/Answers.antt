@@ -1,8 +1,6 @@
-use Rattle.std.proofs.Common.{◌≡◌, refl, ◌∙◌, List, [], length, ap}
-use Rattle.tp_model.specs.declared.entry.Entry.{Entry}
+use Rattle.std.proofs.Common.{refl, length, ap}
 use Rattle.tp_shared.proofs.Hosting.{idle_begun, begun_agreed, begun_grown}
-use Rattle.tp_shared.proofs.Sealing.{floor_after, sealed_begun, tied_still}
-use Rattle.tp_shared.proofs.Telling.{since_still}
+use Rattle.tp_shared.proofs.Sealing.{sealed_begun}
 use Rattle.tp_shared.proofs.Keeping.{acted_still}
 use Rattle.tp_shared.proofs.locked.Locked.begin_snapshot.Goals as goal
 

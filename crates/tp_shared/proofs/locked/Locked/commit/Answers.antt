@@ -1,18 +1,15 @@
-use Rattle.std.proofs.Common.{◌≡◌, ◌∙◌, List, [], length, ap, sym, subst, arith, refl, Some, slice_get}
+use Rattle.std.proofs.Common.{◌≡◌, ◌∙◌, List, [], length, ap, sym, subst, arith, Some}
 use Rattle.std.specs.Prelude.{false, is_some}
 use Rattle.std.proofs.lemmas.List.{length-set}
-use Rattle.std.proofs.lemmas.Option.{slice_get_read}
 use Rattle.tp_model.specs.declared.entry.Entry.{Entry}
 use Rattle.tp_node.specs.NodeContents.{NodeContents}
-use Rattle.tp_book.specs.Acts.{run_acts}
+use Rattle.tp_book.specs.Acts.{run_acts, run_entries}
 use Rattle.tp_book.specs.Calls.{without_run}
 use Rattle.tp_turn.specs.Moments.{Added}
-use Rattle.tp_shared.specs.Entries.{run_entries}
 use Rattle.tp_shared.specs.Seals.{Stage}
 use Rattle.tp_shared.specs.Gains.{Noted}
 use Rattle.tp_shared.specs.TurnsMade.{IsBookOf}
-use Rattle.tp_shared.proofs.Sealing.{floor_after, node_of_seal, sealed_after, tied_after, all_after, noted_by}
-use Rattle.tp_shared.proofs.Telling.{since_more}
+use Rattle.tp_shared.proofs.Sealing.{node_of_seal, sealed_after, noted_by}
 use Rattle.tp_shared.proofs.Thawing.{thaws_set, thawed_at}
 use Rattle.tp_shared.proofs.Writing.{as_many}
 use Rattle.tp_shared.proofs.Keeping.{seal_at, acted_written}
@@ -72,14 +69,13 @@ invariant_of-self g c =
     let Are = (λ (entries : List Entry). entries ≡ run_entries c.args.number c.args.stretch.ran.count) in
     let A = c.commit-ran.ensures.acted in
     let flag = S.flag ∙ ap (λ x. is_some x.state.frozen) c.agree.ensures.agreed ∙ ap is_some (sym c.requires.kept) in
-    let many = as_many c.entries-before.result.now b.state.entries c.entries-before.ensures.entries in
-    acted_written inv A.grown (ap length A.runs ∙ length-set b.runs c.args.number _) (length-set c.self.inside.seals.items c.args.number _)
+    acted_written inv c.entries-before.result.now c.entries-before.ensures.entries c.entries-before.ensures.numbers A.grown (ap length A.runs ∙ length-set b.runs c.args.number _) (length-set c.self.inside.seals.items c.args.number _)
     (sealed_after Are g.J.Naming.node c.self.inside.seals.items b new c.args.number node false
     (record { frozen = here.frozen; seal = c.turn.new.seal }) inv.sealed A c.commit-ran.ensures.is
     (omega (arith, inv.seal_count, c.requires.there)) (c.turn.ensures.names.0 ∙ c.agree.ensures.names.0 ∙ S.named) (ap (λ x. x.state) c.turn.ensures.seal ∙ c.free-now.ensures) flag)
     (thaws_set c.self.inside.told.value c.self.inside.seals.items c.args.number (record { frozen = here.frozen; seal = c.turn.new.seal }) inv.thawed
     (λ thawed. thawed_at c.self.inside.told.value c.self.inside.seals.items c.args.number here thawed at))
-    c.write_new.ensures.names.0 c.write_new.ensures.first many c.write_new.ensures.roll
+    c.write_new.ensures.names.0 c.write_new.ensures.first c.write_new.ensures.roll
 
 pub returns-clause-noted : goal.returns-clause-noted
 returns-clause-noted g c =
@@ -88,8 +84,8 @@ returns-clause-noted g c =
     let inv = c.self.invariant in
     let Are = (λ (entries : List Entry). entries ≡ run_entries c.args.number c.args.stretch.ran.count) in
     let many = as_many c.entries-before.result.now b.state.entries c.entries-before.ensures.entries in
-    let old_stage : Stage = record { book = b; all = c.self.inside.roll.items } in
-    let new_stage : Stage = record { book = new; all = c.write_new.new.roll.items } in
+    let old_stage : Stage = record { book = b; all = c.self.inside.roll.items; numbered_from = c.self.inside.told.value.numbered_from } in
+    let new_stage : Stage = record { book = new; all = c.write_new.new.roll.items; numbered_from = c.self.inside.told.value.numbered_from } in
     subst (λ stage. Noted Are g.J.Naming.first stage new_stage c.args.seat.now c.write_new.new.slips.items) c.self.view_is
     (subst (λ seat. Noted Are g.J.Naming.first old_stage new_stage seat c.write_new.new.slips.items) c.seat.view_is
     (noted_by Are b new old_stage new_stage g.J.Naming.first c.self.inside.roll.first (length c.entries-before.result.now) c.seat.inside.slips.items c.write_new.new.slips.items

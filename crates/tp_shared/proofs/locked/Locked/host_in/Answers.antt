@@ -1,12 +1,11 @@
-use Rattle.std.proofs.Common.{◌≡◌, refl, ◌∙◌, ◌+◌, List, ◌++◌, length, map, drop, ap}
+use Rattle.std.proofs.Common.{◌≡◌, ◌∙◌, ◌+◌, List, ◌++◌, length, map, drop, ap}
 use Rattle.std.specs.List.{enumerate_from}
 use Rattle.tp_model.specs.declared.entry.Entry.{Entry}
 use Rattle.tp_model.specs.declared.entry.Entry.TheVariants.{HostIn}
 use Rattle.tp_shared.proofs.Hosting.{hosted_input}
-use Rattle.tp_shared.proofs.Sealing.{floor_after, sealed_still, slips_below, tied_after, all_after}
-use Rattle.tp_shared.proofs.Telling.{since_more}
+use Rattle.tp_shared.proofs.Sealing.{slips_below, tied_after}
 use Rattle.tp_shared.proofs.Writing.{as_many}
-use Rattle.tp_shared.proofs.Keeping.{acted_written}
+use Rattle.tp_shared.proofs.Keeping.{hosted_written}
 use Rattle.tp_shared.proofs.locked.Locked.host_in.Goals as goal
 
 pub invariant_of-self : goal.invariant_of-self
@@ -16,14 +15,9 @@ pub invariant_of-self-2 : goal.invariant_of-self-2
 invariant_of-self-2 g c =
     let b = c.self.inside.book in
     let new = c.host_in.new.self in
-    let inv = c.self.invariant in
-    let Are = (λ (entries : List Entry). entries ≡ map (HostIn c.args.port) c.args.bytes.now) in
     let H = hosted_input b new c.args.port c.args.bytes.now c.in_ok-given.ensures.ok c.in_ok-given.ensures.agreed c.in_ok-given.ensures.acts in
-    let many = as_many c.entries-before.result.now b.state.entries c.entries-before.ensures.entries in
-    acted_written inv H.grown (ap length H.runs) refl
-    (sealed_still Are g.J.Naming.node c.self.inside.seals.items b new inv.sealed H)
-    inv.thawed
-    c.write_new.ensures.names.0 c.write_new.ensures.first many c.write_new.ensures.roll
+    hosted_written c.self.invariant c.entries-before.result.now c.entries-before.ensures.entries c.entries-before.ensures.numbers H
+    c.write_new.ensures.names.0 c.write_new.ensures.first c.write_new.ensures.roll
 
 pub invariant_of-result : goal.invariant_of-result
 invariant_of-result g c =

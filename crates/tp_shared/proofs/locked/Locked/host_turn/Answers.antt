@@ -1,4 +1,4 @@
-use Rattle.std.proofs.Common.{◌∙◌, refl, length, ap, subst}
+use Rattle.std.proofs.Common.{length, subst}
 use Rattle.tp_turn.specs.Hosted.{HostDone, HostTurns}
 use Rattle.tp_shared.specs.BookActs.{HostActed}
 use Rattle.tp_shared.specs.Entries.{TakesOf}
@@ -7,24 +7,18 @@ use Rattle.tp_shared.specs.Gains.{Noted}
 use Rattle.tp_shared.specs.TurnsMade.{IsBookOf}
 use Rattle.tp_shared.proofs.Holding.{grown_like, takes_of_like}
 use Rattle.tp_shared.proofs.Hosting.{hosted_turn, host_refused}
-use Rattle.tp_shared.proofs.Sealing.{floor_after, sealed_still, tied_after, all_after, noted_by}
-use Rattle.tp_shared.proofs.Telling.{since_more}
+use Rattle.tp_shared.proofs.Sealing.{noted_by}
 use Rattle.tp_shared.proofs.Writing.{as_many}
-use Rattle.tp_shared.proofs.Keeping.{acted_written}
+use Rattle.tp_shared.proofs.Keeping.{hosted_written}
 use Rattle.tp_shared.proofs.locked.Locked.host_turn.Goals as goal
 
 pub invariant_of-self : goal.invariant_of-self
 invariant_of-self g c =
     let b = c.self.inside.book in
     let new = c.host_turn-done.new.book in
-    let inv = c.self.invariant in
-    let Are = TakesOf b.state.start (length b.state.start.nodes) c.host_turn-done.result in
     let H = hosted_turn c.host_turn-done.result b new c.host_turn-done.ensures in
-    let many = as_many c.entries-before.result.now b.state.entries c.entries-before.ensures.entries in
-    acted_written inv H.grown (ap length H.runs) refl
-    (sealed_still Are g.J.Naming.node c.self.inside.seals.items b new inv.sealed H)
-    inv.thawed
-    c.write_new.ensures.names.0 c.write_new.ensures.first many c.write_new.ensures.roll
+    hosted_written c.self.invariant c.entries-before.result.now c.entries-before.ensures.entries c.entries-before.ensures.numbers H
+    c.write_new.ensures.names.0 c.write_new.ensures.first c.write_new.ensures.roll
 
 pub returns-clause-noted : goal.returns-clause-noted
 returns-clause-noted g c =
@@ -36,8 +30,8 @@ returns-clause-noted g c =
     let H = subst (λ n. HostActed (TakesOf b.state.start n c.host_turn-done.result) b new) inv.count_is (hosted_turn c.host_turn-done.result b new c.host_turn-done.ensures) in
     let G = grown_like (TakesOf b.state.start host c.host_turn-done.result) Are b new (λ es. takes_of_like g.J.Naming.start b.state.start host c.host_turn-done.result es inv.wires_are inv.count_is) H.grown in
     let many = as_many c.entries-before.result.now b.state.entries c.entries-before.ensures.entries in
-    let old_stage : Stage = record { book = b; all = c.self.inside.roll.items } in
-    let new_stage : Stage = record { book = new; all = c.write_new.new.roll.items } in
+    let old_stage : Stage = record { book = b; all = c.self.inside.roll.items; numbered_from = c.self.inside.told.value.numbered_from } in
+    let new_stage : Stage = record { book = new; all = c.write_new.new.roll.items; numbered_from = c.self.inside.told.value.numbered_from } in
     subst (λ stage. Noted Are g.J.Naming.first stage new_stage c.args.seat.now c.write_new.new.slips.items) c.self.view_is
     (subst (λ seat. Noted Are g.J.Naming.first old_stage new_stage seat c.write_new.new.slips.items) c.seat.view_is
     (noted_by Are b new old_stage new_stage g.J.Naming.first c.self.inside.roll.first (length c.entries-before.result.now) c.seat.inside.slips.items c.write_new.new.slips.items

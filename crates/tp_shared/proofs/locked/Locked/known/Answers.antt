@@ -1,9 +1,13 @@
 use Rattle.std.proofs.Common.{◌≡◌, length, ap, subst, arith}
-use Rattle.tp_shared.specs.Seals.{IsTied}
+use Rattle.tp_shared.specs.Positions.{IsNumberedFrom}
+use Rattle.tp_shared.specs.Seals.{Stage, IsTied}
 use Rattle.tp_shared.proofs.locked.Locked.known.Goals as goal
 
 pub returns-clause-tied : goal.returns-clause-tied
 returns-clause-tied g c = subst (λ stage. IsTied g.J.Naming.first stage.all stage.book) c.self.view_is c.self.invariant.tied
+
+pub returns-clause-numbered : goal.returns-clause-numbered
+returns-clause-numbered g c = subst (λ (stage : Stage). IsNumberedFrom stage.numbered_from stage.book) c.self.view_is c.self.invariant.numbered
 
 pub returns-clause-nodes : goal.returns-clause-nodes
 returns-clause-nodes g c = subst (λ stage. length stage.book.state.start.nodes ≡ length g.J.Naming.start.nodes) c.self.view_is c.self.invariant.count_is

@@ -1,15 +1,21 @@
-use Rattle.std.proofs.Common.{◌≡◌, List, sym, ap, subst, ◌∙◌}
+use Rattle.std.proofs.Common.{◌≡◌, ◌+◌, ◌≤◌, List, length, sym, ap, subst, ◌∙◌, arith}
 use Rattle.tp_model.specs.declared.entry.Entry.{Entry}
+use Rattle.tp_book.specs.Book.{next_number}
+use Rattle.tp_shared.specs.Positions.{IsNumberedFrom}
 use Rattle.tp_shared.specs.Told.{Since, told_of}
 use Rattle.tp_shared.specs.declared.told.Told.{Told}
 use Rattle.tp_shared.proofs.Thawing.{thaws_none}
+use Rattle.tp_shared.proofs.Positioned.{positions_below}
 use Rattle.tp_shared.proofs.Telling.{since_none}
+use Rattle.tp_shared.proofs.Writing.{paired}
 use Rattle.tp_shared.proofs.locked.Locked.new.Goals as goal
 
 pub invariant_of-result : goal.invariant_of-result
 invariant_of-result g c =
-    let now = told_of g.J.Naming.before g.J.Naming.first (record { book = c.args.book; all = c.args.roll.items }) in
-    let is : c.args.told.value ≡ now = c.requires.told.1 ∙ ap (λ (es : List Entry). told_of g.J.Naming.before g.J.Naming.first (record { book = c.args.book; all = es })) (sym c.requires.roll.2) in
+    let now = told_of g.J.Naming.before g.J.Naming.first (record { book = c.args.book; all = c.args.roll.items; numbered_from = g.J.Naming.first }) in
+    let is : c.args.told.value ≡ now = c.requires.told.1 ∙ ap (λ (es : List Entry). told_of g.J.Naming.before g.J.Naming.first (record { book = c.args.book; all = es; numbered_from = g.J.Naming.first })) (sym c.requires.roll.2) in
+    let many = paired c.entries-count.result.now c.args.book.state.entries c.args.book.numbers c.entries-count.ensures.entries c.entries-count.ensures.numbers in
+    let last : g.J.Naming.first ≡ next_number c.args.book = let next = c.requires.tied.next in let none = ap length c.requires.roll.2 in omega (arith, next, none) in
     record {
       idle = c.requires.idle;
       seal_count = c.requires.count.0;
@@ -21,9 +27,11 @@ invariant_of-result g c =
       wires_are = c.requires.wires.0;
       count_is = c.requires.count.2;
       flusher_is = c.requires.told.0;
-      since = subst (λ t. Since t now) (sym is) (since_none now);
+      since = subst (λ (t : Told). Since t (told_of g.J.Naming.before g.J.Naming.first (record { book = c.args.book; all = c.args.roll.items; numbered_from = t.numbered_from }))) (sym is) (since_none now);
       wire_count = c.requires.wires.1;
       room_is = c.requires.room.0;
       floor = c.requires.room.1;
       thawed = thaws_none c.args.told.value c.args.seals.items (ap (λ (t : Told). t.thawed) is);
+      numbered = subst (λ (t : Told). IsNumberedFrom t.numbered_from c.args.book) (sym is) (positions_below g.J.Naming.first c.args.book.base c.args.book.numbers (omega (arith, many, last)));
+      reaches = subst (λ (t : Told). t.numbered_from ≤ t.base + length t.net.entries) (sym is) (omega (arith, last));
     }

@@ -1,13 +1,11 @@
-use Rattle.std.proofs.Common.{◌≡◌, ◌∙◌, false, List, [], length, ap, sym, subst, arith, refl, Some, slice_get}
+use Rattle.std.proofs.Common.{◌≡◌, ◌∙◌, false, List, [], length, ap, sym, subst, arith, Some}
 use Rattle.std.specs.Prelude.{is_some}
 use Rattle.std.proofs.lemmas.List.{length-set}
-use Rattle.std.proofs.lemmas.Option.{slice_get_read}
 use Rattle.tp_model.specs.declared.entry.Entry.{Entry}
 use Rattle.tp_turn.specs.Moments.{Done, moment}
 use Rattle.tp_turn.specs.Settled.{Records}
 use Rattle.tp_shared.specs.Agreement.{Agreement}
-use Rattle.tp_shared.proofs.Sealing.{floor_after, node_of_seal, sealed_after, tied_still}
-use Rattle.tp_shared.proofs.Telling.{since_still}
+use Rattle.tp_shared.proofs.Sealing.{node_of_seal, sealed_after}
 use Rattle.tp_shared.proofs.Thawing.{thaws_set, thawed_at, thawed_recorded}
 use Rattle.tp_shared.proofs.Keeping.{seal_at, acted_still}
 use Rattle.tp_shared.proofs.locked.Locked.record.Goals as goal
@@ -68,7 +66,7 @@ invariant_of-self g c =
     (thaws_set c.self.inside.told.value c.self.inside.seals.items c.args.number (record { frozen = c.is_frozen-here.result; seal = c.turn.new.seal }) inv.thawed
     (λ thawed.
     c.is_frozen-here.ensures
-    ∙ ap is_some (c.record.ensures.stays (thawed_recorded g.J.Naming.before g.J.Naming.first c.self.inside.told.value c.self.inside.seals.items (record { book = b; all = c.self.inside.roll.items }) thawed inv.since c.args.number))
+    ∙ ap is_some (c.record.ensures.stays (thawed_recorded g.J.Naming.before g.J.Naming.first c.self.inside.told.value c.self.inside.seals.items (record { book = b; all = c.self.inside.roll.items; numbered_from = c.self.inside.told.value.numbered_from }) thawed inv.since c.args.number))
     ∙ ap (λ (x : Agreement). is_some x.frozen) (sym (ap (λ x. x.state) c.agree.ensures.agreed ∙ c.requires.shows.shown))
     ∙ sym S.flag
     ∙ thawed_at c.self.inside.told.value c.self.inside.seals.items c.args.number here thawed at))

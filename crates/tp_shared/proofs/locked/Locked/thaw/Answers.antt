@@ -1,6 +1,5 @@
-use Rattle.std.proofs.Common.{◌≡◌, ◌∙◌, false, length, refl, sym, ap, subst, arith, Some, None, slice_get}
+use Rattle.std.proofs.Common.{◌∙◌, false, refl, sym, ap, subst, None}
 use Rattle.std.proofs.lemmas.List.{length-set}
-use Rattle.std.proofs.lemmas.Option.{slice_get_read}
 use Rattle.tp_node.specs.NodeContents.{NodeContents}
 use Rattle.tp_shared.specs.Agreement.{Agreement}
 use Rattle.tp_shared.specs.Seals.{IsSealOf}

@@ -1,5 +1,4 @@
 use Rattle.std.proofs.Common.{◌≡◌, true, false, not, sym, ap, ◌∙◌}
-use Rattle.tp_model.specs.Network.{pushed}
 use Rattle.tp_model.specs.Snapshot.{is_closed}
 use Rattle.tp_port.proofs.Sending.{pushed_open, pushed_shut}
 use Rattle.tp_snap.specs.Running.{snapshot_of}

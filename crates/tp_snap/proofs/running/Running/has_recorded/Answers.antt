@@ -1,5 +1,4 @@
 use Rattle.std.proofs.Common.{◌<◌, false, length, refl, sym, ◌∙◌, arith}
-use Rattle.std.specs.Prelude.{vec_len}
 use Rattle.std.proofs.lemmas.Option.{slice_get_read, get_or_from_slice_get}
 use Rattle.tp_snap.proofs.Counts.{length-counts, recorded-counts}
 use Rattle.tp_snap.proofs.running.Running.has_recorded.Goals as goal

@@ -1,4 +1,4 @@
-use Rattle.std.proofs.Common.{ap, ◌∙◌, arith}
+use Rattle.std.proofs.Common.{ap, arith}
 use Rattle.tp_snap.specs.Running.{snapshot_of}
 use Rattle.tp_snap.proofs.Counts.{length-counts, counts-set}
 use Rattle.tp_snap.proofs.running.Running.record.Goals as goal

@@ -1,0 +1,15 @@
+-- The first runs are left, and those behind them are joined.
+use Rattle.std.proofs.Common.{◌≡◌, length, take, vec_len}
+use Rattle.tp_model.specs.NodeState.{NodeState}
+use Rattle.tp_model.specs.Network.{Network}
+use Rattle.tp_pieces.specs.Joining.{AreBefore, HoldsFrom}
+use Rattle.tp_pieces.proofs.Rejoined.{start_at}
+use Rattle.tp_pieces.proofs.joins.with_runs.Given as goal
+
+abbrev pub invariant-loop-part : goal.invariant-loop-part
+invariant-loop-part l =
+    (l.runs.items ≡ take (length l.runs.items) l.initial.runs.items)
+    × ((t : Network NodeState) (B : AreBefore t l.initial.runs.items l.initial.apart) → HoldsFrom t (start_at (length t.nodes) B.rs (length l.runs.items)) l.apart)
+
+abbrev pub decreases-loop-part : goal.decreases-loop-part
+decreases-loop-part l = vec_len l.runs

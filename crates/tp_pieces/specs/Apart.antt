@@ -1,0 +1,30 @@
+-- A network taken apart.
+use Rattle.std.specs.Prelude.{◌≡◌, ◌≤◌, ℕ, ◌+◌, ◌*◌, length, map}
+use Rattle.tp_model.specs.declared.limits.TheConstants.{MAX_NODES, MAX_PORTS}
+use Rattle.tp_model.specs.NodeState.{NodeState}
+use Rattle.tp_model.specs.Network.{Network, on_line}
+use Rattle.tp_model.specs.Markers.{markers}
+use Rattle.tp_model.specs.Node.{t414_ends}
+use Rattle.tp_model.specs.Sound.{Sound}
+use Rattle.tp_pieces.specs.declared.apart.Apart.{Apart}
+use Rattle.tp_pieces.specs.Inside.{AreLive}
+
+-- the network that was taken apart
+abbrev pub whole_of : Apart → Network NodeState
+whole_of a = record {
+  wires = a.wires.items;
+  nodes = map (λ node. node.live) a.nodes.items;
+  ports = map (λ port. port.port) a.ports.items;
+  lines = a.lines;
+}
+
+-- It can be split: it is sound and has no Markers; there is a line for each link and each port, and no more nodes and ports than a
+-- network may have; each node has an image and is not frozen.
+pub record CanSplit (a : Apart) : Type 0 where
+  pub sound : Sound t414_ends (whole_of a)
+  pub unmarked : (line : ℕ) → markers (on_line a.lines line) ≡ 0
+  pub wires : length a.wires.items ≡ 4 * length a.nodes.items + length a.ports.items
+  pub lines : length a.lines ≡ 4 * length a.nodes.items + length a.ports.items
+  pub few : length a.nodes.items ≤ MAX_NODES
+  pub few_ports : length a.ports.items ≤ MAX_PORTS
+  pub live : AreLive a.nodes.items

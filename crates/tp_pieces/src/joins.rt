@@ -1,0 +1,111 @@
+//! A network that is joined from its parts.
+
+ghost use Rattle.std.specs.Prelude.{◌≡◌, IfOk, length};
+ghost use Rattle.tp_model.specs.NodeState.{NodeState};
+ghost use Rattle.tp_model.specs.Network.{Network};
+ghost use Rattle.tp_law_parts.specs.Piece.{Agrees};
+ghost use Rattle.tp_pieces.specs.Apart.{whole_of};
+ghost use Rattle.tp_pieces.specs.Dealing.{AgreeAll, CanJoin};
+ghost use Rattle.tp_pieces.specs.Held.{has};
+ghost use Rattle.tp_pieces.specs.Inside.{AreLive};
+ghost use Rattle.tp_pieces.specs.Joining.{AreBefore, HoldsFrom, Precedes};
+
+use crate::apart::Apart;
+use crate::copies::copy_lines;
+use crate::host::HostPart;
+use crate::net_part::NetPart;
+use crate::nodes::NodesPart;
+use std::alloc::{AllocError, Global};
+use tp_net::Lines;
+
+/// The host's ports, lines and wires, without a node; other lines are empty.
+fn host_apart(alloc: Global, host: HostPart) -> Result<Apart, AllocError>
+    ensures { IfOk result (λ apart. (t : Network NodeState) → Agrees (has host) t host.network → HoldsFrom t (length t.nodes) apart) }
+{
+    let HostPart {
+        nodes,
+        ports,
+        lanes,
+    } = host;
+    let count = lanes.lines.count();
+    let mut lines = Lines::new(alloc, count)?;
+    copy_lines(&lanes.lines, &mut lines, 4 * nodes, count);
+    Ok(Apart {
+        wires: lanes.wires,
+        nodes: Vec::new(alloc),
+        lines,
+        ports,
+    })
+}
+
+/// The network with a run of nodes in front of those that are there.
+fn with_run(apart: Apart, run: NodesPart) -> Result<Apart, AllocError>
+    requires { (t : Network NodeState) × Precedes t run apart }
+    ensures { IfOk result (λ now. (t : Network NodeState) → Precedes t run apart → HoldsFrom t run.first now) }
+{
+    let Apart {
+        wires,
+        nodes: mut behind,
+        mut lines,
+        ports,
+    } = apart;
+    let NodesPart {
+        before,
+        mut nodes,
+        lanes,
+        ..
+    } = run;
+    copy_lines(
+        &lanes.lines,
+        &mut lines,
+        4 * before,
+        4 * (before + nodes.len()),
+    );
+    nodes.append(&mut behind)?;
+    Ok(Apart {
+        wires,
+        nodes,
+        lines,
+        ports,
+    })
+}
+
+/// The network with its runs of nodes, where the host's ports and lines are there.
+fn with_runs(apart: Apart, runs: Vec<NetPart>) -> Result<Apart, AllocError>
+    requires { (t : Network NodeState) × AreBefore t runs.items apart }
+    ensures { IfOk result (λ now. (t : Network NodeState) → AreBefore t runs.items apart → HoldsFrom t 0 now) }
+{
+    let mut apart = apart;
+    let mut runs = runs;
+    while let Some(part) = runs.pop() {
+        match part {
+            NetPart::Nodes(run) => {
+                run.known();
+                apart = with_run(apart, run)?;
+            }
+            NetPart::Host(host) => {
+                host.known();
+                unreachable!()
+            }
+        }
+    }
+    Ok(apart)
+}
+
+/// Joins parts, each of which has its own as one network has it: that network. Memory is refused only where there is none.
+pub fn joined(alloc: Global, parts: Vec<NetPart>) -> Result<Apart, AllocError>
+    requires { CanJoin parts.items }
+    ensures is { IfOk result (λ apart. (t : Network NodeState) → AgreeAll parts.items t → whole_of apart ≡ t) }
+    ensures live { IfOk result (λ apart. AreLive apart.nodes.items) }
+{
+    let mut parts = parts;
+    let apart = match parts.pop() {
+        Some(NetPart::Host(host)) => host_apart(alloc, host)?,
+        Some(NetPart::Nodes(run)) => {
+            run.known();
+            unreachable!()
+        }
+        None => unreachable!(),
+    };
+    with_runs(apart, parts)
+}

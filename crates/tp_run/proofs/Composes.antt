@@ -1,0 +1,141 @@
+-- Journals of processes, one after the other.
+use Rattle.std.proofs.Common.{◌≡◌, ℕ, ◌+◌, ◌-◌, ◌<◌, ◌≤◌, List, [], ◌∷◌, ◌++◌, length, take, drop, Some, Ok, refl, sym, ap, ◌∙◌, zero, suc, arith, length-append, length-drop}
+use Rattle.std.specs.Prelude.{slice_get}
+use Rattle.std.proofs.lemmas.List.{length-take-le, take-append-drop, take-append-le, take-take}
+use Rattle.std.proofs.Math.Seq.{take-append-add}
+use Rattle.tp_model.specs.declared.entry.Entry.{Entry}
+use Rattle.tp_model.specs.NodeState.{NodeState}
+use Rattle.tp_model.specs.Node.{t414}
+use Rattle.tp_model.specs.Network.{Network}
+use Rattle.tp_model.specs.Order.{after}
+use Rattle.tp_model.specs.Areas.{Held, next_number}
+use Rattle.tp_model.specs.Opening.{Opened, next_of, verdict}
+use Rattle.tp_model.specs.DeviceAreas.{device_areas}
+use Rattle.tp_model.specs.Runs.{World, IsFormatted}
+use Rattle.tp_law_network.proofs.Reorder.{after_front}
+use Rattle.tp_flush.proofs.Follows.{held_is, now_is, number_is}
+use Rattle.tp_run.specs.Composed.{AreLinked, Composed, Has, Link}
+
+-- ## One list, and then another from the same place on
+
+abbrev joined : {A : Type 0} → ℕ → List A → List A → List A
+joined n xs ys = take n xs ++ drop n ys
+
+module _ {A : Type 0} where
+  get_low : (k n : ℕ) (xs ys : List A) → k < n → n ≤ length xs → n ≤ length ys → slice_get (joined n xs ys) k ≡ slice_get xs k
+  get_low k zero xs ys below there then = absurd (omega (arith, below))
+  get_low k (suc n) [] ys below there then = absurd (omega (arith, there))
+  get_low k (suc n) (x ∷ xs) [] below there then = absurd (omega (arith, then))
+  get_low zero (suc n) (x ∷ xs) (y ∷ ys) below there then = refl
+  get_low (suc k) (suc n) (x ∷ xs) (y ∷ ys) below there then = get_low k n xs ys (omega (arith, below)) (omega (arith, there)) (omega (arith, then))
+
+  get_high : (k n : ℕ) (xs ys : List A) → n ≤ k → n ≤ length xs → n ≤ length ys → slice_get (joined n xs ys) k ≡ slice_get ys k
+  get_high k zero xs ys up there then = refl
+  get_high k (suc n) [] ys up there then = absurd (omega (arith, there))
+  get_high k (suc n) (x ∷ xs) [] up there then = absurd (omega (arith, then))
+  get_high zero (suc n) (x ∷ xs) (y ∷ ys) up there then = absurd (omega (arith, up))
+  get_high (suc k) (suc n) (x ∷ xs) (y ∷ ys) up there then = get_high k n xs ys (omega (arith, up)) (omega (arith, there)) (omega (arith, then))
+
+  take_low : (m n : ℕ) (xs ys : List A) → m ≤ n → n ≤ length xs → take m (joined n xs ys) ≡ take m xs
+  take_low m n xs ys low there =
+      let long = length-take-le n xs there in
+      take-append-le m (take n xs) (drop n ys) (omega (arith, long, low)) ∙ take-take m n xs low
+
+  take_high : (m n : ℕ) (xs ys : List A) → n ≤ m → n ≤ length xs → take m (joined n xs ys) ≡ take n xs ++ take (m - n) (drop n ys)
+  take_high m n xs ys up there =
+      let long = length-take-le n xs there in
+      let at : m ≡ length (take n xs) + (m - n) = omega (arith, long, up) in
+      ap (λ k. take k (joined n xs ys)) at ∙ take-append-add (take n xs) (drop n ys) (m - n)
+
+  length_joined : (n : ℕ) (xs ys : List A) → n ≤ length xs → n ≤ length ys → length (joined n xs ys) ≡ length ys
+  length_joined n xs ys there then =
+      let long = length-take-le n xs there in
+      let rest = length-drop n ys in
+      let all = length-append (take n xs) (drop n ys) in
+      omega (arith, long, rest, all, then)
+
+-- it leads where the second one does, where both lead to one network there
+after_joined : (start now : Network NodeState) (n m : ℕ) (xs ys : List Entry) → n ≤ m → n ≤ length xs → n ≤ length ys → after t414 start (take n xs) ≡ Some now → after t414 start (take n ys) ≡ Some now
+    → after t414 start (take m (joined n xs ys)) ≡ after t414 start (take m ys)
+after_joined start now n m xs ys up there then one other =
+    ap (after t414 start) (take_high m n xs ys up there)
+    ∙ after_front t414 start now (take n xs) (take (m - n) (drop n ys)) one
+    ∙ sym (after_front t414 start now (take n ys) (take (m - n) (drop n ys)) other)
+    ∙ ap (after t414 start) (sym (take_high m n ys ys up then) ∙ ap (take m) (take-append-drop n ys))
+
+-- ## Over a list of processes
+
+-- what stands in one journal stands in another that has the same from a number on, where each process opened no less
+has_on : (start : Network NodeState) (one other : List Entry) (n : ℕ) → ((k : ℕ) → n ≤ k → slice_get one k ≡ slice_get other k) → (was : List ℕ) (links : List Link) (linked : AreLinked start was links)
+    → ((o : Opened) → verdict was ≡ Ok o → n ≤ next_of o) → Has start other was links linked → Has start one was links linked
+has_on start one other n same was [] linked up has = tt
+has_on start one other n same was (link ∷ links) linked up has =
+    let F = linked.0 in
+    let low = up F.opened F.reads in (
+      (λ number from below. same number (omega (arith, low, from)) ∙ has.0 number from below),
+      has_on start one other n same link.left links linked.1
+          (λ o is. let at = (now_is start link.journal link.acknowledged link.left o is F.recovers).0 in let keeps = F.keeps in omega (arith, at, keeps, low)) has.1,
+    )
+
+pub compose : (start : Network NodeState) (was : List ℕ) (link : Link) (links : List Link) (linked : AreLinked start was (link ∷ links)) → Composed start was (link ∷ links) linked
+compose start was link [] linked =
+    let F = linked.0 in
+    let r = F.recovers in record {
+      journal = link.journal;
+      follows = record {
+        opened = F.opened;
+        reads = F.reads;
+        had = F.had;
+        recovers = record { held = r.held; reads = r.reads; now = r.now; replayed = r.replayed; exact = r.exact; no_less = omega arith; no_more = r.no_more };
+        keeps = F.keeps;
+        world = F.world;
+        begins = F.begins;
+      };
+      has = ((λ number from below. refl), tt);
+    }
+compose start was link (next ∷ links) linked =
+    let F = linked.0 in
+    let C = compose start link.left next links linked.1 in
+    let G = C.follows in
+    let n = next_of G.opened in
+    let at = now_is start link.journal link.acknowledged link.left G.opened G.reads F.recovers in
+    let number = at.0 in
+    let most = F.recovers.no_more in
+    let kept = G.keeps in
+    let last = G.recovers.no_more in
+    let least = F.recovers.no_less in
+    let there : n ≤ length link.journal = omega (arith, number, most) in
+    let then : n ≤ length C.journal = omega (arith, kept, last) in
+    let from = F.keeps in
+    let low : next_of F.opened ≤ n = omega (arith, number, from) in
+    let journal = joined n link.journal C.journal in
+    let r = G.recovers in record {
+      journal = journal;
+      follows = record {
+        opened = F.opened;
+        reads = F.reads;
+        had = ap (after t414 start) (take_low (next_of F.opened) n link.journal C.journal low there) ∙ F.had;
+        recovers = record {
+          held = r.held;
+          reads = r.reads;
+          now = r.now;
+          replayed = r.replayed;
+          exact = after_joined start G.opened.now n (next_number r.held) link.journal C.journal kept there then at.1 G.had ∙ r.exact;
+          no_less = omega arith;
+          no_more = let long = length_joined n link.journal C.journal there then in omega (arith, last, long);
+        };
+        keeps = omega (arith, low, kept);
+        world = G.world;
+        begins = G.begins;
+      };
+      has = (
+        (λ k up below. get_low k n link.journal C.journal (omega (arith, below, least, number)) there then),
+        has_on start journal C.journal n (λ k up. get_high k n link.journal C.journal up there then) link.left (next ∷ links) linked.1
+            (λ o is. let same = (now_is start link.journal link.acknowledged link.left o is F.recovers).0 in omega (arith, same, number)) C.has,
+      );
+    }
+
+-- ## From a device that was formatted
+
+pub formatted_first : (start : Network NodeState) (w : World NodeState) → IsFormatted t414 device_areas start w → (o : Opened) → verdict w.disk.bytes ≡ Ok o → next_of o ≡ 0
+formatted_first start w F o is = sym (number_is o) ∙ ap (λ (h : Held NodeState). next_number h) (sym (held_is w.disk.bytes o (record { network = start; entries = []; base = 0 }) is F.reads))
