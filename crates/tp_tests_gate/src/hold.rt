@@ -4,8 +4,8 @@ use std::sync::atomic::{AtomicBool, Ordering};
 use std::thread::yield_now;
 use tp_shared::Gate;
 
-/// How often a thread looks for another, at most.
-pub const LOOKS: u32 = 1_000_000;
+/// How often a thread looks for another, at most: so often that what ends a test that hangs comes first.
+pub const LOOKS: u32 = 1_000_000_000;
 
 /// Looks until the flag is set, and yields between two looks. Answers whether it was.
 pub fn comes(flag: &AtomicBool) -> bool {

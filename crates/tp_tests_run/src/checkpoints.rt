@@ -1,7 +1,7 @@
 //! Runs with checkpoints.
 
 use crate::devices::{LETTER, ONE, PASSES, RING, formatted, letter};
-use crate::players::{FOUR, left, play, play_and_look, play_twice};
+use crate::players::{FOUR, Look, left, play, play_and_look, play_twice};
 use std::alloc::Global;
 use std::process::Abort;
 use std::sync::Wait;
@@ -126,13 +126,41 @@ fn half_of_the_journal_begins_a_snapshot(rt: HostRuntime) -> Result<(), Fail> {
     Ok(())
 }
 
-/// Whether both runs of a team switch the areas, and the second one goes on from where the first ended.
+/// How often a ring is run, at most, until its areas are switched: on a busy machine the flusher's thread may be given no time while all
+/// turns are made.
+const RUNS: u32 = 500;
+
+/// Runs of a job one behind the other until the areas were switched more often than `times`. Answers the device, what the last run left,
+/// and whether they were switched, each run ended well and each led further than `next` and the ones before.
+fn switched<R: Threads + Wait + Abort + Sync>(
+    rt: &R,
+    alloc: Global,
+    disk: MemDisk,
+    job: Job,
+    times: u64,
+    next: u64,
+) -> Result<(MemDisk, Look, bool), Fail> {
+    let mut out = Vec::new(alloc);
+    let (mut disk, mut look) = play_and_look(rt, alloc, disk, job, b"", &mut out)?;
+    let mut is_good = look.is_done() && look.next > next;
+    for _ in 1..RUNS {
+        if !is_good || look.is_switched(times) {
+            break;
+        }
+        let before = look.next;
+        (disk, look) = play_and_look(rt, alloc, disk, job, b"", &mut out)?;
+        is_good = look.is_done() && look.next > before;
+    }
+    Ok((disk, look, is_good && look.is_switched(times)))
+}
+
+/// Whether a team's runs switch the areas, and further ones go on from where these ended, and switch them again.
 fn goes_on<R: Threads + Wait + Abort + Sync>(
     rt: &R,
     alloc: Global,
     workers: u8,
     turns: u32,
-) -> Result<[bool; 3], Fail> {
+) -> Result<[bool; 2], Fail> {
     let job = Job {
         turns,
         workers,
@@ -140,12 +168,9 @@ fn goes_on<R: Threads + Wait + Abort + Sync>(
         ..FOUR
     };
     let disk = formatted(alloc, RING, PASSES, 6, 1_048_576)?;
-    let [first, second] = play_twice(rt, alloc, disk, [job, job])?;
-    Ok([
-        first.is_done() && first.is_switched(1),
-        second.is_done() && second.next > first.next,
-        second.is_switched(first.generation),
-    ])
+    let (disk, first, is_switched) = switched(rt, alloc, disk, job, 1, 0)?;
+    let (_, _, goes_on) = switched(rt, alloc, disk, job, first.generation, first.next)?;
+    Ok([is_switched, goes_on])
 }
 
 /// Eight nodes in a ring, whose areas are switched while they run.
@@ -153,7 +178,7 @@ fn goes_on<R: Threads + Wait + Abort + Sync>(
 fn a_ring_goes_on_over_its_checkpoints(rt: HostRuntime) -> Result<(), Fail> {
     for (workers, turns) in TEAMS {
         let told = goes_on(&rt, rt.alloc(), *workers, *turns)?;
-        assert_eq!(rt; told, [true; 3]);
+        assert_eq!(rt; told, [true; 2]);
     }
     Ok(())
 }
