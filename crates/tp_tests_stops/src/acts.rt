@@ -211,7 +211,7 @@ fn play<J: Naming, R: Wait>(
     acts: &[Act],
     is_plain: bool,
 ) -> Result<Option<Vec<u8>>, Fail>
-    requires names { Names J.roll J.first J.start J.node J.mark J.flusher J.room opening.parts }
+    requires names { Names J.roll J.first J.start J.node J.mark J.flusher J.sights J.room opening.parts }
     requires spelt { IsSpelt opening.opened.value }
     requires quantum { (0 < quantum) × (quantum ≤ MAX_STEPS) }
 {
