@@ -96,7 +96,7 @@ fn begin<J: Naming, D: Disk, R: Wait>(
 ) -> Option<CompactFault>
     ensures { IfSome result IsBegun }
 {
-    match flusher.snapshot(rt, alloc, shared) {
+    match flusher.snapshot(rt, alloc, shared).answer() {
         Ok(()) => None,
         Err(refusal) => fault_of(refusal),
     }

@@ -80,9 +80,9 @@ fn begins<J: Naming, R: Wait>(
     shared: &Shared<J>,
     flusher: &Flusher<J, MemDisk>,
 ) -> bool {
-    flusher.snapshot(rt, alloc, shared).is_ok()
+    flusher.snapshot(rt, alloc, shared).answer().is_ok()
         && matches!(
-            flusher.snapshot(rt, alloc, shared),
+            flusher.snapshot(rt, alloc, shared).answer(),
             Err(Refusal::SnapshotRunning)
         )
 }

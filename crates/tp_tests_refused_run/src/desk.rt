@@ -113,7 +113,7 @@ impl<J: Naming> Desk<J> {
 
     /// A snapshot begins.
     pub(crate) fn begin<R: Wait>(&self, rt: &R, alloc: Global) -> Result<(), Refusal> {
-        self.flusher.snapshot(rt, alloc, self.net.shared())
+        self.flusher.snapshot(rt, alloc, self.net.shared()).answer()
     }
 
     /// Offers bytes to the port: the receipt's number.

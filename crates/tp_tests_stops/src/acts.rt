@@ -137,7 +137,7 @@ fn does<J: Naming, R: Wait>(
     match act {
         Act::Turn(number, takes, ran) => is_turned(rt, net, seat, number, takes, ran),
         Act::Offer(at, bytes) => session.offer(rt, at, bytes).is_ok(),
-        Act::Begin => flusher.snapshot(rt, alloc, shared).is_ok(),
+        Act::Begin => flusher.snapshot(rt, alloc, shared).answer().is_ok(),
         Act::Book(next, is_whole) => is_book(rt, shared, next, is_whole),
         Act::Flush(switched) => is_flushed(rt, alloc, shared, flusher, switched),
         Act::Groups(count) => are_groups(rt, alloc, net, seat, flusher, count),
