@@ -1,5 +1,6 @@
 pub mod Progress
 pub mod Copying
+pub mod CopiedIn
 pub mod Known
 pub mod Flushing
 pub mod Ends

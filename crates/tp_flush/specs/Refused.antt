@@ -1,5 +1,5 @@
 -- Why a snapshot doesn't begin.
-use Rattle.std.specs.Prelude.{◌≡◌, length, Result, IfOk, OnErr}
+use Rattle.std.specs.Prelude.{◌≡◌, List, [], ◌∷◌, length, Result, IfOk, OnErr}
 use Rattle.tp_model.specs.NodeState.{NodeState}
 use Rattle.tp_model.specs.Network.{Network}
 use Rattle.tp_book.specs.Book.{BookValue}
@@ -17,13 +17,18 @@ IsBeginRefusal NothingToTake = ⊥
 IsBeginRefusal SnapshotRunning = Unit {0}
 IsBeginRefusal PortFull = ⊥
 
--- In some book with as many nodes and ports a snapshot was to begin, with this answer: it is refused exactly for the first reason that
--- holds in that book, before all others that one runs, and the book is then as it was; else it began, or memory was refused.
-pub record BegunIn (start : Network NodeState) (answer : Result Unit Refusal) : Type 0 where
-  pub found : BookValue
-  pub left : BookValue
+-- A snapshot was to begin, with this answer, in a book that was found and left so: it is refused exactly for the first reason that holds
+-- in the book that was found, before all others that one runs, and the book is then left as it was; else it began, or memory was refused.
+pub record IsBegun (start : Network NodeState) (found left : BookValue) (answer : Result Unit Refusal) : Type 0 where
   pub nodes : length found.state.start.nodes ≡ length start.nodes
   pub ports : length found.state.ports ≡ length start.ports
   pub exact : IsAnswer (begin_refusal found) answer
   pub ok : IfOk answer (λ done. left ≡ after_begin found)
   pub err : OnErr answer (left ≡ found)
+
+-- The book was seen as it was found and as it was left.
+abbrev pub BegunIn : Network NodeState → List BookValue → Result Unit Refusal → Type 0
+BegunIn start [] answer = ⊥
+BegunIn start (found ∷ []) answer = ⊥
+BegunIn start (found ∷ left ∷ []) answer = IsBegun start found left answer
+BegunIn start (found ∷ left ∷ other ∷ more) answer = ⊥

@@ -29,6 +29,7 @@ pub use flusher::Flusher;
 pub use laws::{first_process_begins, next_process_begins};
 pub use progress::Progress;
 pub use settle::stored_slips_are_recovered;
+pub use snapshot::Begun;
 pub use topology::topology_of;
 pub use turn::FLUSHER;
 pub use whole::Whole;

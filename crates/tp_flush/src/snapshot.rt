@@ -1,6 +1,6 @@
 //! The flusher begins a snapshot.
 
-ghost use Rattle.std.specs.Prelude.{IfErr};
+ghost use Rattle.std.specs.Prelude.{◌≡◌, IfErr};
 ghost use Rattle.tp_flush.specs.Refused.{BegunIn, IsBeginRefusal};
 
 use crate::flusher::Flusher;
@@ -8,28 +8,44 @@ use std::alloc::Global;
 use std::sync::Wait;
 use tp_book::Refusal;
 use tp_disk::Disk;
-use tp_shared::{Locked, Naming, Shared};
+use tp_shared::{Locked, Naming, Shared, Sights};
+
+/// What the book answered as a snapshot was to begin, and the book as it was found and as it was left.
+#[derive(Drop)]
+pub struct Begun<J: Naming> {
+    pub answer: Result<(), Refusal>,
+    pub seen: Sights<J>,
+}
+
+impl<J: Naming> Begun<J> {
+    /// What the book answered.
+    pub fn answer(&self) -> Result<(), Refusal>
+        ensures { result ≡ self.now.answer }
+    {
+        self.answer
+    }
+}
 
 /// Begins a snapshot, once the book's lock is had.
-fn begin<J: Naming>(held: &mut Locked<J>, alloc: Global) -> Result<(), Refusal>
-    ensures refused { IfErr result IsBeginRefusal }
-    ensures begun { BegunIn J.start result }
+fn begin<J: Naming>(held: &mut Locked<J>, alloc: Global) -> Begun<J>
+    ensures refused { IfErr result.answer IsBeginRefusal }
+    ensures begun { BegunIn J.start result.seen result.answer }
 {
     held.known();
-    held.begin_snapshot(alloc)
+    let mut seen = Sights::new();
+    held.show(&mut seen);
+    let answer = held.begin_snapshot(alloc);
+    held.show(&mut seen);
+    Begun { answer, seen }
 }
 
 impl<J: Naming, D: Disk> Flusher<J, D> {
     /// Begins a snapshot under the book's lock: the host records, and each node is then asked to. Refused where one runs, where the
-    /// store is broken, where no generation is left, and for want of memory, in this order.
-    pub fn snapshot<R: Wait>(
-        &self,
-        rt: &R,
-        alloc: Global,
-        shared: &Shared<J>,
-    ) -> Result<(), Refusal>
-        ensures refused { IfErr result IsBeginRefusal }
-        ensures begun { BegunIn J.start result }
+    /// store is broken, where no generation is left, and for want of memory, in this order. The book was seen as it was found and as it
+    /// was left.
+    pub fn snapshot<R: Wait>(&self, rt: &R, alloc: Global, shared: &Shared<J>) -> Begun<J>
+        ensures refused { IfErr result.answer IsBeginRefusal }
+        ensures begun { BegunIn J.start result.seen result.answer }
     {
         let mut held = shared.book().lock(rt);
         begin(&mut held, alloc)

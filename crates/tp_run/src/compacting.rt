@@ -96,7 +96,7 @@ fn begin<J: Naming, D: Disk, R: Wait>(
 ) -> Option<CompactFault>
     ensures { IfSome result IsBegun }
 {
-    match flusher.snapshot(rt, alloc, shared) {
+    match flusher.snapshot(rt, alloc, shared).answer() {
         Ok(()) => None,
         Err(refusal) => fault_of(refusal),
     }
@@ -167,7 +167,7 @@ fn compact_parts<J: Naming, D: Disk, R: Wait>(
     raiser: Raiser,
     store: Store<D>,
 ) -> (D, Result<Compaction, CompactFault>)
-    requires names { Names J.roll J.first J.start J.node J.mark J.flusher J.room parts }
+    requires names { Names J.roll J.first J.start J.node J.mark J.flusher J.sights J.room parts }
     requires stands { StandsFor opened.value parts raiser }
     requires bound { parts.book.room ≡ Some (room opened.value.head.topology opened.value.head.areas.length) }
     requires cut { IsCut t414_ends opened.value.head.topology opened.value.base opened.value.cut }

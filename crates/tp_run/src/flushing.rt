@@ -14,7 +14,7 @@ use tp_flush::{FlushFault, Flushed, Flusher};
 use tp_shared::{Naming, Shared};
 
 /// Tells that the entries since the kept cut are others, where a turn of the flusher switched the areas.
-fn tell_of(watch: &Watch, done: &Result<Flushed, FlushFault>) {
+fn tell_of<J: Naming>(watch: &Watch, done: &Result<Flushed<J>, FlushFault>) {
     if let Ok(Flushed { switched: true, .. }) = done {
         watch.count_anew();
     }

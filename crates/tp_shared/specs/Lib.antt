@@ -10,6 +10,7 @@ pub mod Receipted
 pub mod Cells
 pub mod NodeTurned
 pub mod TurnsMade
+pub mod RecordedIn
 pub mod Parted
 pub mod Named
 pub mod Pieces

@@ -5,9 +5,10 @@ use Rattle.tp_model.specs.NodeState.{NodeState}
 use Rattle.tp_model.specs.Network.{Network}
 use Rattle.tp_shared.specs.Parted.{name_of, PartsValue}
 
--- What is picked is that of the parts: the names of the roll, the nodes, the mark and what the flusher is told, the number of the
--- first entry, a network with the same wires and as many nodes and ports, and the bytes that groups may fill on the device.
-pub record Names (roll first : ℕ) (start : Network NodeState) (node : ℕ → ℕ) (mark : MarkName) (flusher : ℕ) (room : Option ℕ) (parts : PartsValue) : Type 0 where
+-- What is picked is that of the parts: the names of the roll, the nodes, the mark, what the flusher is told and the roll of what is
+-- seen of the book, the number of the first entry, a network with the same wires and as many nodes and ports, and the bytes that
+-- groups may fill on the device.
+pub record Names (roll first : ℕ) (start : Network NodeState) (node : ℕ → ℕ) (mark : MarkName) (flusher sights : ℕ) (room : Option ℕ) (parts : PartsValue) : Type 0 where
   pub roll_is : parts.roll ≡ roll
   pub first_is : parts.first ≡ first
   pub wires_are : parts.book.state.start.wires ≡ start.wires
@@ -16,4 +17,5 @@ pub record Names (roll first : ℕ) (start : Network NodeState) (node : ℕ → 
   pub nodes_are : (i : ℕ) → node i ≡ name_of parts.seals i
   pub mark_is : parts.mark ≡ mark
   pub flusher_is : parts.flusher ≡ flusher
+  pub sights_is : parts.sights ≡ sights
   pub room_is : parts.book.room ≡ room

@@ -33,8 +33,8 @@ pub record AreParts (b : BookValue) (seals : List NodeSeal) (dealt : Dealt) (rol
   pub none : all ≡ []
   pub twins : told_seal ≡ told_key
 
--- What contracts see of parts: the book, the seals, the name of the roll, the number of its first entry and its entries, the mark, and
--- the name of what the flusher is told.
+-- What contracts see of parts: the book, the seals, the name of the roll, the number of its first entry and its entries, the mark, the
+-- name of what the flusher is told, and that of the roll of what is seen of the book.
 pub record PartsValue : Type 0 where
   pub book : BookValue
   pub seals : List NodeSeal
@@ -43,3 +43,4 @@ pub record PartsValue : Type 0 where
   pub all : List Entry
   pub mark : MarkName
   pub flusher : ℕ
+  pub sights : ℕ

@@ -11,6 +11,7 @@ ghost use Rattle.tp_shared.specs.Entries.{IsTurnRefusal, Takes, TakesOf};
 ghost use Rattle.tp_shared.specs.Gains.{Gained};
 ghost use Rattle.tp_shared.specs.Seals.{Shows};
 ghost use Rattle.tp_shared.specs.NodeTurned.{NodeTurned};
+ghost use Rattle.tp_shared.specs.RecordedIn.{RecordedIn};
 ghost use Rattle.tp_shared.specs.TurnsMade.{TurnBrokenOff, RunCommitted, TurnOpened, TurnMade};
 
 use crate::gate::{COMMITTED, Gate, NODE_LOCKED, RUN_DONE};
@@ -18,6 +19,7 @@ use crate::locked::Locked;
 use crate::naming::Naming;
 use crate::node_turn::NodeTurn;
 use crate::place::Place;
+use crate::recorded::Recorded;
 use crate::seat::Seat;
 use crate::soon::lock_soon;
 use std::marker::{Model, PhantomData};
@@ -122,15 +124,21 @@ fn turn_of<J: Naming, G: Gate, R: Wait>(
 }
 
 // A node whose lock is held records where it is asked to.
-fn record_of<J: Naming, R: Wait>(rt: &R, book: &Mutex<Locked<J>>, place: &mut Place, number: u8)
+fn record_of<J: Naming, R: Wait>(
+    rt: &R,
+    book: &Mutex<Locked<J>>,
+    place: &mut Place,
+    number: u8,
+) -> Recorded<J>
     requires there { number < length J.start.nodes }
     requires named { place.old.key.name ≡ J.node number }
     requires shows { Shows place.old false }
     ensures named { place.new.key.name ≡ place.old.key.name }
     ensures shows { Shows place.new false }
+    ensures recorded { RecordedIn J.start number result.seen result.done }
 {
     let mut held = lock_soon(rt, book);
-    held.record(place, number);
+    held.record_seen(place, number)
 }
 
 impl<const I: usize, J: Naming> Cell<I, J> {
@@ -166,12 +174,18 @@ impl<const I: usize, J: Naming> Cell<I, J> {
     }
 
     /// The node `number`, which is one of the cell's, records where it is asked to.
-    pub(crate) fn record<R: Wait>(&mut self, rt: &R, book: &Mutex<Locked<J>>, number: u8)
+    pub(crate) fn record<R: Wait>(
+        &mut self,
+        rt: &R,
+        book: &Mutex<Locked<J>>,
+        number: u8,
+    ) -> Recorded<J>
         requires there { number < length J.start.nodes }
         requires here { number % 4 ≡ I }
+        ensures recorded { RecordedIn J.start number result.seen result.done }
     {
         let Cell { places, .. } = self;
         let place = &mut places[number as usize / 4];
-        record_of(rt, book, place, number);
+        record_of(rt, book, place, number)
     }
 }

@@ -22,6 +22,7 @@ use crate::place::Place;
 use crate::seal::NodeSeal;
 use crate::seat::Seat;
 use crate::shown::Shown;
+use crate::sights::SightRoll;
 use crate::told::Told;
 use crate::write::write_new;
 use std::marker::{Model, PhantomData};
@@ -31,14 +32,15 @@ use tp_node::Ran;
 use tp_token::{Roll, Seal, agree, turn};
 use tp_turn::Stretch;
 
-/// The book, the seal of each node, the roll of all entries since the opening, and the seal of what the flusher was told. Contracts
-/// see the book, the roll, and from which position on entries have their positions as numbers.
+/// The book, the seal of each node, the roll of all entries since the opening, the seal of what the flusher was told, and the roll of what
+/// was seen of the book. Contracts see the book, the roll of entries, and from which position on entries have their positions as numbers.
 #[derive(Drop)]
 pub struct Locked<J: Naming> {
     pub(crate) book: Book,
     pub(crate) seals: Vec<NodeSeal>,
     pub(crate) roll: Roll<Entry>,
     pub(crate) told: Seal<Told>,
+    pub(crate) sights: SightRoll<J>,
     of: PhantomData<J>,
 }
 
@@ -54,12 +56,13 @@ impl<J: Naming> Model for Locked<J> {
 }
 
 impl<J: Naming> Locked<J> {
-    /// A book, with a seal for each node, a roll without an entry yet, and the seal of what the flusher was told.
+    /// A book, with a seal for each node, a roll without an entry yet, the seal of what the flusher was told, and the roll of what is seen.
     pub(crate) fn new(
         book: Book,
         seals: Vec<NodeSeal>,
         roll: Roll<Entry>,
         told: Seal<Told>,
+        sights: SightRoll<J>,
     ) -> Locked<J>
         requires idle { book.ready ≡ None }
         requires count { (length seals.items ≡ length J.start.nodes) × (length book.runs ≡ length J.start.nodes) × (length book.state.start.nodes ≡ length J.start.nodes) }
@@ -77,6 +80,7 @@ impl<J: Naming> Locked<J> {
             seals,
             roll,
             told,
+            sights,
             of: PhantomData,
         }
     }

@@ -29,6 +29,9 @@ pub trait Naming {
     /// The name of the twin of what the flusher is told of the book.
     ghost flusher: { ℕ };
 
+    /// The name of the roll of what is seen of the book under its lock.
+    ghost sights: { ℕ };
+
     /// The bytes that groups may fill in an area of the device; none without a device.
     ghost room: { Option ℕ };
 
@@ -51,6 +54,8 @@ impl Naming for Brand {
     ghost mark = { record { words = 1; slots = 0; views_name = 0; atom = 0; block = 0; offset = 0; slot_names = [] } };
 
     ghost flusher = { 0 };
+
+    ghost sights = { 0 };
 
     ghost room = { None };
 

@@ -15,14 +15,15 @@ use crate::shown::Shown;
 use crate::told::Told;
 use std::alloc::{AllocError, Global};
 use std::marker::Model;
+use std::snapshot::Snapshot;
 use tp_book::{Book, NetState};
 use tp_mark::Mark;
 use tp_model::Entry;
 use tp_node::Node;
 use tp_token::{Key, Roll, Seal, pair, start, turn};
 
-/// A book, its nodes, their seals and keys, the roll of its entries, the mark, and both halves of what the flusher is told, before
-/// they are put under locks.
+/// A book, its nodes, their seals and keys, the roll of its entries, the mark, both halves of what the flusher is told, and the roll of
+/// what is seen of the book, before they are put under locks.
 #[derive(Drop)]
 pub struct Parts {
     pub(crate) book: Book,
@@ -32,6 +33,7 @@ pub struct Parts {
     pub(crate) mark: Mark,
     pub(crate) told: Seal<Told>,
     pub(crate) key: Key<Told>,
+    pub(crate) sights: Roll<Snapshot<Book>>,
 }
 
 impl Model for Parts {
@@ -39,7 +41,7 @@ impl Model for Parts {
 
     ghost Value = { PartsValue };
 
-    ghost view = { λ p. record { book = p.book; seals = p.seals.items; roll = p.roll.name; first = p.roll.first; all = p.roll.items; mark = p.mark; flusher = p.told.name } };
+    ghost view = { λ p. record { book = p.book; seals = p.seals.items; roll = p.roll.name; first = p.roll.first; all = p.roll.items; mark = p.mark; flusher = p.told.name; sights = p.sights.name } };
 
     ghost invariant = { λ p. AreParts p.book p.seals.items p.dealt p.roll.first p.roll.items p.told.name p.key.name };
 }
@@ -111,6 +113,7 @@ impl Parts {
         let (seals, dealt) = deal(alloc, &book, nodes)?;
         let roll = start::<Entry>(book.next());
         let (told, key) = pair::<Told>();
+        let sights = start::<Snapshot<Book>>(0);
         Ok(Parts {
             book,
             seals,
@@ -119,6 +122,7 @@ impl Parts {
             mark,
             told,
             key,
+            sights,
         })
     }
 }

@@ -1,25 +1,33 @@
 //! A node records under the book's lock, while nothing runs.
 
 ghost use Rattle.std.specs.Prelude.{◌≡◌, ◌<◌, false, length};
+ghost use Rattle.tp_shared.specs.RecordedIn.{RecordedIn};
 ghost use Rattle.tp_shared.specs.Seals.{Shows};
-ghost use Rattle.tp_turn.specs.Moments.{Done, moment};
+ghost use Rattle.tp_shared.specs.TurnsMade.{IsBookOf};
+ghost use Rattle.tp_snap.specs.Needs.{is_asked};
+ghost use Rattle.tp_turn.specs.Moments.{Done, IsNodeOf, moment};
 ghost use Rattle.tp_turn.specs.Settled.{Records};
 
 use crate::hold::record;
 use crate::locked::Locked;
 use crate::naming::Naming;
 use crate::place::Place;
+use crate::recorded::Recorded;
 use crate::shown::Shown;
+use crate::sights::Sights;
 use tp_token::{agree, turn};
 
 impl<J: Naming> Locked<J> {
-    /// The node records where it is asked to. It takes nothing, and nothing runs.
-    pub(crate) fn record(&mut self, place: &mut Place, number: u8)
+    /// The node records where it is asked to. It takes nothing, and nothing runs. Answers whether it recorded.
+    pub(crate) fn record(&mut self, place: &mut Place, number: u8) -> bool
         requires there { number < length J.start.nodes }
         requires named { place.old.key.name ≡ J.node number }
         requires shows { Shows place.old false }
         ensures named { place.new.key.name ≡ place.old.key.name }
         ensures shows { Shows place.new false }
+        ensures of { IsBookOf J.start self.old.book }
+        ensures is { IsNodeOf self.old.book number place.old.node }
+        ensures asked { result ≡ is_asked self.old.book.state.snapshot number }
         ensures did { Done number (Records number) (moment self.old.book place.old.node) (moment self.new.book place.new.node) }
         ensures all { self.new.all ≡ self.old.all }
     {
@@ -27,9 +35,27 @@ impl<J: Naming> Locked<J> {
         let Place { node, key } = place;
         let here = &mut seals[number as usize];
         agree(&mut here.seal, key);
+        let asked = book.asked(number);
         record(book, node, number);
         let now = Shown::free(node);
         turn(&mut here.seal, key, &now);
         here.frozen = node.is_frozen();
+        asked
+    }
+
+    /// The same. The book was seen as it was found and as it was left.
+    pub(crate) fn record_seen(&mut self, place: &mut Place, number: u8) -> Recorded<J>
+        requires there { number < length J.start.nodes }
+        requires named { place.old.key.name ≡ J.node number }
+        requires shows { Shows place.old false }
+        ensures named { place.new.key.name ≡ place.old.key.name }
+        ensures shows { Shows place.new false }
+        ensures recorded { RecordedIn J.start number result.seen result.done }
+    {
+        let mut seen = Sights::new();
+        self.show(&mut seen);
+        let done = self.record(place, number);
+        self.show(&mut seen);
+        Recorded { done, seen }
     }
 }

@@ -5,6 +5,7 @@ ghost use Rattle.tp_model.specs.declared.limits.TheConstants.{MAX_STEPS};
 ghost use Rattle.tp_shared.specs.Entries.{IsTurnRefusal, Takes, TakesOf, CountedTakes};
 ghost use Rattle.tp_shared.specs.Gains.{Gained};
 ghost use Rattle.tp_shared.specs.Named.{Names};
+ghost use Rattle.tp_shared.specs.RecordedIn.{RecordedIn};
 ghost use Rattle.tp_shared.specs.Told.{told_of};
 ghost use Rattle.tp_shared.specs.NodeTurned.{NodeTurned};
 ghost use Rattle.tp_shared.specs.TurnsMade.{TurnBrokenOff, HostTurnMade, TurnMade};
@@ -15,7 +16,9 @@ use crate::locked::Locked;
 use crate::naming::Naming;
 use crate::node_turn::NodeTurn;
 use crate::parts::Parts;
+use crate::recorded::Recorded;
 use crate::seat::Seat;
+use crate::sights::SightRoll;
 use crate::soon::lock_soon;
 use crate::told::Told;
 use std::sync::{Mutex, Wait};
@@ -57,7 +60,7 @@ impl<J: Naming> Shared<J> {
     /// Puts `parts` under locks. The names are those of `parts`: whoever calls picks them. The key is the flusher's, and shows what is
     /// told of the book as it is.
     pub fn start(parts: Parts) -> (Shared<J>, Key<Told>)
-        requires { Names J.roll J.first J.start J.node J.mark J.flusher J.room parts }
+        requires { Names J.roll J.first J.start J.node J.mark J.flusher J.sights J.room parts }
         ensures first { J.first ≡ parts.first }
         ensures room { J.room ≡ parts.book.room }
         ensures key { (result.1.name ≡ J.flusher) × (result.1.value ≡ told_of J.before J.first (record { book = parts.book; all = []; numbered_from = J.first })) }
@@ -74,10 +77,11 @@ impl<J: Naming> Shared<J> {
             mark,
             mut told,
             mut key,
+            sights,
         } = parts;
         turn(&mut told, &mut key, &now);
         let shared = Shared {
-            book: Mutex::new(Locked::new(book, seals, roll, told)),
+            book: Mutex::new(Locked::new(book, seals, roll, told, SightRoll::over(sights))),
             c0: Mutex::new(Cell::new(dealt.p0)),
             c1: Mutex::new(Cell::new(dealt.p1)),
             c2: Mutex::new(Cell::new(dealt.p2)),
@@ -153,9 +157,11 @@ impl<J: Naming> Shared<J> {
         }
     }
 
-    /// The node `number` records where a snapshot asks it to. It takes nothing, and nothing runs.
-    pub fn record<R: Wait>(&self, rt: &R, number: u8)
+    /// The node `number` records where a snapshot asks it to. It takes nothing, and nothing runs. Answers whether it recorded, with the book
+    /// as it was found and as it was left.
+    pub fn record<R: Wait>(&self, rt: &R, number: u8) -> Recorded<J>
         requires { number < length J.start.nodes }
+        ensures recorded { RecordedIn J.start number result.seen result.done }
     {
         match number % 4 {
             0 => self.c0.lock(rt).record(rt, &self.book, number),

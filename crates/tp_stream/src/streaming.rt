@@ -74,7 +74,7 @@ fn stream_parts<J: Naming, D: Disk + Drop, S: Sink, I: Source, L: Listener, R: W
     listener: &mut L,
 ) -> (D, Result<Ended, StreamFault>)
     requires quantum { task.quantum ≤ MAX_STEPS }
-    requires names { Names J.roll J.first J.start J.node J.mark J.flusher J.room parts }
+    requires names { Names J.roll J.first J.start J.node J.mark J.flusher J.sights J.room parts }
     requires stands { StandsFor opened.value parts raiser }
     requires bound { parts.book.room ≡ Some (room opened.value.head.topology opened.value.head.areas.length) }
     requires cut { IsCut t414_ends opened.value.head.topology opened.value.base opened.value.cut }

@@ -135,7 +135,7 @@ pub fn is_run_beside_a_copy<J: Naming + Send + Sync, D: Disk + Drop, R: Threads 
     gate: &Hold,
 ) -> (Flusher<J, D>, bool) {
     let is_begun = is_run(rt, shared, &NoGate, number)
-        && flusher.snapshot(rt, alloc, shared).is_ok();
+        && flusher.snapshot(rt, alloc, shared).answer().is_ok();
     let is_recorded = is_run(rt, shared, &NoGate, number);
     let (run, (flusher, mark)) = join(
         rt,

@@ -80,9 +80,9 @@ fn begins<J: Naming, R: Wait>(
     shared: &Shared<J>,
     flusher: &Flusher<J, MemDisk>,
 ) -> bool {
-    flusher.snapshot(rt, alloc, shared).is_ok()
+    flusher.snapshot(rt, alloc, shared).answer().is_ok()
         && matches!(
-            flusher.snapshot(rt, alloc, shared),
+            flusher.snapshot(rt, alloc, shared).answer(),
             Err(Refusal::SnapshotRunning)
         )
 }
@@ -165,7 +165,7 @@ fn play<J: Naming, R: Wait>(
     opening: Opening<MemDisk>,
     snapshots: u8,
 ) -> Result<Option<Vec<Vec<u8>>>, Fail>
-    requires names { Names J.roll J.first J.start J.node J.mark J.flusher J.room opening.parts }
+    requires names { Names J.roll J.first J.start J.node J.mark J.flusher J.sights J.room opening.parts }
     requires spelt { IsSpelt opening.opened.value }
 {
     let (net, _, mut flusher, _) = begin::<J, MemDisk, NoGate, R>(rt, alloc, opening, 1, NoGate)?;

@@ -92,7 +92,7 @@ fn overlap<J: Naming + Send + Sync, R: Threads + Wait + Sync>(
     parts: Parts,
     numbers: Vec<u8>,
 ) -> bool
-    requires names { Names J.roll J.first J.start J.node J.mark J.flusher J.room parts }
+    requires names { Names J.roll J.first J.start J.node J.mark J.flusher J.sights J.room parts }
 {
     let count = numbers.len();
     let (shared, _key) = Shared::<J>::start(parts);

@@ -54,7 +54,7 @@ pub(crate) fn begin<J: Naming, R: Wait + Abort>(
     alloc: Global,
     opening: Opening<MemDisk>,
 ) -> Result<Desk<J>, AllocError>
-    requires names { Names J.roll J.first J.start J.node J.mark J.flusher J.room opening.parts }
+    requires names { Names J.roll J.first J.start J.node J.mark J.flusher J.sights J.room opening.parts }
     requires spelt { IsSpelt opening.opened.value }
 {
     let (net, seats, flusher, pass) = begin_with(rt, alloc, opening, QUANTUM, 1, NoGate)?;
@@ -113,7 +113,7 @@ impl<J: Naming> Desk<J> {
 
     /// A snapshot begins.
     pub(crate) fn begin<R: Wait>(&self, rt: &R, alloc: Global) -> Result<(), Refusal> {
-        self.flusher.snapshot(rt, alloc, self.net.shared())
+        self.flusher.snapshot(rt, alloc, self.net.shared()).answer()
     }
 
     /// Offers bytes to the port: the receipt's number.

@@ -111,7 +111,7 @@ fn play<J: Naming, R: Wait + Abort>(
     opening: Opening<MemDisk>,
     story: &Story,
 ) -> Option<bool>
-    requires names { Names J.roll J.first J.start J.node J.mark J.flusher J.room opening.parts }
+    requires names { Names J.roll J.first J.start J.node J.mark J.flusher J.sights J.room opening.parts }
     requires spelt { IsSpelt opening.opened.value }
 {
     let mut desk = desk::begin::<J, R>(rt, alloc, opening).ok()?;

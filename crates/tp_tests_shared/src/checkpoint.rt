@@ -219,7 +219,7 @@ fn checkpoint_of_parts<J: Naming, R: Wait>(
     parts: Parts,
 ) -> Result<Option<Checkpointed>, AllocError>
     requires there { 1 < length J.start.nodes }
-    requires names { Names J.roll J.first J.start J.node J.mark J.flusher J.room parts }
+    requires names { Names J.roll J.first J.start J.node J.mark J.flusher J.sights J.room parts }
 {
     let (shared, mut key) = Shared::<J>::start(parts);
     checkpoint(rt, alloc, &shared, &mut key)

@@ -99,7 +99,7 @@ fn work_of_parts<J: Naming + Send + Sync, R: Threads + Wait + Sync>(
 ) -> (u64, u32, bool)
     requires quantum { quantum ≤ MAX_STEPS }
     requires there { 1 < length J.start.nodes }
-    requires names { Names J.roll J.first J.start J.node J.mark J.flusher J.room parts }
+    requires names { Names J.roll J.first J.start J.node J.mark J.flusher J.sights J.room parts }
 {
     let (shared, _key) = Shared::<J>::start(parts);
     let (_, done) = work_of_both(rt, shared, count, quantum);

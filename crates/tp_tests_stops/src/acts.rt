@@ -137,7 +137,7 @@ fn does<J: Naming, R: Wait>(
     match act {
         Act::Turn(number, takes, ran) => is_turned(rt, net, seat, number, takes, ran),
         Act::Offer(at, bytes) => session.offer(rt, at, bytes).is_ok(),
-        Act::Begin => flusher.snapshot(rt, alloc, shared).is_ok(),
+        Act::Begin => flusher.snapshot(rt, alloc, shared).answer().is_ok(),
         Act::Book(next, is_whole) => is_book(rt, shared, next, is_whole),
         Act::Flush(switched) => is_flushed(rt, alloc, shared, flusher, switched),
         Act::Groups(count) => are_groups(rt, alloc, net, seat, flusher, count),
@@ -211,7 +211,7 @@ fn play<J: Naming, R: Wait>(
     acts: &[Act],
     is_plain: bool,
 ) -> Result<Option<Vec<u8>>, Fail>
-    requires names { Names J.roll J.first J.start J.node J.mark J.flusher J.room opening.parts }
+    requires names { Names J.roll J.first J.start J.node J.mark J.flusher J.sights J.room opening.parts }
     requires spelt { IsSpelt opening.opened.value }
     requires quantum { (0 < quantum) × (quantum ≤ MAX_STEPS) }
 {

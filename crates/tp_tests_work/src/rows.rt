@@ -154,7 +154,7 @@ fn play<J: Naming, R: Wait + Abort>(
     mut raiser: Raiser,
     mut pass: Pass,
 ) -> Result<(), Fail>
-    requires names { Names J.roll J.first J.start J.node J.mark J.flusher J.room parts }
+    requires names { Names J.roll J.first J.start J.node J.mark J.flusher J.sights J.room parts }
     requires marks { (raiser.mark ≡ J.mark) × (pass.mark ≡ J.mark) }
 {
     let (net, mut seats, _key) = Net::<J, NoGate>::start(rt, alloc, parts, 16, 1, NoGate)?;

@@ -13,6 +13,7 @@ ghosts-play g a = record {
   node = name_of a.opening.parts.seals;
   mark = a.opening.parts.mark;
   flusher = a.opening.parts.flusher;
+  sights = a.opening.parts.sights;
   room = a.opening.parts.book.room;
   formatted = a.opening.parts.book.state.start;
   before = record { net = fresh a.opening.parts.book.state.start; base = 0; journal = []; disk = record { bytes = []; unsynced = [] }; at = Resting; backlog = []; stored = 0; mark = 0; seen = [] };

@@ -13,6 +13,7 @@ ghosts-play g a = record {
   node = name_of a.parts.seals;
   mark = a.parts.mark;
   flusher = a.parts.flusher;
+  sights = a.parts.sights;
   room = a.parts.book.room;
   formatted = a.parts.book.state.start;
   before = record { net = fresh a.parts.book.state.start; base = 0; journal = []; disk = record { bytes = []; unsynced = [] }; at = Resting; backlog = []; stored = 0; mark = 0; seen = [] };

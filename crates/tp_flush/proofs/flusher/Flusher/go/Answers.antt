@@ -1,4 +1,5 @@
 use Rattle.std.proofs.Common.{inl, subst, sym, arith, rules}
+use Rattle.tp_flush.specs.CopiedIn.{CopiedIn}
 use Rattle.tp_flush.specs.Flushing.{Goes}
 use Rattle.tp_flush.specs.Ends.{WaitsBehind}
 use Rattle.tp_flush.proofs.Endings.{looked_waits, stored_ended, waits_then}
@@ -102,3 +103,6 @@ returns-clause-mark g c =
     let S = c.in_ok-store.ensures.stored in
     let C = c.in-Ok.ensures.copied in
     (c.raise-mark.ensures.mark, omega (arith, C.reaches, S.1, c.raise.ensures.reaches, c.raise.ensures.mark, went_on_mark c.in_ok-switched.switched c.raise.new.self c.checkpoint.new.self c.in_ok-switched.ensures.checkpointed, c.raise-mark.ensures.up))
+
+pub returns-clause-copied : goal.returns-clause-copied
+returns-clause-copied g c = subst (λ before. CopiedIn c.in-Ok.copied.upto before c.copy_under.new.seen) c.new-seen.ensures c.in-Ok.ensures.seen

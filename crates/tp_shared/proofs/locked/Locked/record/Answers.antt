@@ -2,9 +2,11 @@ use Rattle.std.proofs.Common.{◌≡◌, ◌∙◌, false, List, [], length, ap,
 use Rattle.std.specs.Prelude.{is_some}
 use Rattle.std.proofs.lemmas.List.{length-set}
 use Rattle.tp_model.specs.declared.entry.Entry.{Entry}
-use Rattle.tp_turn.specs.Moments.{Done, moment}
+use Rattle.tp_snap.specs.Needs.{is_asked}
+use Rattle.tp_turn.specs.Moments.{Done, IsNodeOf, moment}
 use Rattle.tp_turn.specs.Settled.{Records}
 use Rattle.tp_shared.specs.Agreement.{Agreement}
+use Rattle.tp_shared.specs.TurnsMade.{IsBookOf}
 use Rattle.tp_shared.proofs.Sealing.{node_of_seal, sealed_after}
 use Rattle.tp_shared.proofs.Thawing.{thaws_set, thawed_at, thawed_recorded}
 use Rattle.tp_shared.proofs.Keeping.{seal_at, acted_still}
@@ -73,3 +75,26 @@ invariant_of-self g c =
 
 pub returns-clause-did : goal.returns-clause-did
 returns-clause-did g c = subst (λ stage. Done c.args.number (Records c.args.number) (moment stage.book c.args.place.now.node) (moment c.record.new.book c.record.new.node)) c.self.view_is c.record.ensures.did
+
+pub asked-asked-requires : goal.asked-asked-requires
+asked-asked-requires g c =
+    let runs = c.self.invariant.run_count in
+    omega (arith, runs, c.requires.there)
+
+pub returns-clause-is : goal.returns-clause-is
+returns-clause-is g c =
+    let b = c.self.inside.book in
+    let inv = c.self.invariant in
+    let here = c.index_mut-here.result.now in
+    let at = seal_at inv c.args.number here c.requires.there c.index_mut-here.ensures.value in
+    let S = inv.sealed c.args.number here at in
+    let shown = ap (λ x. x.state) c.agree.ensures.agreed ∙ c.requires.shows.shown in
+    subst (λ stage. IsNodeOf stage.book c.args.number c.args.place.now.node) c.self.view_is
+    (node_of_seal (g.J.Naming.node c.args.number) here.seal.value.state here.frozen here.seal.name b c.args.number c.args.place.now.node S
+    (ap (λ (x : Agreement). x.node) shown) (ap (λ (x : Agreement). x.frozen) shown) c.requires.shows.image)
+
+pub returns-clause-of : goal.returns-clause-of
+returns-clause-of g c = subst (λ stage. IsBookOf g.J.Naming.start stage.book) c.self.view_is (record { wires = c.self.invariant.wires_are; nodes = c.self.invariant.count_is })
+
+pub returns-clause-asked : goal.returns-clause-asked
+returns-clause-asked g c = subst (λ stage. c.asked-asked.result ≡ is_asked stage.book.state.snapshot c.args.number) c.self.view_is c.asked-asked.ensures

@@ -52,3 +52,6 @@ new-requires-clause-wires g c =
     let nodes = ap (λ v. length v.book.state.start.nodes) c.parts.view_is ∙ c.requires.count_is in
     let ports = ap (λ v. length v.book.state.ports) c.parts.view_is ∙ c.requires.ports_are in
     (wires, omega (arith, shaped.count, shaped.wires, all, nodes, ports))
+
+pub over-requires : goal.over-requires
+over-requires g c = ap (λ v. v.sights) c.parts.view_is ∙ c.requires.sights_is

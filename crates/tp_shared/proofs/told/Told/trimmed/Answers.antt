@@ -9,7 +9,8 @@ of-requires g c κs within =
     let none : κ ⊑ [] = ⊑_static κ in
     let named = within.1.0 in
     let one = ⊑_meet κ _ _ named none in
-    let locked = ⊑_meet κ _ _ within.0.0 (⊑_meet κ _ _ one (⊑_meet κ _ _ (⊑_meet κ _ _ one none) none)) in
+    let marked = ⊑_meet κ _ _ (⊑_meet κ _ _ one none) none in
+    let locked = ⊑_meet κ _ _ within.0.0 (⊑_meet κ _ _ one (⊑_meet κ _ _ (⊑_meet κ _ _ one marked) marked)) in
     let key = ⊑_meet κ _ _ (⊑_meet κ _ _ within.0.1.0 none) none in
     let both = ⊑_meet κ _ _ locked key in
     ⊑_meet κ _ _ both both

@@ -1,0 +1,23 @@
+-- How a node recorded, in a book that was seen under its lock.
+use Rattle.std.specs.Prelude.{◌≡◌, ℕ, Bool, List, [], ◌∷◌}
+use Rattle.tp_model.specs.NodeState.{NodeState}
+use Rattle.tp_model.specs.Network.{Network}
+use Rattle.tp_node.specs.NodeContents.{NodeContents}
+use Rattle.tp_snap.specs.Needs.{is_asked}
+use Rattle.tp_book.specs.Book.{BookValue}
+use Rattle.tp_turn.specs.Moments.{Done, IsNodeOf, moment}
+use Rattle.tp_turn.specs.Settled.{Records}
+use Rattle.tp_shared.specs.TurnsMade.{IsBookOf}
+
+-- The book was seen as it was found and as it was left. The node recorded exactly where it was asked to in the book that was found, of
+-- which it was the node; else nothing was done.
+pub record RecordedIn (start : Network NodeState) (number : ℕ) (seen : List BookValue) (done : Bool) : Type 0 where
+  pub found : BookValue
+  pub left : BookValue
+  pub was : NodeContents
+  pub is : NodeContents
+  pub shown : seen ≡ found ∷ left ∷ []
+  pub of : IsBookOf start found
+  pub node : IsNodeOf found number was
+  pub asked : done ≡ is_asked found.state.snapshot number
+  pub did : Done number (Records number) (moment found was) (moment left is)
