@@ -15,15 +15,14 @@ module _ {A : Type 0} where
   sum_by-set f (a ∷ xs) zero x y e = let is : f a ≡ f x = ap f (some-injective a x e) in omega (arith, sum_by-cons f y xs, sum_by-cons f a xs)
   sum_by-set f (a ∷ xs) (suc i) x y e = omega (arith, sum_by-cons f a (set xs i y), sum_by-cons f a xs, sum_by-set f xs i x y e)
 
+  -- what weighs no more one by one weighs no more together
+  pub sum_by-le : (f g : A → ℕ) (xs : List A) → ((i : ℕ) (x : A) → get_elem? xs i ≡ some x → f x ≤ g x) → sum_by f xs ≤ sum_by g xs
+  sum_by-le f g [] le = omega arith
+  sum_by-le f g (x ∷ xs) le = omega (arith, sum_by-cons f x xs, sum_by-cons g x xs, le zero x refl, sum_by-le f g xs (λ i y e. le (suc i) y e))
+
   pub sum_by-ones : (xs : List A) → sum_by (λ _. 1) xs ≡ length xs
   sum_by-ones [] = refl
   sum_by-ones (x ∷ xs) = omega (arith, sum_by-cons (λ (_ : A). 1) x xs, sum_by-ones xs)
-
-  -- one of the list is one of its places
-  pub at_below : (xs : List A) (i : ℕ) (x : A) → get_elem? xs i ≡ some x → i < length xs
-  at_below [] i x e = absurd (some-ne-none x (sym e))
-  at_below (a ∷ xs) zero x e = omega arith
-  at_below (a ∷ xs) (suc i) x e = omega (arith, at_below xs i x e)
 
 pub sum_below-ones : (n : ℕ) → sum_below (λ _. 1) n ≡ n
 sum_below-ones zero = refl

@@ -1,3 +1,4 @@
+pub mod Answered
 pub mod Holding
 pub mod Numbers
 pub mod View

@@ -1,34 +1,43 @@
 -- The rule of the queue: each number is in it or with one pass.
-use Rattle.std.specs.Prelude.{◌≡◌, ℕ, zero, suc, ◌+◌, ◌≤◌, ◌==◌, if◌then◌else◌, true, false, List, [], length, sum_by}
+use Rattle.std.specs.Prelude.{◌≡◌, ◌≢◌, ℕ, zero, suc, ◌+◌, ◌≤◌, ◌==◌, if◌then◌else◌, true, false, List, [], length, sum_by}
 use mathlib.Core.Option.{some}
 use lib.ListN.{get_elem?}
 use Rattle.tp_ready.specs.declared.view.View.{View}
 
--- the pass that makes the numbers, and how many it has made
-abbrev pub maker : ℕ → View
-maker count = record { knows = true; makes = true; count = count; held = [] }
+-- the pass that makes the numbers and gives hands out, and how many of both it has made
+abbrev pub maker : ℕ → ℕ → View
+maker count hands = record { knows = true; makes = true; count = count; hands = hands; may = hands; held = [] }
 
-abbrev pub holder : ℕ → List ℕ → View
-holder count held = record { knows = true; makes = false; count = count; held = held }
+-- a pass that may hold as many numbers as `may` says, and those that it holds
+abbrev pub holder : ℕ → ℕ → ℕ → List ℕ → View
+holder count hands may held = record { knows = true; makes = false; count = count; hands = hands; may = may; held = held }
 
 abbrev pub nobody : View
-nobody = record { knows = false; makes = false; count = 0; held = [] }
+nobody = record { knows = false; makes = false; count = 0; hands = 0; may = 0; held = [] }
 
 -- the weights of the numbers below n, added up
 abbrev pub sum_below : (ℕ → ℕ) → ℕ → ℕ
 sum_below h zero = 0
 sum_below h (suc n) = sum_below h n + h n
 
--- A pass that knows the count has it, and while one makes numbers there is no other.
+-- A pass that knows the counts has them, and it holds no more numbers than it may.
 abbrev pub Fits : ℕ → ℕ → View → Type 0
-Fits count passes v = (v.knows ≡ true → v.count ≡ count) × (v.makes ≡ true → passes ≡ 1)
+Fits count hands v = (v.knows ≡ true → (v.count ≡ count) × (v.hands ≡ hands)) × (length v.held ≤ v.may)
 
--- What is in the queue and what is held are together the numbers below the count, each once, however they are weighed.
+-- no other pass knows the counts
+abbrev pub Alone : List View → ℕ → Type 0
+Alone views pass = (other : ℕ) (v : View) → get_elem? views other ≡ some v → other ≢ pass → v.knows ≡ false
+
+-- What is in the queue and what is held are together the numbers below the count, each once, however they are weighed. All passes together
+-- may hold as many numbers as there are hands. While one makes numbers or hands no other knows how many there are.
 abbrev pub Dealt : List ℕ → List View → Type 0
 Dealt items views =
     (count : ℕ)
+    × (hands : ℕ)
     × ((h : ℕ → ℕ) → sum_by h items + sum_by (λ (v : View). sum_by h v.held) views ≡ sum_below h count)
-    × ((pass : ℕ) (v : View) → get_elem? views pass ≡ some v → Fits count (length views) v)
+    × (sum_by (λ (v : View). v.may) views ≡ hands)
+    × ((pass : ℕ) (v : View) → get_elem? views pass ≡ some v → Fits count hands v)
+    × ((pass : ℕ) (v : View) → get_elem? views pass ≡ some v → v.makes ≡ true → Alone views pass)
 
 -- how a number weighs that counts x alone
 abbrev pub one_at : ℕ → ℕ → ℕ
@@ -38,6 +47,6 @@ one_at x y = if y == x then 1 else 0
 abbrev pub AreDistinct : List ℕ → Type 0
 AreDistinct xs = (x : ℕ) → sum_by (one_at x) xs ≤ 1
 
--- with what the pass holds, the items are no more than there are numbers
+-- With what the pass holds, the items are no more than there are numbers; and what is neither there nor with the pass, other hands have.
 abbrev pub AreFew : View → List ℕ → Type 0
-AreFew v items = length items + length v.held ≤ v.count
+AreFew v items = (length items + length v.held ≤ v.count) × (v.count + v.may ≤ length items + length v.held + v.hands)

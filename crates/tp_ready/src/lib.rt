@@ -1,12 +1,14 @@
 //! The ready queue: the numbers of processes. Each is in the queue or with one holder.
 #![tactic(auto)]
 
+mod answers;
 mod hand;
 mod queue;
 mod rule;
 mod turn;
 mod view;
 
+pub use answers::{Answer, Answers};
 pub use hand::Hand;
 pub use queue::ReadyQueue;
 pub use turn::Turn;

@@ -1,20 +1,23 @@
 //! The queue itself.
-ghost use Rattle.std.specs.Prelude.{◌≡◌, ◌≢◌, ◌<◌, ◌+◌, [], vec_len, All, IfOk, IfSome, MatchOption, Some, None};
+ghost use Rattle.std.specs.Prelude.{◌≡◌, ◌≢◌, ◌<◌, ◌+◌, [], vec_len, All, IfOk, IfSome, MatchOption, Some, None, ◌∷◌, ◌++◌, option_map, ⊤};
 ghost use Rattle.crossbeam_queue.specs.Passes.{view, IsSamePass, IsPassOf, ruled_capacity};
+ghost use Rattle.tp_ready.specs.Answered.{answer};
 ghost use Rattle.tp_ready.specs.View.{maker};
 
+use crate::answers::Answers;
 use crate::hand::Hand;
-use crate::rule::{Distinct, Gathers, Gives, Line, Makes, Parts, Port, PutsBack, Takes};
+use crate::rule::{Distinct, Gathers, Gives, Grows, Line, Makes, Parts, Port, PutsBack, Takes};
 use crate::turn::Turn;
 use std::alloc::{AllocError, Global};
 use std::marker::Model;
 use std::sync::Wait;
 
-/// The numbers of processes that wait for their turn, the longest waiting first. Contracts see its name, and how many numbers
-/// there are in the queue and with holders.
+/// The numbers of processes that wait for their turn, the longest waiting first. Contracts see its name, how many numbers there are in
+/// the queue and with holders, and how many hands.
 #[derive(Drop)]
 pub struct ReadyQueue {
     line: Line,
+    hands: u8,
 }
 
 impl Model for ReadyQueue {
@@ -23,7 +26,7 @@ impl Model for ReadyQueue {
 
     ghost Value = { Numbers };
 
-    ghost view = { λ q. record { queue = q.line.table.shared.table_id; count = ruled_capacity q.line } };
+    ghost view = { λ q. record { queue = q.line.table.shared.table_id; count = ruled_capacity q.line; hands = q.hands } };
 }
 
 impl ReadyQueue {
@@ -34,33 +37,40 @@ impl ReadyQueue {
         last: u8,
         hands: u8,
     ) -> Result<(ReadyQueue, Vec<Hand>), AllocError>
-        ensures queue { IfOk result (λ s. s.0.count ≡ last + 1) }
+        ensures queue { IfOk result (λ s. (s.0.count ≡ last + 1) × (s.0.hands ≡ hands)) }
         ensures count { IfOk result (λ s. vec_len s.1 ≡ hands) }
         ensures hands { IfOk result (λ s. All (λ hand. hand ≡ Some s.0) s.1.items) }
     {
         let (line, mut port) = Line::ruled(alloc, usize::from(last) + 1)?;
         fill(rt, &line, &mut port);
+        reckon(&line, &mut port, hands);
         let mut all = Vec::new(alloc);
         for _ in 0..hands {
             let theirs = line.another::<Gives>(&mut port);
             all.push(Hand { port: Some(theirs) })?;
         }
-        Ok((ReadyQueue { line }, all))
+        Ok((ReadyQueue { line, hands }, all))
     }
 
-    /// Takes the number that waits longest. `None` comes only where the queue was empty at some moment of the call, and then
-    /// `hand` is free as before.
-    pub fn take<R: Wait>(&self, rt: &R, hand: &mut Hand) -> Option<Turn>
+    /// Takes the number that waits longest. `None` comes only where the queue was empty at some moment of the call, so that there are
+    /// more hands than numbers, and then `hand` is free as before. The answer is added to `answers`.
+    pub fn take<R: Wait>(&self, rt: &R, hand: &mut Hand, answers: &mut Answers) -> Option<Turn>
         requires { hand.old ≡ Some self.now }
         ensures hand { MatchOption result (hand.new ≡ Some self.now) (λ turn. hand.new ≡ None) }
         ensures turn { IfSome result (λ turn. (turn.of ≡ self.now) × (turn.number < self.now.count)) }
+        ensures few { MatchOption result (self.now.count < self.now.hands) (λ turn. ⊤) }
+        ensures answer { answers.new ≡ answers.old ++ answer self.now (option_map (λ turn. turn.number) result) ∷ [] }
     {
         let Some(mut port) = hand.port.take() else {
             unreachable!()
         };
         match self.line.pop_as::<Takes, R>(rt, &mut port) {
-            Some(number) => Some(Turn { number, port }),
+            Some(number) => {
+                answers.add(self, Some(number));
+                Some(Turn { number, port })
+            }
             None => {
+                answers.add(self, None);
                 hand.port = Some(port);
                 None
             }
@@ -97,8 +107,8 @@ impl ReadyQueue {
 // Makes as many numbers as `line` has room for.
 fn fill<R: Wait>(rt: &R, line: &Line, port: &mut Port)
     requires line { IsPassOf line.now port.old × (ruled_capacity line.now < 257) }
-    requires none { view port.old ≡ maker 0 }
-    ensures { IsSamePass port.old port.new × (view port.new ≡ maker (ruled_capacity line.now)) }
+    requires none { view port.old ≡ maker 0 0 }
+    ensures { IsSamePass port.old port.new × (view port.new ≡ maker (ruled_capacity line.now) 0) }
 {
     for number in 0..line.capacity() {
         make(rt, line, port, number as u8);
@@ -107,10 +117,21 @@ fn fill<R: Wait>(rt: &R, line: &Line, port: &mut Port)
 
 fn make<R: Wait>(rt: &R, line: &Line, port: &mut Port, number: u8)
     requires line { IsPassOf line.now port.old × (number < ruled_capacity line.now) }
-    requires made { view port.old ≡ maker number }
-    ensures { IsSamePass port.old port.new × (view port.new ≡ maker (number + 1)) }
+    requires made { view port.old ≡ maker number 0 }
+    ensures { IsSamePass port.old port.new × (view port.new ≡ maker (number + 1) 0) }
 {
     if line.push_as::<Makes, R>(rt, port, number).is_err() {
         unreachable!()
+    }
+}
+
+// Makes as many hands as `hands` says.
+fn reckon(line: &Line, port: &mut Port, hands: u8)
+    requires line { IsPassOf line.now port.old }
+    requires none { view port.old ≡ maker (ruled_capacity line.now) 0 }
+    ensures { IsSamePass port.old port.new × (view port.new ≡ maker (ruled_capacity line.now) hands) }
+{
+    for _ in 0..hands {
+        let _nobody = line.another::<Grows>(port);
     }
 }

@@ -1,5 +1,5 @@
 //! The rule of the queue, and what each step tells. Its types are for the proofs alone.
-ghost use Rattle.std.specs.Prelude.{◌≡◌, ◌<◌, ◌+◌, [], ◌++◌, ◌∷◌, take, drop};
+ghost use Rattle.std.specs.Prelude.{◌≡◌, ◌<◌, ◌+◌, ◌-◌, [], ◌++◌, ◌∷◌, take, drop};
 ghost use Rattle.tp_ready.specs.View.{maker, holder, nobody, Dealt, AreDistinct, AreFew};
 
 use crate::view::View;
@@ -16,14 +16,14 @@ pub struct Once;
 impl Protocol<u8, View> for Once {
     ghost holds = { Dealt };
 
-    ghost first = { maker 0 };
+    ghost first = { maker 0 0 };
 }
 
 /// A new number goes into the queue.
 pub struct Makes;
 
 impl Outcome<u8, View> for Makes {
-    ghost then = { λ v x w. w ≡ maker (v.count + 1) };
+    ghost then = { λ v x w. w ≡ maker (v.count + 1) v.hands };
 }
 
 impl Lesson<u8, View> for Makes {
@@ -34,7 +34,7 @@ impl Lesson<u8, View> for Makes {
 pub struct Takes;
 
 impl Outcome<u8, View> for Takes {
-    ghost then = { λ v x w. (w ≡ holder v.count (v.held ++ x ∷ [])) × (x < v.count) };
+    ghost then = { λ v x w. (w ≡ holder v.count v.hands v.may (v.held ++ x ∷ [])) × (x < v.count) };
 }
 
 impl Lesson<u8, View> for Takes {
@@ -45,36 +45,45 @@ impl Lesson<u8, View> for Takes {
 pub struct PutsBack;
 
 impl Outcome<u8, View> for PutsBack {
-    ghost then = { λ v x w. w ≡ holder v.count [] };
+    ghost then = { λ v x w. w ≡ holder v.count v.hands v.may [] };
 }
 
 impl Lesson<u8, View> for PutsBack {
     ghost fact = { AreFew };
 }
 
-/// A new pass gets all that is held.
+/// A hand is made. The new pass is nobody's.
+pub struct Grows;
+
+impl Split<View> for Grows {
+    ghost left = { λ v. maker v.count (v.hands + 1) };
+
+    ghost right = { λ v. nobody };
+}
+
+/// A new pass gets all that is held, and may hold one number.
 pub struct Gives;
 
 impl Split<View> for Gives {
-    ghost left = { λ v. holder v.count [] };
+    ghost left = { λ v. holder v.count v.hands (v.may - 1) [] };
 
-    ghost right = { λ v. holder v.count v.held };
+    ghost right = { λ v. holder v.count v.hands 1 v.held };
 }
 
-/// A new pass gets all that is held but the first.
+/// A new pass gets all that is held but the first, which the old one keeps.
 pub struct Parts;
 
 impl Split<View> for Parts {
-    ghost left = { λ v. holder v.count (take 1 v.held) };
+    ghost left = { λ v. holder v.count v.hands 1 (take 1 v.held) };
 
-    ghost right = { λ v. holder v.count (drop 1 v.held) };
+    ghost right = { λ v. holder v.count v.hands (v.may - 1) (drop 1 v.held) };
 }
 
 /// What two passes hold, one holds.
 pub struct Gathers;
 
 impl Join<View> for Gathers {
-    ghost both = { λ v w. holder v.count (v.held ++ w.held) };
+    ghost both = { λ v w. holder v.count v.hands (v.may + w.may) (v.held ++ w.held) };
 
     ghost spent = { nobody };
 }

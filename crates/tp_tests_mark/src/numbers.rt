@@ -6,7 +6,7 @@ use std::sync::Wait;
 use std::sync::atomic::{AtomicBool, Ordering};
 use std::test::Fail;
 use std::thread::{Threads, join, yield_now};
-use tp_ready::{Hand, ReadyQueue, Turn};
+use tp_ready::{Answers, Hand, ReadyQueue, Turn};
 
 const ROUNDS: u32 = 1000;
 
@@ -23,7 +23,7 @@ fn work<R: Wait>(
     let mut alone = true;
     let mut made = 0;
     for _ in 0..ROUNDS {
-        if let Some(turn) = queue.take(rt, &mut hand) {
+        if let Some(turn) = queue.take(rt, &mut hand, &mut Answers::new()) {
             let place = &taken[usize::from(turn.number())];
             alone = alone && !place.swap(true, Ordering::SeqCst);
             yield_now();
@@ -41,7 +41,7 @@ fn taken<R: Wait + Abort>(rt: &R, queue: &ReadyQueue, hand: &mut Hand) -> Turn
     ensures hand { hand.new ≡ None }
     ensures turn { (result.of ≡ queue.now) × (result.number < queue.now.count) }
 {
-    let Some(turn) = queue.take(rt, hand) else {
+    let Some(turn) = queue.take(rt, hand, &mut Answers::new()) else {
         panic!(rt; "a number is there")
     };
     turn
@@ -52,7 +52,7 @@ fn is_empty<R: Wait>(rt: &R, queue: &ReadyQueue, hand: &mut Hand) -> bool
     requires { hand.old ≡ Some queue.now }
     ensures { hand.new ≡ Some queue.now }
 {
-    let Some(turn) = queue.take(rt, hand) else {
+    let Some(turn) = queue.take(rt, hand, &mut Answers::new()) else {
         return true;
     };
     queue.put_back(rt, hand, turn);

@@ -1,13 +1,17 @@
 -- Turns that were refused.
-use Rattle.std.proofs.Common.{◌≤◌, ℕ, List, length}
+use Rattle.std.proofs.Common.{◌≤◌, ℕ, List, Some, length}
 use Rattle.tp_model.specs.declared.entry.Entry.{Entry}
 use Rattle.tp_model.specs.NodeState.{NodeState}
 use Rattle.tp_model.specs.Network.{Network}
 use Rattle.tp_book.specs.declared.refusal.Refusal.{Refusal}
 use Rattle.tp_book.specs.declared.refusal.Refusal.TheVariants as refusal
-use Rattle.tp_shared.specs.Entries.{Takes}
+use Rattle.tp_ready.specs.Numbers.{Numbers}
+use Rattle.tp_ready.specs.declared.answers.Answer.{Answer}
+use Rattle.tp_shared.specs.Entries.{IsTurnRefusal, Takes}
 use Rattle.tp_shared.specs.Gains.{Gained}
-use Rattle.tp_work.specs.Turns.{Refused, fault_of}
+use Rattle.tp_work.specs.Turns.{Refused, fault_of, Handed, RefusedAt, RefusedFor, RefusedBy}
+use Rattle.tp_work.specs.declared.fault.TurnFault.{TurnFault}
+use Rattle.tp_work.specs.declared.fault.TurnFault.TheVariants.{Empty, JournalFull, StoreBroken, Memory}
 
 pub broken_off : (start : Network NodeState) (process : ℕ) (old new : List (ℕ × Entry)) (r : Refusal) → process ≤ length start.nodes → Gained (Takes start process) old new
     → Refused start (fault_of r) old new
@@ -17,3 +21,21 @@ broken_off start process old new refusal.Memory there took = record { process = 
 broken_off start process old new refusal.NothingToTake there took = record { process = process; there = there; took = took }
 broken_off start process old new refusal.SnapshotRunning there took = record { process = process; there = there; took = took }
 broken_off start process old new refusal.PortFull there took = record { process = process; there = there; took = took }
+
+-- what was told of the refusal is told of the fault
+pub refused_for : (start : Network NodeState) (process : ℕ) (old new : List (ℕ × Entry)) (r : Refusal) → IsTurnRefusal r → Gained (Takes start process) old new → RefusedAt start process r
+    → RefusedFor start process (fault_of r) old new
+refused_for start process old new refusal.JournalFull is took went = (took, went)
+refused_for start process old new refusal.StoreBroken is took went = (took, went)
+refused_for start process old new refusal.Memory is took went = (took, went)
+refused_for start process old new refusal.NothingToTake is took went = absurd is
+refused_for start process old new refusal.SnapshotRunning is took went = absurd is
+refused_for start process old new refusal.PortFull is took went = absurd is
+
+-- the process is the one that the queue handed out
+pub refused_by : (start : Network NodeState) (queue : Numbers) (process : ℕ) (fault : TurnFault) (asked_old asked_new : List Answer) (old new : List (ℕ × Entry))
+    → Handed queue (Some process) asked_old asked_new → RefusedFor start process fault old new → RefusedBy start queue fault asked_old asked_new old new
+refused_by start queue process Empty asked_old asked_new old new handed was = absurd was
+refused_by start queue process JournalFull asked_old asked_new old new handed was = (process, handed, was)
+refused_by start queue process StoreBroken asked_old asked_new old new handed was = (process, handed, was)
+refused_by start queue process Memory asked_old asked_new old new handed was = (process, handed, was)

@@ -1,14 +1,18 @@
 -- What a turn does to a seat.
-use Rattle.std.specs.Prelude.{◌≡◌, ◌<◌, ◌≤◌, ℕ, List, length, Option, Some, None}
+use Rattle.std.specs.Prelude.{◌≡◌, ◌<◌, ◌≤◌, ◌⊎◌, ℕ, List, [], ◌∷◌, ◌++◌, length, Option, Some, None, Ok, Err}
 use Rattle.tp_model.specs.declared.entry.Entry.{Entry}
 use Rattle.tp_model.specs.NodeState.{NodeState}
 use Rattle.tp_model.specs.Network.{Network}
 use Rattle.tp_node.specs.RunEnd.{RunEnd}
 use Rattle.tp_book.specs.declared.refusal.Refusal.{Refusal}
 use Rattle.tp_book.specs.declared.refusal.Refusal.TheVariants as refusal
+use Rattle.tp_ready.specs.Answered.{answer}
+use Rattle.tp_ready.specs.Numbers.{Numbers}
+use Rattle.tp_ready.specs.declared.answers.Answer.{Answer}
 use Rattle.tp_shared.specs.Entries.{Takes, CountedTakes}
 use Rattle.tp_shared.specs.Gains.{Gained}
 use Rattle.tp_shared.specs.NodeTurned.{NodeTurned}
+use Rattle.tp_shared.specs.TurnsMade.{TurnMade, TurnBrokenOff, HostTurnMade}
 use Rattle.tp_work.specs.declared.fault.TurnFault.{TurnFault}
 use Rattle.tp_work.specs.declared.fault.TurnFault.TheVariants.{Empty, JournalFull, StoreBroken, Memory}
 use Rattle.tp_work.specs.declared.turn.Turn.{Turn}
@@ -45,3 +49,43 @@ fault_of refusal.Memory = Memory
 fault_of refusal.NothingToTake = Memory
 fault_of refusal.SnapshotRunning = Memory
 fault_of refusal.PortFull = Memory
+
+-- ## Whose turn it was, and how it went
+
+-- The queue was asked once, and handed out this number, or none.
+abbrev pub Handed : Numbers → Option ℕ → List Answer → List Answer → Type 0
+Handed queue number old new = new ≡ old ++ answer queue number ∷ []
+
+-- how a turn went, as the call that made it tells: a node's, which ran, or the host's
+abbrev pub WentAs : Network NodeState → ℕ → ℕ → ℕ → Option RunEnd → Type 0
+WentAs start quantum process takes (Some ran) = TurnMade start process quantum (record { taken = takes; ran = ran })
+WentAs start quantum process takes None = HostTurnMade start (Ok takes)
+
+abbrev pub Went : Network NodeState → ℕ → Turn → Type 0
+Went start quantum turn = WentAs start quantum turn.process turn.takes turn.ran
+
+-- how a turn of this process was refused, as the call tells
+abbrev pub RefusedAt : Network NodeState → ℕ → Refusal → Type 0
+RefusedAt start process reason =
+    ((process < length start.nodes) × TurnBrokenOff start process reason) ⊎ ((process ≡ length start.nodes) × HostTurnMade start (Err reason))
+
+-- A turn of this process was refused with this reason, and the seat has the slips of the tokens that it took before.
+abbrev pub RefusedWith : Network NodeState → ℕ → Refusal → List (ℕ × Entry) → List (ℕ × Entry) → Type 0
+RefusedWith start process reason old new = Gained (Takes start process) old new × RefusedAt start process reason
+
+abbrev pub RefusedFor : Network NodeState → ℕ → TurnFault → List (ℕ × Entry) → List (ℕ × Entry) → Type 0
+RefusedFor start process Empty old new = ⊥
+RefusedFor start process JournalFull old new = RefusedWith start process refusal.JournalFull old new
+RefusedFor start process StoreBroken old new = RefusedWith start process refusal.StoreBroken old new
+RefusedFor start process Memory old new = RefusedWith start process refusal.Memory old new
+
+-- The process that was refused is the one whose number the queue handed out.
+abbrev pub RefusedOne : Network NodeState → Numbers → TurnFault → List Answer → List Answer → List (ℕ × Entry) → List (ℕ × Entry) → Type 0
+RefusedOne start queue fault asked_old asked_new old new = (process : ℕ) × Handed queue (Some process) asked_old asked_new × RefusedFor start process fault old new
+
+-- `Empty` is the queue's own answer, and comes only where there are more seats than processes.
+abbrev pub RefusedBy : Network NodeState → Numbers → TurnFault → List Answer → List Answer → List (ℕ × Entry) → List (ℕ × Entry) → Type 0
+RefusedBy start queue Empty asked_old asked_new old new = Handed queue None asked_old asked_new × (queue.count < queue.hands)
+RefusedBy start queue JournalFull asked_old asked_new old new = RefusedOne start queue JournalFull asked_old asked_new old new
+RefusedBy start queue StoreBroken asked_old asked_new old new = RefusedOne start queue StoreBroken asked_old asked_new old new
+RefusedBy start queue Memory asked_old asked_new old new = RefusedOne start queue Memory asked_old asked_new old new

@@ -11,7 +11,7 @@ use tp_book::Refusal;
 /// ran.
 #[derive(Clone, Copy, Debug, PartialEq, Eq, Error)]
 pub enum TurnFault {
-    /// No process was in the ready queue.
+    /// No process was in the ready queue: all were with other seats.
     #[error("Empty")]
     Empty,
     /// There is no room on the device for another entry, or no number.

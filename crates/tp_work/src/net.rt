@@ -2,7 +2,7 @@
 
 ghost use Rattle.std.specs.Prelude.{◌≡◌, ◌≤◌, ◌+◌, Some, length, IfOk, MatchResult};
 ghost use Rattle.tp_model.specs.declared.limits.TheConstants.{MAX_STEPS};
-ghost use Rattle.tp_work.specs.Turns.{Turned, Refused};
+ghost use Rattle.tp_work.specs.Turns.{Turned, Refused, Handed, Went, RefusedFor, RefusedBy};
 
 use crate::fault::TurnFault;
 use crate::seat::Seat;
@@ -30,15 +30,22 @@ impl<J: Naming, G: Gate> Net<J, G> {
         &self.shared
     }
 
-    /// A turn of the process that waits longest. It goes to the end of the ready queue, whatever its turn did, and `seat` gets the
-    /// slips of what was journalled.
+    /// A turn of the process that waits longest: the one whose number the ready queue hands out, as `seat` keeps. It goes to the end of
+    /// the queue, whatever its turn did, and `seat` gets the slips of what was journalled. `Empty` is the queue's own answer,
+    /// and comes only where there are more seats than processes.
     pub fn turn<R: Wait>(&self, rt: &R, seat: &mut Seat<J>) -> Result<Turn, TurnFault>
         requires queue { seat.old.hand ≡ Some self.now.queue }
         ensures queue { seat.new.hand ≡ Some self.now.queue }
         ensures turned { MatchResult result (λ turn. Turned J.start self.now.quantum turn seat.old.slips seat.new.slips) (λ fault. Refused J.start fault seat.old.slips seat.new.slips) }
+        ensures handed { MatchResult result (λ turn. Handed self.now.queue (Some turn.process) seat.old.answers seat.new.answers) (λ fault. RefusedBy J.start self.now.queue fault seat.old.answers seat.new.answers seat.old.slips seat.new.slips) }
+        ensures went { IfOk result (Went J.start self.now.quantum) }
     {
-        let Seat { hand, slips } = seat;
-        let Some(taken) = self.queue.take(rt, hand) else {
+        let Seat {
+            hand,
+            answers,
+            slips,
+        } = seat;
+        let Some(taken) = self.queue.take(rt, hand, answers) else {
             return Err(TurnFault::Empty);
         };
         self.gate.at(taken.number(), NUMBER_TAKEN);
@@ -57,6 +64,7 @@ impl<J: Naming, G: Gate> Net<J, G> {
         requires there { process ≤ length J.start.nodes }
         ensures process { IfOk result (λ turn. turn.process ≡ process) }
         ensures turned { MatchResult result (λ turn. Turned J.start self.now.quantum turn slips.old slips.new) (λ fault. Refused J.start fault slips.old slips.new) }
+        ensures went { MatchResult result (Went J.start self.now.quantum) (λ fault. RefusedFor J.start process fault slips.old slips.new) }
     {
         if process == self.shared.nodes() {
             return match self.shared.host_turn(rt, &self.gate, slips) {

@@ -2,14 +2,15 @@
 
 ghost use Rattle.std.specs.Prelude.{◌≡◌};
 
-use tp_ready::Hand;
+use tp_ready::{Answers, Hand};
 use tp_shared::Naming;
 
-/// Where a worker makes turns: it takes one process at a time, and has the slips of what its turns journalled. Nobody can copy
-/// it.
+/// Where a worker makes turns: it takes one process at a time, keeps what the ready queue answered, as proofs alone see, and has the
+/// slips of what its turns journalled. Nobody can copy it.
 #[derive(Drop)]
 pub struct Seat<J: Naming> {
     pub(crate) hand: Hand,
+    pub(crate) answers: Answers,
     pub(crate) slips: tp_shared::Seat<J>,
 }
 

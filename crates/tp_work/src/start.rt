@@ -10,7 +10,7 @@ use crate::net::Net;
 use crate::seat::Seat;
 use std::alloc::{AllocError, Global};
 use std::sync::Wait;
-use tp_ready::{Hand, ReadyQueue};
+use tp_ready::{Answers, Hand, ReadyQueue};
 use tp_shared::{Gate, Naming, Parts, Shared, Told};
 use tp_token::Key;
 
@@ -30,6 +30,7 @@ fn seats_of<J: Naming>(alloc: Global, hands: Vec<Hand>) -> Result<Vec<Seat<J>>, 
     for hand in hands {
         seats.push(Seat {
             hand,
+            answers: Answers::new(),
             slips: tp_shared::Seat::new(),
         })?;
     }
@@ -52,7 +53,7 @@ impl<J: Naming, G: Gate + Drop> Net<J, G> {
         requires quantum { (0 < quantum) × (quantum ≤ MAX_STEPS) }
         requires seats { (0 < seats) × (seats ≤ MAX_SEATS) }
         ensures quantum { IfOk result (λ started. started.0.quantum ≡ quantum) }
-        ensures count { IfOk result (λ started. vec_len started.1 ≡ seats) }
+        ensures count { IfOk result (λ started. (vec_len started.1 ≡ seats) × (started.0.queue.hands ≡ seats)) }
         ensures seats { IfOk result (λ started. All (λ seat. (seat.hand ≡ Some started.0.queue) × (seat.slips ≡ [])) started.1.items) }
         ensures key { IfOk result (λ started. (started.2.name ≡ J.flusher) × (started.2.value ≡ told_of J.before J.first (record { book = parts.book; all = []; numbered_from = J.first }))) }
     {

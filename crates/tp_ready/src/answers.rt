@@ -1,0 +1,56 @@
+//! What queues answered.
+ghost use Rattle.std.specs.Prelude.{◌≡◌, List, [], ◌∷◌, ◌++◌};
+ghost use Rattle.tp_ready.specs.Answered.{answer};
+ghost use Rattle.tp_ready.specs.declared.answers.Answer.{Answer};
+
+use crate::queue::ReadyQueue;
+use std::collections::LinkedList;
+use std::marker::Model;
+use tp_token::{Seal, pair};
+
+/// What a queue answered: the number that it handed out, or none where none was there. No value of it is made.
+pub struct Answer {
+    pub queue: ReadyQueue,
+    pub number: Option<u8>,
+}
+
+/// All that queues answered to whoever has this, in order. It has no bytes, nobody can copy it, and only `take` adds to it.
+#[derive(Drop)]
+pub struct Answers {
+    all: Seal<LinkedList<Answer>>,
+}
+
+impl Model for Answers {
+    ghost use Rattle.std.specs.Prelude.{List};
+    ghost use Rattle.tp_ready.specs.declared.answers.Answer.{Answer};
+
+    ghost Value = { List Answer };
+
+    ghost view = { λ a. a.all.value };
+}
+
+// Shows the answers that the contract names. A caller names them by what it lends.
+fn shown(_old: &Answers, _queue: &ReadyQueue, _number: Option<u8>) -> Seal<LinkedList<Answer>>
+    ghost answers: { List Answer }
+    ensures { result.value ≡ answers }
+{
+    let (all, _key) = pair::<LinkedList<Answer>>();
+    all
+}
+
+impl Answers {
+    /// No queue was asked.
+    pub fn new() -> Answers
+        ensures { result ≡ [] }
+    {
+        let (all, _key) = pair::<LinkedList<Answer>>();
+        Answers { all }
+    }
+
+    /// Adds an answer of `queue`.
+    pub(crate) fn add(&mut self, queue: &ReadyQueue, number: Option<u8>)
+        ensures { self.new ≡ self.old ++ answer queue.now number ∷ [] }
+    {
+        self.all = shown(&*self, queue, number);
+    }
+}
