@@ -1,5 +1,7 @@
 pub mod Kept
+pub mod Puts
 pub mod Quiets
 pub mod Runs
 pub mod Shown
 pub mod Standings
+pub mod Stepping

@@ -1,48 +1,105 @@
 -- What streams leave of a device.
-use Rattle.std.proofs.Common.{◌≡◌, ◌≤◌, List, [], ℕ, Result, Ok, Err, subst}
+use Rattle.std.proofs.Common.{◌≡◌, ◌≤◌, ◌+◌, inl, inr, List, [], ◌∷◌, length, map, ℕ, Result, Ok, Err, ap, subst, ◌∙◌, arith}
 use Rattle.std.specs.Prelude.{IfErr, IfOk}
 use Rattle.std.proofs.lemmas.Result.{IfOk-weaker}
+use Rattle.tp_model.specs.declared.entry.Entry.{Entry}
 use Rattle.tp_model.specs.NodeState.{NodeState}
 use Rattle.tp_model.specs.Network.{Network}
 use Rattle.tp_model.specs.Disk.{MayBe}
-use Rattle.tp_model.specs.DiskHistory.{State}
+use Rattle.tp_model.specs.DiskHistory.{State, moment}
 use Rattle.tp_model.specs.Opening.{Opened, held_of, verdict}
 use Rattle.tp_model.specs.Runs.{World, reopened}
 use Rattle.tp_recover.specs.Reading.{LeavesNothingNew}
-use Rattle.tp_flush.specs.Known.{Began}
+use Rattle.tp_flush.specs.Known.{Began, Reached}
 use Rattle.tp_flush.specs.Flushing.{Flushing, Walked}
 use Rattle.tp_flush.specs.Follows.{Follows}
 use Rattle.tp_flush.proofs.Follows.{read_alone, read_first, stored_follows, walked_either, walked_follows}
+use Rattle.tp_stream_ends.specs.Held.{HasPut}
+use Rattle.tp_stream_ends.specs.Outputs.{Given, OutputValue, given_of}
 use Rattle.tp_stream_ends.specs.declared.ending.Ended.{Ended}
 use Rattle.tp_stream.specs.declared.fault.StreamFault.{StreamFault}
 use Rattle.tp_stream.specs.declared.fault.StreamFault.TheVariants.{Opening, Spare, Port, Unnamed, Short, Long, Gone, NotShown, ShortInput, InputFailed, OutputFailed, FlushFailed, JournalFull, Memory}
+use Rattle.tp_stream.specs.declared.standing.Standing.{Standing}
+use Rattle.tp_stream.specs.Put.{ArePut, EachWith, Got, Piece, ServedInto, StreamedInto, bytes_of}
+use Rattle.tp_stream.specs.Standing.{from_of, stands_opened}
+use Rattle.tp_stream.specs.Steps.{AllStepped, IsSetOut}
 use Rattle.tp_stream.specs.Streamed.{IsBegun, IsUnbegun, Streamed}
+use Rattle.tp_stream.proofs.Puts.{each_then}
+use Rattle.tp_stream.proofs.Stepping.{all_got}
 
--- a device that was opened, and whose flusher walked on from there
+-- a device that was opened, and whose flusher walked on from there, with steps of outputs on the way
 pub served : (start : Network NodeState) (before : World NodeState) (o : Opened) (old new : Flushing) (result : Result Ended StreamFault) → Began start before old.state.now.bytes
-    → verdict old.state.now.bytes ≡ Ok o → old.world ≡ reopened before old.state.now.bytes (held_of o) o.now → Walked old new → IfOk result (λ ended. ended.next ≤ new.world.mark)
-    → Streamed start result old.state new.state
-served start before o old new result began reads first W stored =
+    → verdict old.state.now.bytes ≡ Ok o → old.world ≡ reopened before old.state.now.bytes (held_of o) o.now → Reached start old.world → Walked old new
+    → IfOk result (λ ended. ended.next ≤ new.world.mark) → IfOk result (λ ended. ended.next ≡ length new.world.journal) → (was now : List OutputValue) → AllStepped start old new was now
+    → ServedInto start result was now old.state new.state
+served start before o old new result began reads first reached W stored last was now stepped =
     let bytes = old.state.now.bytes in record {
-      journal = new.world.journal;
-      leaves = walked_either start new.world.journal old.state new.state (walked_follows start before bytes o began reads old new first W);
-      stored = IfOk-weaker result (λ ended. ended.next ≤ new.world.mark) _ (λ ended low left may. stored_follows start before bytes o began reads old new first W ended.next low left may) stored;
+      streamed = record {
+        journal = new.world.journal;
+        leaves = walked_either start new.world.journal old.state new.state (walked_follows start before bytes o began reads old new first W);
+        stored = IfOk-weaker result (λ ended. ended.next ≤ new.world.mark) _ (λ ended low left may. stored_follows start before bytes o began reads old new first W ended.next low left may) stored;
+        last = last;
+      };
+      outputs = all_got start old new reached was now stepped;
     }
 
 -- a device that was only read
 pub unwritten : (start : Network NodeState) (fault : StreamFault) (old new : State) → LeavesNothingNew old new → Streamed start (Err fault) old new
-unwritten start fault old new L = record { journal = []; leaves = read_alone start [] old new L; stored = tt }
+unwritten start fault old new L = record { journal = []; leaves = read_alone start [] old new L; stored = tt; last = tt }
 
--- a device that was read, so that its bytes are the same, and then more
-pub opened : (start : Network NodeState) (result : Result Ended StreamFault) (old read new : State) → LeavesNothingNew old read → read.now.bytes ≡ old.now.bytes → Streamed start result read new
-    → Streamed start result old new
-opened start result old read new L same R = record {
-  journal = R.journal;
-  leaves = read_first start R.journal old read new L same R.leaves;
-  stored =
-      IfOk-weaker result (λ ended. (left : List ℕ) → MayBe new.now left → Follows start R.journal ended.next read.now.bytes left) _
-      (λ ended each left may. subst (λ bytes. Follows start R.journal ended.next bytes left) same (each left may)) R.stored;
-}
+-- and nothing was put
+pub unput : (start : Network NodeState) (fault : StreamFault) (was now : List OutputValue) (old new : State) → LeavesNothingNew old new → map given_of now ≡ map given_of was
+    → StreamedInto start (Err fault) was now old new
+unput start fault was now old new L same = record { streamed = unwritten start fault old new L; outputs = inl same }
+
+-- ## A device that was read first
+
+put_earlier : (start : Network NodeState) (journal : List Entry) (port from : ℕ) (old read new : State) → moment old ≤ moment read → (ps : List Piece) → ArePut start journal port from read new ps
+    → ArePut start journal port from old new ps
+put_earlier start journal port from old read new up [] each = tt
+put_earlier start journal port from old read new up (p ∷ ps) each =
+    let P = each.0 in
+    (record { shows = P.shows; later = let then = P.later in omega (arith, up, then); since = P.since }, each.1)
+
+-- an output that was set out before
+got_set : (start : Network NodeState) (journal : List Entry) (stands : ℕ → Standing) (old read new : State) → moment old ≤ moment read → (x y z : OutputValue) → IsSetOut stands x y
+    → Got start journal y.next read new y z → Got start journal (from_of (stands x.port) (given_of x)) old new x z
+got_set start journal stands old read new up x y z I G =
+    let port : y.port ≡ x.port = ap (λ (g : Given). g.port) I.given in
+    let held : y.held ≡ x.held = ap (λ (g : Given). g.held) I.given in
+    let from = from_of (stands x.port) (given_of x) in
+    record {
+      port = G.port ∙ port;
+      pieces = G.pieces;
+      each =
+          put_earlier start journal x.port from old read new up G.pieces
+          (subst (λ n. ArePut start journal x.port n read new G.pieces) I.next (subst (λ p. ArePut start journal p y.next read new G.pieces) port G.each));
+      next = G.next ∙ ap (λ n. n + length (bytes_of G.pieces)) I.next;
+      holds = subst (λ n. HasPut n (bytes_of G.pieces) x.held z.held) I.next (subst (λ h. HasPut y.next (bytes_of G.pieces) h z.held) held G.holds);
+    }
+
+-- a device that was read, so that its bytes are the same, and then more, behind outputs that were set out where their ports stand
+pub into : (start : Network NodeState) (result : Result Ended StreamFault) (o : Opened) (was set now : List OutputValue) (old read new : State) → LeavesNothingNew old read
+    → read.now.bytes ≡ old.now.bytes → verdict old.now.bytes ≡ Ok o → EachWith (IsSetOut (stands_opened o)) was set → ServedInto start result set now read new
+    → StreamedInto start result was now old new
+into start result o was set now old read new L same reads sets S =
+    let R = S.streamed in record {
+      streamed = record {
+        journal = R.journal;
+        leaves = read_first start R.journal old read new L same R.leaves;
+        stored =
+            IfOk-weaker result (λ ended. (left : List ℕ) → MayBe new.now left → Follows start R.journal ended.next read.now.bytes left) _
+            (λ ended each left may. subst (λ bytes. Follows start R.journal ended.next bytes left) same (each left may)) R.stored;
+        last = R.last;
+      };
+      outputs = inr (record {
+        opened = o;
+        reads = reads;
+        each =
+            each_then (IsSetOut (stands_opened o)) (λ a b. Got start R.journal a.next read new a b)
+            (λ a b. Got start R.journal (from_of (stands_opened o a.port) (given_of a)) old new a b) (got_set start R.journal (stands_opened o) old read new L.later) was set now sets S.outputs;
+      });
+    }
 
 -- a stream that was begun isn't answered as one that wasn't
 pub begun_written : (r : Result Ended StreamFault) → IfErr r IsBegun → IsUnbegun r → ⊥

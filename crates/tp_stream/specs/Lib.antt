@@ -1,7 +1,9 @@
 pub mod Endings
 pub mod Offered
 pub mod Outcomes
+pub mod Put
 pub mod Quiet
 pub mod Rooms
 pub mod Standing
+pub mod Steps
 pub mod Streamed

@@ -1,5 +1,5 @@
 -- What a stream leaves, whatever becomes of the device in it.
-use Rattle.std.specs.Prelude.{◌⊎◌, ℕ, List, Result, Ok, Err, IfOk}
+use Rattle.std.specs.Prelude.{◌≡◌, ◌⊎◌, ℕ, List, length, Result, Ok, Err, IfOk}
 use Rattle.tp_model.specs.declared.entry.Entry.{Entry}
 use Rattle.tp_model.specs.NodeState.{NodeState}
 use Rattle.tp_model.specs.Network.{Network}
@@ -12,11 +12,12 @@ use Rattle.tp_stream.specs.declared.fault.StreamFault.TheVariants.{Opening, Spar
 
 -- A crash at any moment of the stream leaves what one just before might have left, or what opens to where a prefix of the journal leads,
 -- with all that the device had as it was opened: that is the journal's beginning, and the next number is no less than it was. After a
--- stream that was done, the prefix has each entry below the answered number.
+-- stream that was done, the answered number is the one behind the journal's last entry, and the prefix has each entry below it.
 pub record Streamed (start : Network NodeState) (result : Result Ended StreamFault) (old new : State) : Type 0 where
   pub journal : List Entry
   pub leaves : LeavesOnly old new (λ left. MayBe old.now left ⊎ Follows start journal 0 old.now.bytes left)
   pub stored : IfOk result (λ ended. (left : List ℕ) → MayBe new.now left → Follows start journal ended.next old.now.bytes left)
+  pub last : IfOk result (λ ended. ended.next ≡ length journal)
 
 -- the device isn't written
 abbrev pub IsUnbegun : {A : Type 0} → Result A StreamFault → Type 0

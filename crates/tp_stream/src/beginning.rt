@@ -4,7 +4,9 @@ ghost use Rattle.std.specs.Prelude.{◌≡◌, length, map, IfSome, OnOk, IfErr}
 ghost use Rattle.tp_port.specs.Counted.{AreCounted};
 ghost use Rattle.tp_stream_ends.specs.Inputs.{given_input};
 ghost use Rattle.tp_stream_ends.specs.Outputs.{given_of};
+ghost use Rattle.tp_stream.specs.Put.{EachWith};
 ghost use Rattle.tp_stream.specs.Standing.{AllHaveAccepted, AllMayBegin, IsFirstRefused, IsFirstShort, IsNotBegun, OfInput, OfOutput, accepted, standing};
+ghost use Rattle.tp_stream.specs.Steps.{IsSetOut};
 
 use crate::fault::StreamFault;
 use crate::output::begin;
@@ -84,6 +86,7 @@ fn begin_outputs<S: Sink, L: Listener>(
     ensures begun { OnOk result (AllMayBegin (standing book.now mark) (map given_of outputs.old)) }
     ensures refused { IfErr result (IsFirstRefused (length book.now.state.ports) (standing book.now mark) (map given_of outputs.old)) }
     ensures same { map given_of outputs.new ≡ map given_of outputs.old }
+    ensures set { OnOk result (EachWith (IsSetOut (standing book.now mark)) outputs.old outputs.new) }
 {
     for output in outputs.iter_mut() {
         if usize::from(output.port()) >= book.ports() {
@@ -136,6 +139,7 @@ pub(crate) fn begin_all<S: Sink, I: Source, L: Listener>(
     ensures inputs { OnOk result (AllHaveAccepted (accepted book.now) (map (λ i. given_input i.port (I.input i.source)) streams.old.inputs.items)) }
     ensures refused { IfErr result (IsNotBegun (length book.now.state.ports) (standing book.now mark) (accepted book.now) (map given_of streams.old.outputs.items) (map (λ i. given_input i.port (I.input i.source)) streams.old.inputs.items)) }
     ensures same { map given_of streams.new.outputs.items ≡ map given_of streams.old.outputs.items }
+    ensures set { OnOk result (EachWith (IsSetOut (standing book.now mark)) streams.old.outputs.items streams.new.outputs.items) }
 {
     begin_outputs(book, mark, &mut streams.outputs, listener)?;
     begin_inputs(book, &streams.inputs, listener)

@@ -1,6 +1,6 @@
 //! Flushes of a stream.
 
-ghost use Rattle.std.specs.Prelude.{◌≡◌, ◌≤◌, IfOk, IfErr};
+ghost use Rattle.std.specs.Prelude.{◌≡◌, ◌≤◌, length, IfOk, IfErr};
 ghost use Rattle.tp_flush.specs.Known.{Began};
 ghost use Rattle.tp_flush.specs.Flushing.{IsSameProcess, Walked};
 ghost use Rattle.tp_stream.specs.Streamed.{IsBegun};
@@ -10,7 +10,7 @@ use std::alloc::Global;
 use std::sync::Wait;
 use tp_disk::Disk;
 use tp_flush::{FlushFault, Flusher};
-use tp_shared::{Naming, Shared};
+use tp_shared::{Locked, Naming, Shared};
 
 /// A flush. Answers the mark.
 pub(crate) fn flush<J: Naming, D: Disk, R: Wait>(
@@ -33,13 +33,40 @@ pub(crate) fn flush<J: Naming, D: Disk, R: Wait>(
     }
 }
 
-/// The number that the next entry gets.
-fn next_of<J: Naming, R: Wait>(rt: &R, shared: &Shared<J>) -> u64 {
-    let held = shared.book().lock(rt);
-    held.book().next()
+/// The number that the next entry gets, under the book's lock, where the flusher has stored all below: its journal has no more.
+fn last_under<J: Naming, D: Disk>(
+    held: &mut Locked<J>,
+    flusher: &mut Flusher<J, D>,
+) -> Result<u64, StreamFault>
+    ensures same { flusher.new ≡ flusher.old }
+    ensures stored { IfOk result (λ next. next ≤ flusher.old.world.mark) }
+    ensures last { D.keeps → Began J.formatted J.before flusher.old.opened → IfOk result (λ next. next ≡ length flusher.old.world.journal) }
+    ensures begun { IfErr result IsBegun }
+{
+    flusher.settle_book(held);
+    let (next, mark) = (held.book().next(), flusher.mark());
+    if mark < next {
+        return Err(StreamFault::FlushFailed);
+    }
+    Ok(next)
 }
 
-/// The last flush. Answers the number that the next entry gets: all below is stored.
+/// The same, once the lock is had.
+fn last_of<J: Naming, D: Disk, R: Wait>(
+    rt: &R,
+    shared: &Shared<J>,
+    flusher: &mut Flusher<J, D>,
+) -> Result<u64, StreamFault>
+    ensures same { flusher.new ≡ flusher.old }
+    ensures stored { IfOk result (λ next. next ≤ flusher.old.world.mark) }
+    ensures last { D.keeps → Began J.formatted J.before flusher.old.opened → IfOk result (λ next. next ≡ length flusher.old.world.journal) }
+    ensures begun { IfErr result IsBegun }
+{
+    let mut held = shared.book().lock(rt);
+    last_under(&mut held, flusher)
+}
+
+/// The last flush. Answers the number that the next entry gets: all below is stored, and the journal has no more.
 pub(crate) fn finish<J: Naming, D: Disk, R: Wait>(
     rt: &R,
     alloc: Global,
@@ -49,12 +76,9 @@ pub(crate) fn finish<J: Naming, D: Disk, R: Wait>(
     ensures walks { D.keeps → Began J.formatted J.before flusher.old.opened → Walked flusher.old flusher.new }
     ensures process { IsSameProcess flusher.old flusher.new }
     ensures stored { IfOk result (λ next. next ≤ flusher.new.world.mark) }
+    ensures last { D.keeps → Began J.formatted J.before flusher.old.opened → IfOk result (λ next. next ≡ length flusher.new.world.journal) }
     ensures begun { IfErr result IsBegun }
 {
-    let next = next_of(rt, shared);
-    let mark = flush(rt, alloc, shared, flusher)?;
-    if mark < next {
-        return Err(StreamFault::FlushFailed);
-    }
-    Ok(next)
+    let _mark = flush(rt, alloc, shared, flusher)?;
+    last_of(rt, shared, flusher)
 }

@@ -8,7 +8,9 @@ ghost use Rattle.tp_flush.specs.Made.{StandsFor};
 ghost use Rattle.tp_stream.specs.declared.fault.StreamFault.TheVariants.{Memory};
 ghost use Rattle.tp_stream_ends.specs.Inputs.{given_input};
 ghost use Rattle.tp_stream_ends.specs.Outputs.{given_of};
+ghost use Rattle.tp_stream.specs.Put.{EachWith};
 ghost use Rattle.tp_stream.specs.Standing.{AllHaveAccepted, AllMayBegin, IsNotBegun, accepted_opened, stands_opened};
+ghost use Rattle.tp_stream.specs.Steps.{IsSetOut};
 
 use crate::beginning::begin_all;
 use crate::fault::StreamFault;
@@ -53,6 +55,7 @@ pub(crate) fn parts_of<S: Sink, I: Source, L: Listener>(
     ensures inputs { OnOk result (AllHaveAccepted (accepted_opened opened) (map (λ i. given_input i.port (I.input i.source)) streams.old.inputs.items)) }
     ensures refused { IfErr result (λ fault. (fault ≡ Memory) ⊎ IsNotBegun (length opened.now.ports) (stands_opened opened) (accepted_opened opened) (map given_of streams.old.outputs.items) (map (λ i. given_input i.port (I.input i.source)) streams.old.inputs.items) fault) }
     ensures untouched { map given_of streams.new.outputs.items ≡ map given_of streams.old.outputs.items }
+    ensures set { OnOk result (EachWith (IsSetOut (stands_opened opened)) streams.old.outputs.items streams.new.outputs.items) }
 {
     opened_books_begin();
     opened.known();

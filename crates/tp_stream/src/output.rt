@@ -9,6 +9,7 @@ ghost use Rattle.tp_stream_ends.specs.Outputs.{Grew, given_of};
 ghost use Rattle.tp_stream.specs.Standing.{MayBegin, Refuses, from_of, put_out, standing};
 ghost use Rattle.tp_stream.specs.Streamed.{IsBegun};
 ghost use Rattle.tp_stream.specs.Outcomes.{IsStepFault, step_fault_of};
+ghost use Rattle.tp_stream.specs.Steps.{AreLeft, IsSetOut, PutsShown};
 
 use crate::fault::StreamFault;
 use crate::standing::Standing;
@@ -102,6 +103,7 @@ pub(crate) fn begin<S: Sink>(
     ensures confirmed { OnOk result (output.new.confirmed ≡ (port_in book.now output.old.port).out_base) }
     ensures shown { OnOk result (output.new.next ≤ shown_upto_of book.now output.old.port mark) }
     ensures same { given_of output.new ≡ given_of output.old }
+    ensures set { OnOk result (IsSetOut (standing book.now mark) output.old output.new) }
 {
     let stand = Standing::of(book, output.port(), mark);
     set_out(output, stand)
@@ -118,6 +120,7 @@ fn put_shown<J: Naming, D: Disk, S: Sink>(
     ensures put { OnOk result (Grew (shown_from book.now output.old.port flusher.now.world.mark output.old.next) output.old output.new) }
     ensures shown { OnOk result (output.new.next ≡ shown_upto_of book.now output.old.port flusher.now.world.mark) }
     ensures front { KeepsFront output.old.next output.old.held output.new.held }
+    ensures puts { PutsShown book.now flusher.now.world.mark output.old output.new }
     ensures failed { OnErr result (output.new ≡ record output.old { held = output.new.held }) }
     ensures begun { IfErr result IsStepFault }
 {
@@ -159,7 +162,7 @@ fn confirm_put<J: Naming, D: Disk, S: Sink>(
 
 /// A step, under the book's lock: puts what the flusher's mark shows and wasn't put, at its positions, makes it safe, and confirms up to
 /// there. So what is put and confirmed was put out by entries that the flusher has stored. Where putting it or making it safe fails, or
-/// whoever takes it has gone, nothing is confirmed.
+/// whoever takes it has gone, nothing is confirmed. However it ends, what was put then is all of what the mark shows there, or nothing.
 pub(crate) fn step<J: Naming, D: Disk, S: Sink>(
     output: &mut Output<S>,
     held: &mut Locked<J>,
@@ -174,6 +177,8 @@ pub(crate) fn step<J: Naming, D: Disk, S: Sink>(
     ensures confirmed { OnOk result (output.new.confirmed ≡ output.new.next) }
     ensures failed { OnErr result (held.new ≡ held.old) }
     ensures front { KeepsFront output.old.next output.old.held output.new.held }
+    ensures puts { PutsShown held.old.book flusher.now.world.mark output.old output.new }
+    ensures left { AreLeft held.old.book held.new.book }
     ensures begun { IfErr result IsStepFault }
 {
     match put_shown(output, held.book(), flusher) {

@@ -1,6 +1,9 @@
 //! Steps of all streams of a network.
 
-ghost use Rattle.std.specs.Prelude.{IfErr};
+ghost use Rattle.std.specs.Prelude.{◌≡◌, IfErr};
+ghost use Rattle.tp_flush.specs.Known.{Began};
+ghost use Rattle.tp_stream.specs.Put.{EachWith};
+ghost use Rattle.tp_stream.specs.Steps.{AllStepped, AreLeft, PutsLeft, PutsShown};
 ghost use Rattle.tp_stream.specs.Streamed.{IsBegun};
 
 use crate::fault::StreamFault;
@@ -10,7 +13,7 @@ use std::sync::Wait;
 use tp_disk::Disk;
 use tp_flush::Flusher;
 use tp_model::limits::MAX_HELD;
-use tp_shared::{Naming, Shared};
+use tp_shared::{Locked, Naming, Shared};
 use tp_stream_ends::{Input, Output, Sink, Source, Streams};
 
 /// What steps of streams came to.
@@ -51,42 +54,80 @@ pub(crate) fn can_confirm<J: Naming, R: Wait>(rt: &R, shared: &Shared<J>, pace: 
     pace.rooms.has_room(held.book(), pace.confirms)
 }
 
-/// A step of a port's output, which takes the book's lock.
-fn step_output<J: Naming, D: Disk, S: Sink, R: Wait>(
-    rt: &R,
-    shared: &Shared<J>,
+/// A step of a port's output, under the book's lock. What is put is shown by the flusher's mark.
+fn step_output<J: Naming, D: Disk, S: Sink>(
+    held: &mut Locked<J>,
     flusher: &Flusher<J, D>,
     output: &mut Output<S>,
 ) -> Result<Pumped, StreamFault>
-    ensures { IfErr result IsBegun }
+    ensures left { AreLeft held.old.book held.new.book }
+    ensures puts { PutsShown held.old.book flusher.now.world.mark output.old output.new }
+    ensures begun { IfErr result IsBegun }
 {
     let before = output.put();
-    let mut held = shared.book().lock(rt);
-    held.known();
-    if output.port() >= shared.ports() {
+    if usize::from(output.port()) >= held.book().ports() {
         return Err(StreamFault::OutputFailed(output.port()));
     }
-    match crate::output::step(output, &mut held, flusher) {
+    match crate::output::step(output, held, flusher) {
         Ok(_) => Ok(Pumped::of(output.put() > before)),
         Err(StepFault::Gone) => Ok(Pumped::Gone),
         Err(StepFault::Fault(fault)) => Err(fault),
     }
 }
 
-/// A step of each output, also behind one whose taker has gone.
-fn step_outputs<J: Naming, D: Disk, S: Sink, R: Wait>(
-    rt: &R,
-    shared: &Shared<J>,
+/// A step of each output, under one hold of the book's lock, also behind one whose taker has gone. What is put is shown by the flusher's
+/// mark of what confirms have left of the book.
+fn step_all<J: Naming, D: Disk, S: Sink>(
+    held: &mut Locked<J>,
     flusher: &Flusher<J, D>,
     outputs: &mut [Output<S>],
 ) -> Result<Pumped, StreamFault>
-    ensures { IfErr result IsBegun }
+    ensures puts { EachWith (PutsLeft held.old.book flusher.now.world.mark) outputs.old outputs.new }
+    ensures begun { IfErr result IsBegun }
 {
     let mut pumped = Pumped::Nothing;
     for output in outputs.iter_mut() {
-        pumped = pumped.then(step_output(rt, shared, flusher, output)?);
+        pumped = pumped.then(step_output(held, flusher, output)?);
     }
     Ok(pumped)
+}
+
+/// The same, where the flusher has stored all that the book has: what is put are outputs where its journal leads. Else nothing is put
+/// before its next turn. Right behind one it is so, since nobody else makes entries.
+#[tactic(auto, using(crate::proofs::Stepping::all_still))]
+fn step_settled<J: Naming, D: Disk, S: Sink>(
+    held: &mut Locked<J>,
+    flusher: &mut Flusher<J, D>,
+    outputs: &mut [Output<S>],
+) -> Result<Pumped, StreamFault>
+    ensures same { flusher.new ≡ flusher.old }
+    ensures put { D.keeps → Began J.formatted J.before flusher.old.opened
+        → AllStepped J.formatted flusher.old flusher.old outputs.old outputs.new }
+    ensures begun { IfErr result IsBegun }
+{
+    flusher.known();
+    flusher.settle_book(held);
+    let (mark, next) = (flusher.mark(), held.book().next());
+    if mark < next {
+        return Ok(Pumped::Moved);
+    }
+    step_all(held, flusher, outputs)
+}
+
+/// The same, once the lock is had.
+fn step_outputs<J: Naming, D: Disk, S: Sink, R: Wait>(
+    rt: &R,
+    shared: &Shared<J>,
+    flusher: &mut Flusher<J, D>,
+    outputs: &mut [Output<S>],
+) -> Result<Pumped, StreamFault>
+    ensures same { flusher.new ≡ flusher.old }
+    ensures put { D.keeps → Began J.formatted J.before flusher.old.opened
+        → AllStepped J.formatted flusher.old flusher.old outputs.old outputs.new }
+    ensures begun { IfErr result IsBegun }
+{
+    let mut held = shared.book().lock(rt);
+    step_settled(&mut held, flusher, outputs)
 }
 
 /// A step of a port's input, which takes the book's lock. Whether the port took more. Room for the confirms is kept. Where it may not
@@ -139,17 +180,20 @@ fn step_inputs<J: Naming, I: Source, R: Wait>(
     Ok(Pumped::of(has_moved))
 }
 
-/// A step of each stream. Outputs are put and confirmed up to the flusher's mark. Where none has moved, and it may wait, it waits for input that hasn't come yet.
-/// Where whoever takes an output has gone, no port takes more.
+/// A step of each stream. Outputs are put and confirmed up to the flusher's mark: what is put are outputs where its journal leads. Where none
+/// has moved, and it may wait, it waits for input that hasn't come yet. Where whoever takes an output has gone, no port takes more.
 pub(crate) fn pump<J: Naming, D: Disk, S: Sink, I: Source, R: Wait>(
     rt: &R,
     shared: &Shared<J>,
     pace: Pace,
-    flusher: &Flusher<J, D>,
+    flusher: &mut Flusher<J, D>,
     may_wait: bool,
     streams: &mut Streams<S, I>,
 ) -> Result<Pumped, StreamFault>
-    ensures { IfErr result IsBegun }
+    ensures same { flusher.new ≡ flusher.old }
+    ensures put { D.keeps → Began J.formatted J.before flusher.old.opened
+        → AllStepped J.formatted flusher.old flusher.old streams.old.outputs.items streams.new.outputs.items }
+    ensures begun { IfErr result IsBegun }
 {
     let put = step_outputs(rt, shared, flusher, &mut streams.outputs)?;
     if put == Pumped::Gone {

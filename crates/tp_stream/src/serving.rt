@@ -1,9 +1,10 @@
 //! What a stream does with a network, and its flusher.
 
-ghost use Rattle.std.specs.Prelude.{◌≡◌, ◌≤◌, IfOk, IfSome, IfErr, OnOk};
+ghost use Rattle.std.specs.Prelude.{◌≡◌, ◌≤◌, length, IfOk, IfSome, IfErr, OnOk};
 ghost use Rattle.tp_flush.specs.Known.{Began};
 ghost use Rattle.tp_flush.specs.Flushing.{IsSameProcess, Walked};
 ghost use Rattle.tp_stream.specs.Quiet.{HaveRested, IsWhyEnded};
+ghost use Rattle.tp_stream.specs.Steps.{AllStepped};
 ghost use Rattle.tp_stream.specs.Streamed.{IsBegun};
 
 use crate::endings::{are_over, ending, may_wait};
@@ -100,17 +101,21 @@ fn make_turns<J: Naming, R: Wait>(
 
 /// A step of each stream, which waits for input where nothing else is left to do, and then turns. Where the journal has no room for the
 /// confirms, a snapshot is brought to its end before one is made. Answers why it is over, where it is.
+#[tactic(auto, using(crate::proofs::Stepping::all_still))]
 fn go_on<J: Naming, D: Disk, S: Sink, I: Source, L: Listener, R: Wait>(
     rt: &R,
     alloc: Global,
     shared: &Shared<J>,
     pace: Pace,
     going: &mut Going<J>,
-    flusher: &Flusher<J, D>,
+    flusher: &mut Flusher<J, D>,
     streams: &mut Streams<S, I>,
     listener: &mut L,
 ) -> Result<Option<Ending>, StreamFault>
     requires { HaveRested J.start going.old.turns.whose going.old.turns.idle }
+    ensures same { flusher.new ≡ flusher.old }
+    ensures put { D.keeps → Began J.formatted J.before flusher.old.opened
+        → AllStepped J.formatted flusher.old flusher.old streams.old.outputs.items streams.new.outputs.items }
     ensures why { IfOk result (λ ended. IfSome ended (IsWhyEnded J.start pace.task)) }
     ensures rested { OnOk result (HaveRested J.start going.new.turns.whose going.new.turns.idle) }
     ensures begun { IfErr result IsBegun }
@@ -132,6 +137,7 @@ fn go_on<J: Naming, D: Disk, S: Sink, I: Source, L: Listener, R: Wait>(
 }
 
 /// A flush, and all that comes behind it before the next one.
+#[tactic(auto, using(crate::proofs::Stepping::all_still))]
 fn cycle<J: Naming, D: Disk, S: Sink, I: Source, L: Listener, R: Wait>(
     rt: &R,
     alloc: Global,
@@ -145,6 +151,8 @@ fn cycle<J: Naming, D: Disk, S: Sink, I: Source, L: Listener, R: Wait>(
     requires { HaveRested J.start going.old.turns.whose going.old.turns.idle }
     ensures walks { D.keeps → Began J.formatted J.before flusher.old.opened → Walked flusher.old flusher.new }
     ensures process { IsSameProcess flusher.old flusher.new }
+    ensures put { D.keeps → Began J.formatted J.before flusher.old.opened
+        → AllStepped J.formatted flusher.old flusher.new streams.old.outputs.items streams.new.outputs.items }
     ensures why { IfOk result (λ ended. IfSome ended (IsWhyEnded J.start pace.task)) }
     ensures rested { OnOk result (HaveRested J.start going.new.turns.whose going.new.turns.idle) }
     ensures begun { IfErr result IsBegun }
@@ -165,6 +173,8 @@ fn cycles<J: Naming, D: Disk, S: Sink, I: Source, L: Listener, R: Wait>(
 ) -> (Flusher<J, D>, Result<Option<Ending>, StreamFault>, bool)
     ensures walks { D.keeps → Began J.formatted J.before first.opened → Walked first result.0 }
     ensures process { IsSameProcess first result.0 }
+    ensures put { D.keeps → Began J.formatted J.before first.opened
+        → AllStepped J.formatted first result.0 streams.old.outputs.items streams.new.outputs.items }
     ensures why { IfOk result.1 (λ ended. IfSome ended (IsWhyEnded J.start pace.task)) }
     ensures begun { IfErr result.1 IsBegun }
 {
@@ -209,8 +219,11 @@ pub(crate) fn serve<J: Naming, D: Disk, S: Sink, I: Source, L: Listener, R: Wait
 ) -> (Flusher<J, D>, Result<Ended, StreamFault>)
     ensures walks { D.keeps → Began J.formatted J.before flusher.opened → Walked flusher result.0 }
     ensures process { IsSameProcess flusher result.0 }
+    ensures put { D.keeps → Began J.formatted J.before flusher.opened
+        → AllStepped J.formatted flusher result.0 streams.old.outputs.items streams.new.outputs.items }
     ensures why { IfOk result.1 (λ ended. IsWhyEnded J.start pace.task ended.why) }
     ensures stored { IfOk result.1 (λ ended. ended.next ≤ result.0.world.mark) }
+    ensures last { D.keeps → Began J.formatted J.before flusher.opened → IfOk result.1 (λ ended. ended.next ≡ length result.0.world.journal) }
     ensures begun { IfErr result.1 IsBegun }
 {
     let (mut there, last, rests) = cycles(rt, alloc, shared, pace, flusher, streams, listener);

@@ -17,6 +17,7 @@ ghost use Rattle.tp_flush.specs.History.{History};
 ghost use Rattle.tp_shared.specs.Named.{Names};
 ghost use Rattle.tp_stream_ends.specs.Inputs.{given_input};
 ghost use Rattle.tp_stream_ends.specs.Outputs.{given_of};
+ghost use Rattle.tp_stream.specs.Put.{ServedInto, StreamedInto};
 ghost use Rattle.tp_stream.specs.Quiet.{IsAsked};
 ghost use Rattle.tp_stream.specs.Standing.{AllHaveAccepted, AllMayBegin, IsFirstRefused, IsFirstShort, OfInput, OfOutput, accepted_opened, stands_opened};
 ghost use Rattle.tp_stream.specs.Streamed.{IsBegun, IsUnbegun, Streamed};
@@ -87,7 +88,7 @@ fn stream_parts<J: Naming, D: Disk + Drop, S: Sink, I: Source, L: Listener, R: W
     requires synced { D.keeps → IsSynced (D.state store.disk) }
     ensures size { D.size_of result.0 ≡ D.size_of store.disk }
     ensures streamed { D.keeps → Began J.formatted J.before (D.state store.disk).now.bytes
-        → Streamed J.formatted result.1 (D.state store.disk) (D.state result.0) }
+        → ServedInto J.formatted result.1 streams.old.outputs.items streams.new.outputs.items (D.state store.disk) (D.state result.0) }
     ensures why { IfOk result.1 (λ ended. IsAsked task ended.why) }
     ensures begun { IfErr result.1 IsBegun }
 {
@@ -103,8 +104,9 @@ fn stream_parts<J: Naming, D: Disk + Drop, S: Sink, I: Source, L: Listener, R: W
 /// Answers the device, and the number that the next entry gets.
 ///
 /// Whatever a crash leaves at any moment of the call is what one just before might have left, or opens to where a prefix of the journal
-/// leads, with all that the device had. After a stream that was done it has each entry below the number that is answered. What a sink
-/// holds and what is confirmed is said by `Output`, of each moment.
+/// leads, with all that the device had. After a stream that was done it has each entry below the number that is answered, which are all
+/// of the journal. What a sink got, however the stream ends, are outputs of its port where entries of that journal lead that whatever a
+/// crash leaves from then on has. That all that was put is safe, and no more is confirmed, is said by `Output`, of each moment.
 pub fn stream<D: Disk + Drop, S: Sink, I: Source, L: Listener, R: Wait>(
     rt: &R,
     alloc: Global,
@@ -118,6 +120,8 @@ pub fn stream<D: Disk + Drop, S: Sink, I: Source, L: Listener, R: Wait>(
     ensures size { D.size_of result.0 ≡ D.size_of disk }
     ensures streamed { D.keeps → Began history.formatted history.before (D.state disk).now.bytes
         → Streamed history.formatted result.1 (D.state disk) (D.state result.0) }
+    ensures put { D.keeps → Began history.formatted history.before (D.state disk).now.bytes
+        → StreamedInto history.formatted result.1 streams.old.outputs.items streams.new.outputs.items (D.state disk) (D.state result.0) }
     ensures unwritten { D.keeps → IsUnbegun result.1 → LeavesNothingNew (D.state disk) (D.state result.0) }
     ensures unopened { D.keeps → IsErr (verdict (D.state disk).now.bytes) → (unopened : Unopened) × (result.1 ≡ Err (StreamFault.Opening unopened)) }
     ensures begun { D.keeps → (opened : OpenedValue) → verdict (D.state disk).now.bytes ≡ Ok opened

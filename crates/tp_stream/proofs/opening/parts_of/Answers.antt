@@ -5,6 +5,8 @@ use Rattle.tp_flush.proofs.Made.{kept_is, stands}
 use Rattle.tp_stream_ends.specs.Inputs.{given_input}
 use Rattle.tp_stream_ends.specs.Outputs.{given_of}
 use Rattle.tp_stream.specs.Standing.{AllHaveAccepted, AllMayBegin, accepted, accepted_opened, standing, stands_opened}
+use Rattle.tp_stream.specs.Put.{EachWith}
+use Rattle.tp_stream.specs.Steps.{IsSetOut}
 use Rattle.tp_stream.proofs.Standings.{not_begun_as, opened_accepted, opened_stands}
 use Rattle.tp_stream.proofs.opening.parts_of.Goals as goal
 
@@ -49,3 +51,10 @@ returns-in-Ok-parts_with-clause-inputs g c =
     let is = map (λ i. given_input i.port (g.I.Source.input i.source)) c.args.streams.now.inputs.items in
     subst (λ at. AllHaveAccepted at is)
     (ap accepted c.in-Ok-open.ensures ∙ opened_accepted s (Some c.journal_room-room.result) o c.in-Ok.ensures.now) c.in-Ok-begin_all.ensures.inputs
+
+pub returns-in-Ok-parts_with-clause-set : goal.returns-in-Ok-parts_with-clause-set
+returns-in-Ok-parts_with-clause-set g c =
+    let s = c.in-Ok.state in
+    let o = c.args.opened in
+    subst (λ at. EachWith (IsSetOut at) c.args.streams.now.outputs.items c.begin_all.new.streams.outputs.items)
+    (ap (λ (b : BookValue). standing b s.next) c.in-Ok-open.ensures ∙ opened_stands s (Some c.journal_room-room.result) o s.next c.in-Ok.ensures.now) c.in-Ok-begin_all.ensures.set

@@ -2,10 +2,18 @@ use Rattle.std.proofs.Common.{refl, sym, subst, ◌∙◌, arith}
 use Rattle.tp_flush.specs.Known.{Began}
 use Rattle.tp_flush.proofs.Turns.{walked_nowhere, walked_then}
 use Rattle.tp_stream.proofs.Quiets.{none_rested}
+use Rattle.tp_stream.proofs.Stepping.{all_still, all_then}
 use Rattle.tp_stream.proofs.serving.cycles.Goals as goal
 
 pub loop-init : goal.loop-init
-loop-init g c = record { process = record { opened = refl; size = refl; topology = refl }; walks = λ k began. walked_nowhere c.args.first (c.known.ensures.disk k); why = tt; rested = none_rested g.J.Naming.start c.new.result.whose c.new.result.idle (omega arith) c.new.ensures.idle; begun = tt }
+loop-init g c = record {
+  process = record { opened = refl; size = refl; topology = refl };
+  walks = λ k began. walked_nowhere c.args.first (c.known.ensures.disk k);
+  put = λ k began. all_still g.J.Naming.formatted c.args.first c.args.first c.args.streams.now.outputs.items;
+  why = tt;
+  rested = none_rested g.J.Naming.start c.new.result.whose c.new.result.idle (omega arith) c.new.ensures.idle;
+  begun = tt;
+}
 
 pub loop-preserved : goal.loop-preserved
 loop-preserved g c =
@@ -16,6 +24,10 @@ loop-preserved g c =
       walks = λ k began.
           walked_then c.args.first c.loop.flusher c.cycle-last.new.flusher (c.loop.invariant.walks k began)
           (c.cycle-last.ensures.walks k (subst (Began g.J.Naming.formatted g.J.Naming.before) (sym P.opened) began));
+      put = λ k began.
+          let there = subst (Began g.J.Naming.formatted g.J.Naming.before) (sym P.opened) began in
+          all_then g.J.Naming.formatted c.args.first c.loop.flusher c.cycle-last.new.flusher (c.loop.invariant.walks k began) (c.cycle-last.ensures.walks k there)
+          c.args.streams.now.outputs.items c.loop.streams.outputs.items c.cycle-last.new.streams.outputs.items (c.loop.invariant.put k began) (c.cycle-last.ensures.put k there);
       why = c.cycle-last.ensures.why;
       rested = c.cycle-last.ensures.rested;
       begun = c.cycle-last.ensures.begun;

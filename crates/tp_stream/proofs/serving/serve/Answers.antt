@@ -1,6 +1,7 @@
 use Rattle.std.proofs.Common.{sym, subst}
 use Rattle.tp_flush.specs.Known.{Began}
 use Rattle.tp_flush.proofs.Turns.{walked_then}
+use Rattle.tp_stream.proofs.Stepping.{all_until}
 use Rattle.tp_stream.proofs.serving.serve.Goals as goal
 
 pub returns-in-Ok-clause-walks : goal.returns-in-Ok-clause-walks
@@ -12,3 +13,19 @@ pub returns-in-Err-finish-clause-walks : goal.returns-in-Err-finish-clause-walks
 returns-in-Err-finish-clause-walks g c k began =
     walked_then c.args.flusher c.cycles-there.result.0 c.finish.new.flusher (c.cycles-there.ensures.walks k began)
     (c.finish.ensures.walks k (subst (Began g.J.Naming.formatted g.J.Naming.before) (sym c.cycles-there.ensures.process.opened) began))
+
+pub returns-in-Ok-clause-put : goal.returns-in-Ok-clause-put
+returns-in-Ok-clause-put g c k began =
+    let there = subst (Began g.J.Naming.formatted g.J.Naming.before) (sym c.cycles-there.ensures.process.opened) began in
+    all_until g.J.Naming.formatted c.args.flusher c.cycles-there.result.0 c.finish.new.flusher (c.cycles-there.ensures.walks k began) (c.finish.ensures.walks k there)
+    c.args.streams.now.outputs.items c.cycles-there.new.streams.outputs.items (c.cycles-there.ensures.put k began)
+
+pub returns-in-Err-finish-clause-put : goal.returns-in-Err-finish-clause-put
+returns-in-Err-finish-clause-put g c k began =
+    let there = subst (Began g.J.Naming.formatted g.J.Naming.before) (sym c.cycles-there.ensures.process.opened) began in
+    all_until g.J.Naming.formatted c.args.flusher c.cycles-there.result.0 c.finish.new.flusher (c.cycles-there.ensures.walks k began) (c.finish.ensures.walks k there)
+    c.args.streams.now.outputs.items c.cycles-there.new.streams.outputs.items (c.cycles-there.ensures.put k began)
+
+pub returns-in-Ok-clause-last : goal.returns-in-Ok-clause-last
+returns-in-Ok-clause-last g c k began =
+    c.in-Ok.ensures.last k (subst (Began g.J.Naming.formatted g.J.Naming.before) (sym c.cycles-there.ensures.process.opened) began)

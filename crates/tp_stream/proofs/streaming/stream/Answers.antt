@@ -2,11 +2,12 @@ use Rattle.std.proofs.Common.{◌≡◌, inl, inr, length, map, Err, refl, sym, 
 use Rattle.tp_model.specs.Disk.{Moment}
 use Rattle.tp_flush.specs.Known.{Began}
 use Rattle.tp_stream.specs.declared.fault.StreamFault.TheVariants.{Opening}
+use Rattle.tp_stream.specs.Put.{ServedInto, StreamedInto}
 use Rattle.tp_stream.specs.Streamed.{Streamed}
 use Rattle.tp_stream_ends.specs.Inputs.{given_input}
 use Rattle.tp_stream_ends.specs.Outputs.{given_of}
 use Rattle.tp_stream.specs.Standing.{AllHaveAccepted, AllMayBegin, IsFirstRefused, IsFirstShort, OfInput, OfOutput, accepted_opened, stands_opened}
-use Rattle.tp_stream.proofs.Runs.{begun_written, opened, unwritten}
+use Rattle.tp_stream.proofs.Runs.{begun_written, into, unput, unwritten}
 use Rattle.tp_stream.proofs.Standings.{begun_refused, begun_short, no_input, no_output, on_ok, same_opened, says_first, says_short}
 use Rattle.tp_stream.proofs.streaming.stream.Goals as goal
 
@@ -27,15 +28,41 @@ returns-in-Err-parts_of-clause-streamed g c k began =
     subst (λ d. Streamed g.history.formatted (Err c.in-Err-parts_of.fault) (g.D.Disk.state c.args.disk) (g.D.Disk.state d)) (sym (c.into_disk.ensures ∙ c.store-store.ensures.disk))
     (unwritten g.history.formatted c.in-Err-parts_of.fault (g.D.Disk.state c.args.disk) (g.D.Disk.state c.open.new.disk) (c.open.ensures.leaves k))
 
-pub returns-clause-streamed : goal.returns-clause-streamed
-returns-clause-streamed g c k began =
+-- ## What was put
+
+pub returns-in-Err-clause-put : goal.returns-in-Err-clause-put
+returns-in-Err-clause-put g c k began =
+    let outputs = c.args.streams.now.outputs.items in
+    unput g.history.formatted (Opening c.in-Err.unopened) outputs outputs (g.D.Disk.state c.args.disk) (g.D.Disk.state c.open.new.disk) (c.open.ensures.leaves k) refl
+
+pub returns-in-Some-clause-put : goal.returns-in-Some-clause-put
+returns-in-Some-clause-put g c k began =
+    let outputs = c.args.streams.now.outputs.items in
+    unput g.history.formatted c.in-Some.fault outputs outputs (g.D.Disk.state c.args.disk) (g.D.Disk.state c.open.new.disk) (c.open.ensures.leaves k) refl
+
+pub returns-in-Err-parts_of-clause-put : goal.returns-in-Err-parts_of-clause-put
+returns-in-Err-parts_of-clause-put g c k began =
+    let was = c.args.streams.now.outputs.items in
+    let now = c.parts_of.new.streams.outputs.items in
+    subst (λ d. StreamedInto g.history.formatted (Err c.in-Err-parts_of.fault) was now (g.D.Disk.state c.args.disk) (g.D.Disk.state d)) (sym (c.into_disk.ensures ∙ c.store-store.ensures.disk))
+    (unput g.history.formatted c.in-Err-parts_of.fault was now (g.D.Disk.state c.args.disk) (g.D.Disk.state c.open.new.disk) (c.open.ensures.leaves k) c.in-Err-parts_of.ensures.untouched)
+
+pub returns-clause-put : goal.returns-clause-put
+returns-clause-put g c k began =
     let start = g.history.formatted in
     let done = c.stream_parts.result.1 in
+    let was = c.args.streams.now.outputs.items in
+    let set = c.parts_of.new.streams.outputs.items in
+    let now = c.stream_parts.new.streams.outputs.items in
     let kept : (g.D.Disk.state c.open.new.disk).now.bytes ≡ (g.D.Disk.state c.args.disk).now.bytes = ap (λ (m : Moment). m.bytes) (c.in-Ok.ensures.kept k) in
     let same : (g.D.Disk.state c.store-store.result.disk).now.bytes ≡ (g.D.Disk.state c.args.disk).now.bytes = ap (λ d. (g.D.Disk.state d).now.bytes) c.store-store.ensures.disk ∙ kept in
-    opened start done (g.D.Disk.state c.args.disk) (g.D.Disk.state c.open.new.disk) (g.D.Disk.state c.stream_parts.result.0) (c.open.ensures.leaves k) kept
-    (subst (λ d. Streamed start done (g.D.Disk.state d) (g.D.Disk.state c.stream_parts.result.0)) c.store-store.ensures.disk
+    into start done c.in-Ok.opened was set now (g.D.Disk.state c.args.disk) (g.D.Disk.state c.open.new.disk) (g.D.Disk.state c.stream_parts.result.0) (c.open.ensures.leaves k) kept
+    (c.in-Ok.ensures.is k) c.in-Ok-parts_of.ensures.set
+    (subst (λ d. ServedInto start done set now (g.D.Disk.state d) (g.D.Disk.state c.stream_parts.result.0)) c.store-store.ensures.disk
     (c.stream_parts.ensures.streamed k (subst (Began start g.history.before) (sym same) began)))
+
+pub returns-clause-streamed : goal.returns-clause-streamed
+returns-clause-streamed g c k began = (returns-clause-put g c k began).streamed
 
 pub returns-clause-unwritten : goal.returns-clause-unwritten
 returns-clause-unwritten g c k unbegun = absurd (begun_written c.stream_parts.result.1 c.stream_parts.ensures.begun unbegun)

@@ -4,7 +4,7 @@ use Rattle.tp_model.specs.DiskHistory.{State}
 use Rattle.tp_model.specs.Opening.{held_of, verdict}
 use Rattle.tp_model.specs.Runs.{reopened}
 use Rattle.tp_flush.specs.Known.{Began}
-use Rattle.tp_stream.specs.Streamed.{Streamed}
+use Rattle.tp_stream.specs.Put.{ServedInto}
 use Rattle.tp_stream.specs.Quiet.{IsWhyEnded}
 use Rattle.tp_stream.proofs.Quiets.{all_asked}
 use Rattle.tp_stream.proofs.Runs.{served}
@@ -23,9 +23,12 @@ returns-clause-streamed g c k began =
     let there : Began start before old.state.now.bytes = subst (λ (s : State). Began start before s.now.bytes) device began in
     let reads : verdict old.state.now.bytes ≡ Ok o = subst (λ (s : State). verdict s.now.bytes ≡ Ok o) device (c.requires.read k) in
     let world : old.world ≡ reopened before old.state.now.bytes (held_of o) o.now = subst (λ (s : State). old.world ≡ reopened before s.now.bytes (held_of o) o.now) device c.over-flusher.ensures.world in
-    subst (λ s. Streamed start done (g.D.Disk.state c.args.store.disk) s) (sym c.into_disk.ensures.state)
-    (subst (λ s. Streamed start done s new.state) c.over-flusher.ensures.device.0
-    (served start before o old new done there reads world (c.serve-flusher.ensures.walks k first) c.serve-flusher.ensures.stored))
+    let was = c.args.streams.now.outputs.items in
+    let now = c.serve-flusher.new.streams.outputs.items in
+    let S = c.serve-flusher.ensures in
+    subst (λ s. ServedInto start done was now (g.D.Disk.state c.args.store.disk) s) (sym c.into_disk.ensures.state)
+    (subst (λ s. ServedInto start done was now s new.state) c.over-flusher.ensures.device.0
+    (served start before o old new done there reads world (c.known.ensures.reached k first) (S.walks k first) S.stored (S.last k first) was now (S.put k first)))
 
 pub returns-clause-why : goal.returns-clause-why
 returns-clause-why g c =

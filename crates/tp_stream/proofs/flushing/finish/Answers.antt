@@ -1,0 +1,19 @@
+use Rattle.std.proofs.Common.{length, sym, subst, ◌≡◌, ◌≤◌}
+use Rattle.std.specs.Prelude.{IfOk}
+use Rattle.tp_flush.specs.Known.{Began}
+use Rattle.tp_flush.specs.Flushing.{Flushing, IsSameProcess, Walked}
+use Rattle.tp_stream.proofs.flushing.finish.Goals as goal
+
+pub returns-clause-walks : goal.returns-clause-walks
+returns-clause-walks g c k began = subst (λ (f : Flushing). Walked c.args.flusher.now f) (sym c.last_of.ensures.same) (c.flush.ensures.walks k began)
+
+pub returns-clause-process : goal.returns-clause-process
+returns-clause-process g c = subst (λ (f : Flushing). IsSameProcess c.args.flusher.now f) (sym c.last_of.ensures.same) c.flush.ensures.process
+
+pub returns-clause-stored : goal.returns-clause-stored
+returns-clause-stored g c = subst (λ (f : Flushing). IfOk c.last_of.result (λ next. next ≤ f.world.mark)) (sym c.last_of.ensures.same) c.last_of.ensures.stored
+
+pub returns-clause-last : goal.returns-clause-last
+returns-clause-last g c k began =
+    subst (λ (f : Flushing). IfOk c.last_of.result (λ next. next ≡ length f.world.journal)) (sym c.last_of.ensures.same)
+    (c.last_of.ensures.last k (subst (Began g.J.Naming.formatted g.J.Naming.before) (sym c.flush.ensures.process.opened) began))

@@ -1,0 +1,23 @@
+use Rattle.std.proofs.Common.{sym, subst}
+use Rattle.tp_flush.specs.Known.{Began}
+use Rattle.tp_flush.specs.Flushing.{Flushing, IsSameProcess, Walked}
+use Rattle.tp_flush.proofs.Turns.{walked_nowhere}
+use Rattle.tp_stream.specs.Steps.{AllStepped}
+use Rattle.tp_stream.proofs.Stepping.{all_since}
+use Rattle.tp_stream.proofs.serving.cycle.Goals as goal
+
+pub returns-clause-walks : goal.returns-clause-walks
+returns-clause-walks g c k began = subst (λ (f : Flushing). Walked c.args.flusher.now f) (sym c.go_on.ensures.same) (c.flush.ensures.walks k began)
+
+pub returns-clause-process : goal.returns-clause-process
+returns-clause-process g c = subst (λ (f : Flushing). IsSameProcess c.args.flusher.now f) (sym c.go_on.ensures.same) c.flush.ensures.process
+
+pub returns-clause-put : goal.returns-clause-put
+returns-clause-put g c k began =
+    let start = g.J.Naming.formatted in
+    let there = subst (Began start g.J.Naming.before) (sym c.flush.ensures.process.opened) began in
+    let W = c.flush.ensures.walks k began in
+    let was = c.args.streams.now.outputs.items in
+    let now = c.go_on.new.streams.outputs.items in
+    subst (λ (f : Flushing). AllStepped start c.args.flusher.now f was now) (sym c.go_on.ensures.same)
+    (all_since start c.args.flusher.now c.flush.new.flusher c.flush.new.flusher W (walked_nowhere c.flush.new.flusher W.now) was now (c.go_on.ensures.put k there))
