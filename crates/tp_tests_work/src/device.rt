@@ -3,7 +3,7 @@
 ghost use Rattle.std.specs.Prelude.{◌≡◌, IfOk};
 ghost use Rattle.tp_book.specs.Opened.{IsOpened};
 
-use std::alloc::Global;
+use std::alloc::{AllocError, Global};
 use std::test::Fail;
 use tp_area::format;
 use tp_book::{Book, NetState};
@@ -24,9 +24,16 @@ fn formatted(alloc: Global, topology: &Topology, images: &[Vec<u8>]) -> Result<M
     Ok(disk)
 }
 
+/// The image of the node that sends a letter, in a list.
+fn images(alloc: Global) -> Result<Vec<Vec<u8>>, AllocError> {
+    let mut images = Vec::new(alloc);
+    images.push(letter(alloc)?)?;
+    Ok(images)
+}
+
 /// The device of the node that sends a letter.
 fn device(alloc: Global) -> Result<MemDisk, Fail> {
-    let images = Vec::from_array(alloc, [letter(alloc)?])?;
+    let images = images(alloc)?;
     let topology = Topology::read(alloc, ONE_NODE)?;
     let disk = formatted(alloc, &topology, &images);
     disk

@@ -68,8 +68,8 @@ fn is_shown<J: Naming, R: Wait>(
     ensures { pass.new.mark ≡ J.mark }
 {
     match session.shown(rt, alloc, from, pass) {
-        Ok(bytes) => wanted == Ok(bytes.as_slice()),
-        Err(fault) => wanted == Err(fault),
+        Ok(bytes) => matches!(wanted, Ok(outputs) if outputs == bytes.as_slice()),
+        Err(fault) => matches!(wanted, Err(refusal) if refusal == fault),
     }
 }
 
