@@ -1,6 +1,6 @@
 #!/bin/bash
-# Opening a large device beside a plain read of it and a plain replay, interleaved in one run, outside the gate.
-# usage: bench/open.sh TPNET [ROUNDS]     16 nodes of 256 pages, 100,000 entries
+# Opening a large device by one thread and by four, beside a plain read of it and a plain replay, interleaved in one run, outside the gate.
+# usage: bench/open.sh TPNET [ROUNDS]     16 nodes of 256 pages, 100,000 entries: of 64 steps, then of 16
 set -e
 top=$(cd "$(dirname "$0")/.." && pwd)
 tpnet=$(realpath "$1")
@@ -10,25 +10,44 @@ trap 'rm -rf "$work"' EXIT
 rustc -O --edition 2021 -o "$work/plain" "$top/bench/plain.rs"
 sed 's/^pages 4/pages 256/' "$top/examples/compute.txt" > "$work/compute.txt"
 "$top/tools/make-image" "$work/compute.txt" "$work/node.img"
-"$top/bench/make-device" "$work/node.img" 16 100000 16 "$work/device"
+for steps in 64 16; do
+    "$top/bench/make-device" "$work/node.img" 16 100000 $steps "$work/device-$steps"
+done
 python3 - "$tpnet" "$work" "$rounds" <<'PY'
-import subprocess, sys, time
+import statistics, subprocess, sys, time
 tpnet, work, rounds = sys.argv[1:4]
 
-def seconds(*command):
+
+def commands(device):
+    return {
+        "by one thread": [tpnet, "recover", "--workers", "1", device],
+        "by four": [tpnet, "recover", "--workers", "4", device],
+        "plain replay": [work + "/plain", "open", device],
+        "plain read": ["cat", device],
+    }
+
+
+def seconds(command):
     begun = time.monotonic()
     out = subprocess.run(command, cwd=work, capture_output=True, check=True).stdout
     return time.monotonic() - begun, out
 
-ours, plain, read = [], [], []
-for _ in range(int(rounds)):
-    took, out = seconds(tpnet, "recover", "device")
-    ours.append(took)
-    took, expected = seconds(work + "/plain", "open", "device")
-    plain.append(took)
-    read.append(seconds("cat", "device")[0])
-    if out != expected:
-        sys.exit("the answers differ: %s %s" % (out, expected))
-print("open: proved %.3f s, plain replay %.3f s, plain read %.3f s, ratio %.2f (best of %s)" % (
-    min(ours), min(plain), min(read), min(plain) / min(ours), rounds))
+
+def say(device, took):
+    for word, pick in (("best", min), ("median", statistics.median)):
+        each = {name: pick(times) for name, times in took.items()}
+        print("%s, %s of %s: %s; one thread over four %.2f, plain replay over one thread %.2f" % (
+            device, word, rounds, ", ".join("%s %.3f s" % pair for pair in each.items()),
+            each["by one thread"] / each["by four"], each["plain replay"] / each["by one thread"]))
+
+
+for device in ("device-64", "device-16"):
+    took = {}
+    for _ in range(int(rounds)):
+        for name, command in commands(device).items():
+            once, out = seconds(command)
+            took.setdefault(name, []).append(once)
+            if name != "plain read" and out != b"next 100000\n":
+                sys.exit("%s, %s: the answer is %s" % (device, name, out))
+    say(device, took)
 PY

@@ -302,15 +302,15 @@ pub fn compact_file<
 
 /// `tpnet recover`, on a device's file, which stays as it is.
 pub fn recover_file<
-    R: Files<File = F> + AllocGlobal,
+    R: Files<File = F> + AllocGlobal + Threads + Sync,
     F: FileExt + OpenFile + Drop,
     O: Write,
     E: Write,
->(rt: &R, device: &str, out: &mut O, err: &mut E) -> u8
+>(rt: &R, device: &str, workers: u8, out: &mut O, err: &mut E) -> u8
     ensures { result ≤ 1 }
 {
     match disk_to_read(rt, device) {
-        Ok(mut disk) => recover_on(rt.alloc(), &mut disk, out, err),
+        Ok(mut disk) => recover_on(rt, rt.alloc(), &mut disk, workers, out, err),
         Err(refusal) => refuse(err, refusal),
     }
 }

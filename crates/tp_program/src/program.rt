@@ -33,7 +33,9 @@ fn carry_out<
         Asked::Format(new) => format_file(rt, new, system, out, err),
         Asked::Run(run) => run_file(rt, run, system, out, err),
         Asked::Compact { device, .. } => compact_file(rt, device.as_str(), system, out, err),
-        Asked::Recover { device } => recover_file(rt, device.as_str(), out, err),
+        Asked::Recover { device, workers } => {
+            recover_file(rt, device.as_str(), *workers, out, err)
+        }
         Asked::Show { device } => show_file(rt, device.as_str(), out, err),
         Asked::Check { topology, images } => {
             check_file(rt, topology.as_str(), images.as_str(), out, err)
@@ -51,7 +53,7 @@ fn device_of(asked: &Asked) -> Option<&str> {
         Asked::Format(new) => Some(new.device.as_str()),
         Asked::Run(run) => Some(run.device.as_str()),
         Asked::Compact { device, .. }
-        | Asked::Recover { device }
+        | Asked::Recover { device, .. }
         | Asked::Show { device }
         | Asked::View { device, .. } => Some(device.as_str()),
         Asked::Help(_) | Asked::Try { .. } | Asked::Check { .. } => None,

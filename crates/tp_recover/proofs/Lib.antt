@@ -15,6 +15,9 @@ pub mod CutsAreFlat
 pub mod HeldPorts
 pub mod ReplayedCuts
 mod Ranged
+mod PlayedRows
+mod SplitCuts
+mod TakenRows
 mod RowsAhead
 mod RowsRead
 pub mod Ages

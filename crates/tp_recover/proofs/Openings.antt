@@ -95,13 +95,13 @@ area_whole head second old now start last end S read same groups =
 
 -- ## A device
 
-abbrev area_of : List ℕ → Head → Bool → Result Opened OpenFault
+abbrev pub area_of : List ℕ → Head → Bool → Result Opened OpenFault
 area_of bytes head second = area_in t414 t414_ends head second (content_of head.areas second bytes)
 
 abbrev with_head : List ℕ → Head → Result Opened OpenFault
 with_head bytes head = chosen_area head.areas bytes >>= area_of bytes head
 
-verdict-head : (bytes : List ℕ) → verdict bytes ≡ (head_of bytes >>= with_head bytes)
+pub verdict-head : (bytes : List ℕ) → verdict bytes ≡ (head_of bytes >>= with_head bytes)
 unfolding verdict opening
 verdict-head bytes = refl
 

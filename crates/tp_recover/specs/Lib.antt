@@ -1,11 +1,14 @@
 pub mod AfterGroups
+pub mod Chosen
 pub mod Cuts
 pub mod Nodes
 pub mod Opens
 pub mod Parts
+pub mod Played
 pub mod Ports
 pub mod Reading
 pub mod RowsAnswers
 pub mod RowsInside
 pub mod RowsRead
 pub mod Starts
+pub mod Taken

@@ -36,6 +36,10 @@ tpnet format device net.txt . 18446744073709551616 2>err
 empty err
 tpnet recover 2>err
 empty err
+tpnet recover device --workers 0 2>err
+empty err
+tpnet recover device --workers 17 2>err
+empty err
 tpnet show device device 2>err
 empty err
 tpnet run device 2>err
@@ -88,6 +92,7 @@ tpnet format --help >out
 has out AreaFull
 tpnet recover -h >out
 has out Damaged
+has out --workers <W>
 tpnet run --help >out
 has out JournalFull
 tpnet format --help >out

@@ -180,6 +180,17 @@ fn fills(alloc: Global, filling: &Filling<'_>) -> Result<bool, Fail> {
     told
 }
 
+/// Each device that the groups of a filling fill.
+pub(crate) fn each_filled(alloc: Global) -> Result<Vec<Vec<u8>>, Fail> {
+    let mut devices = Vec::new(alloc);
+    for filling in FILLINGS {
+        let first = fresh(alloc, filling.area)?;
+        let (_, bytes) = filled(alloc, &first, filling)?;
+        devices.push(bytes)?;
+    }
+    Ok(devices)
+}
+
 #[test]
 fn areas_are_filled(rt: HostRuntime) -> Result<(), Fail> {
     for (i, filling) in FILLINGS.iter().enumerate() {

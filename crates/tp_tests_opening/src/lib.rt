@@ -3,6 +3,8 @@
 #![tactic(auto)]
 
 #[cfg(test)]
+mod apart;
+#[cfg(test)]
 mod append_faults;
 #[cfg(test)]
 mod checkpoints;

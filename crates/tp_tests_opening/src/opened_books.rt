@@ -28,7 +28,7 @@ const GROUP: &[u8] = &[
 ];
 
 /// The bytes of the device with that group.
-fn grown(alloc: Global) -> Result<Vec<u8>, Fail> {
+pub(crate) fn grown(alloc: Global) -> Result<Vec<u8>, Fail> {
     let mut bytes = fresh(alloc, AREA)?;
     place(&mut bytes, GROUPS, GROUP);
     Ok(bytes)

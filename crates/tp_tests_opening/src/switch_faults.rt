@@ -116,6 +116,15 @@ fn ends_of(
     Ok((start, end))
 }
 
+/// The same of a device that is formatted first.
+pub(crate) fn both_ends(alloc: Global, story: &Story<'_>) -> Result<(Vec<u8>, Vec<u8>), Fail> {
+    let first = fresh(alloc, AREA)?;
+    let topology = Letter::new(alloc)?.topology;
+    let pieces = Pieces::of(alloc, &first, &story.last)?;
+    let ends = ends_of(alloc, &topology, &pieces, &first, story);
+    ends
+}
+
 impl Known {
     /// What is known of a story over the device with `first`, which was just formatted.
     fn over(alloc: Global, first: &[u8], story: &Story<'_>) -> Result<Known, Fail> {

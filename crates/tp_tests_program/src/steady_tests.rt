@@ -5,6 +5,7 @@ use crate::format_tests::{AREA, images_of};
 use std::alloc::Global;
 use std::sync::Wait;
 use std::test::Fail;
+use std::thread::Threads;
 use tp_disk::Counted;
 use tp_net::Topology;
 use tp_program::{View, compact_on, format_on, recover_on, show_on, view_on};
@@ -14,7 +15,8 @@ use tp_tests_fixtures::{ONE_NODE, SIZE, letter};
 /// A command that reads a device.
 #[derive(Clone, Copy)]
 enum Reader {
-    Recover,
+    /// By so many threads.
+    Recover(u8),
     Show,
     Look(View),
 }
@@ -78,11 +80,15 @@ fn stepped<R: AllocGlobal + Wait>(
 }
 
 /// What a command says of a device.
-fn asked(alloc: Global, raw: RawChanging, reader: Reader) -> (RawChanging, Output) {
-    let mut disk = Counted::new(raw);
+fn asked<R: AllocGlobal + Threads + Sync>(
+    rt: &R,
+    raw: RawChanging,
+    reader: Reader,
+) -> (RawChanging, Output) {
+    let (alloc, mut disk) = (rt.alloc(), Counted::new(raw));
     let (mut out, mut err) = (Vec::new(alloc), Vec::new(alloc));
     let status = match reader {
-        Reader::Recover => recover_on(alloc, &mut disk, &mut out, &mut err),
+        Reader::Recover(workers) => recover_on(rt, alloc, &mut disk, workers, &mut out, &mut err),
         Reader::Show => show_on(alloc, &mut disk, &mut out, &mut err),
         Reader::Look(view) => view_on(alloc, &mut disk, view, &mut out, &mut err),
     };
@@ -90,11 +96,14 @@ fn asked(alloc: Global, raw: RawChanging, reader: Reader) -> (RawChanging, Outpu
 }
 
 /// What `show` says behind each of the writes, where the device then stays as it is.
-fn said_of_each(alloc: Global, raw: RawChanging) -> Result<(RawChanging, Vec<Output>), Fail> {
-    let (mut raw, mut said) = (raw, Vec::new(alloc));
+fn said_of_each<R: AllocGlobal + Threads + Sync>(
+    rt: &R,
+    raw: RawChanging,
+) -> Result<(RawChanging, Vec<Output>), Fail> {
+    let (mut raw, mut said) = (raw, Vec::new(rt.alloc()));
     for done in 0..=raw.count() {
         raw.rewind(done, None);
-        let (back, output) = asked(alloc, raw, Reader::Show);
+        let (back, output) = asked(rt, raw, Reader::Show);
         raw = back;
         said.push(output)?;
     }
@@ -118,8 +127,8 @@ fn is_of_a_moment(said: &[Output], from: usize, upto: usize, output: &Output) ->
 
 /// Asks `show` while writes come to pass, `count` of them before each call from one on, for each such call of the first `calls`. Answers
 /// how often what was said is of no moment in between.
-fn asked_meanwhile(
-    alloc: Global,
+fn asked_meanwhile<R: AllocGlobal + Threads + Sync>(
+    rt: &R,
     raw: RawChanging,
     said: &[Output],
     from: usize,
@@ -134,7 +143,7 @@ fn asked_meanwhile(
             count,
         };
         raw.rewind(from, Some(pace));
-        let (back, output) = asked(alloc, raw, Reader::Show);
+        let (back, output) = asked(rt, raw, Reader::Show);
         raw = back;
         if !is_of_a_moment(said, from, raw.done(), &output) {
             wrong = wrong.saturating_add(1);
@@ -153,10 +162,10 @@ fn an_answer_is_of_one_moment(rt: HostRuntime) -> Result<(), Fail> {
     for (gate, body) in GROUPS {
         raw = stepped(&rt, raw, *gate, body)?;
     }
-    let (mut raw, said) = said_of_each(rt.alloc(), raw)?;
+    let (mut raw, said) = said_of_each(&rt, raw)?;
     let calls = raw.calls();
     for (from, count) in PACES {
-        let (back, wrong) = asked_meanwhile(rt.alloc(), raw, &said, *from, *count, calls);
+        let (back, wrong) = asked_meanwhile(&rt, raw, &said, *from, *count, calls);
         raw = back;
         assert_eq!(rt; wrong, 0);
     }
@@ -206,10 +215,10 @@ fn switched(alloc: Global) -> Result<RawChanging, Fail> {
 }
 
 /// Whether `show` says what is so behind the switches, where they come while it reads.
-fn is_not_overlooked(alloc: Global) -> Result<bool, Fail> {
-    let mut raw = switched(alloc)?;
+fn is_not_overlooked<R: AllocGlobal + Threads + Sync>(rt: &R) -> Result<bool, Fail> {
+    let mut raw = switched(rt.alloc())?;
     let count = raw.count();
-    let (mut raw, still) = asked(alloc, raw, Reader::Show);
+    let (mut raw, still) = asked(rt, raw, Reader::Show);
     let from = count.wrapping_sub(SWITCHES.len().wrapping_mul(3));
     raw.rewind(
         from,
@@ -219,13 +228,13 @@ fn is_not_overlooked(alloc: Global) -> Result<bool, Fail> {
             count: 3,
         }),
     );
-    let (raw, output) = asked(alloc, raw, Reader::Show);
+    let (raw, output) = asked(rt, raw, Reader::Show);
     Ok(output.status == 0 && is_alike(&output, &still) && raw.done() == count)
 }
 
 #[test]
 fn no_switch_is_overlooked(rt: HostRuntime) -> Result<(), Fail> {
-    assert!(rt; is_not_overlooked(rt.alloc())?);
+    assert!(rt; is_not_overlooked(&rt)?);
     Ok(())
 }
 
@@ -241,8 +250,10 @@ fn aged(alloc: Global, times: u8) -> Result<RawChanging, Fail> {
 
 /// A command, in how many of its tries the device is written, and whether it says what is so in the end; else it says `Busy`.
 const TRIES: &[(Reader, u8, bool)] = &[
-    (Reader::Recover, 19, true),
-    (Reader::Recover, 20, false),
+    (Reader::Recover(1), 19, true),
+    (Reader::Recover(1), 20, false),
+    (Reader::Recover(2), 19, true),
+    (Reader::Recover(2), 20, false),
     (Reader::Show, 19, true),
     (Reader::Show, 20, false),
     (Reader::Show, 21, false),
@@ -253,11 +264,16 @@ const TRIES: &[(Reader, u8, bool)] = &[
 ];
 
 /// Whether a command says what it has to of a device that is written once in each of so many tries.
-fn is_tried(alloc: Global, reader: Reader, times: u8, is_read: bool) -> Result<bool, Fail> {
-    let mut raw = aged(alloc, times)?;
+fn is_tried<R: AllocGlobal + Threads + Sync>(
+    rt: &R,
+    reader: Reader,
+    times: u8,
+    is_read: bool,
+) -> Result<bool, Fail> {
+    let mut raw = aged(rt.alloc(), times)?;
     let count = raw.count();
     raw.rewind(count, None);
-    let (mut raw, still) = asked(alloc, raw, reader);
+    let (mut raw, still) = asked(rt, raw, reader);
     let (from, calls) = (count.wrapping_sub(usize::from(times)), raw.calls());
     raw.rewind(
         from,
@@ -267,7 +283,7 @@ fn is_tried(alloc: Global, reader: Reader, times: u8, is_read: bool) -> Result<b
             count: 1,
         }),
     );
-    let (_raw, output) = asked(alloc, raw, reader);
+    let (_raw, output) = asked(rt, raw, reader);
     Ok(if is_read {
         is_alike(&output, &still)
     } else {
@@ -278,7 +294,7 @@ fn is_tried(alloc: Global, reader: Reader, times: u8, is_read: bool) -> Result<b
 #[test]
 fn a_device_is_tried_twenty_times(rt: HostRuntime) -> Result<(), Fail> {
     for (reader, times, is_read) in TRIES {
-        assert!(rt; is_tried(rt.alloc(), *reader, *times, *is_read)?);
+        assert!(rt; is_tried(&rt, *reader, *times, *is_read)?);
     }
     Ok(())
 }

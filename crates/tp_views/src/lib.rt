@@ -1,6 +1,7 @@
 //! The commands that write no device, over any device and two writers: what they print, and what is said of a refusal.
 #![tactic(auto)]
 
+mod by_workers;
 mod checking;
 mod commands;
 mod damage;

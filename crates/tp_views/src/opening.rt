@@ -6,12 +6,14 @@ ghost use Rattle.tp_recover.specs.Reading.{LeavesNothingNew};
 ghost use Rattle.tp_views.specs.Front.{PrintsFront};
 ghost use Rattle.tp_views.specs.Opens.{IsUnwritten, Prints, front_of, recovered, shown};
 
+use crate::by_workers::open_steady_by;
 use crate::commands::{put, refuse};
 use crate::refusal::Refusal;
 use crate::shown::{Front, next_line, shown_text};
 use crate::steady::{Tried, open_steady};
 use std::alloc::Global;
 use std::io::Write;
+use std::thread::Threads;
 use tp_disk::Disk;
 use tp_recover::Opened;
 
@@ -29,14 +31,20 @@ fn front_of(opened: &Opened) -> Front
     }
 }
 
-fn recover<D: Disk, O: Write>(alloc: Global, disk: &mut D, out: &mut O) -> Result<(), Refusal>
+fn recover<D: Disk, O: Write, R: Threads + Sync>(
+    rt: &R,
+    alloc: Global,
+    disk: &mut D,
+    workers: u8,
+    out: &mut O,
+) -> Result<(), Refusal>
     ensures done { D.keeps → OnOk result (Prints recovered (D.state disk.old).now.bytes (O.contents out.old) (O.contents out.new)) }
     ensures leaves { D.keeps → LeavesNothingNew (D.state disk.old) (D.state disk.new) }
     ensures front { D.keeps → PrintsFront recovered (D.state disk.old).now.bytes (O.contents out.old) (O.contents out.new) }
     ensures kept { D.keeps → IsUnwritten (D.failures_of disk.old) (D.failures_of disk.new) (D.state disk.old).now (D.state disk.new).now }
     ensures refused { D.keeps → IsErr (verdict (D.state disk.old).now.bytes) → (IsErr result) × (O.contents out.new ≡ O.contents out.old) }
 {
-    let Tried::Steady(answer) = open_steady(alloc, disk) else {
+    let Tried::Steady(answer) = open_steady_by(rt, alloc, disk, workers) else {
         return Err(Refusal::Busy);
     };
     let opened = answer?;
@@ -63,11 +71,14 @@ fn show<D: Disk, O: Write>(alloc: Global, disk: &mut D, out: &mut O) -> Result<(
     put(out, text.as_bytes())
 }
 
-/// `tpnet recover`, on a device. Answers the program's status: 0 where the device opens and exactly its line was printed, else 1.
-/// Nothing is written to the device, and a crash finds nothing that the call made. Of one that doesn't open nothing is printed.
-pub fn recover_on<D: Disk, O: Write, E: Write>(
+/// `tpnet recover`, on a device, which `workers` threads open. Answers the program's status: 0 where the device opens and exactly its line
+/// was printed, else 1. Nothing is written to the device, and a crash finds nothing that the call made. Of one that doesn't open nothing
+/// is printed.
+pub fn recover_on<D: Disk, O: Write, E: Write, R: Threads + Sync>(
+    rt: &R,
     alloc: Global,
     disk: &mut D,
+    workers: u8,
     out: &mut O,
     err: &mut E,
 ) -> u8
@@ -78,7 +89,7 @@ pub fn recover_on<D: Disk, O: Write, E: Write>(
     ensures kept { D.keeps → IsUnwritten (D.failures_of disk.old) (D.failures_of disk.new) (D.state disk.old).now (D.state disk.new).now }
     ensures refused { D.keeps → IsErr (verdict (D.state disk.old).now.bytes) → (result ≡ 1) × (O.contents out.new ≡ O.contents out.old) }
 {
-    match recover(alloc, disk, out) {
+    match recover(rt, alloc, disk, workers, out) {
         Ok(()) => 0,
         Err(refusal) => refuse(err, refusal),
     }

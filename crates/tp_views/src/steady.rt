@@ -48,7 +48,7 @@ pub const MAX_TRIES: u32 = 20;
 /// What a look finds: where the areas are, and the fronts of both, in the order in which they are read: the first area's, the second
 /// one's, and the first one's again.
 #[derive(Clone, Copy, Debug, PartialEq, Eq)]
-struct Fronts {
+pub(crate) struct Fronts {
     areas: TwoAreas,
     first: AreaFront,
     second: AreaFront,
@@ -124,7 +124,7 @@ fn read_fronts<D: Disk>(disk: &mut D, areas: TwoAreas) -> Result<Fronts, Unopene
 }
 
 /// Looks at a device: finds the fronts of its areas, or none where it has no head, or one that breaks a rule.
-fn look<D: Disk>(disk: &mut D) -> Result<Option<Fronts>, Unopened>
+pub(crate) fn look<D: Disk>(disk: &mut D) -> Result<Option<Fronts>, Unopened>
     ensures counts { Counts (has_read result) (D.size_of disk.old) (D.size_of disk.new) (D.failures_of disk.old) (D.failures_of disk.new) }
     ensures kept { D.keeps → IsKept result (D.state disk.old).now (D.state disk.new).now }
     ensures leaves { D.keeps → LeavesNothingNew (D.state disk.old) (D.state disk.new) }
@@ -153,7 +153,7 @@ fn has_stayed(second: Option<bool>, before: Fronts, after: Fronts) -> bool
 }
 
 /// Whether what counted at the look `before` still counts at the look `after`.
-fn is_still(before: Option<Fronts>, after: Option<Fronts>) -> bool
+pub(crate) fn is_still(before: Option<Fronts>, after: Option<Fronts>) -> bool
     ensures { IsTrue result ↔ IsStill before after }
 {
     match (before, after) {

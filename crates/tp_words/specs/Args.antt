@@ -30,7 +30,7 @@ IsInRange (Try image turns) = turns < 2 ^ 32
 IsInRange (Format new) = new.area ≤ MAX_AREA
 IsInRange (Runs run) = IsRun run
 IsInRange (Compact device wait_lock) = Unit {0}
-IsInRange (Recover device) = Unit {0}
+IsInRange (Recover device workers) = (0 < workers) × (workers ≤ MAX_WORKERS)
 IsInRange (Show device) = Unit {0}
 IsInRange (Check topology images) = Unit {0}
 IsInRange (Views device view) = Unit {0}
@@ -64,7 +64,7 @@ WasTyped words (Format new) = (has_word (string_bytes new.device) words ≡ true
     × IsGivenOr 0 new.wait_lock (given (codes "wait-lock") words)
 WasTyped words (Runs run) = IsTypedRun words run
 WasTyped words (Compact device wait_lock) = (has_word (string_bytes device) words ≡ true) × IsGivenOr 0 wait_lock (given (codes "wait-lock") words)
-WasTyped words (Recover device) = has_word (string_bytes device) words ≡ true
+WasTyped words (Recover device workers) = (has_word (string_bytes device) words ≡ true) × IsGivenOr 1 workers (given (codes "workers") words)
 WasTyped words (Show device) = has_word (string_bytes device) words ≡ true
 WasTyped words (Check topology images) = (has_word (string_bytes topology) words ≡ true) × (has_word (string_bytes images) words ≡ true)
 WasTyped words (Views device view) = (has_word (string_bytes device) words ≡ true) × HasTyped words view

@@ -29,8 +29,8 @@ pub enum Asked {
     /// Makes a device's network, as it is, its cut, behind which the journal is empty.
     /// `wait_lock`: how many seconds another process is waited for that holds it.
     Compact { device: String, wait_lock: u32 },
-    /// Opens a device and says what the next entry's number is.
-    Recover { device: String },
+    /// Opens a device by `workers` threads and says what the next entry's number is.
+    Recover { device: String, workers: u8 },
     /// Opens a device and says what it holds.
     Show { device: String },
     /// Reads a topology and its images, and says how large an area has to be.
@@ -77,7 +77,7 @@ pub const MAX_AREA: u64 = 1 << 40;
 /// The most turns of a trial or a run.
 pub const MAX_TURNS: u64 = 4_294_967_295;
 
-/// The most threads that make the turns of a run, as many as `tp_run` takes.
+/// The most threads that make the turns of a run, as many as `tp_run` takes, and the most that open a device.
 pub const MAX_WORKERS: u8 = 16;
 
 /// How many steps a turn may run, where nothing else is asked for.
@@ -230,6 +230,17 @@ fn asked_run(alloc: Global, words: &[String], found: &ArgMatches) -> Result<Aske
     }))
 }
 
+fn asked_recover(alloc: Global, words: &[String], found: &ArgMatches) -> Result<Asked, ArgFault>
+    ensures range { IfOk result IsInRange }
+    ensures typed { IfOk result (WasTyped words.now) }
+{
+    let workers = MAX_WORKERS as u64;
+    Ok(Asked::Recover {
+        device: text_of(alloc, words, found, "DEVICE")?,
+        workers: option_or(alloc, words, found, "workers", 1, workers, 1)? as u8,
+    })
+}
+
 /// The first entry of a journal that is shown.
 fn first_of(alloc: Global, words: &[String], found: &ArgMatches) -> Result<View, ArgFault>
     ensures { IfOk result (HasTyped words.now) }
@@ -284,9 +295,7 @@ fn asked_in(alloc: Global, words: &[String], matches: &ArgMatches) -> Result<Ask
             device: text_of(alloc, words, found, "DEVICE")?,
             wait_lock: wait_of(alloc, words, found)?,
         }),
-        Some(("recover", found)) => Ok(Asked::Recover {
-            device: text_of(alloc, words, found, "DEVICE")?,
-        }),
+        Some(("recover", found)) => asked_recover(alloc, words, found),
         Some(("show", found)) => Ok(Asked::Show {
             device: text_of(alloc, words, found, "DEVICE")?,
         }),

@@ -215,12 +215,22 @@ fn node_command<'a>(
     opening(alloc, name, about)?.arg(word(alloc, "I", "the node's number, as in tpnet show"))
 }
 
+fn recover_command<'a>(alloc: Global) -> Result<Command<'a>, AllocError> {
+    let workers =
+        "threads that replay the nodes, 1 to 16 (1 where it isn't given); whatever their number, they say what one says";
+    opening(
+        alloc,
+        "recover",
+        "Opens a device, writes nothing, and prints the number of the next entry",
+    )?
+    .arg(option(alloc, "workers", "W", workers))
+}
+
 /// The commands that open a device, write nothing, and say what it holds as a whole.
 fn with_wholes<'a>(alloc: Global, command: Command<'a>) -> Result<Command<'a>, AllocError> {
-    let recover = "Opens a device, writes nothing, and prints the number of the next entry";
     let show = "Opens a device, writes nothing, and prints what it holds";
     command
-        .subcommand(opening(alloc, "recover", recover)?)?
+        .subcommand(recover_command(alloc)?)?
         .subcommand(opening(alloc, "show", show)?)
 }
 

@@ -1,0 +1,80 @@
+//! Opening a device, each node by itself.
+
+ghost use Rattle.std.specs.Prelude.{◌≡◌, ◌^◌, ◌<◌, ◌≤◌, IfOk};
+ghost use Rattle.tp_model.specs.Device.{areas_end, content_of};
+ghost use Rattle.tp_model.specs.Disk.{Sync, done};
+ghost use Rattle.tp_model.specs.DiskHistory.{Counts};
+ghost use Rattle.tp_model.specs.Node.{t414, t414_ends};
+ghost use Rattle.tp_model.specs.Opening.{area_in, verdict};
+ghost use Rattle.tp_recover.specs.Reading.{has_read, Answers, IsKept, LeavesNothingNew};
+
+use crate::opening::{Opened, read_chosen};
+use crate::played::play_rows;
+use crate::start::Start;
+use crate::taken::{Taken, read_taken};
+use crate::unopened::Unopened;
+use std::alloc::Global;
+use std::thread::Threads;
+use tp_disk::Disk;
+use tp_gate::Gate;
+use tp_layout::Head;
+
+/// Opens the device with `head`, as `open_area` does, by the pieces of its network. Its second area is taken where `second` holds,
+/// else its first.
+fn open_apart<D: Disk, R: Threads + Sync, G: Gate + Sync>(
+    alloc: Global,
+    disk: &mut D,
+    head: Head,
+    second: bool,
+    workers: u8,
+    gate: &G,
+    rt: &R,
+) -> Result<Opened, Unopened>
+    requires some { 0 < workers }
+    requires inside { areas_end head.areas ≤ D.size_of disk.old }
+    ensures counts { Counts (has_read result) (D.size_of disk.old) (D.size_of disk.new) (D.failures_of disk.old) (D.failures_of disk.new) }
+    ensures kept { D.keeps → IsKept result (D.state disk.old).now (D.state disk.new).now }
+    ensures leaves { D.keeps → LeavesNothingNew (D.state disk.old) (D.state disk.new) }
+    ensures head { IfOk result (λ opened. opened.head ≡ head) }
+    ensures is { D.keeps → Answers (λ opened. opened) (area_in t414 t414_ends head second (content_of head.areas second (D.state disk.old).now.bytes)) result }
+{
+    let Taken { start, rows, end } = read_taken(alloc, disk, &head, second)?;
+    let Start { front, cut, replay } = start;
+    let (network, _, _) = replay.into_parts();
+    let (replay, end) = play_rows(alloc, network, rows, end, workers, gate, rt)?;
+    Ok(Opened {
+        head,
+        second,
+        generation: front.generation,
+        base: front.base,
+        cut,
+        replay,
+        end,
+    })
+}
+
+/// Opens a device, as `open` does, each node by itself: its entries are replayed by pieces of its network, one for each worker that
+/// gets a node, and one for the host. Each piece is the job of a thread of its own. As one begins that has nodes, the gate is called at
+/// point 7 (`tp_gate::PIECE_BEGUN`) with the first of them.
+///
+/// The answer is what `open` answers, word for word, however many the workers are. All rows are read before the first entry is
+/// replayed: so where the device fails, or memory is refused, while later rows are read, that is the answer even if an earlier entry
+/// is damaged.
+pub fn open_parallel<D: Disk, R: Threads + Sync, G: Gate + Sync>(
+    alloc: Global,
+    disk: &mut D,
+    workers: u8,
+    gate: &G,
+    rt: &R,
+) -> Result<Opened, Unopened>
+    requires { (1 ≤ workers) × (workers ≤ 64) }
+    ensures counts { Counts (has_read result) (D.size_of disk.old) (D.size_of disk.new) (D.failures_of disk.old) (D.failures_of disk.new) }
+    ensures kept { D.keeps → IsKept result (done Sync (D.state disk.old).now) (D.state disk.new).now }
+    ensures leaves { D.keeps → LeavesNothingNew (D.state disk.old) (D.state disk.new) }
+    ensures whole { IfOk result (λ opened. areas_end opened.head.areas ≤ D.size_of disk.old) }
+    ensures counted { IfOk result (λ opened. D.size_of disk.old < 2 ^ 64) }
+    ensures is { D.keeps → Answers (λ opened. opened) (verdict (D.state disk.old).now.bytes) result }
+{
+    let (head, second) = read_chosen(disk)?;
+    open_apart(alloc, disk, head, second, workers, gate, rt)
+}

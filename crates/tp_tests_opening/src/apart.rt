@@ -1,0 +1,331 @@
+//! Devices that are opened each node by itself, by several workers, and in one thread: both calls say the same.
+
+use crate::checkpoints::{AFTER_A_GROUP, BEYOND_THE_GROUPS, OVER_OLD_GROUPS};
+use crate::devices::{LETTER, Letter, MORE, append, disk_of, fresh, held_in, is_same, store_of};
+use crate::filled_areas::each_filled;
+use crate::opened_books::grown;
+use crate::switch_faults::both_ends;
+use std::alloc::Global;
+use std::process::Abort;
+use std::test::Fail;
+use std::thread::Threads;
+use tp_gate::NoGate;
+use tp_model::OpenFault;
+use tp_recover::{Opened, Unopened, open, open_parallel};
+use tp_tests_fixtures::{AREA, place};
+use tp_tests_parts::Meeting;
+
+/// How many workers open each device: one; two; more than there are nodes; and as many as there may be.
+const WORKERS: [u8; 4] = [1, 2, 16, 64];
+
+/// Bytes over places of a device; and the next number that it then has, or the place where it is damaged.
+struct Content<'a> {
+    pieces: &'a [(usize, &'a [u8])],
+    says: Result<u64, u64>,
+}
+
+/// The device of one node, whose group has four entries, of 16 bytes each from 13,049 on: a run of 3 steps, the letter, its
+/// acknowledge, and a run of 16 steps.
+const ONE: &[Content<'static>] = &[
+    Content {
+        pieces: &[],
+        says: Ok(4),
+    },
+    // No group.
+    Content {
+        pieces: &[(13_033, &[0])],
+        says: Ok(0),
+    },
+    // Another letter is named than the node sent.
+    Content {
+        pieces: &[(13_069, &[0x42])],
+        says: Err(13_065),
+    },
+    // The run is too short: the letter isn't sent yet.
+    Content {
+        pieces: &[(13_051, &[2])],
+        says: Err(13_065),
+    },
+    // There is no such step.
+    Content {
+        pieces: &[(13_051, &[4])],
+        says: Err(13_049),
+    },
+    // Another letter, and behind it what is no entry.
+    Content {
+        pieces: &[(13_069, &[0x42]), (13_097, &[9])],
+        says: Err(13_065),
+    },
+    // What is no entry, and behind it another letter.
+    Content {
+        pieces: &[(13_049, &[9]), (13_069, &[0x42])],
+        says: Err(13_049),
+    },
+    // What is no entry, behind entries that are all possible.
+    Content {
+        pieces: &[(13_097, &[9])],
+        says: Err(13_097),
+    },
+    // A number out of order, and another letter in front of it.
+    Content {
+        pieces: &[(13_105, &[4])],
+        says: Err(13_097),
+    },
+    Content {
+        pieces: &[(13_105, &[4]), (13_069, &[0x42])],
+        says: Err(13_065),
+    },
+    // An open gate without a group behind it, and another letter in front of it.
+    Content {
+        pieces: &[(13_113, &[0xA5])],
+        says: Err(13_113),
+    },
+    Content {
+        pieces: &[(13_113, &[0xA5]), (13_069, &[0x42])],
+        says: Err(13_065),
+    },
+    // Node 40, line 263 and port 1 aren't there.
+    Content {
+        pieces: &[(13_050, &[40])],
+        says: Err(13_049),
+    },
+    Content {
+        pieces: &[(13_067, &[7, 1])],
+        says: Err(13_065),
+    },
+    Content {
+        pieces: &[(13_097, &[3, 1, 0x78, 0])],
+        says: Err(13_097),
+    },
+    // The acknowledge of a byte that nobody sent.
+    Content {
+        pieces: &[(13_066, &[2, 4, 0, 0])],
+        says: Err(13_065),
+    },
+];
+
+/// Two nodes, each of which sends the letter A on link 0, which is wired to the other.
+const PAIR: &[u8] = b"node left 4\nnode right 4\nport h\nwire left.0 right.0\nwire right.3 h\n";
+
+/// Bytes of an area of their device, and its group: each makes 3 steps, and takes the letter of the other.
+const PAIR_AREA: u64 = 65_536;
+
+const PAIR_GROUPS: usize = 17_317;
+
+const PAIR_GROUP: &[u8] = &[
+    0xA5, 0, 4, 0, 0, 0, 0, 0, 0, 0, 0, 0, 0, 0, 0, 0, // the header
+    1, 0, 3, 0, 0, 0, 0, 0, 0, 0, 0, 0, 0, 0, 0, 0, //
+    1, 1, 3, 0, 0, 0, 0, 0, 1, 0, 0, 0, 0, 0, 0, 0, //
+    2, 1, 0, 0, 0x41, 0, 0, 0, 2, 0, 0, 0, 0, 0, 0, 0, //
+    2, 1, 4, 0, 0x41, 0, 0, 0, 3, 0, 0, 0, 0, 0, 0, 0, //
+    0,
+];
+
+/// The device of the two.
+const TWO: &[Content<'static>] = &[
+    Content {
+        pieces: &[],
+        says: Ok(4),
+    },
+    Content {
+        pieces: &[(17_317, &[0])],
+        says: Ok(0),
+    },
+    // The second node takes another letter than the first one sent; and then so does the first.
+    Content {
+        pieces: &[(17_369, &[0x42])],
+        says: Err(17_365),
+    },
+    Content {
+        pieces: &[(17_369, &[0x42]), (17_385, &[0x43])],
+        says: Err(17_365),
+    },
+    // The first node alone does.
+    Content {
+        pieces: &[(17_385, &[0x43])],
+        says: Err(17_381),
+    },
+    // It takes the second one's letter before that is sent.
+    Content {
+        pieces: &[(17_351, &[2])],
+        says: Err(17_381),
+    },
+    // The second node takes another letter than the first one sent, and what is no entry stands behind that.
+    Content {
+        pieces: &[(17_369, &[0x42]), (17_381, &[9])],
+        says: Err(17_365),
+    },
+    // The second node takes the letter twice.
+    Content {
+        pieces: &[(17_383, &[0])],
+        says: Err(17_381),
+    },
+    // No third node is there.
+    Content {
+        pieces: &[(17_334, &[2])],
+        says: Err(17_333),
+    },
+];
+
+/// A device of two nodes with that group.
+fn pair(alloc: Global) -> Result<Vec<u8>, Fail> {
+    let mut bytes = Letter::of(alloc, PAIR, 2)?.device(alloc, PAIR_AREA)?;
+    place(&mut bytes, PAIR_GROUPS, PAIR_GROUP);
+    Ok(bytes)
+}
+
+/// Whether two devices hold the same, each opened by one of both calls.
+fn hold_same(alloc: Global, one: Opened, other: Opened) -> Result<bool, Fail> {
+    let same = one.second() == other.second()
+        && (one.generation(), one.base(), one.end())
+            == (other.generation(), other.base(), other.end())
+        && one.kept() == other.kept();
+    let one = held_in(alloc, one)?;
+    let other = held_in(alloc, other)?;
+    Ok(same && is_same(&one, &other))
+}
+
+/// Whether both calls say the same.
+fn is_said_by_both(
+    alloc: Global,
+    one: Result<Opened, Unopened>,
+    other: Result<Opened, Unopened>,
+) -> Result<bool, Fail> {
+    match (one, other) {
+        (Ok(one), Ok(other)) => hold_same(alloc, one, other),
+        (Err(one), Err(other)) => Ok(one == other),
+        _ => Ok(false),
+    }
+}
+
+/// Whether both calls say the same of a device, by so many workers.
+fn say_same<R: Threads + Sync>(
+    rt: &R,
+    alloc: Global,
+    bytes: &[u8],
+    workers: u8,
+) -> Result<bool, Fail> {
+    let mut disk = disk_of(alloc, bytes)?;
+    let apart = open_parallel(alloc, &mut disk, workers.clamp(1, 64), &NoGate, rt);
+    let whole = open(alloc, &mut disk);
+    is_said_by_both(alloc, whole, apart)
+}
+
+/// Whether both calls say the same of a device, however many workers there are.
+fn all_say_same<R: Threads + Sync>(rt: &R, alloc: Global, bytes: &[u8]) -> Result<bool, Fail> {
+    for workers in WORKERS {
+        if !say_same(rt, alloc, bytes, workers)? {
+            return Ok(false);
+        }
+    }
+    Ok(true)
+}
+
+/// Whether a device says this.
+fn is_told(told: &Result<Opened, Unopened>, says: Result<u64, u64>) -> bool {
+    match (told, says) {
+        (Ok(opened), Ok(next)) => opened.next() == next,
+        (Err(Unopened::Fault(OpenFault::Damaged(at))), Err(place)) => *at == place,
+        _ => false,
+    }
+}
+
+/// Whether a device says this where it is opened each node by itself.
+fn tells<R: Threads + Sync>(
+    rt: &R,
+    alloc: Global,
+    bytes: &[u8],
+    says: Result<u64, u64>,
+) -> Result<bool, Fail> {
+    let mut disk = disk_of(alloc, bytes)?;
+    let told = open_parallel(alloc, &mut disk, 2, &NoGate, rt);
+    Ok(is_told(&told, says))
+}
+
+/// Plays a table over a device.
+fn play<R: Threads + Sync + Abort>(
+    rt: &R,
+    alloc: Global,
+    device: &[u8],
+    contents: &[Content<'_>],
+) -> Result<(), Fail> {
+    for (i, content) in contents.iter().enumerate() {
+        let mut bytes = Vec::from_slice(alloc, device)?;
+        for (at, piece) in content.pieces {
+            place(&mut bytes, *at, piece);
+        }
+        let told = tells(rt, alloc, &bytes, content.says)? && all_say_same(rt, alloc, &bytes)?;
+        assert!(rt; told, "content {i}");
+    }
+    Ok(())
+}
+
+#[test]
+fn one_node_by_itself(rt: HostRuntime) -> Result<(), Fail> {
+    let alloc = rt.alloc();
+    let device = grown(alloc)?;
+    play(&rt, alloc, &device, ONE)
+}
+
+#[test]
+fn two_nodes_each_by_itself(rt: HostRuntime) -> Result<(), Fail> {
+    let alloc = rt.alloc();
+    let device = pair(alloc)?;
+    play(&rt, alloc, &device, TWO)
+}
+
+/// The pieces of both nodes meet at the gate as they begin, and no other one comes there. In one thread the first would look for the
+/// second in vain.
+#[test]
+fn both_pieces_meet_at_the_gate(rt: HostRuntime) -> Result<(), Fail> {
+    let alloc = rt.alloc();
+    let gate = Meeting::new(2);
+    let mut disk = disk_of(alloc, &pair(alloc)?)?;
+    let told = open_parallel(alloc, &mut disk, 2, &gate, &rt).is_ok();
+    assert!(rt; told);
+    assert_eq!(rt; gate.counts(), [2, 2, 1, 1]);
+    Ok(())
+}
+
+/// Whether both calls say the same of each device.
+fn are_said_by_both<R: Threads + Sync>(
+    rt: &R,
+    alloc: Global,
+    devices: &[Vec<u8>],
+) -> Result<bool, Fail> {
+    for bytes in devices {
+        if !all_say_same(rt, alloc, bytes)? {
+            return Ok(false);
+        }
+    }
+    Ok(true)
+}
+
+/// The device of one node with two groups.
+fn appended(alloc: Global) -> Result<Vec<u8>, Fail> {
+    let mut store = store_of(alloc, &fresh(alloc, AREA)?)?;
+    let first = append(&mut store, &LETTER).is_ok();
+    let both = first && append(&mut store, &MORE).is_ok();
+    let bytes = store.into_disk().crash();
+    if !both {
+        return Err(Fail::new("not appended"));
+    }
+    Ok(bytes)
+}
+
+/// The devices of the other tables here: with groups, filled, and with checkpoints.
+#[test]
+fn devices_of_other_tables(rt: HostRuntime) -> Result<(), Fail> {
+    let alloc = rt.alloc();
+    let mut devices = each_filled(alloc)?;
+    devices.push(fresh(alloc, AREA)?)?;
+    devices.push(appended(alloc)?)?;
+    for story in [&AFTER_A_GROUP, &BEYOND_THE_GROUPS, &OVER_OLD_GROUPS] {
+        let (start, end) = both_ends(alloc, story)?;
+        devices.push(start)?;
+        devices.push(end)?;
+    }
+    let told = are_said_by_both(&rt, alloc, &devices)?;
+    assert!(rt; told);
+    Ok(())
+}

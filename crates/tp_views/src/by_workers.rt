@@ -1,0 +1,88 @@
+//! Opening a device by several threads, which another process may be running.
+
+ghost use Rattle.std.specs.Prelude.{◌≡◌, ◌≤◌, ◌<◌, ◌^◌, IfOk};
+ghost use Rattle.tp_model.specs.Device.{areas_end};
+ghost use Rattle.tp_model.specs.Disk.{Sync, done};
+ghost use Rattle.tp_model.specs.DiskHistory.{Counts};
+ghost use Rattle.tp_model.specs.Opening.{verdict};
+ghost use Rattle.tp_recover.specs.Reading.{has_read, Answers, IsKept, LeavesNothingNew};
+ghost use Rattle.tp_views.specs.Steady.{OfSteady};
+
+use crate::steady::{MAX_TRIES, Tried, is_still, look};
+use std::alloc::Global;
+use std::thread::Threads;
+use tp_disk::Disk;
+use tp_gate::NoGate;
+use tp_recover::{Opened, Unopened, open, open_parallel};
+use tp_words::MAX_WORKERS;
+
+/// Opens a device by `workers` threads, 2 to 16 of them. Where there is one, or another number that no command line asks for, this thread
+/// opens it alone. What it answers is what `tp_recover::open` answers.
+pub fn open_by<D: Disk, R: Threads + Sync>(
+    rt: &R,
+    alloc: Global,
+    disk: &mut D,
+    workers: u8,
+) -> Result<Opened, Unopened>
+    ensures counts { Counts (has_read result) (D.size_of disk.old) (D.size_of disk.new) (D.failures_of disk.old) (D.failures_of disk.new) }
+    ensures kept { D.keeps → IsKept result (done Sync (D.state disk.old).now) (D.state disk.new).now }
+    ensures leaves { D.keeps → LeavesNothingNew (D.state disk.old) (D.state disk.new) }
+    ensures whole { IfOk result (λ opened. areas_end opened.head.areas ≤ D.size_of disk.old) }
+    ensures counted { IfOk result (λ opened. D.size_of disk.old < 2 ^ 64) }
+    ensures is { D.keeps → Answers (λ opened. opened) (verdict (D.state disk.old).now.bytes) result }
+{
+    if 1 < workers && workers <= MAX_WORKERS {
+        open_parallel(alloc, disk, workers, &NoGate, rt)
+    } else {
+        open(alloc, disk)
+    }
+}
+
+/// Opens a device by `workers` threads, as `open_once` does by one.
+fn open_once_by<D: Disk, R: Threads + Sync>(
+    rt: &R,
+    alloc: Global,
+    disk: &mut D,
+    workers: u8,
+) -> Tried
+    ensures leaves { D.keeps → LeavesNothingNew (D.state disk.old) (D.state disk.new) }
+    ensures counts { D.keeps → OfSteady (λ answer. Counts (has_read answer) (D.size_of disk.old) (D.size_of disk.new) (D.failures_of disk.old) (D.failures_of disk.new)) result }
+    ensures kept { D.keeps → OfSteady (λ answer. IsKept answer (done Sync (D.state disk.old).now) (D.state disk.new).now) result }
+    ensures is { D.keeps → OfSteady (Answers (λ opened. opened) (verdict (D.state disk.old).now.bytes)) result }
+{
+    let before = match look(disk) {
+        Ok(before) => before,
+        Err(unopened) => return Tried::Steady(Err(unopened)),
+    };
+    let answer = match open_by(rt, alloc, disk, workers) {
+        Err(Unopened::ReadFailed) => return Tried::Steady(Err(Unopened::ReadFailed)),
+        answer => answer,
+    };
+    match look(disk) {
+        Ok(after) if is_still(before, after) => Tried::Steady(answer),
+        Ok(_) => Tried::Changed,
+        Err(unopened) => Tried::Steady(Err(unopened)),
+    }
+}
+
+/// Opens a device by `workers` threads, as `open_steady` does by one: it says no less of the answer.
+pub fn open_steady_by<D: Disk, R: Threads + Sync>(
+    rt: &R,
+    alloc: Global,
+    disk: &mut D,
+    workers: u8,
+) -> Tried
+    ensures leaves { D.keeps → LeavesNothingNew (D.state disk.old) (D.state disk.new) }
+    ensures counts { D.keeps → OfSteady (λ answer. Counts (has_read answer) (D.size_of disk.old) (D.size_of disk.new) (D.failures_of disk.old) (D.failures_of disk.new)) result }
+    ensures kept { D.keeps → OfSteady (λ answer. IsKept answer (done Sync (D.state disk.old).now) (D.state disk.new).now) result }
+    ensures is { D.keeps → OfSteady (Answers (λ opened. opened) (verdict (D.state disk.old).now.bytes)) result }
+{
+    let mut left = MAX_TRIES;
+    while left > 0 {
+        left -= 1;
+        if let Tried::Steady(answer) = open_once_by(rt, alloc, disk, workers) {
+            return Tried::Steady(answer);
+        }
+    }
+    Tried::Changed
+}
