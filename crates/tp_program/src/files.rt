@@ -1,6 +1,6 @@
 //! The commands on files.
 
-ghost use Rattle.std.specs.Prelude.{◌≡◌, ◌≤◌, true, IfSome};
+ghost use Rattle.std.specs.Prelude.{◌≡◌, ◌≤◌, true, IfErr, IfSome};
 ghost use Rattle.tp_model.specs.Topology.{is_topology};
 ghost use Rattle.tp_words.specs.Args.{IsRun};
 ghost use Rattle.tp_words.specs.declared.args.TheConstants.{MAX_AREA};
@@ -8,6 +8,7 @@ ghost use Rattle.tp_words.specs.declared.args.TheConstants.{MAX_AREA};
 use crate::compacting::compact_on;
 use crate::formatting::format_on;
 use crate::running::run_on;
+use crate::watching::Watch;
 use std::alloc::Global;
 use std::fs::{Files, OpenFile};
 use std::io::Write;
@@ -19,7 +20,10 @@ use tp_disk::{Counted, NewDisk, NotedFile, RawFile};
 use tp_layout::{area_start, areas_of_length};
 use tp_net::{Named, Topology};
 use tp_stream_files::is_one_file;
-use tp_views::{Refusal, check_on, is_device_file, recover_on, refuse, show_on, try_on, view_on};
+use tp_views::{
+    Refusal, Seen, check_on, is_device_file, recover_on, refuse, show_on, status_on, try_on,
+    view_on,
+};
 use tp_words::{NewDevice, Run, View};
 
 /// Why a file wasn't read.
@@ -328,6 +332,56 @@ pub fn show_file<
         Ok(mut disk) => show_on(rt.alloc(), &mut disk, out, err),
         Err(refusal) => refuse(err, refusal),
     }
+}
+
+/// A look at a device's file, which stays as it is. Answers what was seen, or the status.
+fn look_file<
+    R: Files<File = F> + AllocGlobal,
+    F: FileExt + OpenFile + Drop,
+    W: Watch,
+    O: Write,
+    E: Write,
+>(
+    rt: &R,
+    watch: &mut W,
+    device: &str,
+    before: &Option<Seen>,
+    out: &mut O,
+    err: &mut E,
+) -> Result<Seen, u8>
+    ensures { IfErr result (λ status. status ≡ 1) }
+{
+    let (held, at) = (watch.is_held(device), watch.now());
+    match disk_to_read(rt, device) {
+        Ok(mut disk) => status_on(rt.alloc(), &mut disk, held, at, before, out, err),
+        Err(refusal) => Err(refuse(err, refusal)),
+    }
+}
+
+/// `tpnet status`, on a device's file, which stays as it is: one look, or one each so many seconds for as long as a further one is wanted
+/// and none is refused.
+pub fn status_file<
+    R: Files<File = F> + AllocGlobal,
+    F: FileExt + OpenFile + Drop,
+    W: Watch,
+    O: Write,
+    E: Write,
+>(rt: &R, watch: &mut W, device: &str, every: Option<u32>, out: &mut O, err: &mut E) -> u8
+    ensures { result ≤ 1 }
+{
+    let mut before = None;
+    for _ in 0..u64::MAX {
+        let seen = match look_file(rt, watch, device, &before, out, err) {
+            Ok(seen) => seen,
+            Err(status) => return status,
+        };
+        before = Some(seen);
+        match every {
+            Some(seconds) if watch.pause(seconds) => {}
+            _ => return 0,
+        }
+    }
+    0
 }
 
 /// The input of a run, which has none where no file was named.

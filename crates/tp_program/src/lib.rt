@@ -10,16 +10,20 @@ mod running;
 mod stream_explain;
 mod stream_program;
 mod streaming;
+mod watching;
 
 pub use compacting::compact_on;
 pub use formatting::format_on;
 pub use in_use::refuse_in_use;
-pub use program::answer;
+pub use program::{answer, answer_watching};
 pub use running::run_on;
 pub use stream_program::answer_stream;
 pub use streaming::{FilesFault, Streamed, stream_on};
-pub use tp_views::{TRY_QUANTUM, check_on, is_device_file, recover_on, show_on, try_on, view_on};
+pub use tp_views::{
+    Seen, TRY_QUANTUM, check_on, is_device_file, recover_on, show_on, status_on, try_on, view_on,
+};
 pub use tp_words::{
     ArgFault, Asked, EndsFault, NewDevice, Run, StreamArgFault, StreamAsked, StreamRun, View,
     is_stream, read_args, read_stream_args, wants_input,
 };
+pub use watching::{OneLook, Watch};

@@ -4,8 +4,10 @@ ghost use Rattle.std.specs.Prelude.{◌≡◌, ◌≤◌};
 ghost use Rattle.tp_words.specs.Args.{IsInRange};
 
 use crate::files::{
-    check_file, compact_file, format_file, recover_file, run_file, show_file, try_file, view_file,
+    check_file, compact_file, format_file, recover_file, run_file, show_file, status_file,
+    try_file, view_file,
 };
+use crate::watching::{OneLook, Watch};
 use std::fs::{Files, OpenFile};
 use std::io;
 use std::io::Write;
@@ -21,9 +23,17 @@ use tp_words::{Asked, has_word, read_args};
 fn carry_out<
     R: Files<File = F> + AllocGlobal + Threads + Wait + Sync,
     F: FileExt + OpenFile + Drop + Send,
+    W: Watch,
     O: Write,
     E: Write,
->(rt: &R, asked: &Asked, system: &mut Option<io::Error>, out: &mut O, err: &mut E) -> u8
+>(
+    rt: &R,
+    watch: &mut W,
+    asked: &Asked,
+    system: &mut Option<io::Error>,
+    out: &mut O,
+    err: &mut E,
+) -> u8
     requires { IsInRange asked.now }
     ensures { result ≤ 2 }
 {
@@ -37,6 +47,9 @@ fn carry_out<
             recover_file(rt, device.as_str(), *workers, out, err)
         }
         Asked::Show { device } => show_file(rt, device.as_str(), out, err),
+        Asked::Status { device, every } => {
+            status_file(rt, watch, device.as_str(), *every, out, err)
+        }
         Asked::Check { topology, images } => {
             check_file(rt, topology.as_str(), images.as_str(), out, err)
         }
@@ -55,6 +68,7 @@ fn device_of(asked: &Asked) -> Option<&str> {
         Asked::Compact { device, .. }
         | Asked::Recover { device, .. }
         | Asked::Show { device }
+        | Asked::Status { device, .. }
         | Asked::View { device, .. } => Some(device.as_str()),
         Asked::Help(_) | Asked::Try { .. } | Asked::Check { .. } => None,
     }
@@ -81,19 +95,21 @@ fn refuse_output<E: Write>(err: &mut E) -> u8
 
 /// Does what the words of a command line ask for, the program's name first. Answers the program's status: that of the
 /// command, or 2 where the words ask for nothing; no file is opened then. Asking for help is no fault.
-pub fn answer<
+/// `watch` says who holds a device that `status` looks at.
+pub fn answer_watching<
     R: Files<File = F> + AllocGlobal + Threads + Wait + Sync,
     F: FileExt + OpenFile + Drop + Send,
+    W: Watch,
     O: Write,
     E: Write,
->(rt: &R, words: &[String], out: &mut O, err: &mut E) -> u8
+>(rt: &R, watch: &mut W, words: &[String], out: &mut O, err: &mut E) -> u8
     ensures { result ≤ 2 }
 {
     match read_args(rt.alloc(), words) {
         Ok(asked) if prints_into_device(rt, &asked) => refuse_output(err),
         Ok(asked) => {
             let mut system = None;
-            let status = carry_out(rt, &asked, &mut system, out, err);
+            let status = carry_out(rt, watch, &asked, &mut system, out, err);
             if has_word(words, "--explain") {
                 match status {
                     0 => tell_halted(rt, &asked, err),
@@ -108,4 +124,16 @@ pub fn answer<
             2
         }
     }
+}
+
+/// The same where nobody else holds a device, and `status` takes one look.
+pub fn answer<
+    R: Files<File = F> + AllocGlobal + Threads + Wait + Sync,
+    F: FileExt + OpenFile + Drop + Send,
+    O: Write,
+    E: Write,
+>(rt: &R, words: &[String], out: &mut O, err: &mut E) -> u8
+    ensures { result ≤ 2 }
+{
+    answer_watching(rt, &mut OneLook, words, out, err)
 }

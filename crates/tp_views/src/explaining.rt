@@ -481,7 +481,10 @@ fn explanation<R: Files<File = F> + AllocGlobal, F: FileExt + OpenFile + Drop>(
             }
         }
         Asked::Compact { device, .. } => push_compact(rt, &mut text, device.as_str(), system)?,
-        Asked::Recover { device, .. } | Asked::Show { device } | Asked::View { device, .. } => {
+        Asked::Recover { device, .. }
+        | Asked::Show { device }
+        | Asked::Status { device, .. }
+        | Asked::View { device, .. } => {
             push_reading(rt, &mut text, device.as_str())?;
         }
     }

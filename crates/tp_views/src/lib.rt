@@ -15,8 +15,10 @@ mod places;
 mod refusal;
 mod registers;
 mod shown;
+mod status;
 mod steady;
 mod stopped;
+mod telling;
 mod view;
 
 pub use checking::check_on;
@@ -26,5 +28,7 @@ pub use explaining::{explain, push_opening};
 pub use looking::{is_special, push_error, push_file};
 pub use opening::{recover_on, show_on};
 pub use refusal::Refusal;
+pub use status::{PortSeen, Seen};
 pub use stopped::tell_halted;
+pub use telling::status_on;
 pub use view::view_on;

@@ -6,7 +6,7 @@ use Rattle.std.specs.declared.alloc.Global.{Global}
 use Rattle.std.specs.declared.string.String.{String}
 use Rattle.tp_model.specs.declared.limits.TheConstants.{MAX_STEPS}
 use Rattle.tp_words.specs.declared.args.Asked.{Asked}
-use Rattle.tp_words.specs.declared.args.Asked.TheVariants.{Help, Try, Format, Run as Runs, Compact, Recover, Show, Check, View as Views}
+use Rattle.tp_words.specs.declared.args.Asked.TheVariants.{Help, Try, Format, Run as Runs, Compact, Recover, Show, Status, Check, View as Views}
 use Rattle.tp_words.specs.declared.args.Run.{Run}
 use Rattle.tp_words.specs.declared.args.TheConstants.{MAX_AREA, MAX_WORKERS, QUANTUM}
 use Rattle.tp_words.specs.declared.views.View.{View}
@@ -14,7 +14,7 @@ use Rattle.tp_words.specs.declared.views.View.TheVariants.{Node, Image, Journal,
 use Rattle.tp_words.specs.Given.{given, IsGivenOr}
 use Rattle.tp_words.specs.Typed.{has_word, was_typed}
 
--- a snapshot begins after a number of entries, where one is given
+-- a snapshot begins after a number of entries, or a further look is taken after a number of seconds, where one is given
 abbrev pub IsEvery : Option ℕ → Type 0
 IsEvery None = Unit {0}
 IsEvery (Some every) = (0 < every) × (every < 2 ^ 32)
@@ -32,6 +32,7 @@ IsInRange (Runs run) = IsRun run
 IsInRange (Compact device wait_lock) = Unit {0}
 IsInRange (Recover device workers) = (0 < workers) × (workers ≤ MAX_WORKERS)
 IsInRange (Show device) = Unit {0}
+IsInRange (Status device every) = IsEvery every
 IsInRange (Check topology images) = Unit {0}
 IsInRange (Views device view) = Unit {0}
 
@@ -66,5 +67,6 @@ WasTyped words (Runs run) = IsTypedRun words run
 WasTyped words (Compact device wait_lock) = (has_word (string_bytes device) words ≡ true) × IsGivenOr 0 wait_lock (given (codes "wait-lock") words)
 WasTyped words (Recover device workers) = (has_word (string_bytes device) words ≡ true) × IsGivenOr 1 workers (given (codes "workers") words)
 WasTyped words (Show device) = has_word (string_bytes device) words ≡ true
+WasTyped words (Status device every) = (has_word (string_bytes device) words ≡ true) × (given (codes "every") words ≡ option_map decimal every)
 WasTyped words (Check topology images) = (has_word (string_bytes topology) words ≡ true) × (has_word (string_bytes images) words ≡ true)
 WasTyped words (Views device view) = (has_word (string_bytes device) words ≡ true) × HasTyped words view

@@ -33,6 +33,9 @@ pub enum Asked {
     Recover { device: String, workers: u8 },
     /// Opens a device and says what it holds.
     Show { device: String },
+    /// Opens a device and says in a line whether it is run, and how far it is.
+    /// `every`: how many seconds lie between two looks; `None`: there is one.
+    Status { device: String, every: Option<u32> },
     /// Reads a topology and its images, and says how large an area has to be.
     Check { topology: String, images: String },
     /// Opens a device and shows a view of it.
@@ -188,7 +191,7 @@ fn asked_format(alloc: Global, words: &[String], found: &ArgMatches) -> Result<A
     }))
 }
 
-/// The entries after which a snapshot begins.
+/// The entries after which a snapshot begins, or the seconds after which a device is looked at again.
 pub fn every_of(
     alloc: Global,
     words: &[String],
@@ -278,6 +281,16 @@ fn view_of(
     }
 }
 
+fn asked_status(alloc: Global, words: &[String], found: &ArgMatches) -> Result<Asked, ArgFault>
+    ensures range { IfOk result IsInRange }
+    ensures typed { IfOk result (WasTyped words.now) }
+{
+    Ok(Asked::Status {
+        device: text_of(alloc, words, found, "DEVICE")?,
+        every: every_of(alloc, words, found)?,
+    })
+}
+
 /// What a command line asks for that names a command.
 fn asked_in(alloc: Global, words: &[String], matches: &ArgMatches) -> Result<Asked, ArgFault>
     ensures range { IfOk result IsInRange }
@@ -299,6 +312,7 @@ fn asked_in(alloc: Global, words: &[String], matches: &ArgMatches) -> Result<Ask
         Some(("show", found)) => Ok(Asked::Show {
             device: text_of(alloc, words, found, "DEVICE")?,
         }),
+        Some(("status", found)) => asked_status(alloc, words, found),
         Some((name, found)) => Ok(Asked::View {
             device: text_of(alloc, words, found, "DEVICE")?,
             view: view_of(alloc, words, name, found)?,

@@ -50,6 +50,27 @@ Refusals (status 1); nothing is written to DEVICE:
   DeviceFailed  standard output can't be written
   Memory        there is no memory left";
 
+/// What the words of the line of `tpnet status` mean, and what it refuses.
+pub const STATUS_REFUSALS: &str = "The line:
+  running yes     another tpnet runs, formats or compacts DEVICE (no: none does)
+  generation G    the checkpoint that counts; one more each time
+  next M          the number of the next journal entry
+  entries E of R  the journal has E entries since that checkpoint, and room for R: how much of it that is, in percent
+  port P          and of each port: how many bytes it has accepted, and how many of these are pending, as no node has
+                  taken them; how many it has put out, and how many of these are unconfirmed
+  halted I F at A node I has halted by the fault F at the address A, each node so; or none has
+  +N/s            with --every: how much next, accepted and out grew in a second since the look before
+DEVICE may be run meanwhile: what is printed is so at one moment of the call.
+Refusals (status 1), which end --every; nothing is written to DEVICE:
+  ReadFailed    DEVICE can't be opened or read, or is no regular file: look at its path and its rights
+  NotFormatted  DEVICE is none: make one with tpnet format
+  BadVersion    DEVICE is of another version of tpnet
+  NoOpenArea    neither area is open: format was stopped, or the device was written over
+  Damaged AT    what stands at offset AT breaks its rule: restore a copy
+  Busy          another tpnet writes DEVICE so fast that no moment of it could be read: try again, or stop that one
+  DeviceFailed  standard output can't be written
+  Memory        there is no memory left";
+
 /// What `tpnet compact` refuses.
 pub const COMPACT_REFUSALS: &str =
     "Nothing runs, and nothing is lost: all output that isn't confirmed stays.

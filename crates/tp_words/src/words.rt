@@ -1,7 +1,8 @@
 //! The words that `clap` takes.
 
 use crate::help::{
-    CHECK_REFUSALS, COMPACT_REFUSALS, FORMAT_REFUSALS, OPENING_REFUSALS, RUN_REFUSALS, TRY_REFUSALS,
+    CHECK_REFUSALS, COMPACT_REFUSALS, FORMAT_REFUSALS, OPENING_REFUSALS, RUN_REFUSALS,
+    STATUS_REFUSALS, TRY_REFUSALS,
 };
 use clap::{Arg, ArgAction, Command};
 use std::alloc::{AllocError, Global};
@@ -130,6 +131,19 @@ fn opening<'a>(alloc: Global, name: &'a str, about: &'a str) -> Result<Command<'
     explained(alloc, name, about, OPENING_REFUSALS)?.arg(word(alloc, "DEVICE", "the device's file"))
 }
 
+fn status_command<'a>(alloc: Global) -> Result<Command<'a>, AllocError> {
+    let every =
+        "look again each S seconds, 1 to 4294967295, until it is interrupted (without it there is one look)";
+    explained(
+        alloc,
+        "status",
+        "Opens a device, writes nothing, and prints in one line whether it is run, and how far it is",
+        STATUS_REFUSALS,
+    )?
+    .arg(word(alloc, "DEVICE", "the device's file"))?
+    .arg(option(alloc, "every", "S", every))
+}
+
 fn journal_command<'a>(alloc: Global) -> Result<Command<'a>, AllocError> {
     let from = option(alloc, "from", "N", "the first number that is shown");
     opening(
@@ -231,7 +245,8 @@ fn with_wholes<'a>(alloc: Global, command: Command<'a>) -> Result<Command<'a>, A
     let show = "Opens a device, writes nothing, and prints what it holds";
     command
         .subcommand(recover_command(alloc)?)?
-        .subcommand(opening(alloc, "show", show)?)
+        .subcommand(opening(alloc, "show", show)?)?
+        .subcommand(status_command(alloc)?)
 }
 
 /// The commands that open a device, write nothing, and say something of a node.

@@ -3,6 +3,7 @@
 
 mod holding;
 mod stand_ins;
+mod watching;
 
 use holding::hold;
 use stand_ins::stand_in;
@@ -10,8 +11,9 @@ use std::io::Write;
 use std::process::ExitCode;
 use std::rt::Env;
 use std::{env, io};
-use tp_program::{answer, answer_stream, is_stream, refuse_in_use, wants_input};
+use tp_program::{answer_stream, answer_watching, is_stream, refuse_in_use, wants_input};
 use tp_stream_files::Threaded;
+use watching::Watcher;
 
 fn words_of<R: Env + AllocGlobal>(rt: &R) -> io::Result<Vec<String>> {
     let words = env::args(rt)?;
@@ -51,5 +53,7 @@ fn main(rt: HostRuntime) -> ExitCode {
         let status = answer_stream(&rt, words.as_slice(), &mut feed, &mut out, &mut err);
         return ExitCode::from(status);
     }
-    ExitCode::from(answer(&rt, words.as_slice(), &mut out, &mut err))
+    let mut watch = Watcher::new(&rt);
+    let status = answer_watching(&rt, &mut watch, words.as_slice(), &mut out, &mut err);
+    ExitCode::from(status)
 }

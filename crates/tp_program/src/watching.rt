@@ -1,0 +1,31 @@
+//! What `tpnet status` is told beside the device: who holds it, and the time.
+
+/// Says who holds a device and what time it is, and waits between two looks. It promises nothing.
+pub trait Watch {
+    /// Whether another process holds the device's file.
+    fn is_held(&mut self, device: &str) -> bool;
+
+    /// How many milliseconds have gone by since some start.
+    fn now(&mut self) -> u64;
+
+    /// Waits so many seconds. Answers whether a further look is wanted.
+    fn pause(&mut self, seconds: u32) -> bool;
+}
+
+/// Nobody holds a device, and one look is enough.
+#[derive(Drop)]
+pub struct OneLook;
+
+impl Watch for OneLook {
+    fn is_held(&mut self, _device: &str) -> bool {
+        false
+    }
+
+    fn now(&mut self) -> u64 {
+        0
+    }
+
+    fn pause(&mut self, _seconds: u32) -> bool {
+        false
+    }
+}

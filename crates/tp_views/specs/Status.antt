@@ -1,0 +1,134 @@
+-- The line that `status` prints of a device.
+use Rattle.std.specs.Prelude.{◌≡◌, ℕ, ◌+◌, ◌-◌, ◌*◌, ◌/◌, ◌^◌, ◌==◌, Bool, true, false, if◌then◌else◌, List, [], ◌∷◌, ◌++◌, length, map, codes, Option, Some, None, slice_get}
+use Rattle.std.specs.Fmt.{decimal, digits, format_spec, padded_integral}
+use Rattle.std.specs.Option.{option_map}
+use Rattle.tp_layout.specs.Capacity.{capacity, journal_of}
+use Rattle.tp_model.specs.NodeState.{NodeState}
+use Rattle.tp_model.specs.Network.{Port}
+use Rattle.tp_model.specs.Opening.{Opened, next_of}
+use Rattle.tp_model.specs.declared.processor.Fault.{Fault}
+use Rattle.tp_model.specs.declared.processor.Fault.TheVariants.{BadAddress, UnknownOp, LongPrefix, LinkBusy}
+use Rattle.tp_node.specs.Standing.{standing}
+use Rattle.tp_node.specs.declared.standing.Standing.{Standing}
+use Rattle.tp_node.specs.declared.standing.Standing.TheVariants.{Halted, Waits, Free}
+use Rattle.tp_views.specs.declared.status.PortSeen.{PortSeen}
+use Rattle.tp_views.specs.declared.status.Seen.{Seen}
+use Rattle.tp_views.specs.declared.status.Since.{Since}
+
+-- how many bytes a port has accepted, and how many it has put out
+abbrev pub accepted : Port → ℕ
+accepted port = port.in_base + length port.pending
+
+abbrev pub put_out : Port → ℕ
+put_out port = port.out_base + length port.outputs
+
+-- what a look sees of a port
+abbrev pub port_seen : Port → PortSeen
+port_seen port = record { accepted = accepted port; out = put_out port }
+
+-- what a look sees that the next one compares with
+pub record IsSeen (at : ℕ) (o : Opened) (seen : Seen) : Type 0 where
+  pub time : seen.at ≡ at
+  pub next : seen.next ≡ next_of o
+  pub ports : seen.ports.items ≡ map port_seen o.now.ports
+
+-- a count at a look so many milliseconds before
+abbrev pub next_before : ℕ → Option Seen → Option Since
+next_before at before = option_map (λ seen. record { count = seen.next; millis = at - seen.at }) before
+
+-- what a look before saw of a port, if it was there
+abbrev pub port_before : Option Seen → ℕ → Option PortSeen
+port_before None number = None
+port_before (Some seen) number = slice_get seen.ports.items number
+
+-- how many milliseconds before it was
+abbrev pub millis_since : ℕ → Option Seen → ℕ
+millis_since at None = 0
+millis_since at (Some seen) = at - seen.at
+
+-- the counts of a port then
+abbrev pub accepted_before : ℕ → Option PortSeen → Option Since
+accepted_before millis before = option_map (λ port. record { count = port.accepted; millis = millis }) before
+
+abbrev pub out_before : ℕ → Option PortSeen → Option Since
+out_before millis before = option_map (λ port. record { count = port.out; millis = millis }) before
+
+-- a count; where it was seen before, also by how much it grew in a second, rounded down
+abbrev pub growth_part : ℕ → Option Since → List ℕ
+growth_part now None = []
+growth_part now (Some since) =
+    if since.millis == 0 then [] else codes " +" ++ (decimal ((now - since.count) * 1000 / since.millis) ++ codes "/s")
+
+abbrev pub count_part : ℕ → Option Since → List ℕ
+count_part now since = decimal now ++ growth_part now since
+
+abbrev pub yes_or_no : Bool → List ℕ
+yes_or_no is_so = if is_so then codes "yes" else codes "no"
+
+-- how much of the room is in use, in percent, rounded down
+abbrev pub percent : ℕ → ℕ → ℕ
+percent entries room = if room == 0 then 0 else entries * 100 / room
+
+-- whether a process holds the device, which checkpoint it has, and the number of the next entry
+abbrev pub front_part : Bool → ℕ → ℕ → Option Since → List ℕ
+front_part held generation next since =
+    codes "running " ++ (yes_or_no held ++ (codes " generation " ++ (decimal generation ++ (codes " next " ++ count_part next since))))
+
+-- how many entries the journal has, and how many it has room for
+abbrev pub journal_part : ℕ → ℕ → List ℕ
+journal_part entries room =
+    codes " entries " ++ (decimal entries ++ (codes " of " ++ (decimal room ++ (codes " (" ++ (decimal (percent entries room) ++ codes " %)")))))
+
+-- what a port has accepted, and how much of that no node has taken
+abbrev pub accepted_part : ℕ → ℕ → Option Since → ℕ → List ℕ
+accepted_part number now since pending =
+    codes " port " ++ (decimal number ++ (codes " accepted " ++ (count_part now since ++ (codes " pending " ++ decimal pending))))
+
+-- what it has put out, and how much of that isn't confirmed
+abbrev pub out_part : ℕ → Option Since → ℕ → List ℕ
+out_part now since unconfirmed = codes " out " ++ (count_part now since ++ (codes " unconfirmed " ++ decimal unconfirmed))
+
+abbrev pub port_part : ℕ → ℕ → Option PortSeen → Port → List ℕ
+port_part number millis before port =
+    accepted_part number (accepted port) (accepted_before millis before) (length port.pending)
+    ++ out_part (put_out port) (out_before millis before) (length port.outputs)
+
+abbrev pub port_parts : ℕ → ℕ → Option Seen → List Port → List ℕ
+port_parts number at before [] = []
+port_parts number at before (port ∷ ports) =
+    port_part number (millis_since at before) (port_before before number) port ++ port_parts (number + 1) at before ports
+
+-- why a node halted, and the instruction at which it did, as eight hexadecimal digits
+abbrev pub fault_name : Fault → List ℕ
+fault_name BadAddress = codes "BadAddress"
+fault_name UnknownOp = codes "UnknownOp"
+fault_name LongPrefix = codes "LongPrefix"
+fault_name LinkBusy = codes "LinkBusy"
+
+abbrev pub address : ℕ → List ℕ
+address n = padded_integral (format_spec 32 0 4 8 (2 ^ 64 - 1)) false [] (digits 16 true n)
+
+abbrev pub halted_part : ℕ → Standing → List ℕ
+halted_part number (Halted fault at) = codes " halted " ++ (decimal number ++ (codes " " ++ (fault_name fault ++ (codes " at " ++ address at))))
+halted_part number Waits = []
+halted_part number Free = []
+
+abbrev pub halted_parts : ℕ → List NodeState → List ℕ
+halted_parts number [] = []
+halted_parts number (node ∷ nodes) = halted_part number (standing node) ++ halted_parts (number + 1) nodes
+
+-- each node that has halted, or that none has
+abbrev pub halted_or_none : List ℕ → List ℕ
+halted_or_none [] = codes " halted none"
+halted_or_none (byte ∷ bytes) = byte ∷ bytes
+
+-- How many entries the journal has room for.
+abbrev pub room_of : Opened → ℕ
+room_of o = capacity (journal_of o.head.topology o.head.areas.length)
+
+-- The line of a device that opened, where a process held it or none did, at a time in milliseconds, behind what a look before saw.
+abbrev pub status_line : Bool → ℕ → Option Seen → Opened → List ℕ
+status_line held at before o =
+    front_part held o.generation (next_of o) (next_before at before)
+    ++ (journal_part (length o.kept) (room_of o)
+    ++ (port_parts 0 at before o.now.ports ++ (halted_or_none (halted_parts 0 o.now.nodes) ++ 10 ∷ [])))
