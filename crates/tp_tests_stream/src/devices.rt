@@ -5,6 +5,7 @@ use std::test::Fail;
 use tp_area::format;
 use tp_disk::MemDisk;
 use tp_net::Topology;
+use tp_tests_fixtures::place;
 
 /// One node, whose link 0 goes to a port.
 pub(crate) const ONE: &[u8] = b"node a 4\nport h\nwire a.0 h\n";
@@ -59,12 +60,6 @@ const BYTES: &[(usize, &[u8])] = &[
     (172 + 0x2C, &[0, 0, 0, 0x80]),
 ];
 
-fn place(image: &mut [u8], at: usize, bytes: &[u8]) {
-    for (slot, byte) in image.iter_mut().skip(at).zip(bytes.iter()) {
-        *slot = *byte;
-    }
-}
-
 /// An image of this many pages with this code.
 fn image(alloc: Global, pages: u16, code: &[u8]) -> Result<Vec<u8>, AllocError> {
     let mut image = Vec::from_elem(alloc, 0u8, 172 + 1024 * usize::from(pages))?;
@@ -76,19 +71,51 @@ fn image(alloc: Global, pages: u16, code: &[u8]) -> Result<Vec<u8>, AllocError> 
     Ok(image)
 }
 
-/// A device of a topology, with areas of `area` bytes. All nodes have the same code.
+/// An image for each node, with its pages and this code.
+fn images_of(alloc: Global, all: &[u16], code: &[u8]) -> Result<Vec<Vec<u8>>, AllocError> {
+    let mut images = Vec::new(alloc);
+    for pages in all {
+        images.push(image(alloc, *pages, code)?)?;
+    }
+    Ok(images)
+}
+
+/// The bytes of a device of a topology with these images, and areas of `area` bytes.
+fn formatted_with(
+    alloc: Global,
+    topology: &Topology,
+    images: &[Vec<u8>],
+    area: u32,
+) -> Result<Vec<u8>, Fail> {
+    let mut disk = MemDisk::zeroed(alloc, 512 + 2 * area as usize)?;
+    // A topology keeps its rules: its page counts say so, which `format` asks.
+    let _rules = topology.pages();
+    let done = format(alloc, &mut disk, topology, images, u64::from(area));
+    let bytes = disk.crash();
+    done?;
+    Ok(bytes)
+}
+
+/// The same, where all nodes have this code.
+fn formatted_by(
+    alloc: Global,
+    topology: &Topology,
+    code: &[u8],
+    area: u32,
+) -> Result<Vec<u8>, Fail> {
+    let images = images_of(alloc, topology.pages(), code)?;
+    let device = formatted_with(alloc, topology, &images, area);
+    device
+}
+
+/// The bytes of a device of a topology, with areas of `area` bytes. All nodes have the same code.
 pub(crate) fn formatted(
     alloc: Global,
     text: &[u8],
     code: &[u8],
     area: u32,
-) -> Result<MemDisk, Fail> {
+) -> Result<Vec<u8>, Fail> {
     let topology = Topology::read(alloc, text)?;
-    let mut images = Vec::new(alloc);
-    for pages in topology.pages() {
-        images.push(image(alloc, *pages, code)?)?;
-    }
-    let mut disk = MemDisk::zeroed(alloc, 512 + 2 * area as usize)?;
-    format(alloc, &mut disk, &topology, &images, u64::from(area))?;
-    Ok(disk)
+    let device = formatted_by(alloc, &topology, code, area);
+    device
 }

@@ -1,13 +1,12 @@
 //! Why streams end, and which nodes have stopped then.
 
-use crate::devices::{DEAF, ECHO, HALTS, LETTERS, ONE, formatted};
-use crate::players::{QUIET, Told, nobody, numbered, play, streams};
+use crate::devices::{DEAF, ECHO, HALTS, LETTERS, ONE};
+use crate::players::{Asked, Desk, NO_INPUT, QUIET, play_desk};
 use std::process::Abort;
 use std::sync::Wait;
 use std::test::Fail;
-use tp_disk::MemDisk;
 use tp_model::Fault;
-use tp_stream::{Ended, Ending, MemSink, Stopped, StreamFault, Task};
+use tp_stream::{Ending, MemSink, Stopped, Task};
 
 /// A node's code, how many bytes its port is handed, how the stream is asked to end, why it ends, and how the node has stopped.
 #[derive(Clone, Copy)]
@@ -106,67 +105,81 @@ const ROWS: &[Row] = &[
     },
 ];
 
-/// A stream as a row asks for it.
-fn play_row<R: Wait + Abort>(
-    rt: &R,
-    row: &Row,
-    disk: MemDisk,
-    told: &mut Told,
-) -> Result<(MemDisk, Result<Ended, StreamFault>), Fail>
+/// Whether a stream with an empty sink ends as a row says, and the node is told of as it says.
+fn is_ended<R: Wait + Abort>(rt: &R, row: &Row, desk: &mut Desk) -> Result<bool, Fail>
 where
     R: AllocGlobal,
 {
-    let alloc = rt.alloc();
+    desk.sink = MemSink::empty(rt.alloc());
     let task = Task {
         turns: row.turns,
         until_quiet: row.until_quiet,
         stop_on_halt: row.stop_on_halt,
         ..QUIET
     };
-    let input = numbered(alloc, row.input)?;
-    let mut streams = streams(alloc, None, MemSink::empty(alloc), input, 4096)?;
-    Ok(play(rt, alloc, task, disk, &mut streams, told))
+    let asked = Asked {
+        task,
+        input: row.input,
+        most: 4096,
+        ..NO_INPUT
+    };
+    let played = play_desk(rt, asked, desk)?;
+    let is_told = played.told.stopped[0] == row.stopped && played.told.stopped[1].is_none();
+    Ok(is_told && played.why() == Some(row.why))
 }
 
-/// Whether it ends as a row says, and the node is told of as it says.
-fn is_ended<R: Wait + Abort>(rt: &R, row: &Row) -> Result<bool, Fail>
+/// Whether streams one after another do.
+fn are_ended<R: Wait + Abort>(rt: &R, rows: &[Row], desk: &mut Desk) -> Result<bool, Fail>
 where
     R: AllocGlobal,
 {
-    let disk = formatted(rt.alloc(), ONE, row.code, 262_144)?;
-    let mut told = nobody();
-    let (_, done) = play_row(rt, row, disk, &mut told)?;
-    let is_told = told.stopped[0] == row.stopped && told.stopped[1].is_none();
-    Ok(is_told && done.is_ok_and(|ended| ended.why == row.why))
+    for row in rows {
+        if !is_ended(rt, row, desk)? {
+            return Ok(false);
+        }
+    }
+    Ok(true)
+}
+
+/// The same on a device of a node with this code.
+fn are_ended_by<R: Wait + Abort>(rt: &R, code: &[u8], rows: &[Row]) -> Result<bool, Fail>
+where
+    R: AllocGlobal,
+{
+    let mut desk = Desk::fresh(rt.alloc(), ONE, code, 262_144)?;
+    let told = are_ended(rt, rows, &mut desk);
+    told
 }
 
 #[test]
 fn streams_say_why_they_end(rt: HostRuntime) -> Result<(), Fail> {
     for row in ROWS {
-        let ended = is_ended(&rt, row)?;
-        assert!(rt; ended);
+        assert!(rt; are_ended_by(&rt, row.code, &[*row])?);
     }
     Ok(())
 }
 
+/// A stream of a node that halts, which goes on until its input has gone; and one that is to end once a node has halted.
+const AGAIN: &[Row] = &[
+    Row {
+        code: HALTS,
+        input: 0,
+        stopped: HALTED,
+        ..ROW
+    },
+    Row {
+        code: HALTS,
+        input: 0,
+        stop_on_halt: true,
+        why: Ending::Halted,
+        stopped: HALTED,
+        ..ROW
+    },
+];
+
 /// A node that has halted before ends the next stream too that is to end so, and is told again.
 #[test]
 fn a_node_that_halted_before_ends_a_stream(rt: HostRuntime) -> Result<(), Fail> {
-    let row = Row {
-        code: HALTS,
-        input: 0,
-        ..ROW
-    };
-    let again = Row {
-        stop_on_halt: true,
-        ..row
-    };
-    let disk = formatted(rt.alloc(), ONE, HALTS, 262_144)?;
-    let (disk, first) = play_row(&rt, &row, disk, &mut nobody())?;
-    let mut told = nobody();
-    let (_, second) = play_row(&rt, &again, disk, &mut told)?;
-    assert!(rt; first.is_ok_and(|ended| ended.why == Ending::Gone));
-    assert!(rt; second.is_ok_and(|ended| ended.why == Ending::Halted));
-    assert!(rt; told.stopped[0] == HALTED);
+    assert!(rt; are_ended_by(&rt, HALTS, AGAIN)?);
     Ok(())
 }

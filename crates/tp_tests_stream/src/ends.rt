@@ -3,58 +3,75 @@
 ghost use Rattle.std.specs.Prelude.{None};
 
 use crate::devices::{ECHO, LETTERS, ONE, TWO, formatted};
-use crate::players::{Pieces, QUIET, nobody, numbered, play, source_of};
+use crate::players::{Desk, Pieces, QUIET, nobody, play};
+use crate::steps::{Bytes, PLAIN, Step, are_steps};
 use std::alloc::{AllocError, Global};
 use std::process::Abort;
 use std::sync::Wait;
 use std::test::Fail;
-use tp_disk::MemDisk;
-use tp_stream::{
-    Ended, Ending, Input, MemSink, Output, Sink, SinkFault, Source, StreamFault, Streams, Task,
+use tp_stream::{Ending, MemSink, Output, Sink, SinkFault, Source, StreamFault, Streams, Task};
+
+/// Nine numbered bytes, of which the source says that they are nine.
+const NINE: Step = Step {
+    input: 9,
+    length: Some(9),
+    ..PLAIN
 };
 
-/// What a stream answers to an input of `has` bytes, and to a sink that has `front` bytes.
-fn answer_to<R: Wait + Abort>(
-    rt: &R,
-    disk: MemDisk,
-    has: u64,
-    front: usize,
-) -> Result<(MemDisk, Result<Ended, StreamFault>), Fail>
+/// Sources that say that they have nine bytes, eight, and ten.
+const LENGTHS: &[Step] = &[
+    Step {
+        then: Some(Bytes::Numbered(9)),
+        ..NINE
+    },
+    Step {
+        length: Some(8),
+        front: Bytes::Numbered(9),
+        fault: Some(StreamFault::ShortInput {
+            port: 0,
+            has: 8,
+            accepted: 9,
+        }),
+        then: Some(Bytes::Numbered(9)),
+        ..NINE
+    },
+    Step {
+        length: Some(8),
+        front: Bytes::Numbered(10),
+        fault: Some(StreamFault::Long {
+            port: 0,
+            has: 10,
+            upto: 9,
+        }),
+        then: Some(Bytes::Numbered(10)),
+        ..NINE
+    },
+    Step {
+        front: Bytes::Numbered(9),
+        then: Some(Bytes::Numbered(9)),
+        ..NINE
+    },
+    Step {
+        length: Some(10),
+        front: Bytes::Numbered(9),
+        then: Some(Bytes::Numbered(9)),
+        ..NINE
+    },
+];
+
+fn are_accepted<R: Wait + Abort>(rt: &R) -> Result<bool, Fail>
 where
     R: AllocGlobal,
 {
-    let alloc = rt.alloc();
-    let mut source = source_of(numbered(alloc, 9)?, 9);
-    source.length = Some(has);
-    let mut outputs = Vec::new(alloc);
-    let mut inputs = Vec::new(alloc);
-    outputs.push(Output::new(0, None, MemSink::new(numbered(alloc, front)?)))?;
-    inputs.push(Input::new(0, source))?;
-    let mut streams = Streams { outputs, inputs };
-    Ok(play(rt, alloc, QUIET, disk, &mut streams, &mut nobody()))
+    let mut desk = Desk::fresh(rt.alloc(), ONE, ECHO, 16_384)?;
+    let told = are_steps(rt, LENGTHS, &mut desk);
+    told
 }
 
 /// An input of fewer bytes than its port has accepted is refused, behind all outputs.
 #[test]
 fn an_input_has_all_that_its_port_accepted(rt: HostRuntime) -> Result<(), Fail> {
-    let disk = formatted(rt.alloc(), ONE, ECHO, 16_384)?;
-    let (disk, first) = answer_to(&rt, disk, 9, 0)?;
-    let (disk, below) = answer_to(&rt, disk, 8, 9)?;
-    let (disk, behind) = answer_to(&rt, disk, 8, 10)?;
-    let (disk, at) = answer_to(&rt, disk, 9, 9)?;
-    let (_, above) = answer_to(&rt, disk, 10, 9)?;
-    let short = StreamFault::ShortInput {
-        port: 0,
-        has: 8,
-        accepted: 9,
-    };
-    let long = StreamFault::Long {
-        port: 0,
-        has: 10,
-        upto: 9,
-    };
-    assert!(rt; first.is_ok() && at.is_ok() && above.is_ok());
-    assert!(rt; below == Err(short) && behind == Err(long));
+    assert!(rt; are_accepted(&rt)?);
     Ok(())
 }
 
@@ -92,15 +109,41 @@ impl Sink for Leaving {
     }
 }
 
-/// The streams of two ports whose nodes send letters, the first with this sink and the second with one that stays.
-fn two_sinks(alloc: Global, leaving: Leaving) -> Result<Streams<Leaving, Pieces>, AllocError> {
-    let mut outputs = Vec::new(alloc);
-    let stays = Leaving {
+/// A sink that takes so many pieces.
+fn sink_of(alloc: Global, pieces: u32) -> Leaving {
+    Leaving {
         bytes: Vec::new(alloc),
-        pieces: u32::MAX,
-    };
-    outputs.push(Output::new(0, None, leaving))?;
-    outputs.push(Output::new(1, None, stays))?;
+        pieces,
+    }
+}
+
+/// The streams of two ports whose sinks take so many pieces.
+fn two_leaving(
+    alloc: Global,
+    one: u32,
+    other: u32,
+) -> Result<Streams<Leaving, Pieces>, AllocError> {
+    let mut outputs = Vec::new(alloc);
+    outputs.push(Output::new(0, None, sink_of(alloc, one)))?;
+    outputs.push(Output::new(1, None, sink_of(alloc, other)))?;
+    let inputs = Vec::new(alloc);
+    Ok(Streams { outputs, inputs })
+}
+
+/// A sink that has so many letters.
+fn lettered(alloc: Global, count: u64) -> Result<MemSink, AllocError> {
+    Ok(MemSink::new(Vec::from_elem(alloc, b'A', count as usize)?))
+}
+
+/// The streams of two ports whose sinks have so many letters.
+fn two_lettered(
+    alloc: Global,
+    one: u64,
+    other: u64,
+) -> Result<Streams<MemSink, Pieces>, AllocError> {
+    let mut outputs = Vec::new(alloc);
+    outputs.push(Output::new(0, None, lettered(alloc, one)?))?;
+    outputs.push(Output::new(1, None, lettered(alloc, other)?))?;
     let inputs = Vec::new(alloc);
     Ok(Streams { outputs, inputs })
 }
@@ -111,46 +154,80 @@ fn ends_of<S: Sink, I: Source>(streams: &Streams<S, I>, port: u8) -> Option<(u64
     Some((output.put(), output.confirmed()))
 }
 
-/// Whether a stream one of whose sinks takes `pieces` pieces ends once its taker has gone, with all of them confirmed and none more, and
-/// the other sink's outputs put and confirmed. What wasn't put comes in the next stream.
-fn is_gone<R: Wait + Abort>(rt: &R, pieces: u32) -> Result<bool, Fail>
+/// Up to where the outputs of two ports whose nodes send letters were put, where the stream ended as a taker has gone, and all that
+/// was put is confirmed. The first port's sink takes `pieces` pieces, and the second one's stays.
+fn leaves<R: Wait + Abort>(
+    rt: &R,
+    device: &mut Vec<u8>,
+    pieces: u32,
+) -> Result<Option<(u64, u64)>, AllocError>
 where
     R: AllocGlobal,
 {
     let alloc = rt.alloc();
-    let disk = formatted(alloc, TWO, LETTERS, 65_536)?;
     let task = Task {
         turns: Some(30_000),
         ..QUIET
     };
-    let bytes = Vec::new(alloc);
-    let mut first = two_sinks(alloc, Leaving { bytes, pieces })?;
-    let (disk, done) = play(rt, alloc, task, disk, &mut first, &mut nobody());
-    let (Some(gone), Some(stays)) = (ends_of(&first, 0), ends_of(&first, 1)) else {
-        return Ok(false);
-    };
-    let is_over = done.is_ok_and(|ended| ended.why == Ending::Gone);
-    let sink = MemSink::new(Vec::from_elem(alloc, b'A', gone.0 as usize)?);
-    let other = MemSink::new(Vec::from_elem(alloc, b'A', stays.0 as usize)?);
-    let mut outputs = Vec::new(alloc);
-    outputs.push(Output::new(0, None, sink))?;
-    outputs.push(Output::new(1, None, other))?;
-    let inputs: Vec<Input<Pieces>> = Vec::new(alloc);
-    let mut second = Streams { outputs, inputs };
+    let mut streams = two_leaving(alloc, pieces, u32::MAX)?;
+    let done = play(rt, alloc, task, device, &mut streams, &mut nobody());
+    let ends = (ends_of(&streams, 0), ends_of(&streams, 1));
+    let is_over = matches!(done, Ok(ended) if ended.why == Ending::Gone);
+    Ok(match ends {
+        (Some(gone), Some(stays)) if is_over && gone.0 == gone.1 && stays.0 == stays.1 => {
+            Some((gone.0, stays.0))
+        }
+        _ => None,
+    })
+}
+
+/// Whether the next stream puts more behind what was put in front of the sink that had gone.
+fn goes_on<R: Wait + Abort>(
+    rt: &R,
+    device: &mut Vec<u8>,
+    gone: u64,
+    stays: u64,
+) -> Result<bool, AllocError>
+where
+    R: AllocGlobal,
+{
+    let alloc = rt.alloc();
+    let mut streams = two_lettered(alloc, gone, stays)?;
     let few = Task {
         turns: Some(30),
         ..QUIET
     };
-    let (_, again) = play(rt, alloc, few, disk, &mut second, &mut nobody());
-    let more = ends_of(&second, 0).is_some_and(|(put, _)| put > gone.0);
-    Ok(is_over && gone.0 == gone.1 && stays.0 == stays.1 && stays.0 > 0 && again.is_ok() && more)
+    let done = play(rt, alloc, few, device, &mut streams, &mut nobody());
+    let is_more = matches!(ends_of(&streams, 0), Some(ends) if ends.0 > gone);
+    Ok(done.is_ok() && is_more)
+}
+
+/// Whether a stream one of whose sinks takes `pieces` pieces ends once its taker has gone, with all of them confirmed and none more, and
+/// the other sink's outputs put and confirmed. What wasn't put comes in the next stream.
+fn is_gone<R: Wait + Abort>(rt: &R, device: &mut Vec<u8>, pieces: u32) -> Result<bool, Fail>
+where
+    R: AllocGlobal,
+{
+    let Some((gone, stays)) = leaves(rt, device, pieces)? else {
+        return Ok(false);
+    };
+    Ok(stays > 0 && goes_on(rt, device, gone, stays)?)
+}
+
+/// The same on a device that is freshly formatted.
+fn is_gone_behind<R: Wait + Abort>(rt: &R, pieces: u32) -> Result<bool, Fail>
+where
+    R: AllocGlobal,
+{
+    let mut device = formatted(rt.alloc(), TWO, LETTERS, 65_536)?;
+    let told = is_gone(rt, &mut device, pieces);
+    told
 }
 
 #[test]
 fn a_taker_that_has_gone_ends_a_stream(rt: HostRuntime) -> Result<(), Fail> {
     for pieces in [0u32, 1, 3] {
-        let gone = is_gone(&rt, pieces)?;
-        assert!(rt; gone);
+        assert!(rt; is_gone_behind(&rt, pieces)?);
     }
     Ok(())
 }

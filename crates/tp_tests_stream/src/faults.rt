@@ -1,49 +1,97 @@
 //! Sinks that fail.
 
-use crate::devices::{ECHO, ONE, formatted};
-use crate::players::{QUIET, left, nobody, numbered, play, sink_of, streams};
+use crate::devices::{ECHO, ONE};
+use crate::players::{Asked, Desk, NO_INPUT, Played, are_numbered, look, play_desk};
 use std::process::Abort;
 use std::sync::Wait;
 use std::test::Fail;
-use tp_stream::{MemSink, StreamFault};
+use tp_stream::StreamFault;
 
 /// How many bytes go through.
 const COUNT: usize = 40;
 
-/// A stream one of whose sink's calls fails: no more is confirmed than was put before and was safe. The next one puts all the rest.
-fn play_fault<R: Wait + Abort>(rt: &R, calls: u32) -> Result<bool, Fail>
+/// They are handed in, five at a time, and one call of the sink fails behind `calls`.
+fn handed(calls: u32) -> Asked {
+    Asked {
+        fails: Some(calls),
+        input: COUNT,
+        most: 5,
+        ..NO_INPUT
+    }
+}
+
+/// A stream one of whose sink's calls fails. None where it ends otherwise than it may, or nothing is journalled.
+fn play_fault<R: Wait + Abort>(rt: &R, desk: &mut Desk, calls: u32) -> Result<Option<Played>, Fail>
 where
     R: AllocGlobal,
 {
-    let alloc = rt.alloc();
-    let wanted = numbered(alloc, COUNT)?;
-    let disk = formatted(alloc, ONE, ECHO, 16_384)?;
-    let failing = MemSink::empty(alloc).failing(calls);
-    let mut first = streams(alloc, None, failing, numbered(alloc, COUNT)?, 5)?;
-    let (disk, done) = play(rt, alloc, QUIET, disk, &mut first, &mut nobody());
-    let safe = first.outputs.first().map_or(0, |output| output.put());
-    let sink = sink_of(first)?.failing(u32::MAX);
-    let (disk, opened) = left(alloc, disk)?;
-    assert!(rt; done.is_ok() || done == Err(StreamFault::OutputFailed(0)));
-    assert!(rt; opened.next() > 0);
-    let mut more = streams(alloc, None, sink, numbered(alloc, COUNT)?, 5)?;
-    let mut told = nobody();
-    let (_, again) = play(rt, alloc, QUIET, disk, &mut more, &mut told);
-    assert!(rt; again.is_ok());
-    assert!(rt; told.output.is_some_and(|confirmed| confirmed <= safe));
-    let sink = sink_of(more)?;
-    assert!(rt; sink.bytes() == wanted.as_slice());
-    Ok(done.is_err())
+    let played = play_desk(rt, handed(calls), desk)?;
+    let left = look(rt.alloc(), &mut desk.device)?;
+    let is_failed = played.done == Err(StreamFault::OutputFailed(0));
+    Ok(if left.next > 0 && (played.done.is_ok() || is_failed) {
+        Some(played)
+    } else {
+        None
+    })
+}
+
+/// Whether the next stream, with the same sink, puts all the rest, where the first `safe` bytes were put and were safe: no more than those
+/// were confirmed.
+fn goes_on<R: Wait + Abort>(rt: &R, desk: &mut Desk, safe: u64) -> Result<bool, Fail>
+where
+    R: AllocGlobal,
+{
+    let played = play_desk(rt, handed(u32::MAX), desk)?;
+    let is_safe = matches!(played.told.output, Some(confirmed) if confirmed <= safe);
+    let bytes = desk.sink.bytes();
+    Ok(played.done.is_ok() && is_safe && bytes.len() == COUNT && are_numbered(bytes))
+}
+
+/// Whether no more is confirmed than was put before a call fails and was safe, and the next stream puts all the rest: none where that isn't
+/// so, and else whether a call failed.
+fn is_failed<R: Wait + Abort>(rt: &R, desk: &mut Desk, calls: u32) -> Result<Option<bool>, Fail>
+where
+    R: AllocGlobal,
+{
+    let Some(played) = play_fault(rt, desk, calls)? else {
+        return Ok(None);
+    };
+    let goes_on = goes_on(rt, desk, played.put)?;
+    Ok(if goes_on {
+        Some(played.done.is_err())
+    } else {
+        None
+    })
+}
+
+/// The same on a device that is freshly formatted.
+fn is_failed_at<R: Wait + Abort>(rt: &R, calls: u32) -> Result<Option<bool>, Fail>
+where
+    R: AllocGlobal,
+{
+    let mut desk = Desk::fresh(rt.alloc(), ONE, ECHO, 16_384)?;
+    let told = is_failed(rt, &mut desk, calls);
+    told
+}
+
+/// Of how many numbers of calls one fails. None where something doesn't go on as it should.
+fn count_failed<R: Wait + Abort>(rt: &R) -> Result<Option<u32>, Fail>
+where
+    R: AllocGlobal,
+{
+    let mut failed = 0u32;
+    for calls in 0..24 {
+        match is_failed_at(rt, calls)? {
+            Some(true) => failed = failed.saturating_add(1),
+            Some(false) => {}
+            None => return Ok(None),
+        }
+    }
+    Ok(Some(failed))
 }
 
 #[test]
 fn any_call_of_a_sink_may_fail(rt: HostRuntime) -> Result<(), Fail> {
-    let mut failed = 0u32;
-    for calls in 0..24 {
-        if play_fault(&rt, calls)? {
-            failed = failed.saturating_add(1);
-        }
-    }
-    assert!(rt; failed > 8);
+    assert!(rt; matches!(count_failed(&rt)?, Some(failed) if failed > 8));
     Ok(())
 }

@@ -1,61 +1,79 @@
 //! Nodes that write more pages than they have spare frames for.
 
 use crate::devices::{ECHO_WRITES, LARGE, WRITES, formatted};
-use crate::players::{QUIET, nobody, numbered, play, sink_of, source_of, streams};
+use crate::players::{Asked, Desk, NO_INPUT, QUIET, nobody, numbered, play, play_desk, source_of};
 use crate::waiting::{Answered, Asking};
+use std::alloc::{AllocError, Global};
 use std::cell::Cell;
 use std::process::Abort;
 use std::sync::Wait;
 use std::test::Fail;
-use tp_stream::{Ending, Input, MemSink, Output, Streams, Task};
+use tp_stream::{Ending, Input, Output, Streams, Task};
 
 /// How many spare frames there are, where twelve pages are written.
 const SPARES: &[u16] = &[0, 1, 4, 11, 12, 16];
 
 /// Whether the byte comes behind the writes of a node with `spare` frames, and the stream is quiet then, where each entry begins a
 /// snapshot that may.
-fn is_sent<R: Wait + Abort>(rt: &R, spare: u16) -> Result<bool, Fail>
+fn is_sent<R: Wait + Abort>(rt: &R, spare: u16, desk: &mut Desk) -> Result<bool, Fail>
 where
     R: AllocGlobal,
 {
-    let alloc = rt.alloc();
-    let disk = formatted(alloc, LARGE, WRITES, 65_536)?;
-    let mut streams = streams(alloc, None, MemSink::empty(alloc), Vec::new(alloc), 1)?;
     let task = Task {
         turns: None,
         spare,
         every: Some(1),
         ..QUIET
     };
-    let (_, done) = play(rt, alloc, task, disk, &mut streams, &mut nobody());
-    let sink = sink_of(streams)?;
-    Ok(sink.bytes() == b"A".as_slice() && done.is_ok_and(|ended| ended.why == Ending::Quiet))
+    let played = play_desk(rt, Asked { task, ..NO_INPUT }, desk)?;
+    let is_quiet = played.why() == Some(Ending::Quiet);
+    Ok(is_quiet && desk.sink.bytes() == b"A".as_slice())
+}
+
+/// The same on a device that is freshly formatted.
+fn is_sent_with<R: Wait + Abort>(rt: &R, spare: u16) -> Result<bool, Fail>
+where
+    R: AllocGlobal,
+{
+    let mut desk = Desk::fresh(rt.alloc(), LARGE, WRITES, 65_536)?;
+    let told = is_sent(rt, spare, &mut desk);
+    told
 }
 
 #[test]
 fn a_node_that_wants_frames_is_not_quiet(rt: HostRuntime) -> Result<(), Fail> {
     for spare in SPARES {
-        let sent = is_sent(&rt, *spare)?;
-        assert!(rt; sent);
+        assert!(rt; is_sent_with(&rt, *spare)?);
     }
     Ok(())
 }
 
+/// The streams of a host that waits for each of its answers, of which there are to be forty.
+fn asking<'a>(
+    alloc: Global,
+    answers: &'a Cell<u64>,
+) -> Result<Streams<Answered<'a>, Asking<'a>>, AllocError> {
+    let asking = Asking::of(source_of(numbered(alloc, 40)?, 1), answers);
+    let (mut outputs, mut inputs) = (Vec::new(alloc), Vec::new(alloc));
+    inputs.push(Input::new(0, asking))?;
+    outputs.push(Output::new(0, None, Answered::of(answers)))?;
+    Ok(Streams { outputs, inputs })
+}
+
 /// Whether a host that waits for each of its answers gets forty of them from a node that writes pages before it answers. Without a
 /// bound on turns the stream ends once the input has.
-fn is_answered<R: Wait + Abort>(rt: &R, spare: u16, turns: Option<u32>) -> Result<bool, Fail>
+fn is_answered<R: Wait + Abort>(
+    rt: &R,
+    spare: u16,
+    turns: Option<u32>,
+    device: &mut Vec<u8>,
+) -> Result<bool, AllocError>
 where
     R: AllocGlobal,
 {
     let alloc = rt.alloc();
-    let disk = formatted(alloc, LARGE, ECHO_WRITES, 65_536)?;
     let answers = Cell::new(0);
-    let mut outputs = Vec::new(alloc);
-    let mut inputs = Vec::new(alloc);
-    outputs.push(Output::new(0, None, Answered::of(&answers)))?;
-    let asking = Asking::of(source_of(numbered(alloc, 40)?, 1), &answers);
-    inputs.push(Input::new(0, asking))?;
-    let mut streams = Streams { outputs, inputs };
+    let mut streams = asking(alloc, &answers)?;
     let task = Task {
         turns,
         until_quiet: false,
@@ -63,20 +81,30 @@ where
         every: Some(1),
         ..QUIET
     };
-    let (_, done) = play(rt, alloc, task, disk, &mut streams, &mut nobody());
+    let done = play(rt, alloc, task, device, &mut streams, &mut nobody());
     let wanted = if turns.is_none() {
         Ending::Gone
     } else {
         Ending::Turns
     };
-    Ok(answers.get() == 40 && done.is_ok_and(|ended| ended.why == wanted))
+    let is_ended = matches!(done, Ok(ended) if ended.why == wanted);
+    Ok(answers.get() == 40 && is_ended)
+}
+
+/// The same on a device that is freshly formatted.
+fn is_answered_with<R: Wait + Abort>(rt: &R, spare: u16, turns: Option<u32>) -> Result<bool, Fail>
+where
+    R: AllocGlobal,
+{
+    let mut device = formatted(rt.alloc(), LARGE, ECHO_WRITES, 65_536)?;
+    let told = is_answered(rt, spare, turns, &mut device);
+    Ok(told?)
 }
 
 #[test]
 fn a_host_that_waits_for_each_answer_gets_all(rt: HostRuntime) -> Result<(), Fail> {
     for (spare, turns) in [(0, None), (4, None), (4, Some(20_000))] {
-        let answered = is_answered(&rt, spare, turns)?;
-        assert!(rt; answered);
+        assert!(rt; is_answered_with(&rt, spare, turns)?);
     }
     Ok(())
 }

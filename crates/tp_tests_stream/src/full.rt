@@ -4,17 +4,18 @@ ghost use Rattle.std.specs.Prelude.{◌<◌, ◌≤◌};
 ghost use Rattle.tp_model.specs.declared.limits.TheConstants.{MAX_STEPS};
 ghost use Rattle.tp_work.specs.declared.start.TheConstants.{MAX_WORKERS};
 
-use crate::devices::{DEAF, LETTERS, ONE, formatted};
-use crate::players::{QUIET, left, nobody, numbered, play, sink_of, streams};
+use crate::devices::{DEAF, LETTERS, ONE};
+use crate::players::{Asked, Desk, Left, NO_INPUT, QUIET, look, play_desk};
 use std::alloc::Global;
 use std::io::Write;
+use std::mem;
 use std::process::Abort;
 use std::sync::Wait;
 use std::test::Fail;
 use std::thread::Threads;
 use tp_disk::{Disk, MemDisk};
 use tp_run::{Job, MAX_WORKERS, RunFault, run};
-use tp_stream::{Ending, MemSink, StreamFault, Task};
+use tp_stream::{Ending, StreamFault, Task};
 
 /// A node of eight pages.
 const NARROW: &[u8] = b"node a 8\nport h\nwire a.0 h\n";
@@ -43,56 +44,99 @@ fn run_within<D: Disk + Send + Drop, O: Write, R: Threads + Wait + Sync>(
     run(rt, alloc, job, disk, b"", out)
 }
 
-/// A run.
+/// A run of the device with these bytes, which are then what a crash leaves.
 fn run_on<O: Write, R: Threads + Wait + Abort + Sync>(
     rt: &R,
     alloc: Global,
     job: Job,
-    disk: MemDisk,
+    device: &mut Vec<u8>,
     out: &mut O,
-) -> (MemDisk, Result<u64, RunFault>) {
+) -> Result<u64, RunFault> {
     assert!(rt; 0 < job.workers);
     assert!(rt; job.workers <= MAX_WORKERS);
     assert!(rt; 0 < job.quantum);
     assert!(rt; job.quantum <= 4096);
-    run_within(rt, alloc, job, disk, out)
+    let disk = MemDisk::of_bytes(mem::replace(device, Vec::new(alloc)));
+    let (disk, done) = run_within(rt, alloc, job, disk, out);
+    *device = disk.crash();
+    done
+}
+
+/// What a run leaves that fills a journal, where it does and no snapshot is there.
+fn filled<R: Threads + Wait + Abort + Sync>(
+    rt: &R,
+    device: &mut Vec<u8>,
+) -> Result<Option<Left>, Fail>
+where
+    R: AllocGlobal,
+{
+    let alloc = rt.alloc();
+    let mut out = Vec::new(alloc);
+    let filled = run_on(rt, alloc, FILLS, device, &mut out);
+    let full = look(alloc, device)?;
+    Ok(if filled == Err(RunFault::ConfirmRefused) && full.base == 0 {
+        Some(full)
+    } else {
+        None
+    })
+}
+
+/// Whether a stream on it goes on.
+fn goes_on<R: Threads + Wait + Abort + Sync>(rt: &R, desk: &mut Desk) -> Result<bool, Fail>
+where
+    R: AllocGlobal,
+{
+    let Some(full) = filled(rt, &mut desk.device)? else {
+        return Ok(false);
+    };
+    let task = Task {
+        turns: Some(3000),
+        ..QUIET
+    };
+    let played = play_desk(rt, Asked { task, ..NO_INPUT }, desk)?;
+    let next = played.next().unwrap_or(0);
+    let is_further = next.saturating_sub(full.next) > 1000;
+    let is_put = desk.sink.bytes().len() > 500;
+    Ok(played.why() == Some(Ending::Turns) && is_further && is_put)
+}
+
+fn goes_on_behind_a_run<R: Threads + Wait + Abort + Sync>(rt: &R) -> Result<bool, Fail>
+where
+    R: AllocGlobal,
+{
+    let mut desk = Desk::fresh(rt.alloc(), ONE, LETTERS, 16_384)?;
+    let told = goes_on(rt, &mut desk);
+    told
 }
 
 /// A stream on it settles a snapshot before it confirms, and goes on.
 #[test]
 fn a_journal_that_a_run_filled_lets_a_stream_go_on(rt: HostRuntime) -> Result<(), Fail> {
-    let alloc = rt.alloc();
-    let disk = formatted(alloc, ONE, LETTERS, 16_384)?;
-    let mut out = Vec::new(alloc);
-    let (disk, filled) = run_on(&rt, alloc, FILLS, disk, &mut out);
-    let (disk, full) = left(alloc, disk)?;
-    assert!(rt; filled == Err(RunFault::ConfirmRefused) && full.base() == 0);
-    let mut streams = streams(alloc, None, MemSink::empty(alloc), Vec::new(alloc), 1)?;
-    let task = Task {
-        turns: Some(3000),
-        ..QUIET
-    };
-    let (_, done) = play(&rt, alloc, task, disk, &mut streams, &mut nobody());
-    assert!(rt;
-        done.is_ok_and(|ended| ended.why == Ending::Turns
-            && ended.next.saturating_sub(full.next()) > 1000)
-    );
-    let sink = sink_of(streams)?;
-    assert!(rt; sink.bytes().len() > 500);
+    assert!(rt; goes_on_behind_a_run(&rt)?);
     Ok(())
 }
 
-/// The empty journal has room for just what a turn and the confirms behind it need, so that no byte of an input finds any: that is said, and
-/// the stream doesn't go on for ever. Without a byte it ends.
+/// What a stream is refused for that is handed `input` bytes, where the empty journal has no room for any.
+fn refused<R: Wait + Abort>(rt: &R, input: usize) -> Result<Option<StreamFault>, Fail>
+where
+    R: AllocGlobal,
+{
+    let mut desk = Desk::fresh(rt.alloc(), NARROW, DEAF, 17_546)?;
+    let asked = Asked {
+        input,
+        most: 7,
+        ..NO_INPUT
+    };
+    let played = play_desk(rt, asked, &mut desk);
+    Ok(played?.done.err())
+}
+
+/// The empty journal has room for just what a turn and the confirms behind it need, so that no byte of an input finds any: that is said,
+/// and the stream doesn't go on for ever. Without a byte it ends.
 #[test]
 fn input_that_finds_no_room_is_refused(rt: HostRuntime) -> Result<(), Fail> {
-    let alloc = rt.alloc();
     for (count, wanted) in [(0usize, None), (7, Some(StreamFault::JournalFull))] {
-        let disk = formatted(alloc, NARROW, DEAF, 17_546)?;
-        let input = numbered(alloc, count)?;
-        let mut streams = streams(alloc, None, MemSink::empty(alloc), input, 7)?;
-        let (_, done) = play(&rt, alloc, QUIET, disk, &mut streams, &mut nobody());
-        assert!(rt; done.err() == wanted);
+        assert!(rt; refused(&rt, count)? == wanted);
     }
     Ok(())
 }

@@ -1,6 +1,7 @@
 //! Streams over devices in memory, with sinks and sources that fail.
 #![tactic(auto)]
 
+#[cfg(test)]
 mod devices;
 #[cfg(test)]
 mod endings;
@@ -18,5 +19,7 @@ mod long;
 mod players;
 #[cfg(test)]
 mod rows;
+#[cfg(test)]
+mod steps;
 #[cfg(test)]
 mod waiting;

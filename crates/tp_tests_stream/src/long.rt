@@ -1,26 +1,40 @@
 //! A port that fills up beside a busy node, for a long time.
 
-use crate::devices::{BESIDE, LETTERS, formatted};
-use crate::players::{QUIET, left, nobody, play, sink_of, streams};
+use crate::devices::{BESIDE, LETTERS};
+use crate::players::{Asked, Desk, NO_INPUT, QUIET, look, play_desk};
+use std::process::Abort;
+use std::sync::Wait;
 use std::test::Fail;
-use tp_stream::{MemSink, Task};
+use tp_stream::Task;
 
-/// More than any port holds is put out, over at least two checkpoints, in a journal of 500 entries.
-#[test]
-fn a_port_never_fills_up_for_ever(rt: HostRuntime) -> Result<(), Fail> {
-    let alloc = rt.alloc();
-    let disk = formatted(alloc, BESIDE, LETTERS, 32_768)?;
-    let mut streams = streams(alloc, None, MemSink::empty(alloc), Vec::new(alloc), 1)?;
+/// Whether more than any port holds is put out, over at least two checkpoints.
+fn goes_round<R: Wait + Abort>(rt: &R, desk: &mut Desk) -> Result<bool, Fail>
+where
+    R: AllocGlobal,
+{
     let task = Task {
         turns: Some(30_000),
         until_quiet: false,
         ..QUIET
     };
-    let (disk, done) = play(&rt, alloc, task, disk, &mut streams, &mut nobody());
-    assert!(rt; done.is_ok());
-    let sink = sink_of(streams)?;
-    assert!(rt; sink.bytes().len() > 4096);
-    let (_, opened) = left(alloc, disk)?;
-    assert!(rt; opened.generation() > 2 && done.is_ok_and(|ended| ended.next == opened.next()));
+    let played = play_desk(rt, Asked { task, ..NO_INPUT }, desk)?;
+    let left = look(rt.alloc(), &mut desk.device)?;
+    let is_long = desk.sink.bytes().len() > 4096;
+    Ok(is_long && left.generation > 2 && played.next() == Some(left.next))
+}
+
+fn goes_round_beside<R: Wait + Abort>(rt: &R) -> Result<bool, Fail>
+where
+    R: AllocGlobal,
+{
+    let mut desk = Desk::fresh(rt.alloc(), BESIDE, LETTERS, 32_768)?;
+    let told = goes_round(rt, &mut desk);
+    told
+}
+
+/// More than any port holds is put out, over at least two checkpoints, in a journal of 500 entries.
+#[test]
+fn a_port_never_fills_up_for_ever(rt: HostRuntime) -> Result<(), Fail> {
+    assert!(rt; goes_round_beside(&rt)?);
     Ok(())
 }

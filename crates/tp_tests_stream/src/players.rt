@@ -3,14 +3,16 @@
 ghost use Rattle.std.specs.Prelude.{◌≤◌, None, length};
 ghost use Rattle.tp_model.specs.declared.limits.TheConstants.{MAX_STEPS};
 
+use crate::devices::formatted;
 use std::alloc::{AllocError, Global};
+use std::mem;
 use std::process::Abort;
 use std::sync::Wait;
 use std::test::Fail;
 use tp_disk::{Disk, MemDisk};
-use tp_recover::{Opened, open};
+use tp_recover::open;
 use tp_stream::{
-    Ended, Input, Listener, MemSink, Output, Progress, Sink, Source, SourceFailed, Stopped,
+    Ended, Ending, Input, Listener, MemSink, Output, Progress, Sink, Source, SourceFailed, Stopped,
     StreamFault, Streams, Task, stream,
 };
 
@@ -65,7 +67,7 @@ impl Source for Pieces {
 }
 
 /// Who is told: it counts, and keeps how the first nodes have stopped.
-#[derive(Drop)]
+#[derive(Clone, Copy)]
 pub(crate) struct Told {
     pub(crate) output: Option<u64>,
     pub(crate) input: Option<u64>,
@@ -102,13 +104,35 @@ pub(crate) fn nobody() -> Told {
     }
 }
 
+/// The byte behind another, where each differs from its neighbours.
+fn number_after(number: u8) -> u8 {
+    if number == 250 {
+        0
+    } else {
+        number.wrapping_add(1)
+    }
+}
+
 /// Bytes that differ from their neighbours.
 pub(crate) fn numbered(alloc: Global, count: usize) -> Result<Vec<u8>, AllocError> {
-    let mut bytes = Vec::new(alloc);
-    for number in 0..count {
-        bytes.push((number % 251) as u8)?;
+    let (mut bytes, mut number) = (Vec::new(alloc), 0u8);
+    for _ in 0..count {
+        bytes.push(number)?;
+        number = number_after(number);
     }
     Ok(bytes)
+}
+
+/// Whether these are the first such bytes.
+pub(crate) fn are_numbered(bytes: &[u8]) -> bool {
+    let mut number = 0u8;
+    for byte in bytes {
+        if *byte != number {
+            return false;
+        }
+        number = number_after(number);
+    }
+    true
 }
 
 /// These bytes, as many at a time as `most` says.
@@ -121,18 +145,16 @@ pub(crate) fn source_of(bytes: Vec<u8>, most: usize) -> Pieces {
     }
 }
 
-/// The streams of a port: a sink, and as input these bytes, as many at a time as `most` says.
-pub(crate) fn streams(
+/// The streams of a port: a sink, and this source as input.
+fn streams(
     alloc: Global,
     have: Option<u64>,
     sink: MemSink,
-    bytes: Vec<u8>,
-    most: usize,
+    source: Pieces,
 ) -> Result<Streams<MemSink, Pieces>, AllocError> {
-    let mut outputs = Vec::new(alloc);
-    let mut inputs = Vec::new(alloc);
+    let (mut outputs, mut inputs) = (Vec::new(alloc), Vec::new(alloc));
     outputs.push(Output::new(0, have, sink))?;
-    inputs.push(Input::new(0, source_of(bytes, most)))?;
+    inputs.push(Input::new(0, source))?;
     Ok(Streams { outputs, inputs })
 }
 
@@ -150,32 +172,157 @@ fn play_within<D: Disk + Drop, S: Sink, I: Source, R: Wait>(
     stream(rt, alloc, task, disk, streams, told)
 }
 
-/// A stream.
+/// A stream on the device with these bytes, which are then what a crash leaves.
 pub(crate) fn play<S: Sink, I: Source, R: Wait + Abort>(
     rt: &R,
     alloc: Global,
     task: Task,
-    disk: MemDisk,
+    device: &mut Vec<u8>,
     streams: &mut Streams<S, I>,
     told: &mut Told,
-) -> (MemDisk, Result<Ended, StreamFault>) {
+) -> Result<Ended, StreamFault> {
     assert!(rt; task.quantum <= 4096);
-    play_within(rt, alloc, task, disk, streams, told)
+    let disk = MemDisk::of_bytes(mem::replace(device, Vec::new(alloc)));
+    let (disk, done) = play_within(rt, alloc, task, disk, streams, told);
+    *device = disk.crash();
+    done
 }
 
-/// What a crash leaves of a device, opened.
-pub(crate) fn left(alloc: Global, disk: MemDisk) -> Result<(MemDisk, Opened), Fail> {
-    let mut disk = MemDisk::of_bytes(disk.crash());
-    let opened = open(alloc, &mut disk)?;
-    Ok((disk, opened))
+/// What a device opens to: the number of the next entry, the generation of its area, and how many entries that area's cut holds.
+#[derive(Clone, Copy)]
+pub(crate) struct Left {
+    pub(crate) next: u64,
+    pub(crate) generation: u64,
+    pub(crate) base: u64,
 }
 
-/// The sink of the only output.
-pub(crate) fn sink_of<S: Sink + Drop, I: Source + Drop>(streams: Streams<S, I>) -> Result<S, Fail> {
+fn look_at(alloc: Global, disk: &mut MemDisk) -> Result<Left, Fail> {
+    let opened = open(alloc, disk)?;
+    let (next, generation, base) = (opened.next(), opened.generation(), opened.base());
+    Ok(Left {
+        next,
+        generation,
+        base,
+    })
+}
+
+/// What the device with these bytes opens to.
+pub(crate) fn look(alloc: Global, device: &mut Vec<u8>) -> Result<Left, Fail> {
+    let mut disk = MemDisk::of_bytes(mem::replace(device, Vec::new(alloc)));
+    let look = look_at(alloc, &mut disk);
+    *device = disk.crash();
+    look
+}
+
+/// A device, and the sink of its only port.
+#[derive(Drop)]
+pub(crate) struct Desk {
+    pub(crate) device: Vec<u8>,
+    pub(crate) sink: MemSink,
+}
+
+impl Desk {
+    /// A device that is freshly formatted, and an empty sink.
+    pub(crate) fn fresh(alloc: Global, text: &[u8], code: &[u8], area: u32) -> Result<Desk, Fail> {
+        let device = formatted(alloc, text, code, area)?;
+        Ok(Desk {
+            device,
+            sink: MemSink::empty(alloc),
+        })
+    }
+}
+
+/// What a stream on a desk is asked: its task, what its sink's reader has, behind how many calls of the sink one fails, how many numbered
+/// bytes its source has and how many come at a time, and what the source says of how many they are.
+#[derive(Clone, Copy)]
+pub(crate) struct Asked {
+    pub(crate) task: Task,
+    pub(crate) have: Option<u64>,
+    pub(crate) fails: Option<u32>,
+    pub(crate) input: usize,
+    pub(crate) most: usize,
+    pub(crate) length: Option<u64>,
+}
+
+/// No input, until nothing is left to do.
+pub(crate) const NO_INPUT: Asked = Asked {
+    task: QUIET,
+    have: None,
+    fails: None,
+    input: 0,
+    most: 1,
+    length: None,
+};
+
+/// What came of a stream on a desk: how it ended, up to where its output was put, and what was told.
+#[derive(Clone, Copy)]
+pub(crate) struct Played {
+    pub(crate) done: Result<Ended, StreamFault>,
+    pub(crate) put: u64,
+    pub(crate) told: Told,
+}
+
+impl Played {
+    /// Why it ended, where it was done.
+    pub(crate) fn why(self) -> Option<Ending> {
+        match self.done {
+            Ok(ended) => Some(ended.why),
+            Err(_) => None,
+        }
+    }
+
+    /// The number that the next entry gets, where it was done.
+    pub(crate) fn next(self) -> Option<u64> {
+        match self.done {
+            Ok(ended) => Some(ended.next),
+            Err(_) => None,
+        }
+    }
+}
+
+/// The sink of the only output, and up to where it was put.
+fn sink_of(alloc: Global, streams: Streams<MemSink, Pieces>) -> (u64, MemSink) {
     let Streams { outputs, .. } = streams;
     let mut outputs = outputs;
     match outputs.pop() {
-        Some(output) => Ok(output.into_sink()),
-        None => Err(Fail::new("no output")),
+        Some(output) => (output.put(), output.into_sink()),
+        None => (0, MemSink::empty(alloc)),
     }
+}
+
+/// The same sink, where one of its calls fails behind so many.
+fn failing(sink: MemSink, fails: Option<u32>) -> MemSink {
+    match fails {
+        Some(calls) => sink.failing(calls),
+        None => sink,
+    }
+}
+
+/// A stream on a desk.
+pub(crate) fn play_desk<R: Wait + Abort>(
+    rt: &R,
+    asked: Asked,
+    desk: &mut Desk,
+) -> Result<Played, Fail>
+where
+    R: AllocGlobal,
+{
+    let alloc = rt.alloc();
+    let mut source = source_of(numbered(alloc, asked.input)?, asked.most);
+    source.length = asked.length;
+    let sink = mem::replace(&mut desk.sink, MemSink::empty(alloc));
+    let sink = failing(sink, asked.fails);
+    let mut streams = streams(alloc, asked.have, sink, source)?;
+    let mut told = nobody();
+    let done = play(
+        rt,
+        alloc,
+        asked.task,
+        &mut desk.device,
+        &mut streams,
+        &mut told,
+    );
+    let (put, sink) = sink_of(alloc, streams);
+    desk.sink = sink;
+    Ok(Played { done, put, told })
 }

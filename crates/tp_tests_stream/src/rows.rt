@@ -1,191 +1,274 @@
 //! Streams that are done, and those that are refused.
 
-use crate::devices::{ECHO, LETTERS, ONE, formatted};
-use crate::players::{Pieces, QUIET, left, nobody, numbered, play, sink_of, streams};
+use crate::devices::{ECHO, LETTERS, ONE};
+use crate::players::{
+    Asked, Desk, NO_INPUT, Pieces, QUIET, are_numbered, look, nobody, play, play_desk,
+};
+use crate::steps::{Bytes, PLAIN, Step, are_steps};
 use std::process::Abort;
 use std::sync::Wait;
 use std::test::Fail;
-use tp_disk::MemDisk;
-use tp_stream::{Ended, MemSink, StreamFault, Streams, Task};
+use tp_stream::{MemSink, StreamFault, Streams, Task};
+
+/// How many bytes a long input has: far more than a port holds.
+const LONG: usize = 6000;
+
+/// Whether a long input, `most` bytes at a time, comes back, in an area that is switched again and again.
+fn comes_back<R: Wait + Abort>(rt: &R, most: usize, desk: &mut Desk) -> Result<bool, Fail>
+where
+    R: AllocGlobal,
+{
+    let asked = Asked {
+        input: LONG,
+        most,
+        ..NO_INPUT
+    };
+    let played = play_desk(rt, asked, desk)?;
+    let left = look(rt.alloc(), &mut desk.device)?;
+    let is_told = played.told.output == Some(0) && played.told.input == Some(0);
+    let is_left = played.next() == Some(left.next) && left.generation > 2;
+    let bytes = desk.sink.bytes();
+    Ok(is_told && is_left && bytes.len() == LONG && are_numbered(bytes))
+}
+
+/// The same on a device with areas of `area` bytes.
+fn comes_back_in<R: Wait + Abort>(rt: &R, most: usize, area: u32) -> Result<bool, Fail>
+where
+    R: AllocGlobal,
+{
+    let mut desk = Desk::fresh(rt.alloc(), ONE, ECHO, area)?;
+    let came = comes_back(rt, most, &mut desk);
+    came
+}
 
 /// Far more bytes than a port holds, in pieces of different sizes: all come back, in an area that is switched again and again.
 #[test]
 fn a_long_input_comes_back(rt: HostRuntime) -> Result<(), Fail> {
-    let alloc = rt.alloc();
     for (most, area) in [(4096usize, 65_536u32), (7, 16_384)] {
-        let bytes = numbered(alloc, 6000)?;
-        let wanted = numbered(alloc, 6000)?;
-        let disk = formatted(alloc, ONE, ECHO, area)?;
-        let mut streams = streams(alloc, None, MemSink::empty(alloc), bytes, most)?;
-        let mut told = nobody();
-        let (disk, done) = play(&rt, alloc, QUIET, disk, &mut streams, &mut told);
-        assert!(rt; done.is_ok());
-        assert!(rt; told.output == Some(0) && told.input == Some(0));
-        let sink = sink_of(streams)?;
-        assert!(rt; sink.bytes() == wanted.as_slice());
-        let (_, opened) = left(alloc, disk)?;
-        assert!(rt; done.is_ok_and(|ended| ended.next == opened.next()) && opened.generation() > 2);
+        assert!(rt; comes_back_in(&rt, most, area)?);
     }
     Ok(())
+}
+
+/// How many bytes go through in processes of few turns, of which each is handed all of them, and how many processes there are.
+const FEW: usize = 300;
+
+const PROCESSES: u32 = 60;
+
+/// Whether a process of fifty turns is done, puts nothing but what is wanted, and leaves a device that opens.
+fn goes_on<R: Wait + Abort>(rt: &R, desk: &mut Desk) -> Result<bool, Fail>
+where
+    R: AllocGlobal,
+{
+    let asked = Asked {
+        task: Task {
+            turns: Some(50),
+            ..QUIET
+        },
+        input: FEW,
+        most: 100,
+        ..NO_INPUT
+    };
+    let played = play_desk(rt, asked, desk)?;
+    let _left = look(rt.alloc(), &mut desk.device)?;
+    let bytes = desk.sink.bytes();
+    Ok(played.done.is_ok() && bytes.len() <= FEW && are_numbered(bytes))
+}
+
+/// Whether all such processes do, and all is put then.
+fn all_go_on<R: Wait + Abort>(rt: &R, desk: &mut Desk) -> Result<bool, Fail>
+where
+    R: AllocGlobal,
+{
+    for _ in 0..PROCESSES {
+        if !goes_on(rt, desk)? {
+            return Ok(false);
+        }
+    }
+    Ok(desk.sink.bytes().len() == FEW)
+}
+
+fn come_to_the_same<R: Wait + Abort>(rt: &R) -> Result<bool, Fail>
+where
+    R: AllocGlobal,
+{
+    let mut desk = Desk::fresh(rt.alloc(), ONE, ECHO, 16_384)?;
+    let told = all_go_on(rt, &mut desk);
+    told
 }
 
 /// Turn by turn, each in a process of its own: what was put before is passed over, and so is what was accepted.
 #[test]
 fn few_turns_at_a_time_come_to_the_same(rt: HostRuntime) -> Result<(), Fail> {
-    let alloc = rt.alloc();
-    let wanted = numbered(alloc, 300)?;
-    let mut disk = formatted(alloc, ONE, ECHO, 16_384)?;
-    let mut sink = MemSink::empty(alloc);
-    let few = Task {
-        turns: Some(50),
-        ..QUIET
-    };
-    for _ in 0..60 {
-        let bytes = numbered(alloc, 300)?;
-        let mut streams = streams(alloc, None, sink, bytes, 100)?;
-        let (again, done) = play(&rt, alloc, few, disk, &mut streams, &mut nobody());
-        assert!(rt; done.is_ok());
-        sink = sink_of(streams)?;
-        assert!(rt; wanted.as_slice().starts_with(sink.bytes()));
-        let (next, _) = left(alloc, again)?;
-        disk = next;
-    }
-    assert!(rt; sink.bytes() == wanted.as_slice());
+    assert!(rt; come_to_the_same(&rt)?);
     Ok(())
+}
+
+/// Whether a network that never rests ends with its turns, is told of on the way, and puts its letters.
+fn runs_out<R: Wait + Abort>(rt: &R, desk: &mut Desk) -> Result<bool, Fail>
+where
+    R: AllocGlobal,
+{
+    let asked = Asked {
+        task: Task {
+            turns: Some(5000),
+            tells: 1000,
+            ..QUIET
+        },
+        ..NO_INPUT
+    };
+    let played = play_desk(rt, asked, desk)?;
+    let bytes = desk.sink.bytes();
+    let are_letters = bytes.len() > 1000 && bytes.iter().all(|byte| *byte == b'A');
+    Ok(played.done.is_ok() && played.told.progress > 2 && are_letters)
+}
+
+fn runs_out_of_turns<R: Wait + Abort>(rt: &R) -> Result<bool, Fail>
+where
+    R: AllocGlobal,
+{
+    let mut desk = Desk::fresh(rt.alloc(), ONE, LETTERS, 65_536)?;
+    let told = runs_out(rt, &mut desk);
+    told
 }
 
 /// A network that never rests ends with its turns, and is told of on the way.
 #[test]
 fn turns_run_out(rt: HostRuntime) -> Result<(), Fail> {
-    let alloc = rt.alloc();
-    let disk = formatted(alloc, ONE, LETTERS, 65_536)?;
-    let mut streams = streams(alloc, None, MemSink::empty(alloc), Vec::new(alloc), 1)?;
-    let mut told = nobody();
-    let task = Task {
-        turns: Some(5000),
-        tells: 1000,
-        ..QUIET
-    };
-    let (_, done) = play(&rt, alloc, task, disk, &mut streams, &mut told);
-    assert!(rt; done.is_ok() && told.progress > 2);
-    let sink = sink_of(streams)?;
-    assert!(rt; sink.bytes().len() > 1000 && sink.bytes().iter().all(|byte| *byte == b'A'));
+    assert!(rt; runs_out_of_turns(&rt)?);
     Ok(())
+}
+
+/// Whether a wired port without a sink is refused.
+fn is_unnamed<R: Wait + Abort>(rt: &R, device: &mut Vec<u8>) -> bool
+where
+    R: AllocGlobal,
+{
+    let alloc = rt.alloc();
+    let mut none: Streams<MemSink, Pieces> = Streams {
+        outputs: Vec::new(alloc),
+        inputs: Vec::new(alloc),
+    };
+    let done = play(rt, alloc, QUIET, device, &mut none, &mut nobody());
+    done == Err(StreamFault::Unnamed(0))
+}
+
+/// Nine bytes go through; then a sink is too short, and a reader says that it has more than is shown, or less than was confirmed.
+const REFUSED: &[Step] = &[
+    Step {
+        input: 9,
+        then: Some(Bytes::Numbered(9)),
+        ..PLAIN
+    },
+    Step {
+        front: Bytes::Numbered(4),
+        fault: Some(StreamFault::Short {
+            port: 0,
+            has: 4,
+            from: 9,
+        }),
+        then: Some(Bytes::Numbered(4)),
+        ..PLAIN
+    },
+    Step {
+        have: Some(10),
+        front: Bytes::Numbered(10),
+        fault: Some(StreamFault::NotShown {
+            port: 0,
+            have: 10,
+            shown: 9,
+        }),
+        then: Some(Bytes::Numbered(10)),
+        ..PLAIN
+    },
+    Step {
+        have: Some(8),
+        front: Bytes::Numbered(8),
+        fault: Some(StreamFault::Gone {
+            port: 0,
+            have: 8,
+            confirmed: 9,
+        }),
+        then: Some(Bytes::Numbered(8)),
+        ..PLAIN
+    },
+];
+
+fn are_all_refused<R: Wait + Abort>(rt: &R, desk: &mut Desk) -> Result<bool, Fail>
+where
+    R: AllocGlobal,
+{
+    if !is_unnamed(rt, &mut desk.device) {
+        return Ok(false);
+    }
+    are_steps(rt, REFUSED, desk)
+}
+
+fn are_refused<R: Wait + Abort>(rt: &R) -> Result<bool, Fail>
+where
+    R: AllocGlobal,
+{
+    let mut desk = Desk::fresh(rt.alloc(), ONE, ECHO, 16_384)?;
+    let told = are_all_refused(rt, &mut desk);
+    told
 }
 
 /// A wired port without a sink, a sink that is too short, and a reader that says that it has more than is shown, or less than was
 /// confirmed.
 #[test]
 fn streams_are_refused(rt: HostRuntime) -> Result<(), Fail> {
-    let alloc = rt.alloc();
-    let disk = formatted(alloc, ONE, ECHO, 16_384)?;
-    let mut none: Streams<MemSink, Pieces> = Streams {
-        outputs: Vec::new(alloc),
-        inputs: Vec::new(alloc),
-    };
-    let (disk, done) = play(&rt, alloc, QUIET, disk, &mut none, &mut nobody());
-    assert!(rt; done == Err(StreamFault::Unnamed(0)));
-    let mut first = streams(alloc, None, MemSink::empty(alloc), numbered(alloc, 9)?, 9)?;
-    let (disk, done) = play(&rt, alloc, QUIET, disk, &mut first, &mut nobody());
-    assert!(rt; done.is_ok());
-    let mut short = streams(
-        alloc,
-        None,
-        MemSink::new(numbered(alloc, 4)?),
-        Vec::new(alloc),
-        1,
-    )?;
-    let (disk, done) = play(&rt, alloc, QUIET, disk, &mut short, &mut nobody());
-    assert!(rt;
-        done == Err(StreamFault::Short {
-            port: 0,
-            has: 4,
-            from: 9
-        })
-    );
-    let mut more = streams(
-        alloc,
-        Some(10),
-        MemSink::new(numbered(alloc, 10)?),
-        Vec::new(alloc),
-        1,
-    )?;
-    let (disk, done) = play(&rt, alloc, QUIET, disk, &mut more, &mut nobody());
-    assert!(rt;
-        done == Err(StreamFault::NotShown {
-            port: 0,
-            have: 10,
-            shown: 9
-        })
-    );
-    let mut less = streams(
-        alloc,
-        Some(8),
-        MemSink::new(numbered(alloc, 8)?),
-        Vec::new(alloc),
-        1,
-    )?;
-    let (_, done) = play(&rt, alloc, QUIET, disk, &mut less, &mut nobody());
-    assert!(rt;
-        done == Err(StreamFault::Gone {
-            port: 0,
-            have: 8,
-            confirmed: 9
-        })
-    );
+    assert!(rt; are_refused(&rt)?);
     Ok(())
 }
 
-/// What a stream answers to a sink that has `has` bytes of something else. Where it is refused they stay; else there are as many
+/// A sink that has bytes of something else, in front of what is put and behind it. Where it is refused they stay; else there are as many
 /// numbered ones in their place.
-fn answer_to<R: Wait + Abort>(
-    rt: &R,
-    disk: MemDisk,
-    has: usize,
-) -> Result<(MemDisk, Result<Ended, StreamFault>), Fail>
+const LONGER: &[Step] = &[
+    Step {
+        front: Bytes::Other(1),
+        fault: Some(StreamFault::Long {
+            port: 0,
+            has: 1,
+            upto: 0,
+        }),
+        then: Some(Bytes::Other(1)),
+        ..PLAIN
+    },
+    Step {
+        fails: Some(0),
+        input: 9,
+        fault: Some(StreamFault::OutputFailed(0)),
+        ..PLAIN
+    },
+    Step {
+        front: Bytes::Other(10),
+        fault: Some(StreamFault::Long {
+            port: 0,
+            has: 10,
+            upto: 9,
+        }),
+        then: Some(Bytes::Other(10)),
+        ..PLAIN
+    },
+    Step {
+        front: Bytes::Other(9),
+        then: Some(Bytes::Numbered(9)),
+        ..PLAIN
+    },
+];
+
+fn are_longer<R: Wait + Abort>(rt: &R) -> Result<bool, Fail>
 where
     R: AllocGlobal,
 {
-    let alloc = rt.alloc();
-    let other = Vec::from_elem(alloc, b'x', has)?;
-    let mut streams = streams(alloc, None, MemSink::new(other), Vec::new(alloc), 1)?;
-    let (disk, done) = play(rt, alloc, QUIET, disk, &mut streams, &mut nobody());
-    let wanted = match done {
-        Ok(_) => numbered(alloc, has)?,
-        Err(_) => Vec::from_elem(alloc, b'x', has)?,
-    };
-    let sink = sink_of(streams)?;
-    assert!(rt; sink.bytes() == wanted.as_slice());
-    Ok((disk, done))
+    let mut desk = Desk::fresh(rt.alloc(), ONE, ECHO, 16_384)?;
+    let told = are_steps(rt, LONGER, &mut desk);
+    told
 }
 
 /// A sink may have as many bytes as its port has put out, confirmed or not, and not one more.
 #[test]
 fn a_sink_has_no_more_than_was_put_out(rt: HostRuntime) -> Result<(), Fail> {
-    let alloc = rt.alloc();
-    let disk = formatted(alloc, ONE, ECHO, 16_384)?;
-    let (disk, done) = answer_to(&rt, disk, 1)?;
-    assert!(rt;
-        done == Err(StreamFault::Long {
-            port: 0,
-            has: 1,
-            upto: 0
-        })
-    );
-    let failing = MemSink::empty(alloc).failing(0);
-    let mut first = streams(alloc, None, failing, numbered(alloc, 9)?, 9)?;
-    let (disk, done) = play(&rt, alloc, QUIET, disk, &mut first, &mut nobody());
-    assert!(rt; done == Err(StreamFault::OutputFailed(0)));
-    let (disk, _) = left(alloc, disk)?;
-    let (disk, done) = answer_to(&rt, disk, 10)?;
-    assert!(rt;
-        done == Err(StreamFault::Long {
-            port: 0,
-            has: 10,
-            upto: 9
-        })
-    );
-    let (_, done) = answer_to(&rt, disk, 9)?;
-    assert!(rt; done.is_ok());
+    assert!(rt; are_longer(&rt)?);
     Ok(())
 }
