@@ -7,9 +7,10 @@ ghost use Rattle.tp_recover.specs.Reading.{LeavesNothingNew};
 
 use crate::fault::CopyFault;
 use tp_disk::Disk;
+use tp_model::limits::PAGE_BYTES;
 
 /// How many bytes are copied at once.
-const PIECE_BYTES: usize = 4096;
+const PIECE_BYTES: usize = 4 * PAGE_BYTES;
 
 /// Writes over what stands in a copy.
 pub(crate) fn put_bytes<K: Disk>(copy: &mut K, at: u64, bytes: &[u8]) -> Result<(), CopyFault>
