@@ -1,12 +1,11 @@
 //! Devices that are opened each node by itself, by several workers, and in one thread: both calls say the same.
 
-use crate::checkpoints::{AFTER_A_GROUP, BEYOND_THE_GROUPS, OVER_OLD_GROUPS, Story};
+use crate::checkpoints::{AFTER_A_GROUP, BEYOND_THE_GROUPS, OVER_OLD_GROUPS};
 use crate::devices::{LETTER, Letter, MORE, append, disk_of, fresh, held_in, is_same, store_of};
 use crate::filled_areas::each_filled;
-use crate::format_faults::opens_as;
 use crate::opened_books::grown;
 use crate::switch_faults::both_ends;
-use std::alloc::{AllocError, Global};
+use std::alloc::Global;
 use std::process::Abort;
 use std::test::Fail;
 use std::thread::Threads;
@@ -223,31 +222,24 @@ fn all_say_same<R: Threads + Sync>(rt: &R, alloc: Global, bytes: &[u8]) -> Resul
 }
 
 /// Whether a device says this.
-fn is_told(told: Result<u64, Unopened>, says: Result<u64, u64>) -> bool {
-    match says {
-        Ok(next) => told == Ok(next),
-        Err(at) => told == Err(Unopened::Fault(OpenFault::Damaged(at))),
+fn is_told(told: &Result<Opened, Unopened>, says: Result<u64, u64>) -> bool {
+    match (told, says) {
+        (Ok(opened), Ok(next)) => opened.next() == next,
+        (Err(Unopened::Fault(OpenFault::Damaged(at))), Err(place)) => *at == place,
+        _ => false,
     }
 }
 
-/// A device with the pieces of a content over it.
-fn device_of(alloc: Global, device: &[u8], content: &Content<'_>) -> Result<Vec<u8>, AllocError> {
-    let mut bytes = Vec::from_slice(alloc, device)?;
-    for (at, piece) in content.pieces {
-        place(&mut bytes, *at, piece);
-    }
-    Ok(bytes)
-}
-
-/// Whether it says what the content does in one thread, and the same each node by itself.
-fn is_said<R: Threads + Sync>(
+/// Whether a device says this where it is opened each node by itself.
+fn tells<R: Threads + Sync>(
     rt: &R,
     alloc: Global,
-    device: &[u8],
-    content: &Content<'_>,
+    bytes: &[u8],
+    says: Result<u64, u64>,
 ) -> Result<bool, Fail> {
-    let bytes = device_of(alloc, device, content)?;
-    Ok(is_told(opens_as(alloc, &bytes)?, content.says) && all_say_same(rt, alloc, &bytes)?)
+    let mut disk = disk_of(alloc, bytes)?;
+    let told = open_parallel(alloc, &mut disk, 2, &NoGate, rt);
+    Ok(is_told(&told, says))
 }
 
 /// Plays a table over a device.
@@ -258,7 +250,11 @@ fn play<R: Threads + Sync + Abort>(
     contents: &[Content<'_>],
 ) -> Result<(), Fail> {
     for (i, content) in contents.iter().enumerate() {
-        let told = is_said(rt, alloc, device, content)?;
+        let mut bytes = Vec::from_slice(alloc, device)?;
+        for (at, piece) in content.pieces {
+            place(&mut bytes, *at, piece);
+        }
+        let told = tells(rt, alloc, &bytes, content.says)? && all_say_same(rt, alloc, &bytes)?;
         assert!(rt; told, "content {i}");
     }
     Ok(())
@@ -317,27 +313,19 @@ fn appended(alloc: Global) -> Result<Vec<u8>, Fail> {
     Ok(bytes)
 }
 
-/// Adds the device in front of a checkpoint, and behind it.
-fn add_ends(alloc: Global, devices: &mut Vec<Vec<u8>>, story: &Story<'_>) -> Result<(), Fail> {
-    let (start, end) = both_ends(alloc, story)?;
-    devices.push(start)?;
-    Ok(devices.push(end)?)
-}
-
-/// Adds a device without a group, one with two, and those with checkpoints.
-fn add_others(alloc: Global, devices: &mut Vec<Vec<u8>>) -> Result<(), Fail> {
-    devices.push(fresh(alloc, AREA)?)?;
-    devices.push(appended(alloc)?)?;
-    add_ends(alloc, devices, &AFTER_A_GROUP)?;
-    add_ends(alloc, devices, &BEYOND_THE_GROUPS)?;
-    add_ends(alloc, devices, &OVER_OLD_GROUPS)
-}
-
 /// The devices of the other tables here: with groups, filled, and with checkpoints.
 #[test]
 fn devices_of_other_tables(rt: HostRuntime) -> Result<(), Fail> {
-    let mut devices = each_filled(rt.alloc())?;
-    add_others(rt.alloc(), &mut devices)?;
-    assert!(rt; are_said_by_both(&rt, rt.alloc(), &devices)?);
+    let alloc = rt.alloc();
+    let mut devices = each_filled(alloc)?;
+    devices.push(fresh(alloc, AREA)?)?;
+    devices.push(appended(alloc)?)?;
+    for story in [&AFTER_A_GROUP, &BEYOND_THE_GROUPS, &OVER_OLD_GROUPS] {
+        let (start, end) = both_ends(alloc, story)?;
+        devices.push(start)?;
+        devices.push(end)?;
+    }
+    let told = are_said_by_both(&rt, alloc, &devices)?;
+    assert!(rt; told);
     Ok(())
 }

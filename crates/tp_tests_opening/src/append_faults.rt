@@ -1,15 +1,16 @@
 //! Groups appended to a device whose calls fail, or on which the run stops: what the device then opens as.
 
 use crate::devices::{
-    CALLS_OF_OPEN, Held, LETTER, MORE, append, disk_of, fresh, holds, is_same, outputs, replayed,
-    store_of, store_on, what_is_held,
+    CALLS_OF_OPEN, Held, LETTER, MORE, append, disk_of, fresh, holds, outputs, replayed, store_of,
+    what_is_held,
 };
-use crate::faults::{Case, ENDINGS, Ending, torn_of};
+use crate::faults::{Case, ENDINGS, Ending, Torn};
 use std::alloc::{AllocError, Global};
 use std::test::Fail;
 use tp_area::{Store, StoreFault};
 use tp_disk::{Disk, MemDisk};
 use tp_model::Entry;
+use tp_recover::open_store;
 use tp_tests_fixtures::{AREA, GROUPS, place};
 
 /// The two groups that are appended: the place of each gate, and how many bytes are written behind it.
@@ -84,19 +85,25 @@ impl Known {
         Ok(())
     }
 
-    /// The device once `groups` groups are there.
-    fn device(&self, groups: usize) -> &[u8] {
-        match self.bytes.get(groups) {
-            Some(device) => device,
-            None => &[],
-        }
+    /// The bytes of a range, once `groups` groups are there.
+    fn part(&self, groups: usize, range: (usize, usize)) -> &[u8] {
+        let Some(device) = self.bytes.get(groups) else {
+            return &[];
+        };
+        let Some(rest) = device.get(range.0..) else {
+            return &[];
+        };
+        rest.get(..range.1).unwrap_or(&[])
     }
 
     /// The bytes that stand in the range of the last write.
     fn torn(&self, alloc: Global, case: Case) -> Result<Vec<u8>, AllocError> {
-        let old = self.device(case.group());
-        let new = self.device(case.group().saturating_add(1));
-        torn_of(alloc, case.torn, old, new, case.range())
+        let range = case.range();
+        match case.torn {
+            Torn::Filled(byte) => Vec::from_elem(alloc, byte, range.1),
+            Torn::Old => Vec::from_slice(alloc, self.part(case.group(), range)),
+            Torn::New => Vec::from_slice(alloc, self.part(case.group().saturating_add(1), range)),
+        }
     }
 
     /// Whether a device of `bytes` holds what `groups` groups give.
@@ -107,32 +114,27 @@ impl Known {
 
     /// A store on the device without a group, with the fault of a case behind the calls of opening.
     fn store(&self, alloc: Global, case: Case) -> Result<Store<MemDisk>, Fail> {
+        let first = self.bytes.first().ok_or("no bytes")?;
         let fault = case.fault(self.torn(alloc, case)?);
         let call = CALLS_OF_OPEN.saturating_add(case.call as u64);
-        let disk = disk_of(alloc, self.device(0))?;
-        store_on(alloc, disk.with_fault(call, fault))
-    }
-}
-
-/// How many groups a store took before it refused one, where its device failed.
-fn took(count: usize, fault: StoreFault) -> Option<usize> {
-    if fault == StoreFault::DeviceFailed {
-        Some(count)
-    } else {
-        None
+        let (_, store) = open_store(alloc, disk_of(alloc, first)?.with_fault(call, fault))?;
+        Ok(store)
     }
 }
 
 /// Appends both groups as long as the store takes them. Answers how many it took; none where it answers another fault than
 /// that its device failed.
 fn append_both(store: &mut Store<MemDisk>) -> Option<usize> {
-    if let Err(fault) = append(store, &LETTER) {
-        return took(0, fault);
+    for (i, group) in [LETTER.as_slice(), MORE.as_slice()].iter().enumerate() {
+        if let Err(fault) = append(store, group) {
+            return if fault == StoreFault::DeviceFailed {
+                Some(i)
+            } else {
+                None
+            };
+        }
     }
-    match append(store, &MORE) {
-        Ok(()) => Some(2),
-        Err(fault) => took(1, fault),
-    }
+    Some(2)
 }
 
 /// Appends both groups with the fault of a case. Answers how many the store took, and what a crash leaves.
@@ -180,7 +182,8 @@ fn is_whole_at(alloc: Global, known: &Known, call: usize) -> Result<bool, Fail> 
 fn a_group_is_there_or_it_is_not(rt: HostRuntime) -> Result<(), Fail> {
     let known = Known::new(rt.alloc())?;
     for call in 0..8 {
-        assert!(rt; is_whole_at(rt.alloc(), &known, call)?);
+        let told = is_whole_at(rt.alloc(), &known, call)?;
+        assert!(rt; told, "call {call}");
     }
     Ok(())
 }
@@ -188,31 +191,22 @@ fn a_group_is_there_or_it_is_not(rt: HostRuntime) -> Result<(), Fail> {
 /// The next number and the outputs, without a group, with one and with both.
 const REPLAYED: [(u64, &[u8]); 3] = [(0, b""), (4, b"A"), (6, b"A")];
 
-/// Whether what a device holds has the number and the outputs.
-fn is_told(held: &Held, wanted: (u64, &[u8])) -> bool {
-    held.next == wanted.0 && outputs(held) == wanted.1
-}
-
-/// Whether the device with `groups` groups has those, and what a plain replay gives.
-fn is_stored(
-    alloc: Global,
-    known: &Known,
-    groups: usize,
-    wanted: (u64, &[u8]),
-) -> Result<bool, Fail> {
-    let held = what_is_held(alloc, known.device(groups))?;
-    let is_replayed = known
-        .held
-        .get(groups)
-        .is_some_and(|other| is_same(&held, other));
-    Ok(is_replayed && is_told(&held, wanted))
+/// Whether the device with `groups` groups has the number and the outputs of `REPLAYED`, and what a plain replay gives.
+fn is_stored(alloc: Global, known: &Known, groups: usize) -> Result<bool, Fail> {
+    let bytes = known.bytes.get(groups).ok_or("no such device")?;
+    let (next, output) = REPLAYED.get(groups).copied().unwrap_or((9, b""));
+    let is_replayed = known.holds(alloc, bytes, groups)?;
+    let held = what_is_held(alloc, bytes)?;
+    let is_told = held.next == next && outputs(&held) == output;
+    Ok(is_replayed && is_told)
 }
 
 #[test]
 fn what_is_stored_is_what_is_replayed(rt: HostRuntime) -> Result<(), Fail> {
     let known = Known::new(rt.alloc())?;
-    for (groups, wanted) in REPLAYED.iter().enumerate() {
-        assert!(rt; is_stored(rt.alloc(), &known, groups, *wanted)?);
+    for groups in 0..3 {
+        let told = is_stored(rt.alloc(), &known, groups)?;
+        assert!(rt; told, "{groups} groups");
     }
     Ok(())
 }
@@ -236,19 +230,30 @@ fn breaks(alloc: Global, store: &mut Store<MemDisk>) -> Result<bool, AllocError>
     stays_broken(alloc, store)
 }
 
+/// The next number of what a broken store leaves, and a store on it.
+fn reopened(alloc: Global, store: Store<MemDisk>) -> Result<(u64, Store<MemDisk>), Fail> {
+    let (opened, store) = open_store(alloc, store.into_disk())?;
+    Ok((opened.next(), store))
+}
+
 /// Appends both groups, as far as they aren't there. Answers whether no other call failed, and both are there then.
-fn goes_on(alloc: Global, known: &Known, store: &mut Store<MemDisk>) -> Result<bool, Fail> {
-    if store.place.next == 0 {
+fn goes_on(
+    alloc: Global,
+    known: &Known,
+    next: u64,
+    store: &mut Store<MemDisk>,
+) -> Result<bool, Fail> {
+    if next == 0 {
         append(store, &LETTER)?;
     }
     append(store, &MORE)?;
     Ok(store.disk.failures() == 1 && known.holds(alloc, store.disk.bytes(), 2)?)
 }
 
-/// The same on what a broken store leaves, once it is opened again.
+/// The same on what a broken store leaves.
 fn goes_on_behind(alloc: Global, known: &Known, store: Store<MemDisk>) -> Result<bool, Fail> {
-    let mut store = store_on(alloc, store.into_disk())?;
-    let told = goes_on(alloc, known, &mut store);
+    let (next, mut store) = reopened(alloc, store)?;
+    let told = goes_on(alloc, known, next, &mut store);
     told
 }
 
@@ -278,7 +283,8 @@ fn is_broken_at(alloc: Global, known: &Known, call: usize) -> Result<bool, Fail>
 fn a_broken_store_makes_no_call(rt: HostRuntime) -> Result<(), Fail> {
     let known = Known::new(rt.alloc())?;
     for call in 0..4 {
-        assert!(rt; is_broken_at(rt.alloc(), &known, call)?);
+        let told = is_broken_at(rt.alloc(), &known, call)?;
+        assert!(rt; told, "call {call}");
     }
     Ok(())
 }

@@ -165,16 +165,12 @@ impl Calls {
 
     /// The bytes of the device that a call writes or syncs, as their place and length. A read, and what is no call, have none.
     pub(crate) fn range(self, call: usize) -> (usize, usize) {
-        if call < self.clears {
-            return (SECOND, usize::from(call > 0));
-        }
-        let put = call - self.clears;
-        if put == 9 {
-            return (SECOND.saturating_add(self.behind), 1);
-        }
-        match PUTS.get(put) {
-            Some((at, len)) => (SECOND.saturating_add(*at), *len),
-            None => (SECOND, 0),
-        }
+        let (at, len) = match call.checked_sub(self.clears) {
+            Some(9) => (self.behind, 1),
+            Some(put) => PUTS.get(put).copied().unwrap_or((0, 0)),
+            None if call > 0 => (0, 1),
+            None => (0, 0),
+        };
+        (SECOND.saturating_add(at), len)
     }
 }

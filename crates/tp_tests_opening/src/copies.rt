@@ -121,24 +121,7 @@ fn are_behind(base: u64, tail: &[Numbered]) -> bool
     true
 }
 
-/// Puts a page of the image of the only node into the other area.
-fn put_page<D: Disk>(
-    store: &mut Store<D>,
-    topology: &Topology,
-    image: &[u8],
-    page: usize,
-) -> Result<(), StoreFault>
-    requires node { 0 < length topology.now.pages }
-    requires page { page < 4 }
-    requires whole { length image.now ≡ 4268 }
-    requires closed { D.keeps → OtherIsClosed store.old.place (D.state store.old.disk) }
-    ensures closed { D.keeps → OnOk result (OtherIsClosed store.new.place (D.state store.new.disk)) }
-{
-    let at = IMAGE_HEAD_BYTES + PAGE_BYTES * page;
-    store.put_piece(topology, 0, page + 1, &image[at..at + PAGE_BYTES])
-}
-
-/// Puts the image there, piece by piece.
+/// Puts the image of the only node into the other area, piece by piece.
 fn put_image<D: Disk>(
     store: &mut Store<D>,
     topology: &Topology,
@@ -150,10 +133,12 @@ fn put_image<D: Disk>(
     if topology.pages().is_empty() || image.len() != IMAGE_HEAD_BYTES + PAGES * PAGE_BYTES {
         return Err(StoreFault::AreaFull);
     }
-    let (head, _pages) = image.split_at(IMAGE_HEAD_BYTES);
+    let (head, mut pages) = image.split_at(IMAGE_HEAD_BYTES);
     store.put_piece(topology, 0, 0, head)?;
     for page in 0..PAGES {
-        put_page(store, topology, image, page)?;
+        let (first, rest) = pages.split_at(PAGE_BYTES);
+        store.put_piece(topology, 0, page + 1, first)?;
+        pages = rest;
     }
     Ok(())
 }

@@ -1,6 +1,5 @@
 //! How a call of a device ends, and what then stands in the range of a write that isn't synced.
 
-use std::alloc::{AllocError, Global};
 use tp_disk::PlannedFault;
 
 /// What stands in that range: one byte everywhere, what stood there, or what was written.
@@ -9,27 +8,6 @@ pub(crate) enum Torn {
     Filled(u8),
     Old,
     New,
-}
-
-/// The bytes of a range.
-fn piece(bytes: &[u8], range: (usize, usize)) -> &[u8] {
-    let rest = bytes.get(range.0..).unwrap_or(&[]);
-    rest.get(..range.1).unwrap_or(&[])
-}
-
-/// What stands in a range, which `old` has as it stood and `new` as it was written.
-pub(crate) fn torn_of(
-    alloc: Global,
-    torn: Torn,
-    old: &[u8],
-    new: &[u8],
-    range: (usize, usize),
-) -> Result<Vec<u8>, AllocError> {
-    match torn {
-        Torn::Filled(byte) => Vec::from_elem(alloc, byte, range.1),
-        Torn::Old => Vec::from_slice(alloc, piece(old, range)),
-        Torn::New => Vec::from_slice(alloc, piece(new, range)),
-    }
 }
 
 /// How a call of the device ends: the run stops before it, or within it, or the call fails.

@@ -1,11 +1,12 @@
 //! Groups appended until an area is full.
 
-use crate::devices::{append, fresh, holds, replayed, store_of};
+use crate::devices::{append, disk_of, fresh, holds, replayed, store_of};
 use std::alloc::{AllocError, Global};
 use std::test::Fail;
 use tp_area::{Store, StoreFault};
 use tp_disk::{Disk, MemDisk};
 use tp_model::Entry;
+use tp_recover::open_store;
 
 /// Entries that are always possible here.
 const INPUTS: [Entry; 64] = [Entry::HostIn {
@@ -134,8 +135,8 @@ fn is_replayed(
 
 /// Whether a device of `bytes` is as full once it is opened.
 fn stays_full(alloc: Global, bytes: &[u8], filling: &Filling<'_>) -> Result<bool, Fail> {
-    let mut store = store_of(alloc, bytes)?;
-    let told = if (store.place.next, store.place.end) == (filling.next, filling.end) {
+    let (opened, mut store) = open_store(alloc, disk_of(alloc, bytes)?)?;
+    let told = if opened.next() == filling.next && opened.end() == filling.end {
         refuses_all(alloc, &mut store, filling.refused)
     } else {
         Ok(false)
@@ -192,8 +193,9 @@ pub(crate) fn each_filled(alloc: Global) -> Result<Vec<Vec<u8>>, Fail> {
 
 #[test]
 fn areas_are_filled(rt: HostRuntime) -> Result<(), Fail> {
-    for filling in FILLINGS {
-        assert!(rt; fills(rt.alloc(), filling)?);
+    for (i, filling) in FILLINGS.iter().enumerate() {
+        let told = fills(rt.alloc(), filling)?;
+        assert!(rt; told, "filling {i}");
     }
     Ok(())
 }

@@ -1,13 +1,13 @@
 //! Formatting a device whose calls fail, or on which the run stops: what the device then opens as.
 
 use crate::devices::{
-    CALLS_OF_FORMAT, Held, LETTER, Letter, append, disk_of, fresh, holds, store_on, what_is_held,
+    CALLS_OF_FORMAT, Held, LETTER, Letter, append, disk_of, fresh, holds, what_is_held,
 };
 use std::alloc::{AllocError, Global};
 use std::test::Fail;
 use tp_disk::{MemDisk, PlannedFault};
 use tp_model::OpenFault;
-use tp_recover::{Unopened, open};
+use tp_recover::{Unopened, open, open_store};
 use tp_tests_fixtures::{AREA, SECOND, SIZE, place};
 
 /// Bytes of the head up to the last one of the node's page count that isn't 00, and up to the end of the wire, behind which all
@@ -17,7 +17,7 @@ const PAGES: usize = 25;
 const WIRE: usize = 57;
 
 /// The number of the next entry on a device that opens, or why it doesn't.
-pub(crate) fn opens_as(alloc: Global, bytes: &[u8]) -> Result<Result<u64, Unopened>, AllocError> {
+fn opens_as(alloc: Global, bytes: &[u8]) -> Result<Result<u64, Unopened>, AllocError> {
     let mut disk = disk_of(alloc, bytes)?;
     Ok(match open(alloc, &mut disk) {
         Ok(opened) => Ok(opened.next()),
@@ -56,22 +56,18 @@ fn is_none(alloc: Global, call: u64, fault: PlannedFault, byte: u8) -> Result<bo
     told
 }
 
-/// Whether it is so where the run stops within that call, which leaves `byte`, where the call fails, and where it isn't reached.
-fn are_none_at(alloc: Global, call: u64, byte: u8) -> Result<bool, Fail> {
-    let torn = Vec::from_elem(alloc, byte, 4268)?;
-    let within = is_none(alloc, call, PlannedFault::StopsWithin { torn }, byte)?;
-    let torn = Vec::from_elem(alloc, byte, 4268)?;
-    let fails = is_none(alloc, call, PlannedFault::Fails { torn }, byte)?;
-    Ok(within && fails && is_none(alloc, call, PlannedFault::StopsBefore, byte)?)
-}
-
 /// Whatever stands in the areas, the device isn't formatted before its head is written.
 #[test]
 fn a_format_that_stops_before_its_head(rt: HostRuntime) -> Result<(), Fail> {
     let alloc = rt.alloc();
     for call in 0..CALLS_OF_FORMAT.saturating_sub(2) {
         for byte in [0x00, 0xA5, 0xFF] {
-            assert!(rt; are_none_at(alloc, call, byte)?);
+            let torn = Vec::from_elem(alloc, byte, 4268)?;
+            let within = is_none(alloc, call, PlannedFault::StopsWithin { torn }, byte)?;
+            let torn = Vec::from_elem(alloc, byte, 4268)?;
+            let fails = is_none(alloc, call, PlannedFault::Fails { torn }, byte)?;
+            let before = is_none(alloc, call, PlannedFault::StopsBefore, byte)?;
+            assert!(rt; within && fails && before, "call {call}");
         }
     }
     Ok(())
@@ -97,14 +93,14 @@ fn says_so(alloc: Global, whole: &[u8], count: usize) -> Result<bool, Fail> {
     Ok(!done && is_whole == (count >= WIRE) && opens_as(alloc, &bytes)? == says(count))
 }
 
-/// Whether it does at each count of bytes up to 100.
-fn all_say_so(alloc: Global, whole: &[u8]) -> Result<bool, Fail> {
+/// The first count of bytes of the head that may be written, where the device doesn't say what they do.
+fn says_otherwise(alloc: Global, whole: &[u8]) -> Result<Option<usize>, Fail> {
     for count in 0..100 {
         if !says_so(alloc, whole, count)? {
-            return Ok(false);
+            return Ok(Some(count));
         }
     }
-    Ok(true)
+    Ok(None)
 }
 
 /// Where the run stops within the head's write, what of it is written says what the device is. Written whole, it is formatted;
@@ -114,11 +110,17 @@ fn a_format_that_stops_in_its_head(rt: HostRuntime) -> Result<(), Fail> {
     let alloc = rt.alloc();
     for byte in [0x00, 0xA5, 0xFF] {
         let torn = Vec::from_elem(alloc, byte, 512)?;
-        let head = CALLS_OF_FORMAT.saturating_sub(2);
-        assert!(rt; is_none(alloc, head, PlannedFault::Fails { torn }, byte)?);
+        let told = is_none(
+            alloc,
+            CALLS_OF_FORMAT.saturating_sub(2),
+            PlannedFault::Fails { torn },
+            byte,
+        )?;
+        assert!(rt; told, "{byte}");
     }
     let whole = fresh(alloc, AREA)?;
-    assert!(rt; all_say_so(alloc, &whole)?);
+    let otherwise = says_otherwise(alloc, &whole)?;
+    assert_eq!(rt; otherwise, None);
     Ok(())
 }
 
@@ -168,11 +170,9 @@ fn a_format_that_stops_behind_its_head(rt: HostRuntime) -> Result<(), Fail> {
 
 /// A device in memory with the letter's group appended.
 fn grow(alloc: Global, disk: MemDisk) -> Result<MemDisk, Fail> {
-    let mut store = store_on(alloc, disk)?;
-    match append(&mut store, &LETTER) {
-        Ok(()) => Ok(store.into_disk()),
-        Err(fault) => Err(Fail::from(fault)),
-    }
+    let (_, mut store) = open_store(alloc, disk)?;
+    append(&mut store, &LETTER)?;
+    Ok(store.into_disk())
 }
 
 /// Formats a device over what stood on it.

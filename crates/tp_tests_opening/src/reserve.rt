@@ -8,6 +8,7 @@ ghost use Rattle.tp_tests_store.specs.Lone.{IsUsable};
 use crate::devices::fresh;
 use crate::opened_books::book_of;
 use std::alloc::Global;
+use std::process::Abort;
 use std::test::Fail;
 use tp_book::Refusal::{JournalFull, NothingToTake, SnapshotRunning};
 use tp_book::{Book, Refusal};
@@ -16,7 +17,7 @@ use tp_tests_fixtures::{AREA, GROUPS, place};
 use tp_tests_store::calls::hand_in;
 
 /// A call on the book. A take that was made ready is given back.
-#[derive(Clone, Copy)]
+#[derive(Clone, Copy, Debug)]
 enum Call {
     HandIn,
     ReadyTake(u16),
@@ -246,29 +247,21 @@ fn make(alloc: Global, book: &mut Book, call: Call) -> Option<Result<(), Refusal
     }
 }
 
-/// Whether all calls are answered so.
-fn are_made(alloc: Global, book: &mut Book, rows: &[Row]) -> bool
-    requires { IsUsable book.old }
-{
-    for row in rows {
-        let (call, answer, next) = *row;
-        if make(alloc, book, call) != answer || book.next() != next {
-            return false;
-        }
-    }
-    true
-}
-
-fn plays(alloc: Global, story: &Story<'_>) -> Result<bool, Fail> {
+fn play<R: AllocGlobal + Abort>(rt: &R, alloc: Global, story: &Story<'_>) -> Result<(), Fail> {
     let (entries, took, rows) = *story;
     let mut book = book_of(alloc, device(alloc, entries, took)?)?;
-    Ok(are_made(alloc, &mut book, rows))
+    for row in rows {
+        let (call, answer, next) = *row;
+        let told = make(alloc, &mut book, call) == answer && book.next() == next;
+        assert!(rt; told, "{entries} entries, {call:?}");
+    }
+    Ok(())
 }
 
 #[test]
 fn takes_of_a_snapshot_use_what_is_kept(rt: HostRuntime) -> Result<(), Fail> {
     for story in STORIES {
-        assert!(rt; plays(rt.alloc(), story)?);
+        play(&rt, rt.alloc(), story)?;
     }
     Ok(())
 }

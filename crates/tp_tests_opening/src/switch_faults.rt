@@ -4,8 +4,8 @@ use crate::checkpoints::{
     AFTER_A_GROUP, BEYOND_THE_GROUPS, Calls, Look, OVER_OLD_GROUPS, Step, Story,
 };
 use crate::copies::{Pieces, switch};
-use crate::devices::{Held, Letter, append, disk_of, fresh, holds, replayed, store_of, store_on};
-use crate::faults::{Case, ENDINGS, Torn, torn_of};
+use crate::devices::{Held, Letter, append, disk_of, fresh, holds, replayed, store_of};
+use crate::faults::{Case, ENDINGS, Torn};
 use std::alloc::{AllocError, Global};
 use std::process::Abort;
 use std::test::Fail;
@@ -13,7 +13,7 @@ use tp_area::{Store, StoreFault};
 use tp_disk::{Disk, MemDisk};
 use tp_model::Entry;
 use tp_net::Topology;
-use tp_recover::open;
+use tp_recover::{open, open_store};
 use tp_tests_fixtures::{AREA, SECOND, place};
 
 /// A device in front of the checkpoint and behind it, with what a plain replay of the entries gives; and what is put.
@@ -72,12 +72,7 @@ fn grow(
 
 /// Whether the bytes of a device are those that ought to stand there.
 fn has_bytes(device: &[u8], bytes: &[(usize, u8)]) -> bool {
-    for (at, byte) in bytes {
-        if device.get(*at).copied() != Some(*byte) {
-            return false;
-        }
-    }
-    true
+    bytes.iter().all(|(at, byte)| device.get(*at) == Some(byte))
 }
 
 /// What plain replays of the entries before and after a checkpoint give, over the device with `first`.
@@ -160,8 +155,8 @@ impl Known {
         let range = self.calls.range(case.call);
         let fault = case.fault(self.torn(alloc, case.torn, range)?);
         let call = self.calls.opening.saturating_add(case.call as u64);
-        let disk = disk_of(alloc, &self.start)?;
-        store_on(alloc, disk.with_fault(call, fault))
+        let (_, store) = open_store(alloc, disk_of(alloc, &self.start)?.with_fault(call, fault))?;
+        Ok(store)
     }
 
     /// What stands in a range. The gate was closed before it is opened.
@@ -171,11 +166,14 @@ impl Known {
         torn: Torn,
         range: (usize, usize),
     ) -> Result<Vec<u8>, AllocError> {
-        let torn = match torn {
-            Torn::Old if range.0 == SECOND => Torn::Filled(0x00),
-            other => other,
+        let bytes = match torn {
+            Torn::Filled(byte) => return Vec::from_elem(alloc, byte, range.1),
+            Torn::Old if range.0 == SECOND => return Vec::from_elem(alloc, 0x00, 1),
+            Torn::Old => &self.start,
+            Torn::New => &self.end,
         };
-        torn_of(alloc, torn, &self.start, &self.end, range)
+        let rest = bytes.get(range.0..).unwrap_or(&[]);
+        Vec::from_slice(alloc, rest.get(..range.1).unwrap_or(&[]))
     }
 }
 
@@ -259,7 +257,8 @@ fn is_whole_at(alloc: Global, known: &Known, call: usize) -> Result<bool, Fail> 
 fn play<R: AllocGlobal + Abort>(rt: &R, story: &Story<'_>) -> Result<(), Fail> {
     let known = Known::of(rt.alloc(), story)?;
     for call in 0..known.calls.count().saturating_add(1) {
-        assert!(rt; is_whole_at(rt.alloc(), &known, call)?);
+        let told = is_whole_at(rt.alloc(), &known, call)?;
+        assert!(rt; told, "call {call}");
     }
     Ok(())
 }

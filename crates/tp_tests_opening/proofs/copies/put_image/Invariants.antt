@@ -1,6 +1,11 @@
--- the other area stays closed
+-- the other area stays closed, and the pages that are left stand in the rest
+use Rattle.std.proofs.Common.{◌≡◌, ◌-◌, ◌*◌, length}
+use Rattle.tp_model.specs.declared.limits.TheConstants.{PAGE_BYTES}
 use Rattle.tp_area.specs.Other.{OtherIsClosed}
 use Rattle.tp_tests_opening.proofs.copies.put_image.Given as goal
 
 abbrev pub invariant-loop-page : goal.invariant-loop-page
-invariant-loop-page g l = g.D.Disk.keeps → OtherIsClosed l.store.place (g.D.Disk.state l.store.disk)
+invariant-loop-page g l = record {
+  left : length l.pages ≡ PAGE_BYTES * (4 - l.page);
+  closed : g.D.Disk.keeps → OtherIsClosed l.store.place (g.D.Disk.state l.store.disk);
+}

@@ -1,6 +1,6 @@
 use Rattle.tp_tests_store.specs.Lone.{IsUsable}
-use Rattle.tp_tests_opening.proofs.reserve.are_made.Given as goal
+use Rattle.tp_tests_opening.proofs.reserve.play.Given as goal
 
 -- the book can be used
 abbrev pub invariant-loop-row : goal.invariant-loop-row
-invariant-loop-row l = IsUsable l.book
+invariant-loop-row g l = IsUsable l.book
