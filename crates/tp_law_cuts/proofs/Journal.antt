@@ -13,7 +13,7 @@ use Rattle.tp_model.specs.Sound.{owner}
 use Rattle.tp_model.specs.Markers.{before, markers, plain_network, NeverMarks}
 use Rattle.tp_model.specs.Snapshot.{Snapshot, MarkedNetwork, count_of, has_recorded, is_closed, taker, collected}
 use Rattle.tp_law_network.proofs.Lines.{for_line-elsewhere, on_taken, taken_from, length_taken, on_sent, on_sent_none, length_sent}
-use Rattle.tp_law_network.proofs.Local.{Step, SameShape, next_from, takes_same, takes_own, step_sends, step_lines, step_shape, step_own_same, step_own_other}
+use Rattle.tp_law_network.proofs.Local.{Step, SameShape, next_from, takes_same, step_takes, step_sends, step_lines, step_shape, step_own_same, step_own_other}
 use Rattle.tp_law_network.proofs.Choice.{made-append, chosen_last_in, chosen_last_out, chosen_passed}
 use Rattle.tp_law_network.proofs.Reorder.{after_front, after_last, reorder_trans, reorder_front, reorder_back, reorder_end, move_left}
 use Rattle.tp_law_cuts.proofs.Marks.{before_unmarked, before-append, before-append_marked}
@@ -97,7 +97,7 @@ module _ {Node : Type 0} (M : Machine Node) (four : HasFourLinks M) (never : Nev
 
   -- what it takes comes in to its process, and what it sends goes out from it
   takes_elsewhere : (l : ℕ) → taker w.live l ≢ whose → for_line l (takes w.live.wires (length w.live.nodes) e) ≡ []
-  takes_elsewhere l other = for_line-elsewhere (taker w.live) (process w.live.wires (length w.live.nodes) e) l (takes w.live.wires (length w.live.nodes) e) (takes_own w.live e) (λ h. other (h ∙ whose_live))
+  takes_elsewhere l other = for_line-elsewhere (taker w.live) (process w.live.wires (length w.live.nodes) e) l (takes w.live.wires (length w.live.nodes) e) (step_takes M four w.live e v S) (λ h. other (h ∙ whose_live))
 
   sends_elsewhere : (l : ℕ) → owner (length w.live.nodes) l ≢ whose → for_line l S.sends ≡ []
   sends_elsewhere l other = for_line-elsewhere (owner (length w.live.nodes)) (process w.live.wires (length w.live.nodes) e) l S.sends (step_sends M four w.live e v S) (λ h. other (h ∙ whose_live))

@@ -14,3 +14,5 @@ pub mod Stays
 pub mod Halves
 pub mod Room
 pub mod Until
+pub mod Fronts
+pub mod TurnHalves

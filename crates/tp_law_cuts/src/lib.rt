@@ -9,7 +9,7 @@ ghost use Rattle.tp_model.specs.declared.link.Token.TheVariants.{Marker};
 ghost use Rattle.tp_model.specs.declared.entry.Entry.{Entry};
 ghost use Rattle.tp_model.specs.NodeState.{NodeState};
 ghost use Rattle.tp_model.specs.Node.{t414};
-ghost use Rattle.tp_model.specs.Network.{Network, Port, OfHost, OfNode, is_first, on_line, taken};
+ghost use Rattle.tp_model.specs.Network.{Network, Own, Port, OfHost, OfNode, is_first, on_line, taken};
 ghost use Rattle.tp_model.specs.Entries.{does, next, process, takes};
 ghost use Rattle.tp_model.specs.Order.{after, AreIndependent, Reorder, post, pre};
 ghost use Rattle.tp_model.specs.Markers.{has_marker, plain_network};
@@ -18,6 +18,8 @@ ghost use Rattle.tp_model.specs.WholeCut.{WholeCut, all_some, count_in, whole, I
 ghost use Rattle.tp_model.specs.Acts.{Act, Begin, Close, Journal, Record, Trim, acted, happens, IsOpened, CutHolds};
 ghost use Rattle.tp_model.specs.Halves.{BookState, marked, whole_in, with_begin, with_close, with_close_over, with_entry, with_record, with_trim};
 ghost use Rattle.tp_model.specs.Runs.{HasCut, is_trim};
+ghost use Rattle.tp_law_cuts.specs.Reserved.{MayBeMade, IsOfOthers, HasTurned, IsNotOf, IsReceived, turn_acts, with_turn};
+ghost use Rattle.tp_model.specs.declared.link.Received.{Received};
 
 /// Two neighbours that are independent may be swapped, and lead to the same network. So do all orders that come from
 /// one another by such swaps.
@@ -80,4 +82,23 @@ pub fn halves_join()
         → happens t414 (marked b nodes frozen) Trim ≡ Some (marked (with_trim b cut images) nodes []) }
     ensures whole { (b : BookState NodeState) (nodes : List NodeState) (frozen : List (Option NodeState)) → length nodes ≡ length b.start.nodes
         → whole (marked b nodes frozen) ≡ whole_in b }
+{}
+
+/// What a process has done under its own lock can still be journalled, and is then the same, whatever others have done to the book in
+/// between: no entry of theirs, no beginning, recording, closing or trim takes a token from in front of its lines.
+pub fn reserved_turns_stay()
+    ensures received { (w v : MarkedNetwork NodeState) (acts : List Act) → acted t414 w acts ≡ Some v
+        → (node : ℕ) (takes : List Received) → AllByRecursion (IsNotOf w.live node) acts → IsReceived w.live node takes → IsReceived v.live node takes }
+    ensures same { (w v : MarkedNetwork NodeState) (acts : List Act) → acted t414 w acts ≡ Some v
+        → (e : Entry) (was now : Own NodeState) (sends : List (ℕ × Token)) → AllByRecursion (IsOfOthers w.live e) acts
+        → MayBeMade t414 w.live e was now sends → MayBeMade t414 v.live e was now sends }
+{}
+
+/// What a node did in a turn under its lock, from the tokens that it took on, and what the book does at the commit are together the
+/// turn's act: one entry, or none.
+pub fn turns_join()
+    ensures { (b : BookState NodeState) (nodes : List NodeState) (frozen : List (Option NodeState)) → length nodes ≡ length b.start.nodes
+        → (node : ℕ) (takes : List Received) (count : ℕ) (before after : NodeState) (tokens : List (ℕ × Token)) → slice_get nodes node ≡ Some before
+        → HasTurned t414 b node takes count tokens before after
+        → acted t414 (marked b nodes frozen) (turn_acts node takes count) ≡ Some (marked (with_turn b node takes count tokens) (set nodes node after) frozen) }
 {}

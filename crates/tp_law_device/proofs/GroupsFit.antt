@@ -15,10 +15,9 @@ use Rattle.tp_model.specs.Entries.{next}
 use Rattle.tp_model.specs.Sound.{Ends}
 use Rattle.tp_model.specs.Topology.{Topology}
 use Rattle.tp_model.specs.Bytes.{u16_at}
-use Rattle.tp_model.specs.EntryBytes.{entry_at}
 use Rattle.tp_model.specs.Group.{rows_of, rows_at, rows_behind, rises, header, group_length, group_bytes}
 use Rattle.tp_model.specs.CutImage.{or_damaged}
-use Rattle.tp_model.specs.Replay.{Listing, Replay, placed, at_open_gate, listing, with_entry, is_number, after_row, after_rows, replay_from}
+use Rattle.tp_model.specs.Replay.{Listing, Replay, row_entry, placed, at_open_gate, listing, with_entry, is_number, after_row, after_rows, replay_from}
 use Rattle.tp_model.specs.Journal.{cut_length, room, entry_room}
 use Rattle.tp_model.specs.Device.{area_start, content_of}
 use Rattle.tp_model.specs.Spelling.{IsGroup, groups_bytes, entries_in}
@@ -89,7 +88,7 @@ listing_room zero at (gate ∷ bytes) = go (gate == GATE_OPEN) (rows_behind byte
 -- one entry is kept of each row
 row_kept : {Node : Type 0} (M : Machine Node) (r v : Replay Node) (row : List ℕ) → after_row M r row ≡ Some v → length v.kept ≡ length r.kept + 1
 row_kept M r v row is =
-    let found = entry_found M r v (entry_at row) is in
+    let found = entry_found M r v (row_entry row) is in
     let entry = found.0 in
     let tested = cond_some (is_number r entry.1) (option_map (with_entry r entry) (next M r.now entry.0)) v found.2 in
     let stepped = map_some (with_entry r entry) (next M r.now entry.0) v tested.1 in

@@ -3,7 +3,7 @@ use Rattle.std.proofs.Common.{◌≡◌, ℕ, zero, suc, ◌+◌, ◌-◌, ◌*�
 use Rattle.std.specs.Prelude.{◌==◌, ◌&&◌, nat_le, nat_lt, map, flat_map}
 use Rattle.std.specs.Option.{option_map}
 use Rattle.std.specs.List.{AllByRecursion, concat}
-use Rattle.std.proofs.lemmas.Bool.{and_parts, leb-true, ltb-true, false≢true}
+use Rattle.std.proofs.lemmas.Bool.{and_from, and_parts, leb-true, ltb-true, false≢true}
 use Rattle.std.proofs.lemmas.List.{take_at, drop_at, take-append-drop, map-append, length-map, take-map, drop-map}
 use Rattle.tp_model.specs.declared.entry.Entry.{Entry}
 use Rattle.tp_model.specs.declared.limits.TheConstants.{GATE_OPEN, MAX_GROUP, NUMBER_LIMIT}
@@ -12,13 +12,14 @@ use Rattle.tp_model.specs.Entries.{next}
 use Rattle.tp_model.specs.Order.{after}
 use Rattle.tp_model.specs.Numbers.{AreNumbered}
 use Rattle.tp_model.specs.Device.{is_open}
-use Rattle.tp_model.specs.EntryBytes.{IsSpelt, entry_bytes, entry_at}
+use Rattle.tp_model.specs.EntryBytes.{IsSpelt, entry_bytes, is_in_range, is_spelling}
 use Rattle.tp_model.specs.Group.{rows_of, rows_behind, header, group_length, group_bytes, or_bad}
 use Rattle.tp_model.specs.CutImage.{or_damaged}
 use Rattle.tp_model.specs.Spelling.{groups_bytes, entries_in, IsGroup}
-use Rattle.tp_model.specs.Replay.{Listing, Replay, placed, at_open_gate, listing, with_entry, is_number, after_row, after_rows}
+use Rattle.tp_model.specs.Replay.{Listing, Replay, row_entry, placed, at_open_gate, listing, with_entry, is_number, after_row, after_rows}
 use Rattle.tp_law_bytes.proofs.EntryLaws.{entry_at-bytes}
 use Rattle.tp_law_bytes.proofs.GroupLaws.{group_at-are}
+use Rattle.tp_law_bytes.proofs.PlainEntries.{row_spells}
 use Rattle.tp_law_network.proofs.Partial.{map_some, cond_some}
 use Rattle.tp_law_network.proofs.Reorder.{after_first}
 use Rattle.tp_law_device.proofs.Faults.{bind_ok, or_damaged_ok}
@@ -133,16 +134,18 @@ record EntryRead {Node : Type 0} (M : Machine Node) (r v : Replay Node) (row : L
 
 entry_read : {Node : Type 0} (M : Machine Node) (r v : Replay Node) (row : List ℕ) → after_row M r row ≡ Some v → EntryRead M r v row
 entry_read M r v row is =
-    let found = entry_found M r v (entry_at row) is in
+    let found = entry_found M r v (row_entry row) is in
     let entry = found.0 in
-    let bytes = entry_at-bytes row entry.0 entry.1 found.1 in
+    let own = row_spells row entry.0 entry.1 found.1 in
+    let bytes = entry_at-bytes row entry.0 entry.1 own.at in
+    let low_number = (and_parts (is_spelling entry.0) (nat_lt entry.1 NUMBER_LIMIT) bytes.0).1 in
     let tested = cond_some (is_number r entry.1) (option_map (with_entry r entry) (next M r.now entry.0)) v found.2 in
     let stepped = map_some (with_entry r entry) (next M r.now entry.0) v tested.1 in
     let low = and_parts (nat_le r.least entry.1) (nat_le entry.1 r.next && nat_lt r.next (NUMBER_LIMIT - 1)) tested.0 in
     let high = and_parts (nat_le entry.1 r.next) (nat_lt r.next (NUMBER_LIMIT - 1)) low.1 in
     record {
       entry = entry;
-      spelt = bytes.0;
+      spelt = and_from (is_in_range entry.0) (nat_lt entry.1 NUMBER_LIMIT) own.ranged low_number;
       row_is = sym bytes.1;
       least = leb-true r.least entry.1 low.0;
       most = leb-true entry.1 r.next high.0;

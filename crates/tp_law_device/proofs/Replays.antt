@@ -11,12 +11,12 @@ use Rattle.tp_model.specs.Results.{◌>>=◌}
 use Rattle.tp_model.specs.Network.{Machine, Network}
 use Rattle.tp_model.specs.Entries.{next}
 use Rattle.tp_model.specs.Order.{after}
-use Rattle.tp_model.specs.EntryBytes.{entry_bytes, entry_at, is_spelt, IsSpelt}
+use Rattle.tp_model.specs.EntryBytes.{entry_bytes, is_spelt, IsSpelt}
 use Rattle.tp_model.specs.Group.{rows_of}
 use Rattle.tp_model.specs.CutImage.{or_damaged}
-use Rattle.tp_model.specs.Replay.{Replay, placed, with_entry, is_number, after_entry, after_row, after_rows, replay_from}
+use Rattle.tp_model.specs.Replay.{Replay, row_entry, placed, with_entry, is_number, after_entry, after_row, after_rows, replay_from}
 use Rattle.tp_model.specs.Numbers.{AreNumbered}
-use Rattle.tp_law_bytes.proofs.EntryLaws.{entry_at-entry_bytes}
+use Rattle.tp_law_bytes.proofs.PlainEntries.{row_entry-spelt}
 use Rattle.tp_law_network.proofs.Partial.{map_some, cond_some}
 use Rattle.tp_law_network.proofs.Reorder.{after_last, first_possible}
 use Rattle.tp_law_device.proofs.Faults.{bind_ok, or_damaged_ok}
@@ -40,7 +40,7 @@ entry_found M r v (Some entry) e = (entry, refl, e)
 
 replays_row : {Node : Type 0} (M : Machine Node) (s : Network Node) (base : ℕ) (r v : Replay Node) (row : List ℕ) → Replays M s base r → after_row M r row ≡ Some v → Replays M s base v
 replays_row M s base r v row R is =
-    let found = entry_found M r v (entry_at row) is in
+    let found = entry_found M r v (row_entry row) is in
     let entry = found.0 in
     let tested = cond_some (is_number r entry.1) (option_map (with_entry r entry) (next M r.now entry.0)) v found.2 in
     let stepped = map_some (with_entry r entry) (next M r.now entry.0) v tested.1 in
@@ -68,7 +68,7 @@ replay_holds M s base v rows is = replays_rows M s base (replay_from s base) v r
 row_spelt : {Node : Type 0} (M : Machine Node) (r : Replay Node) (e : Entry) (number : ℕ) (now : Network Node) → next M r.now e ≡ Some now → r.least ≤ number → number ≤ r.next
     → r.next < NUMBER_LIMIT - 1 → is_spelt e number ≡ true → after_row M r (entry_bytes e number) ≡ Some (with_entry r (e, number) now)
 row_spelt M r e number now step least most below spelt =
-    let read = entry_at-entry_bytes e number spelt in
+    let read = row_entry-spelt e number spelt in
     let tests : is_number r number ≡ true = and_from (nat_le r.least number) (nat_le number r.next && nat_lt r.next (NUMBER_LIMIT - 1)) (le-leb r.least number least)
     (and_from (nat_le number r.next) (nat_lt r.next (NUMBER_LIMIT - 1)) (le-leb number r.next most) (lt-ltb r.next (NUMBER_LIMIT - 1) below)) in
     (λ i. option_and_then (after_entry M r) (read i))

@@ -1,5 +1,5 @@
 -- A test as a number.
-use Rattle.std.proofs.Common.{◌≡◌, ℕ, ◌≤◌, Bool, true, false, refl, arith}
+use Rattle.std.proofs.Common.{◌≡◌, ◌≤◌, Bool, true, false, refl, arith}
 use Rattle.tp_model.specs.Word.{bit}
 
 pub bit_small : (b : Bool) → bit b ≤ 1

@@ -11,14 +11,14 @@ use Rattle.tp_model.specs.declared.link.Token.TheVariants.{Data, Ack, Marker}
 use Rattle.tp_model.specs.declared.wire.WireEnd.{WireEnd}
 use Rattle.tp_model.specs.declared.wire.WireEnd.TheVariants.{Link, Port as AtPort}
 use Rattle.tp_model.specs.declared.entry.Entry.{Entry}
-use Rattle.tp_model.specs.declared.entry.Entry.TheVariants.{Run, Take, HostIn, Confirm}
+use Rattle.tp_model.specs.declared.entry.Entry.TheVariants.{Run, Take, HostIn, Confirm, Turn}
 use Rattle.tp_model.specs.declared.limits.TheConstants.{MAX_STEPS}
 use Rattle.tp_model.specs.Network.{Machine, steps, Network, Port, Own, OfNode, OfHost, put, receiver, has_wire, sent}
 use Rattle.tp_model.specs.Entries.{HasFourLinks, process, port_took, acked, handed_in, confirmed, of_node, of_port, receives, does, next}
 use Rattle.tp_model.specs.Order.{after}
 use Rattle.tp_model.specs.Counted.{accepted, came_out, is_input, is_at, is_output}
 use Rattle.tp_law_network.proofs.Partial.{cond_some as tested, slice_get-set_same, slice_get-set_other}
-use Rattle.tp_law_network.proofs.Local.{step_of, step_shape, own_host, port_step}
+use Rattle.tp_law_network.proofs.Local.{step_of, step_shape, own_host, port_step, turn_step}
 use Rattle.tp_law_network.proofs.Reorder.{first_possible}
 
 -- ## One port
@@ -145,6 +145,9 @@ module _ {Node : Type 0} (s : Network Node) (p : ℕ) (port : Port) (at : slice_
         subst (λ n. Counted 0 n (ports_after s r.0)) (none_is (is_at p (receiver s.wires line))) (came_counted (receiver s.wires line) Ack was r host e)
     does_counted (Take line Marker) was r host e =
         subst (λ n. Counted 0 n (ports_after s r.0)) (none_is (is_at p (receiver s.wires line))) (came_counted (receiver s.wires line) Marker was r host e)
+    does_counted (Turn i links k) (OfHost ports) r host e = cc
+    does_counted (Turn i links k) (OfNode node) r host e =
+        let T = turn_step M s.wires N i links k node r e in subst (λ x. Counted 0 0 (ports_after s x.0)) T.is stays_counted
     does_counted (HostIn q x) (OfNode node) r host e = cc
     does_counted (HostIn q x) (OfHost ports) r host e =
         subst (λ n. Counted (cond (q == p) 1 0) n (ports_after s r.0)) (none_is (q == p))

@@ -1,5 +1,5 @@
 -- What the ends of links and ports do in one entry, counted in Data and Acks.
-use Rattle.std.proofs.Common.{◌≡◌, ◌≢◌, ℕ, zero, suc, ◌+◌, ◌-◌, ◌*◌, ◌/◌, ◌%◌, ◌<◌, ◌≤◌, inl, inr, List, [], ◌∷◌, ◌++◌, map, length, set, refl, sym, ap, subst, arith, Option, Some, None}
+use Rattle.std.proofs.Common.{◌≡◌, ◌≢◌, ℕ, zero, suc, ◌+◌, ◌-◌, ◌*◌, ◌/◌, ◌%◌, ◌<◌, ◌≤◌, ◌∙◌, true, append-nil, inl, inr, List, [], ◌∷◌, ◌++◌, map, length, set, refl, sym, ap, subst, arith, Option, Some, None}
 use Rattle.std.proofs.lemmas.Bool.{eq-eqb, ne_eqb, cases_Bool, cases_eq, ltb-true, ltb-false}
 use Rattle.std.proofs.lemmas.Option.{cond_some}
 use Rattle.std.specs.Prelude.{nat_lt, nat_le, ◌&&◌, slice_get, length}
@@ -10,14 +10,16 @@ use Rattle.tp_model.specs.declared.link.Token.TheVariants.{Data, Ack, Marker}
 use Rattle.tp_model.specs.declared.wire.WireEnd.{WireEnd}
 use Rattle.tp_model.specs.declared.wire.WireEnd.TheVariants.{Link, Port as AtPort}
 use Rattle.tp_model.specs.declared.entry.Entry.{Entry}
-use Rattle.tp_model.specs.declared.entry.Entry.TheVariants.{Run, Take, HostIn, Confirm}
+use Rattle.tp_model.specs.declared.entry.Entry.TheVariants.{Run, Take, HostIn, Confirm, Turn}
 use Rattle.tp_model.specs.declared.limits.TheConstants.{MAX_STEPS}
 use Rattle.tp_model.specs.Word.{bit}
 use Rattle.tp_model.specs.Network.{◌>>=◌, Machine, steps, Network, Port, Own, OfNode, OfHost, own, receiver, process_at, line_of, back, for_line}
-use Rattle.tp_model.specs.Entries.{process, of_node, of_port, acked, port_took, first_only, handed_in, confirmed, receives, does}
+use Rattle.tp_model.specs.Turn.{by_link, by_line, comes_in, took_all}
+use Rattle.tp_model.specs.Entries.{process, takes, of_node, of_port, acked, port_took, first_only, handed_in, confirmed, receives, does}
 use Rattle.tp_model.specs.Sound.{Ends, datas, acks, owner, is_some_byte, is_pending, own_waits, own_holds, Wired, KeepsFlight}
 use Rattle.tp_law_network.proofs.Lines.{for_line-append}
-use Rattle.tp_law_network.proofs.Local.{own_node, owner_of_link, owner_of_port}
+use Rattle.tp_model.specs.Snapshot.{taker}
+use Rattle.tp_law_network.proofs.Local.{turn_step, comes_first, own_node, owner_of_link, owner_of_port}
 use Rattle.tp_law_network.proofs.Partial.{bind_some, map_some, cond_some as tested, slice_get-set_same, slice_get-set_other}
 
 -- ## Counts
@@ -71,6 +73,15 @@ module _ {Node : Type 0} {M : Machine Node} {E : Ends Node} (keeps : KeepsFlight
       let b = bind_some (steps M count a.0.0) (λ rest. Some (rest.0, a.0.1 ++ rest.1)) after a.2 in
       let same : (b.0.0, a.0.1 ++ b.0.1) ≡ after = cc in
       subst (λ r. NodeMoves E node [] r) same (joined_moves [] [] a.0 b.0 (step_moves node a.0 a.1) (steps_moves count a.0.0 b.0 b.1))
+
+  pub took_all_moves : (ms : List (ℕ × Token)) (node : Node) (after : Node × List (ℕ × Token)) → took_all M ms node ≡ Some after → NodeMoves E node ms after
+  unfolding took_all
+  took_all_moves [] node after e = let same : (node, []) ≡ after = cc in subst (λ r. NodeMoves E node [] r) same (no_moves E node)
+  took_all_moves (m ∷ ms) node after e =
+      let a = bind_some (M.took node m.0 m.1) (λ first. took_all M ms first.0 >>= λ rest. Some (rest.0, first.1 ++ rest.1)) after e in
+      let b = bind_some (took_all M ms a.0.0) (λ rest. Some (rest.0, a.0.1 ++ rest.1)) after a.2 in
+      let same : (b.0.0, a.0.1 ++ b.0.1) ≡ after = cc in
+      subst (λ r. NodeMoves E node (m ∷ ms) r) same (joined_moves (m ∷ []) ms a.0 b.0 (took_moves node m.0 m.1 a.0 a.1) (took_all_moves ms a.0.0 b.0 b.1))
 
 -- ## Whose line it is
 
@@ -186,30 +197,37 @@ port_moves {E = E} N p ports port ms after is moves = record {
 
 -- ## An entry
 
--- The token that an entry takes, with the line that the end sends at which it comes in.
-abbrev pub arrival : Option ℕ → Token → List (ℕ × Token)
-arrival None token = []
-arrival (Some line) token = (line, token) ∷ []
+-- The tokens that are taken from lines, each with the line that the end sends at which it comes in.
+abbrev pub came : Option ℕ → Token → List (ℕ × Token) → List (ℕ × Token)
+came None token rest = rest
+came (Some line) token rest = (line, token) ∷ rest
+
+abbrev pub came_in : {Node : Type 0} → Network Node → List (ℕ × Token) → List (ℕ × Token)
+came_in s [] = []
+came_in s (m ∷ ms) = came (back s m.0) m.1 (came_in s ms)
 
 abbrev pub arrivals : {Node : Type 0} → Network Node → Entry → List (ℕ × Token)
-arrivals s (Run i k) = []
-arrivals s (Take line token) = arrival (back s line) token
-arrivals s (HostIn p x) = []
-arrivals s (Confirm p upto) = []
+arrivals s e = came_in s (takes s.wires (length s.nodes) e)
 
--- what comes in comes in to its process
-pub arrivals_own : {Node : Type 0} (s : Network Node) (e : Entry) → Wired s → AllByRecursion (λ m. owner (length s.nodes) m.0 ≡ process s.wires (length s.nodes) e) (arrivals s e)
-unfolding process
-arrivals_own s (Run i k) wired = tt
-arrivals_own s (HostIn p x) wired = tt
-arrivals_own s (Confirm p upto) wired = tt
-arrivals_own s (Take line token) wired = go (receiver s.wires line) (wired.links line)
+-- what comes in comes in to the process that takes it
+pub arrivals_own : {Node : Type 0} (s : Network Node) (p : ℕ) (ms : List (ℕ × Token)) → Wired s → AllByRecursion (λ m. taker s m.0 ≡ p) ms → AllByRecursion (λ m. owner (length s.nodes) m.0 ≡ p) (came_in s ms)
+arrivals_own s p [] wired all = tt
+arrivals_own {Node} s p (m ∷ ms) wired all = go (receiver s.wires m.0) (wired.links m.0) all.0 (arrivals_own s p ms wired all.1)
   where
-    go : (end : Option WireEnd) → ((i k : ℕ) → end ≡ Some (Link i k) → (i < length s.nodes) × (k < 4))
-        → AllByRecursion (λ m. owner (length s.nodes) m.0 ≡ process_at (length s.nodes) end) (arrival (option_map (line_of (length s.nodes)) end) token)
-    go None links = tt
-    go (Some (Link i k)) links = (owner_of_link (length s.nodes) i k (links i k refl).0 (links i k refl).1, tt)
-    go (Some (AtPort p)) links = (owner_of_port (length s.nodes) p, tt)
+    go : (end : Option WireEnd) → ((i k : ℕ) → end ≡ Some (Link i k) → (i < length s.nodes) × (k < 4)) → process_at (length s.nodes) end ≡ p
+        → AllByRecursion (λ m. owner (length s.nodes) m.0 ≡ p) (came_in s ms)
+        → AllByRecursion (λ m. owner (length s.nodes) m.0 ≡ p) (came (option_map (line_of (length s.nodes)) end) m.1 (came_in s ms))
+    go None links is rest = rest
+    go (Some (Link i k)) links is rest = (owner_of_link (length s.nodes) i k (links i k refl).0 (links i k refl).1 ∙ is, rest)
+    go (Some (AtPort q)) links is rest = (owner_of_port (length s.nodes) q ∙ is, rest)
+
+-- the tokens of a turn come in on its links
+turn_arrivals : {Node : Type 0} (s : Network Node) (i : ℕ) (ms : List (ℕ × Token)) → comes_in s.wires (length s.nodes) i ms ≡ true
+    → came_in s (by_line s.wires (length s.nodes) i ms) ≡ map (λ m. (4 * i + m.0, m.1)) ms
+turn_arrivals s i [] e = refl
+turn_arrivals s i (m ∷ ms) e =
+    let C = comes_first s.wires (length s.nodes) i m ms e in
+    rw C.0 (ap (λ rest. (4 * i + m.0, m.1) ∷ rest) (turn_arrivals s i ms C.1))
 
 -- the tokens that port p takes
 pub of_port_moves : {Node : Type 0} {E : Ends Node} (N p : ℕ) (ports : List Port) (ms : List Token) (f : Port → Option (Port × List Token)) (change : Own Node × List (ℕ × Token))
@@ -227,7 +245,7 @@ module _ {Node : Type 0} {M : Machine Node} {E : Ends Node} (keeps : KeepsFlight
   -- an end receives a token
   pub receives_moves : (N : ℕ) (end : Option WireEnd) (token : Token) (state : Own Node) (change : Own Node × List (ℕ × Token))
       → ((i k : ℕ) → end ≡ Some (Link i k) → (i < N) × (k < 4))
-      → receives M N end token state ≡ Some change → Moves E N (process_at N end) state (arrival (option_map (line_of N) end) token) change
+      → receives M N end token state ≡ Some change → Moves E N (process_at N end) state (came (option_map (line_of N) end) token []) change
   unfolding receives
   receives_moves N None token (OfNode node) change links e = cc
   receives_moves N None token (OfHost ports) change links e = cc
@@ -244,7 +262,7 @@ module _ {Node : Type 0} {M : Machine Node} {E : Ends Node} (keeps : KeepsFlight
   pub does_moves : (s : Network Node) (e : Entry) (state : Own Node) (change : Own Node × List (ℕ × Token)) → Wired s
       → own s (process s.wires (length s.nodes) e) ≡ Some state → does M s.wires (length s.nodes) e state ≡ Some change
       → Moves E (length s.nodes) (process s.wires (length s.nodes) e) state (arrivals s e) change
-  unfolding process does
+  unfolding process takes does
   does_moves s (Run i k) (OfHost ports) change wired o d = cc
   does_moves s (HostIn p x) (OfNode node) change wired o d = cc
   does_moves s (Confirm p upto) (OfNode node) change wired o d = cc
@@ -258,3 +276,12 @@ module _ {Node : Type 0} {M : Machine Node} {E : Ends Node} (keeps : KeepsFlight
       of_port_moves (length s.nodes) p ports [] (handed_in x) change (handed_in_moves x) d
   does_moves s (Confirm p upto) (OfHost ports) change wired o d =
       of_port_moves (length s.nodes) p ports [] (confirmed upto) change (confirmed_moves upto) d
+  does_moves s (Turn i links k) (OfHost ports) change wired o d = cc
+  does_moves s (Turn i links k) (OfNode node) change wired o d =
+      let T = turn_step M s.wires (length s.nodes) i links k node change d in
+      let moved = joined_moves (by_link 0 links) [] T.taken_all T.run (took_all_moves keeps (by_link 0 links) node T.taken_all T.takes_all) (steps_moves keeps k T.taken_all.0 T.run T.runs) in
+      let same : came_in s (by_line s.wires (length s.nodes) i (by_link 0 links)) ≡ map (λ m. (4 * i + m.0, m.1)) (by_link 0 links ++ []) =
+          turn_arrivals s i (by_link 0 links) T.into ∙ ap (map (λ m. (4 * i + m.0, m.1))) (sym (append-nil (by_link 0 links))) in
+      subst (λ c. Moves E (length s.nodes) i (OfNode node) (came_in s (by_line s.wires (length s.nodes) i (by_link 0 links))) c) T.is
+      (subst (λ ms. Moves E (length s.nodes) i (OfNode node) ms (of_node i (T.run.0, T.taken_all.1 ++ T.run.1))) (sym same)
+      (node_moves (length s.nodes) i node (by_link 0 links ++ []) (T.run.0, T.taken_all.1 ++ T.run.1) (own_node s i node o).0 moved))

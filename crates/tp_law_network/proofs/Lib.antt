@@ -13,3 +13,4 @@ pub mod Reorder
 pub mod Room
 pub mod Sound
 pub mod Swap
+pub mod Turns

@@ -4,16 +4,18 @@ use Rattle.std.proofs.Common.{◌≡◌, ◌≢◌, ℕ, zero, suc, ◌+◌, ◌
 use Rattle.std.specs.Prelude.{◌==◌, nat_lt, nat_le, ◌&&◌, length}
 use Rattle.std.specs.Option.{option_map}
 use Rattle.std.specs.List.{AllByRecursion}
-use Rattle.std.proofs.lemmas.Bool.{lt-ltb, le-ltb}
+use Rattle.std.proofs.lemmas.Bool.{and_parts, lt-ltb, le-ltb}
 use Rattle.std.proofs.lemmas.Option.{slice_get_within}
 use Rattle.tp_model.specs.declared.link.Token.{Token}
+use Rattle.tp_model.specs.declared.link.Received.{Received}
 use Rattle.tp_model.specs.declared.wire.WireEnd.{WireEnd}
 use Rattle.tp_model.specs.declared.wire.WireEnd.TheVariants.{Link, Port as AtPort}
 use Rattle.tp_model.specs.declared.entry.Entry.{Entry}
-use Rattle.tp_model.specs.declared.entry.Entry.TheVariants.{Run, Take, HostIn, Confirm}
+use Rattle.tp_model.specs.declared.entry.Entry.TheVariants.{Run, Take, HostIn, Confirm, Turn}
 use Rattle.tp_model.specs.declared.limits.TheConstants.{MAX_STEPS}
 use Rattle.tp_model.specs.Network.{Machine, steps, Port, Network, Own, OfNode, OfHost, own, put, receiver, has_wire, process_at, taken, sent}
 use Rattle.tp_model.specs.Entries.{process, takes, port_took, handed_in, confirmed, of_node, of_port, receives, does, next, HasFourLinks, acts}
+use Rattle.tp_model.specs.Turn.{by_link, by_line, incoming, is_link, comes_in, took_all, turned}
 use Rattle.tp_model.specs.Sound.{owner}
 use Rattle.tp_model.specs.Snapshot.{taker}
 use Rattle.tp_law_network.proofs.Lines.{length_taken, length_sent}
@@ -140,13 +142,63 @@ process_same s t w n e = ap (λ wires. process wires (length t.nodes) e) w ∙ a
 pub takes_same : {Node : Type 0} (s t : Network Node) → t.wires ≡ s.wires → length t.nodes ≡ length s.nodes → (e : Entry) → takes t.wires (length t.nodes) e ≡ takes s.wires (length s.nodes) e
 takes_same s t w n e = ap (λ wires. takes wires (length t.nodes) e) w ∙ ap (λ N. takes s.wires N e) n
 
--- what it takes comes in to its process
-pub takes_own : {Node : Type 0} (s : Network Node) (e : Entry) → AllByRecursion (λ m. taker s m.0 ≡ process s.wires (length s.nodes) e) (takes s.wires (length s.nodes) e)
-unfolding takes process
-takes_own s (Run i k) = tt
-takes_own s (Take l token) = (refl, tt)
-takes_own s (HostIn p x) = tt
-takes_own s (Confirm p upto) = tt
+-- ## A turn's tokens
+
+-- the end at which a token of a turn comes in
+pub link_is : (i k : ℕ) (end : Option WireEnd) → is_link i k end ≡ true → end ≡ Some (Link i k)
+link_is i k None e = cc
+link_is i k (Some (AtPort p)) e = cc
+link_is i k (Some (Link j l)) e =
+    let both = and_parts (j == i) (l == k) e in
+    ap (λ a. Some (Link a l)) (eqb-true j i both.0) ∙ ap (λ b. Some (Link i b)) (eqb-true l k both.1)
+
+-- a token of a turn comes in on its link, and the others on theirs
+pub comes_first : (wires : List (Option WireEnd)) (N i : ℕ) (m : ℕ × Token) (ms : List (ℕ × Token)) → comes_in wires N i (m ∷ ms) ≡ true
+    → (receiver wires (incoming wires N i m.0) ≡ Some (Link i m.0)) × (comes_in wires N i ms ≡ true)
+comes_first wires N i m ms e =
+    let both = and_parts (is_link i m.0 (receiver wires (incoming wires N i m.0))) (comes_in wires N i ms) e in
+    (link_is i m.0 (receiver wires (incoming wires N i m.0)) both.0, both.1)
+
+-- What a turn that is possible does, taken apart.
+pub record TurnStep {Node : Type 0} (M : Machine Node) (wires : List (Option WireEnd)) (N i : ℕ) (tokens : List (ℕ × Token)) (k : ℕ) (node : Node) (r : Own Node × List (ℕ × Token)) : Type 0 where
+  pub into : comes_in wires N i tokens ≡ true
+  pub some : nat_lt 0 (length tokens) ≡ true
+  pub few : nat_le k MAX_STEPS ≡ true
+  pub taken_all : Node × List (ℕ × Token)
+  pub takes_all : took_all M tokens node ≡ Some taken_all
+  pub run : Node × List (ℕ × Token)
+  pub runs : steps M k taken_all.0 ≡ Some run
+  pub is : of_node i (run.0, taken_all.1 ++ run.1) ≡ r
+
+pub turn_step : {Node : Type 0} (M : Machine Node) (wires : List (Option WireEnd)) (N i : ℕ) (links : List Received) (k : ℕ) (node : Node) (r : Own Node × List (ℕ × Token))
+    → does M wires N (Turn i links k) (OfNode node) ≡ Some r → TurnStep M wires N i (by_link 0 links) k node r
+unfolding does turned
+turn_step {Node} M wires N i links k node r e =
+    let tokens = by_link 0 links in
+    let C = cond_some (comes_in wires N i tokens && (nat_lt 0 (length tokens) && nat_le k MAX_STEPS)) (option_map (of_node i) (turned M tokens k node)) r e in
+    let into = and_parts (comes_in wires N i tokens) (nat_lt 0 (length tokens) && nat_le k MAX_STEPS) C.0 in
+    let more = and_parts (nat_lt 0 (length tokens)) (nat_le k MAX_STEPS) into.1 in
+    let Q = map_some (of_node i) (turned M tokens k node) r C.1 in
+    let F = bind_some (took_all M tokens node) _ Q.0 Q.1 in
+    let R = bind_some (steps M k F.0.0) _ Q.0 F.2 in
+    let is : ◌≡◌ {A = Node × List (ℕ × Token)} (R.0.0, F.0.1 ++ R.0.1) Q.0 = cc in
+    record { into = into.0; some = more.0; few = more.1; taken_all = F.0; takes_all = F.1; run = R.0; runs = R.1; is = ap (of_node i) is ∙ Q.2 }
+
+pub turn_own : {Node : Type 0} (s : Network Node) (i : ℕ) (ms : List (ℕ × Token)) → comes_in s.wires (length s.nodes) i ms ≡ true
+    → AllByRecursion (λ m. taker s m.0 ≡ i) (by_line s.wires (length s.nodes) i ms)
+turn_own s i [] e = tt
+turn_own s i (m ∷ ms) e = let C = comes_first s.wires (length s.nodes) i m ms e in (ap (process_at (length s.nodes)) C.0, turn_own s i ms C.1)
+
+-- what an entry takes comes in to its process
+pub takes_own : {Node : Type 0} (M : Machine Node) (s : Network Node) (e : Entry) (x : Own Node) (r : Own Node × List (ℕ × Token)) → does M s.wires (length s.nodes) e x ≡ Some r
+    → AllByRecursion (λ m. taker s m.0 ≡ process s.wires (length s.nodes) e) (takes s.wires (length s.nodes) e)
+unfolding takes process does
+takes_own M s (Run i k) x r d = tt
+takes_own M s (Take l token) x r d = (refl, tt)
+takes_own M s (HostIn p b) x r d = tt
+takes_own M s (Confirm p upto) x r d = tt
+takes_own M s (Turn i links k) (OfNode n) r d = turn_own s i (by_link 0 links) (turn_step M s.wires (length s.nodes) i links k n r d).into
+takes_own M s (Turn i links k) (OfHost ports) r d = cc
 
 -- ## What its process does
 
@@ -194,6 +246,19 @@ steps_links {Node} M four (suc k) n r e =
     subst (λ x. AllByRecursion (λ m. m.0 < 4) x.1) is
     (all_append (λ m. m.0 < 4) F.0.1 R.0.1 (four.step n F.0 F.1) (steps_links M four k F.0.0 R.0 R.1))
 
+-- so it does for tokens that are taken
+took_all_links : {Node : Type 0} (M : Machine Node) → HasFourLinks M → (ms : List (ℕ × Token)) (n : Node) (r : Node × List (ℕ × Token)) → took_all M ms n ≡ Some r → AllByRecursion (λ m. m.0 < 4) r.1
+unfolding took_all
+took_all_links {Node} M four [] n r e =
+    let is : ◌≡◌ {A = Node × List (ℕ × Token)} (n, []) r = cc in
+    subst (λ x. AllByRecursion (λ m. m.0 < 4) x.1) is tt
+took_all_links {Node} M four (m ∷ ms) n r e =
+    let F = bind_some (M.took n m.0 m.1) _ r e in
+    let R = bind_some (took_all M ms F.0.0) _ r F.2 in
+    let is : ◌≡◌ {A = Node × List (ℕ × Token)} (R.0.0, F.0.1 ++ R.0.1) r = cc in
+    subst (λ x. AllByRecursion (λ m. m.0 < 4) x.1) is
+    (all_append (λ m. m.0 < 4) F.0.1 R.0.1 (four.took n m.0 m.1 F.0 F.1) (took_all_links M four ms F.0.0 R.0 R.1))
+
 -- what leaves a node on its links goes out from it
 from_node : {Node : Type 0} (N i : ℕ) (r : Node × List (ℕ × Token)) → i < N → AllByRecursion (λ m. m.0 < 4) r.1 → AllByRecursion (λ m. owner N m.0 ≡ i) (of_node i r).1
 from_node N i r h all = all_map (λ m. m.0 < 4) (λ m. owner N m.0 ≡ i) (λ m. (4 * i + m.0, m.1)) r.1 (λ m j. owner_of_link N i m.0 h j) all
@@ -235,6 +300,12 @@ does_local M four s (HostIn p b) (OfHost ports) r h e = from_port (length s.node
 does_local M four s (HostIn p b) (OfNode n) r h e = cc
 does_local M four s (Confirm p upto) (OfHost ports) r h e = from_port (length s.nodes) p ports (confirmed upto) r e
 does_local M four s (Confirm p upto) (OfNode n) r h e = cc
+does_local M four s (Turn i links k) (OfNode n) r h e =
+    let T = turn_step M s.wires (length s.nodes) i links k n r e in
+    subst (λ y. AreAlike (OfNode n) y.0 × AllByRecursion (λ m. owner (length s.nodes) m.0 ≡ i) y.1) T.is
+    (tt, from_node (length s.nodes) i (T.run.0, T.taken_all.1 ++ T.run.1) (h n refl)
+    (all_append (λ m. m.0 < 4) T.taken_all.1 T.run.1 (took_all_links M four (by_link 0 links) n T.taken_all T.takes_all) (steps_links M four k T.taken_all.0 T.run T.runs)))
+does_local M four s (Turn i links k) (OfHost ports) r h e = cc
 
 below_all : {Node : Type 0} (s : Network Node) (e : Entry) (x : Own Node) → own s (process s.wires (length s.nodes) e) ≡ Some x → (n : Node) → x ≡ OfNode n → process s.wires (length s.nodes) e < length s.nodes
 below_all s e x o n is = (own_node s (process s.wires (length s.nodes) e) n (o ∙ ap Some is)).0
@@ -257,6 +328,10 @@ module _ {Node : Type 0} (M : Machine Node) (four : HasFourLinks M) (s : Network
 
   pub step_sends : AllByRecursion (λ m. owner (length s.nodes) m.0 ≡ process s.wires (length s.nodes) e) S.sends
   step_sends = sends_own M four s e S.was (S.now, S.sends) S.own_was S.change
+
+  -- what it takes comes in to its process
+  pub step_takes : AllByRecursion (λ m. taker s m.0 ≡ process s.wires (length s.nodes) e) (takes s.wires (length s.nodes) e)
+  step_takes = takes_own M s e S.was (S.now, S.sends) S.change
 
   pub step_lines : t.lines ≡ sent (has_wire s.wires) S.out S.sends
   step_lines = ap (λ u. u.lines) (sym S.makes) ∙ put-lines (record s { lines = sent (has_wire s.wires) S.out S.sends }) (process s.wires (length s.nodes) e) S.now

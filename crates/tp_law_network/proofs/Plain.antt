@@ -1,19 +1,22 @@
 -- A step over lines with Markers is a step over the lines without them.
-use Rattle.std.proofs.Common.{◌≡◌, ℕ, ◌+◌, ◌*◌, false, List, [], ◌∷◌, length, map, refl, sym, ap, subst, ◌∙◌, Option, Some, None}
-use Rattle.std.specs.Prelude.{nat_lt, nat_le, ◌&&◌, length}
+use Rattle.std.proofs.Common.{◌≡◌, ℕ, ◌+◌, ◌*◌, false, List, [], ◌∷◌, ◌++◌, length, map, refl, sym, ap, subst, ◌∙◌, Option, Some, None}
+use Rattle.std.specs.Prelude.{nat_lt, nat_le, ◌&&◌}
 use Rattle.std.specs.Option.{option_map}
 use Rattle.tp_model.specs.declared.link.Token.{Token}
 use Rattle.tp_model.specs.declared.link.Token.TheVariants.{Data, Ack, Marker}
+use Rattle.tp_model.specs.declared.link.Received.{Received}
+use Rattle.tp_model.specs.declared.link.Received.TheVariants.{Nothing, JustData, JustAck, DataThenAck, AckThenData}
 use Rattle.tp_model.specs.declared.wire.WireEnd.{WireEnd}
 use Rattle.tp_model.specs.declared.wire.WireEnd.TheVariants.{Link, Port as AtPort}
 use Rattle.tp_model.specs.declared.entry.Entry.{Entry}
-use Rattle.tp_model.specs.declared.entry.Entry.TheVariants.{Run, Take, HostIn, Confirm}
+use Rattle.tp_model.specs.declared.entry.Entry.TheVariants.{Run, Take, HostIn, Confirm, Turn}
 use Rattle.tp_model.specs.declared.limits.TheConstants.{MAX_STEPS, MAX_HELD}
-use Rattle.tp_model.specs.Network.{Machine, steps, Port, Network, Own, OfNode, OfHost, own, put, receiver, has_wire, on_line, sent}
+use Rattle.tp_model.specs.Network.{Machine, steps, Port, Network, Own, OfNode, OfHost, own, put, receiver, has_wire, on_line, taken, sent}
+use Rattle.tp_model.specs.Turn.{by_link, incoming, took_all}
 use Rattle.tp_model.specs.Entries.{process, takes, acked, port_took, first_only, handed_in, confirmed, of_node, of_port, receives, does, next, HasFourLinks}
 use Rattle.tp_model.specs.Markers.{is_marker, plain, markers, plain_network, NeverMarks}
-use Rattle.tp_law_network.proofs.Partial.{map_some, cond_some}
-use Rattle.tp_law_network.proofs.Local.{Step, step_of, next_from, step_lines, port_step, process_same}
+use Rattle.tp_law_network.proofs.Partial.{all_append, bind_some, map_some, cond_some}
+use Rattle.tp_law_network.proofs.Local.{Step, step_of, next_from, step_lines, port_step, process_same, takes_same, turn_step}
 use Rattle.tp_law_network.proofs.Room.{steps_unmarked, own-plain}
 use Rattle.tp_law_network.proofs.Marks.{AreUnmarked, HasNoMarker, taken_plain, sent_plain, markers-taken, markers-sent}
 
@@ -82,6 +85,28 @@ receives_unmarked M never N (Some (AtPort p)) t (OfNode n) r e = cc
 receives_unmarked M never N None t (OfNode n) r e = cc
 receives_unmarked M never N None t (OfHost ports) r e = cc
 
+-- a turn takes no Marker, and sends none for what it takes
+pub unmarked_links : (k : ℕ) (links : List Received) → AreUnmarked (by_link k links)
+unmarked_links k [] = tt
+unmarked_links k (Nothing ∷ links) = unmarked_links (k + 1) links
+unmarked_links k (JustData byte ∷ links) = (refl, unmarked_links (k + 1) links)
+unmarked_links k (JustAck ∷ links) = (refl, unmarked_links (k + 1) links)
+unmarked_links k (DataThenAck byte ∷ links) = (refl, (refl, unmarked_links (k + 1) links))
+unmarked_links k (AckThenData byte ∷ links) = (refl, (refl, unmarked_links (k + 1) links))
+
+pub unmarked_moved : (to : ℕ → ℕ) (ms : List (ℕ × Token)) → AreUnmarked ms → AreUnmarked (map (λ m. (to m.0, m.1)) ms)
+unmarked_moved to [] a = tt
+unmarked_moved to (m ∷ ms) a = (a.0, unmarked_moved to ms a.1)
+
+took_all_unmarked : {Node : Type 0} (M : Machine Node) → NeverMarks M → (ms : List (ℕ × Token)) (n : Node) (r : Node × List (ℕ × Token)) → took_all M ms n ≡ Some r → AreUnmarked r.1
+unfolding took_all
+took_all_unmarked {Node} M never [] n r e = let is : ◌≡◌ {A = Node × List (ℕ × Token)} (n, []) r = cc in subst (λ x. AreUnmarked x.1) is tt
+took_all_unmarked {Node} M never (m ∷ ms) n r e =
+    let F = bind_some (M.took n m.0 m.1) _ r e in
+    let R = bind_some (took_all M ms F.0.0) _ r F.2 in
+    let is : ◌≡◌ {A = Node × List (ℕ × Token)} (R.0.0, F.0.1 ++ R.0.1) r = cc in
+    subst (λ x. AreUnmarked x.1) is (all_append (λ m. is_marker m.1 ≡ false) F.0.1 R.0.1 (never.took n m.0 m.1 F.0 F.1) (took_all_unmarked M never ms F.0.0 R.0 R.1))
+
 -- An entry takes no Marker and sends none.
 pub does_unmarked : {Node : Type 0} (M : Machine Node) → NeverMarks M → (s : Network Node) (e : Entry) (x : Own Node) (r : Own Node × List (ℕ × Token))
     → does M s.wires (length s.nodes) e x ≡ Some r → AreUnmarked (takes s.wires (length s.nodes) e) × AreUnmarked r.1
@@ -98,6 +123,13 @@ does_unmarked M never s (HostIn p b) (OfHost ports) r e = (tt, port_unmarked (le
 does_unmarked M never s (HostIn p b) (OfNode n) r e = cc
 does_unmarked M never s (Confirm p upto) (OfHost ports) r e = (tt, port_unmarked (length s.nodes) p ports (confirmed upto) r (confirmed_unmarked upto) e)
 does_unmarked M never s (Confirm p upto) (OfNode n) r e = cc
+does_unmarked M never s (Turn i links k) (OfNode n) r e =
+    let T = turn_step M s.wires (length s.nodes) i links k n r e in (
+      unmarked_moved (incoming s.wires (length s.nodes) i) (by_link 0 links) (unmarked_links 0 links),
+      subst (λ y. AreUnmarked y.1) T.is (unmarked_shifted (4 * i) (T.taken_all.1 ++ T.run.1)
+      (all_append (λ m. is_marker m.1 ≡ false) T.taken_all.1 T.run.1 (took_all_unmarked M never (by_link 0 links) n T.taken_all T.takes_all) (steps_unmarked never k T.taken_all.0 T.run T.runs))),
+    )
+does_unmarked M never s (Turn i links k) (OfHost ports) r e = cc
 
 -- ## The step without Markers
 
@@ -127,7 +159,7 @@ module _ {Node : Type 0} (M : Machine Node) (never : NeverMarks M) (s : Network 
   pub plain_step : next M s e ≡ Some t → next M (plain_network s) e ≡ Some (plain_network t)
   plain_step h = next_from M (plain_network s) e (plain_network t) (record {
     out = map plain S.out;
-    takes_out = taken_plain s.lines (takes s.wires (length s.nodes) e) S.out (step_takes_unmarked S) S.takes_out;
+    takes_out = ap (λ ms. taken (map plain s.lines) ms) (takes_same s (plain_network s) refl refl e) ∙ taken_plain s.lines (takes s.wires (length s.nodes) e) S.out (step_takes_unmarked S) S.takes_out;
     was = S.was;
     own_was = ap (own (plain_network s)) (process-plain s e) ∙ own-plain s (process s.wires (length s.nodes) e) ∙ S.own_was;
     now = S.now;

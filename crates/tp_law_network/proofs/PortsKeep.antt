@@ -7,11 +7,11 @@ use Rattle.tp_model.specs.declared.link.Token.{Token}
 use Rattle.tp_model.specs.declared.wire.WireEnd.{WireEnd}
 use Rattle.tp_model.specs.declared.wire.WireEnd.TheVariants.{Link, Port as AtPort}
 use Rattle.tp_model.specs.declared.entry.Entry.{Entry}
-use Rattle.tp_model.specs.declared.entry.Entry.TheVariants.{Run, Take, HostIn, Confirm}
+use Rattle.tp_model.specs.declared.entry.Entry.TheVariants.{Run, Take, HostIn, Confirm, Turn}
 use Rattle.tp_model.specs.declared.limits.TheConstants.{MAX_STEPS}
 use Rattle.tp_model.specs.Network.{Machine, steps, Port, Network, Own, OfNode, OfHost, own, put, receiver, has_wire, sent}
 use Rattle.tp_model.specs.Entries.{process, of_node, of_port, receives, port_took, handed_in, confirmed, does, next}
-use Rattle.tp_law_network.proofs.Local.{step_of, own_host, port_step}
+use Rattle.tp_law_network.proofs.Local.{step_of, own_host, port_step, turn_step}
 use Rattle.tp_law_network.proofs.Partial.{map_some, cond_some, slice_get-set_same, slice_get-set_other}
 
 -- Each change of a port keeps what holds of it after `n` entries, for one more.
@@ -75,6 +75,9 @@ module _ {Node : Type 0} (M : Machine Node) (Holds : ℕ → Port → Type 0) (K
   does_keeps n s (HostIn p b) (OfNode node) r holds e = cc
   does_keeps n s (Confirm p upto) (OfHost ports) r holds e = host_keeps n (length s.nodes) p ports (confirmed upto) r holds.is (K.confirmed_so n upto) e
   does_keeps n s (Confirm p upto) (OfNode node) r holds e = cc
+  does_keeps n s (Turn i links k) (OfNode node) r holds e =
+      let T = turn_step M s.wires (length s.nodes) i links k node r e in subst (λ y. OfProcess (n + 1) y.0) T.is (record { is = tt })
+  does_keeps n s (Turn i links k) (OfHost ports) r holds e = cc
 
   own_holds : (n : ℕ) (s : Network Node) (p : ℕ) (was : Own Node) → AllPorts Holds n s.ports → own s p ≡ Some was → OfProcess n was
   own_holds n s p (OfNode node) all e = record { is = tt }

@@ -5,7 +5,6 @@ use Rattle.std.specs.Option.{option_map}
 use Rattle.tp_model.specs.declared.link.Token.{Token}
 use Rattle.tp_model.specs.declared.wire.WireEnd.{WireEnd}
 use Rattle.tp_model.specs.declared.entry.Entry.{Entry}
-use Rattle.tp_model.specs.declared.entry.Entry.TheVariants.{Run, Take, HostIn, Confirm}
 use Rattle.tp_model.specs.Word.{bit}
 use Rattle.tp_model.specs.Network.{Machine, Network, Own, own, receiver, is_wired, has_wire, line_of, back, on_line, for_line}
 use Rattle.tp_model.specs.Entries.{HasFourLinks, process, takes, next}
@@ -13,8 +12,8 @@ use Rattle.tp_model.specs.Order.{after}
 use Rattle.tp_model.specs.Sound.{Ends, datas, acks, owner, own_waits, own_holds, end_waits, end_holds, Wired, Sound, KeepsFlight}
 use Rattle.tp_law_network.proofs.Lines.{for_line-elsewhere, on_taken, length_taken, on_sent}
 use Rattle.tp_law_network.proofs.Partial.{bind_some}
-use Rattle.tp_law_network.proofs.Local.{Step, step_of, SameShape, step_lines, step_sends, step_shape, step_own_same, step_own_other}
-use Rattle.tp_law_network.proofs.Flight.{datas-append, acks-append, Moves, arrival, arrivals, arrivals_own, does_moves}
+use Rattle.tp_law_network.proofs.Local.{Step, step_of, SameShape, step_lines, step_takes, step_sends, step_shape, step_own_same, step_own_other}
+use Rattle.tp_law_network.proofs.Flight.{datas-append, acks-append, Moves, came, came_in, arrivals, arrivals_own, does_moves}
 
 -- ## The ends and the lines, before and after
 
@@ -69,7 +68,7 @@ module _ {Node : Type 0} {M : Machine Node} {E : Ends Node} (four : HasFourLinks
       no_sends z n = for_line-elsewhere (owner (length s.nodes)) (process s.wires (length s.nodes) e) z S.sends (step_sends M four s e t S) n
 
       no_arrivals : (z : ℕ) → owner (length s.nodes) z ≢ process s.wires (length s.nodes) e → for_line z (arrivals s e) ≡ []
-      no_arrivals z n = for_line-elsewhere (owner (length s.nodes)) (process s.wires (length s.nodes) e) z (arrivals s e) (arrivals_own s e wired) n
+      no_arrivals z n = for_line-elsewhere (owner (length s.nodes)) (process s.wires (length s.nodes) e) z (arrivals s e) (arrivals_own s (process s.wires (length s.nodes) e) (takes s.wires (length s.nodes) e) wired (step_takes M four s e t S)) n
 
       now_own : (z : ℕ) → owner (length s.nodes) z ≡ process s.wires (length s.nodes) e → own t (owner (length s.nodes) z) ≡ Some S.now
       now_own z y = ap (own t) y ∙ step_own_same M four s e t S
@@ -97,32 +96,27 @@ module _ {Node : Type 0} {M : Machine Node} {E : Ends Node} (four : HasFourLinks
 pub wire_one : {Node : Type 0} (s : Network Node) → Wired s → (x l y : ℕ) → back s x ≡ Some y → back s l ≡ Some y → l ≡ x
 wire_one s wired x l y a b = let c : back s y ≡ Some x = wired.both_ways x y a in let d : back s y ≡ Some l = wired.both_ways l y b in cc
 
-pub arrivals_taken : {Node : Type 0} (s : Network Node) → Wired s → (e : Entry) (x y : ℕ) → back s x ≡ Some y → for_line y (arrivals s e) ≡ for_line x (takes s.wires (length s.nodes) e)
-unfolding takes
-arrivals_taken s wired (Run i k) x y b = refl
-arrivals_taken s wired (HostIn p v) x y b = refl
-arrivals_taken s wired (Confirm p upto) x y b = refl
-arrivals_taken s wired (Take line token) x y b = elim (cases_eq line x) [
-  | inl same ↦ rw (same, b, eq-eqb x x refl, eq-eqb y y refl) refl
-  | inr other ↦ go (back s line) refl other
+pub arrivals_taken : {Node : Type 0} (s : Network Node) → Wired s → (ms : List (ℕ × Token)) (x y : ℕ) → back s x ≡ Some y → for_line y (came_in s ms) ≡ for_line x ms
+arrivals_taken s wired [] x y b = refl
+arrivals_taken {Node} s wired (m ∷ ms) x y b = elim (cases_eq m.0 x) [
+  | inl same ↦ rw (same, b, eq-eqb x x refl, eq-eqb y y refl) (ap (λ ts. m.1 ∷ ts) (arrivals_taken s wired ms x y b))
+  | inr other ↦ go (back s m.0) refl other (arrivals_taken s wired ms x y b)
 ]
   where
-    go : (o : Option ℕ) → back s line ≡ o → line ≢ x → for_line y (arrival o token) ≡ for_line x ((line, token) ∷ [])
-    go None e n = rw (ne_eqb line x n) refl
-    go (Some z) e n = rw (ne_eqb line x n, ne_eqb z y (λ same. n (wire_one s wired x line y b (rw same at e)))) refl
+    go : (o : Option ℕ) → back s m.0 ≡ o → m.0 ≢ x → for_line y (came_in s ms) ≡ for_line x ms → for_line y (came o m.1 (came_in s ms)) ≡ for_line x (m ∷ ms)
+    go None e n rest = rw (ne_eqb m.0 x n) rest
+    go (Some z) e n rest = rw (ne_eqb m.0 x n, ne_eqb z y (λ same. n (wire_one s wired x m.0 y b (rw same at e)))) rest
 
-pub arrivals_none : {Node : Type 0} (s : Network Node) → Wired s → (e : Entry) (x : ℕ) → back s x ≡ None → for_line x (arrivals s e) ≡ []
-arrivals_none s wired (Run i k) x b = refl
-arrivals_none s wired (HostIn p v) x b = refl
-arrivals_none s wired (Confirm p upto) x b = refl
-arrivals_none s wired (Take line token) x b = go (back s line) refl
+pub arrivals_none : {Node : Type 0} (s : Network Node) → Wired s → (ms : List (ℕ × Token)) (x : ℕ) → back s x ≡ None → for_line x (came_in s ms) ≡ []
+arrivals_none s wired [] x b = refl
+arrivals_none {Node} s wired (m ∷ ms) x b = go (back s m.0) refl (arrivals_none s wired ms x b)
   where
-    go : (o : Option ℕ) → back s line ≡ o → for_line x (arrival o token) ≡ []
-    go None e = refl
-    go (Some z) e = rw (ne_eqb z x (λ same. no_wire same)) refl
+    go : (o : Option ℕ) → back s m.0 ≡ o → for_line x (came_in s ms) ≡ [] → for_line x (came o m.1 (came_in s ms)) ≡ []
+    go None e rest = rest
+    go (Some z) e rest = rw (ne_eqb z x (λ same. no_wire same)) rest
       where
         no_wire : z ≡ x → ⊥
-        no_wire same = let c : back s z ≡ Some line = wired.both_ways line z e in let d : back s z ≡ None = rw same b in cc
+        no_wire same = let c : back s z ≡ Some m.0 = wired.both_ways m.0 z e in let d : back s z ≡ None = rw same b in cc
 
 -- ## Kept
 
@@ -164,8 +158,8 @@ module _ {Node : Type 0} {E : Ends Node} {s t : Network Node} {e : Entry} (sound
   flight_across : (x y : ℕ) → back s x ≡ Some y → bit (end_waits E t x) ≡ datas (on_line t.lines x) + acks (on_line t.lines y) + bit (end_holds E t y)
   flight_across x y b =
       let c : back s y ≡ Some x = sound.wires.both_ways x y b in
-      let in_x : for_line y (arrivals s e) ≡ for_line x (takes s.wires (length s.nodes) e) = arrivals_taken s sound.wires e x y b in
-      let in_y : for_line x (arrivals s e) ≡ for_line y (takes s.wires (length s.nodes) e) = arrivals_taken s sound.wires e y x c in
+      let in_x : for_line y (arrivals s e) ≡ for_line x (takes s.wires (length s.nodes) e) = arrivals_taken s sound.wires (takes s.wires (length s.nodes) e) x y b in
+      let in_y : for_line x (arrivals s e) ≡ for_line y (takes s.wires (length s.nodes) e) = arrivals_taken s sound.wires (takes s.wires (length s.nodes) e) y x c in
       sum_up (bit (end_waits E s x)) (bit (end_waits E t x)) (bit (end_holds E s y)) (bit (end_holds E t y))
       (datas (on_line s.lines x)) (datas (on_line t.lines x)) (acks (on_line s.lines y)) (acks (on_line t.lines y))
       (datas (for_line x (takes s.wires (length s.nodes) e))) (datas (for_line x a.sends)) (acks (for_line y (takes s.wires (length s.nodes) e))) (acks (for_line y a.sends))
@@ -177,7 +171,7 @@ module _ {Node : Type 0} {E : Ends Node} {s t : Network Node} {e : Entry} (sound
   none_across : (x : ℕ) → back s x ≡ None → (on_line t.lines x ≡ []) × (end_holds E t x ≡ false)
   none_across x b =
       let rest : on_line a.rest x ≡ [] = nothing_left (for_line x (takes s.wires (length s.nodes) e)) (on_line a.rest x) (sym (a.front x) ∙ (sound.none x b).0) in
-      let held : bit (end_holds E t x) + acks (for_line x a.sends) ≡ 0 = rw ((sound.none x b).1, arrivals_none s sound.wires e x b) at (a.inn x) in
+      let held : bit (end_holds E t x) + acks (for_line x a.sends) ≡ 0 = rw ((sound.none x b).1, arrivals_none s sound.wires (takes s.wires (length s.nodes) e) x b) at (a.inn x) in
       (a.behind x (sound.there x) ∙ rw (rest, unwired-back s x b) refl, no_bit (end_holds E t x) (acks (for_line x a.sends)) held)
 
   pub sound_across : Sound E t

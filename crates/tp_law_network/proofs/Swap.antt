@@ -9,7 +9,7 @@ use Rattle.tp_model.specs.Order.{AreIndependent}
 use Rattle.tp_model.specs.Sound.{owner}
 use Rattle.tp_model.specs.Snapshot.{taker}
 use Rattle.tp_law_network.proofs.Lines.{taken-sent, taken_both, sent-swap}
-use Rattle.tp_law_network.proofs.Local.{Step, AreAlike, SameShape, step_of, next_from, own_host, own-lines, process_kept, takes_same, takes_own, step_alike, step_sends, step_shape, step_own_other, step_lines}
+use Rattle.tp_law_network.proofs.Local.{Step, AreAlike, SameShape, step_of, next_from, own_host, own-lines, process_kept, takes_same, step_takes, step_alike, step_sends, step_shape, step_own_other, step_lines}
 
 -- lines that are set before a state is put, and after
 put-relined : {Node : Type 0} (s : Network Node) (p q : ℕ) (y z : Own Node) (ks ls : List (List Token))
@@ -69,7 +69,7 @@ module _ {Node : Type 0} (M : Machine Node) (four : HasFourLinks M) (s : Network
   diamond e f a b h i apart =
       let S = step_of M s e a h in
       let T = step_of M s f b i in
-      let B = taken_both (taker s) (process s.wires (length s.nodes) e) (process s.wires (length s.nodes) f) s.lines (takes s.wires (length s.nodes) e) (takes s.wires (length s.nodes) f) S.out T.out apart (takes_own s e) (takes_own s f) S.takes_out T.takes_out in (
+      let B = taken_both (taker s) (process s.wires (length s.nodes) e) (process s.wires (length s.nodes) f) s.lines (takes s.wires (length s.nodes) e) (takes s.wires (length s.nodes) f) S.out T.out apart (step_takes M four s e a S) (step_takes M four s f b T) S.takes_out T.takes_out in (
         after_both e f a b S T B.0,
         second e f a b S T B.0 apart B.1,
         second f e b a T S B.0 (λ x. apart (sym x)) B.2 ∙ ap Some (sym (same e f a b S T B.0 apart)),

@@ -6,6 +6,9 @@ ghost use Rattle.std.specs.Prelude.{◌≡◌, ◌≤◌, ◌+◌, ℕ, List, So
 ghost use Rattle.std.specs.List.{count_by};
 ghost use Rattle.tp_model.specs.declared.link.Token.{Token};
 ghost use Rattle.tp_model.specs.declared.entry.Entry.{Entry};
+ghost use Rattle.tp_model.specs.declared.entry.Entry.TheVariants.{Turn};
+ghost use Rattle.tp_model.specs.declared.link.Received.{Received};
+ghost use Rattle.tp_law_network.specs.Turns.{IsFront, entries_of};
 ghost use Rattle.tp_model.specs.NodeState.{NodeState};
 ghost use Rattle.tp_model.specs.Network.{Network, Port, steps, on_line};
 ghost use Rattle.tp_model.specs.Entries.{next};
@@ -33,4 +36,12 @@ pub fn ports_count_entries()
     ensures { (s t : Network NodeState) (es : List Entry) → after t414 s es ≡ Some t → (p : ℕ) (port : Port) → slice_get s.ports p ≡ Some port
         → (later : Port) × (slice_get t.ports p ≡ Some later)
         × (accepted later ≡ accepted port + count_by (is_input p) es) × (came_out later ≡ came_out port + count_by (is_output s.wires p) es) }
+{}
+
+/// A turn as one entry is its takes, links in order, and then its run: it leads where they lead, and it is possible just where
+/// they are possible one after the other and its tokens are fronts of their lines already.
+pub fn turns_are_entries()
+    ensures leads { (s t : Network NodeState) (i : ℕ) (takes : List Received) (count : ℕ) → next t414 s (Turn i takes count) ≡ Some t → after t414 s (entries_of s i takes count) ≡ Some t }
+    ensures possible { (s t : Network NodeState) (i : ℕ) (takes : List Received) (count : ℕ) → IsFront s i takes count → after t414 s (entries_of s i takes count) ≡ Some t → next t414 s (Turn i takes count) ≡ Some t }
+    ensures fronts { (s t : Network NodeState) (i : ℕ) (takes : List Received) (count : ℕ) → next t414 s (Turn i takes count) ≡ Some t → IsFront s i takes count }
 {}

@@ -4,13 +4,13 @@ use Rattle.std.proofs.lemmas.Bool.{and_parts, cases_lt, ltb-true}
 use Rattle.std.specs.Prelude.{◌&&◌}
 use Rattle.tp_model.specs.declared.entry.Entry.{Entry}
 use Rattle.tp_model.specs.declared.limits.TheConstants.{NUMBER_LIMIT}
-use Rattle.tp_model.specs.EntryBytes.{entry_at}
+use Rattle.tp_model.specs.Replay.{row_entry}
 use Rattle.tp_law_parts.specs.Readable.{may_have, read_on, readable}
 
 pub readable_most : (least next : ℕ) (rows : List (ℕ × List ℕ)) → length (readable least next rows) ≤ length rows
 unfolding readable
 readable_most least next [] = omega arith
-readable_most least next (row ∷ rows) = go (entry_at row.1) (λ entry. readable_most (entry.1 + 1) (next + 1) rows)
+readable_most least next (row ∷ rows) = go (row_entry row.1) (λ entry. readable_most (entry.1 + 1) (next + 1) rows)
   where
     chosen : (entry : Entry × ℕ) (b : Bool) → length (readable (entry.1 + 1) (next + 1) rows) ≤ length rows
         → length (cond b (entry ∷ readable (entry.1 + 1) (next + 1) rows) []) ≤ length (row ∷ rows)
@@ -26,7 +26,7 @@ readable_most least next (row ∷ rows) = go (entry_at row.1) (λ entry. readabl
 pub readable_below : (least next : ℕ) (rows : List (ℕ × List ℕ)) → next < NUMBER_LIMIT → next + length (readable least next rows) < NUMBER_LIMIT
 unfolding readable
 readable_below least next [] below = omega (arith, below)
-readable_below least next (row ∷ rows) below = go (entry_at row.1) (λ entry. readable_below (entry.1 + 1) (next + 1) rows)
+readable_below least next (row ∷ rows) below = go (row_entry row.1) (λ entry. readable_below (entry.1 + 1) (next + 1) rows)
   where
     chosen : (entry : Entry × ℕ) → (next + 1 < NUMBER_LIMIT → next + 1 + length (readable (entry.1 + 1) (next + 1) rows) < NUMBER_LIMIT) → (b : Bool) → (b ≡ true → next < NUMBER_LIMIT - 1)
         → next + length (cond b (entry ∷ readable (entry.1 + 1) (next + 1) rows) []) < NUMBER_LIMIT
@@ -45,7 +45,7 @@ readable_below least next (row ∷ rows) below = go (entry_at row.1) (λ entry. 
 readable_none : (least next : ℕ) (rows : List (ℕ × List ℕ)) → NUMBER_LIMIT ≤ next → readable least next rows ≡ []
 unfolding readable
 readable_none least next [] high = refl
-readable_none least next (row ∷ rows) high = go (entry_at row.1)
+readable_none least next (row ∷ rows) high = go (row_entry row.1)
   where
     chosen : (entry : Entry × ℕ) (b : Bool) → (b ≡ true → next < NUMBER_LIMIT - 1) → cond b (entry ∷ readable (entry.1 + 1) (next + 1) rows) [] ≡ []
     chosen entry true low = let lower = low refl in absurd (omega (arith, lower, high))

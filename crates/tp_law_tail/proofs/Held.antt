@@ -1,12 +1,12 @@
 -- What the book of a run stands for has an image, at each moment.
 use Rattle.std.proofs.Common.{◌≡◌, ℕ, ◌+◌, ◌-◌, true, not, List, [], ◌∷◌, ◌++◌, length, map, sym, ap, subst, ◌∙◌, arith, length-append, drop, Some, Ok}
-use Rattle.std.specs.Prelude.{nat_lt, ◌<◌, length}
+use Rattle.std.specs.Prelude.{nat_lt, ◌<◌}
 use Rattle.std.specs.List.{AllByRecursion}
 use Rattle.std.proofs.lemmas.Bool.{and_parts, ltb-true}
 use Rattle.std.proofs.lemmas.List.{length-map, map-append}
 use Rattle.tp_model.specs.declared.link.Token.TheVariants.{Data, Ack, Marker}
 use Rattle.tp_model.specs.declared.entry.Entry.{Entry}
-use Rattle.tp_model.specs.declared.entry.Entry.TheVariants.{Run as Ran, Take, HostIn, Confirm}
+use Rattle.tp_model.specs.declared.entry.Entry.TheVariants.{Run as Ran, Take, HostIn, Confirm, Turn}
 use Rattle.tp_model.specs.declared.limits.TheConstants.{NUMBER_LIMIT, ENTRY_LINES, MAX_PORTS}
 use Rattle.tp_model.specs.NodeState.{NodeState}
 use Rattle.tp_model.specs.Node.{t414, t414_ends}
@@ -69,6 +69,7 @@ in_range_byte (Take line Ack) h = tt
 in_range_byte (Take line Marker) h = tt
 in_range_byte (HostIn port byte) h = ltb-true byte 256 (and_parts (nat_lt port MAX_PORTS) (nat_lt byte 256) h).1
 in_range_byte (Confirm port upto) h = tt
+in_range_byte (Turn node takes count) h = cc
 
 pub each_has_byte : (es : List Entry) → AllByRecursion (λ e. is_in_range e ≡ true) es → AllByRecursion HasByte es
 each_has_byte [] h = tt

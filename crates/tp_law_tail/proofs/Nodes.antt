@@ -1,6 +1,6 @@
 -- A network's nodes stay of bytes, and as long, whatever entries follow.
 use Rattle.std.proofs.Common.{◌≡◌, ℕ, zero, suc, ◌/◌, List, [], ◌∷◌, length, set, refl, sym, ap, subst, ◌∙◌, Option, Some, None, slice_get}
-use Rattle.std.specs.Prelude.{nat_lt, nat_le, ◌&&◌, length}
+use Rattle.std.specs.Prelude.{nat_lt, nat_le, ◌&&◌}
 use Rattle.std.specs.Option.{option_map}
 use Rattle.std.specs.List.{AllByRecursion}
 use Rattle.tp_model.specs.declared.link.Token.{Token}
@@ -8,7 +8,7 @@ use Rattle.tp_model.specs.declared.link.Token.TheVariants.{Data, Ack, Marker}
 use Rattle.tp_model.specs.declared.wire.WireEnd.{WireEnd}
 use Rattle.tp_model.specs.declared.wire.WireEnd.TheVariants.{Link, Port as AtPort}
 use Rattle.tp_model.specs.declared.entry.Entry.{Entry}
-use Rattle.tp_model.specs.declared.entry.Entry.TheVariants.{Run, Take, HostIn, Confirm}
+use Rattle.tp_model.specs.declared.entry.Entry.TheVariants.{Run, Take, HostIn, Confirm, Turn}
 use Rattle.tp_model.specs.declared.limits.TheConstants.{MAX_STEPS, PAGE_BYTES}
 use Rattle.tp_model.specs.NodeState.{NodeState}
 use Rattle.tp_model.specs.Node.{t414, took}
@@ -79,6 +79,7 @@ does_stays s (HostIn p b) (OfHost ports) r node low e = host_stays (length s.nod
 does_stays s (HostIn p b) (OfNode n) r node low e = cc
 does_stays s (Confirm p upto) (OfHost ports) r node low e = host_stays (length s.nodes) p ports (confirmed upto) r e
 does_stays s (Confirm p upto) (OfNode n) r node low e = cc
+does_stays s (Turn i links k) was r node low e = absurd low
 
 -- ## The network
 

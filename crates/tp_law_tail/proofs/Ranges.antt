@@ -1,6 +1,6 @@
 -- An entry that is possible has a spelling, where what it carries are bytes.
 use Rattle.std.proofs.Common.{◌≡◌, ℕ, ◌+◌, ◌<◌, ◌≤◌, inl, inr, true, List, length, refl, sym, ap, ◌∙◌, arith, Option, Some, None, slice_get}
-use Rattle.std.specs.Prelude.{nat_lt, nat_le, ◌&&◌, length}
+use Rattle.std.specs.Prelude.{nat_lt, nat_le, ◌&&◌}
 use Rattle.std.specs.Option.{option_map}
 use Rattle.std.proofs.lemmas.Bool.{and_from, and_parts, lt-ltb, leb-true, cases_lt}
 use Rattle.std.proofs.lemmas.Option.{slice_get_within}
@@ -10,7 +10,7 @@ use Rattle.tp_model.specs.declared.link.Token.TheVariants.{Data, Ack, Marker}
 use Rattle.tp_model.specs.declared.wire.WireEnd.{WireEnd}
 use Rattle.tp_model.specs.declared.wire.WireEnd.TheVariants.{Link, Port as AtPort}
 use Rattle.tp_model.specs.declared.entry.Entry.{Entry}
-use Rattle.tp_model.specs.declared.entry.Entry.TheVariants.{Run, Take, HostIn, Confirm}
+use Rattle.tp_model.specs.declared.entry.Entry.TheVariants.{Run, Take, HostIn, Confirm, Turn}
 use Rattle.tp_model.specs.declared.limits.TheConstants.{MAX_NODES, MAX_STEPS, MAX_PORTS, NUMBER_LIMIT, ENTRY_NODES, ENTRY_LINES}
 use Rattle.tp_model.specs.NodeState.{NodeState}
 use Rattle.tp_model.specs.Node.{t414, took}
@@ -105,3 +105,4 @@ in_range_next t s e u count K low byte h =
         and_from (nat_lt p MAX_PORTS) (nat_lt upto NUMBER_LIMIT) (port_there s p ports (confirmed upto) r K.few_ports same e)
         (lt-ltb upto NUMBER_LIMIT (omega (arith, leb-true upto (P.port.out_base + length P.port.outputs) both.1, one.confirmed_low, low)))
     go (Confirm p upto) (OfNode n) r byte at e = cc
+    go (Turn i links k) was r byte at e = absurd byte

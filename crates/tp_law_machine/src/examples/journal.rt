@@ -3,9 +3,11 @@
 
 ghost use Rattle.std.specs.Prelude.{◌≡◌, ◌++◌, [], ◌∷◌, true, false, take, drop};
 ghost use Rattle.tp_model.specs.declared.link.Token.TheVariants.{Data, Ack};
-ghost use Rattle.tp_model.specs.declared.entry.Entry.TheVariants.{Run, Take, HostIn, Confirm};
+ghost use Rattle.tp_model.specs.declared.link.Received.TheVariants.{Nothing, JustData, JustAck, DataThenAck, AckThenData};
+ghost use Rattle.tp_model.specs.declared.entry.Entry.TheVariants.{Run, Take, HostIn, Confirm, Turn};
 ghost use Rattle.tp_model.specs.Bytes.{zeros};
 ghost use Rattle.tp_model.specs.EntryBytes.{entry_at};
+ghost use Rattle.tp_model.specs.Replay.{row_entry};
 ghost use Rattle.tp_model.specs.Group.{rows_of, group_bytes, group_at};
 ghost use Rattle.tp_model.specs.Image.{image_head};
 ghost use Rattle.tp_model.specs.Journal.{cut_length, room, is_full, is_full_for_cut};
@@ -28,6 +30,26 @@ pub fn entries_are_refused()
     ensures no_steps { entry_at (1 ∷ zeros 15) ≡ None }
     ensures many_steps { entry_at (1 ∷ 0 ∷ 1 ∷ 16 ∷ zeros 12) ≡ None }
     ensures filler { entry_at (1 ∷ 0 ∷ 3 ∷ 0 ∷ 1 ∷ zeros 11) ≡ None }
+{}
+
+/// Turns with their numbers: what each link gave, its data bytes, and a number of 6 bytes in front of the pattern. The same bytes
+/// are no entry of an area of form 1.
+pub fn turns_are_read()
+    ensures ack { entry_at (5 ∷ 0 ∷ 16 ∷ 0 ∷ zeros 4 ++ (2 ∷ zeros 5 ++ (2 ∷ 0 ∷ []))) ≡ Some (Turn 0 (JustAck ∷ Nothing ∷ Nothing ∷ Nothing ∷ []) 16, 2) }
+    ensures links { entry_at (5 ∷ 3 ∷ 0 ∷ 0 ∷ 0 ∷ 0x5A ∷ 0x61 ∷ 0x62 ∷ 0x2C ∷ 1 ∷ 0 ∷ 0 ∷ 0 ∷ 0 ∷ 0xCA ∷ 8 ∷ [])
+        ≡ Some (Turn 3 (JustAck ∷ JustData 0x5A ∷ DataThenAck 0x61 ∷ AckThenData 0x62 ∷ []) 0, 300) }
+    ensures form_1 { row_entry (5 ∷ 0 ∷ 16 ∷ 0 ∷ zeros 4 ++ (2 ∷ zeros 5 ++ (2 ∷ 0 ∷ []))) ≡ None }
+{}
+
+/// A turn that takes nothing, a digit of 5, a bit above those of four links, a data byte where no data was taken, and a node and a count
+/// above their limits.
+pub fn turns_are_refused()
+    ensures nothing { entry_at (5 ∷ 0 ∷ 16 ∷ 0 ∷ zeros 12) ≡ None }
+    ensures digit { entry_at (5 ∷ 0 ∷ 16 ∷ 0 ∷ zeros 10 ++ (5 ∷ 0 ∷ [])) ≡ None }
+    ensures high { entry_at (5 ∷ 0 ∷ 16 ∷ 0 ∷ zeros 10 ++ (2 ∷ 16 ∷ [])) ≡ None }
+    ensures byte { entry_at (5 ∷ 0 ∷ 16 ∷ 0 ∷ 1 ∷ zeros 9 ++ (2 ∷ 0 ∷ [])) ≡ None }
+    ensures node { entry_at (5 ∷ 64 ∷ 16 ∷ 0 ∷ zeros 10 ++ (2 ∷ 0 ∷ [])) ≡ None }
+    ensures steps { entry_at (5 ∷ 0 ∷ 1 ∷ 16 ∷ zeros 10 ++ (2 ∷ 0 ∷ [])) ≡ None }
 {}
 
 /// A group of one entry, with a closed gate behind it; without that gate, and too short, it is none. Where its own gate
