@@ -179,9 +179,11 @@ module _ {Node : Type 0} (M : Machine Node) (four : HasFourLinks M) (i : ℕ) (l
       let S = step_of M w.live f P.0 P.1 in
       let shape = step_shape M four w.live f P.0 S in
       let B = taken_both (taker w.live) (process w.live.wires (length w.live.nodes) f) i w.live.lines (takes w.live.wires (length w.live.nodes) f) (tokens w.live) S.out R.out others (step_takes M four w.live f P.0 S) (turn_own w.live i (by_link 0 links) R.into) S.takes_out R.front in
-      subst (λ u. IsReceived u.live i links × SameOwners w.live u.live) P.2
-      (received_over w.live P.0 shape.wires shape.nodes R
-      (sent (has_wire w.live.wires) B.0 S.sends, ap (λ ls. taken ls (tokens w.live)) (step_lines M four w.live f P.0 S) ∙ taken-sent (has_wire w.live.wires) S.out (tokens w.live) S.sends B.0 B.1), process_kept w.live P.0 shape)
+      subst (λ u. IsReceived u.live i links × SameOwners w.live u.live) P.2 (
+        received_over w.live P.0 shape.wires shape.nodes R
+            (sent (has_wire w.live.wires) B.0 S.sends, ap (λ ls. taken ls (tokens w.live)) (step_lines M four w.live f P.0 S) ∙ taken-sent (has_wire w.live.wires) S.out (tokens w.live) S.sends B.0 B.1),
+        process_kept w.live P.0 shape,
+      )
   received_stays w v (Close line) h others R =
       let P = close_parts w v w.snapshot line h in
       let t = record w.live { lines = set w.live.lines line (unmarked (on_line w.live.lines line)) } in

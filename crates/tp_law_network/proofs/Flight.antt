@@ -281,7 +281,7 @@ module _ {Node : Type 0} {M : Machine Node} {E : Ends Node} (keeps : KeepsFlight
       let T = turn_step M s.wires (length s.nodes) i links k node change d in
       let moved = joined_moves (by_link 0 links) [] T.taken_all T.run (took_all_moves keeps (by_link 0 links) node T.taken_all T.takes_all) (steps_moves keeps k T.taken_all.0 T.run T.runs) in
       let same : came_in s (by_line s.wires (length s.nodes) i (by_link 0 links)) ≡ map (λ m. (4 * i + m.0, m.1)) (by_link 0 links ++ []) =
-          turn_arrivals s i (by_link 0 links) T.into ∙ ap (map (λ m. (4 * i + m.0, m.1))) (sym (append-nil (by_link 0 links))) in
+      turn_arrivals s i (by_link 0 links) T.into ∙ ap (map (λ m. (4 * i + m.0, m.1))) (sym (append-nil (by_link 0 links))) in
       subst (λ c. Moves E (length s.nodes) i (OfNode node) (came_in s (by_line s.wires (length s.nodes) i (by_link 0 links))) c) T.is
       (subst (λ ms. Moves E (length s.nodes) i (OfNode node) ms (of_node i (T.run.0, T.taken_all.1 ++ T.run.1))) (sym same)
       (node_moves (length s.nodes) i node (by_link 0 links ++ []) (T.run.0, T.taken_all.1 ++ T.run.1) (own_node s i node o).0 moved))

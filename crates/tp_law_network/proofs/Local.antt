@@ -302,9 +302,11 @@ does_local M four s (Confirm p upto) (OfHost ports) r h e = from_port (length s.
 does_local M four s (Confirm p upto) (OfNode n) r h e = cc
 does_local M four s (Turn i links k) (OfNode n) r h e =
     let T = turn_step M s.wires (length s.nodes) i links k n r e in
-    subst (λ y. AreAlike (OfNode n) y.0 × AllByRecursion (λ m. owner (length s.nodes) m.0 ≡ i) y.1) T.is
-    (tt, from_node (length s.nodes) i (T.run.0, T.taken_all.1 ++ T.run.1) (h n refl)
-    (all_append (λ m. m.0 < 4) T.taken_all.1 T.run.1 (took_all_links M four (by_link 0 links) n T.taken_all T.takes_all) (steps_links M four k T.taken_all.0 T.run T.runs)))
+    subst (λ y. AreAlike (OfNode n) y.0 × AllByRecursion (λ m. owner (length s.nodes) m.0 ≡ i) y.1) T.is (
+      tt,
+      from_node (length s.nodes) i (T.run.0, T.taken_all.1 ++ T.run.1) (h n refl)
+          (all_append (λ m. m.0 < 4) T.taken_all.1 T.run.1 (took_all_links M four (by_link 0 links) n T.taken_all T.takes_all) (steps_links M four k T.taken_all.0 T.run T.runs)),
+    )
 does_local M four s (Turn i links k) (OfHost ports) r h e = cc
 
 below_all : {Node : Type 0} (s : Network Node) (e : Entry) (x : Own Node) → own s (process s.wires (length s.nodes) e) ≡ Some x → (n : Node) → x ≡ OfNode n → process s.wires (length s.nodes) e < length s.nodes

@@ -127,7 +127,7 @@ does_unmarked M never s (Turn i links k) (OfNode n) r e =
     let T = turn_step M s.wires (length s.nodes) i links k n r e in (
       unmarked_moved (incoming s.wires (length s.nodes) i) (by_link 0 links) (unmarked_links 0 links),
       subst (λ y. AreUnmarked y.1) T.is (unmarked_shifted (4 * i) (T.taken_all.1 ++ T.run.1)
-      (all_append (λ m. is_marker m.1 ≡ false) T.taken_all.1 T.run.1 (took_all_unmarked M never (by_link 0 links) n T.taken_all T.takes_all) (steps_unmarked never k T.taken_all.0 T.run T.runs))),
+          (all_append (λ m. is_marker m.1 ≡ false) T.taken_all.1 T.run.1 (took_all_unmarked M never (by_link 0 links) n T.taken_all T.takes_all) (steps_unmarked never k T.taken_all.0 T.run T.runs))),
     )
 does_unmarked M never s (Turn i links k) (OfHost ports) r e = cc
 

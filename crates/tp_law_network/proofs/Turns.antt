@@ -85,7 +85,7 @@ module _ {Node : Type 0} (M : Machine Node) where
       let popped = set s.lines line (drop 1 (on_line s.lines line)) in
       let u = changed s popped i F.0 in
       let rest = takes_then u N i (length-set s.nodes i F.0.0 ∙ size) ms F.0.0 R.0 (sent (has_wire s.wires) out (from i F.0.1)) C.1
-          (taken-sent (has_wire s.wires) popped (by_line s.wires N i ms) (from i F.0.1) out T.1) (slice_get-set_same s.nodes i F.0.0 n at) R.1 in
+      (taken-sent (has_wire s.wires) popped (by_line s.wires N i ms) (from i F.0.1) out T.1) (slice_get-set_same s.nodes i F.0.0 n at) R.1 in
       after_first M s u (Take line m.1) (takes_in (by_line s.wires N i ms)) (take_step s i m.0 line m.1 n F.0 C.0 T.0 at F.1)
       ∙ rest ∙ ap Some (changed_twice s out i F.0 R.0) ∙ ap (λ q. Some (changed s out i q)) is
 
@@ -104,15 +104,15 @@ module _ {Node : Type 0} (M : Machine Node) where
       let was : Some (OfNode n) ≡ Some S.was = sym (own_at s i n at) ∙ ap (λ end. own s (process_at (length s.nodes) end)) (sym C.0) ∙ S.own_was in
       let is : OfNode n ≡ S.was = cc in
       let did : option_map (of_node i) (M.took n m.0 m.1) ≡ Some (S.now, S.sends) =
-          ap (λ end. receives M (length s.nodes) end m.1 (OfNode n)) (sym C.0) ∙ ap (receives M (length s.nodes) (receiver s.wires line) m.1) is ∙ S.change in
+      ap (λ end. receives M (length s.nodes) end m.1 (OfNode n)) (sym C.0) ∙ ap (receives M (length s.nodes) (receiver s.wires line) m.1) is ∙ S.change in
       let Q = map_some (of_node i) (M.took n m.0 m.1) (S.now, S.sends) did in
       let popped = set s.lines line (drop 1 (on_line s.lines line)) in
       let v = changed s popped i Q.0 in
       let alike : Some v ≡ Some F.0 = sym (take_step s i m.0 line m.1 n Q.0 C.0 T.0 at Q.1) ∙ F.1 in
       let same : v ≡ F.0 = cc in
       let rest = then_takes v N i (length-set s.nodes i Q.0.0 ∙ size) ms Q.0.0 u (sent (has_wire s.wires) out (from i Q.0.1)) C.1
-          (taken-sent (has_wire s.wires) popped (by_line s.wires N i ms) (from i Q.0.1) out T.1) (slice_get-set_same s.nodes i Q.0.0 n at)
-          (ap (λ x. after M x (takes_in (by_line s.wires N i ms))) same ∙ F.2) in
+      (taken-sent (has_wire s.wires) popped (by_line s.wires N i ms) (from i Q.0.1) out T.1) (slice_get-set_same s.nodes i Q.0.0 n at)
+      (ap (λ x. after M x (takes_in (by_line s.wires N i ms))) same ∙ F.2) in
       ((rest.0.0, Q.0.1 ++ rest.0.1), ap (λ o. o >>= λ first. took_all M ms first.0 >>= λ more. Some (more.0, first.1 ++ more.1)) Q.1 ∙ ap (λ o. o >>= λ more. Some (more.0, Q.0.1 ++ more.1)) rest.1)
 
   -- the run
