@@ -26,7 +26,7 @@ spelt_has e number h =
     let both = and_parts (is_in_range e) (nat_lt number NUMBER_LIMIT) h in
     and_from (is_spelling e) (nat_lt number NUMBER_LIMIT) (in_range_spelling e both.0) both.1
 
-each_has : (group : List (Entry × ℕ)) → AllByRecursion (λ e. IsSpelt e.0 e.1) group → AllByRecursion (λ e. HasSpelling e.0 e.1) group
+pub each_has : (group : List (Entry × ℕ)) → AllByRecursion (λ e. IsSpelt e.0 e.1) group → AllByRecursion (λ e. HasSpelling e.0 e.1) group
 each_has [] h = tt
 each_has (e ∷ es) h = (spelt_has e.0 e.1 h.0, each_has es h.1)
 
