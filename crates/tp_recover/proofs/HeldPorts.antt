@@ -8,13 +8,13 @@ use Rattle.tp_model.specs.declared.link.Token.TheVariants.{Data, Ack, Marker}
 use Rattle.tp_model.specs.declared.wire.WireEnd.{WireEnd}
 use Rattle.tp_model.specs.declared.wire.WireEnd.TheVariants.{Link, Port as AtPort}
 use Rattle.tp_model.specs.declared.entry.Entry.{Entry}
-use Rattle.tp_model.specs.declared.entry.Entry.TheVariants.{Run, Take, HostIn, Confirm}
+use Rattle.tp_model.specs.declared.entry.Entry.TheVariants.{Run, Take, HostIn, Confirm, Turn}
 use Rattle.tp_model.specs.declared.limits.TheConstants.{MAX_STEPS, MAX_HELD}
 use Rattle.tp_model.specs.NodeState.{NodeState}
 use Rattle.tp_model.specs.Node.{t414, took}
 use Rattle.tp_model.specs.Network.{steps, Port, Network, Own, OfNode, OfHost, own, put, receiver, has_wire, sent}
 use Rattle.tp_model.specs.Entries.{process, of_node, of_port, receives, port_took, handed_in, confirmed, acked, first_only, in_flight, does, next}
-use Rattle.tp_law_network.proofs.Local.{step_of, own_host, port_step}
+use Rattle.tp_law_network.proofs.Local.{step_of, own_host, port_step, turn_step}
 use Rattle.tp_law_network.proofs.Partial.{map_some, cond_some, slice_get-set_same, slice_get-set_other}
 
 -- ## Of any property
@@ -77,6 +77,10 @@ module _ (P : Port → Type 0) (keeps : PortsKeep P) where
   does_keeps s (HostIn p b) (OfNode node) r kept e = cc
   does_keeps s (Confirm p upto) (OfHost ports) r kept e = port_keeps (length s.nodes) p ports (confirmed upto) r kept.is (keeps.confirms upto) e
   does_keeps s (Confirm p upto) (OfNode node) r kept e = cc
+  does_keeps s (Turn i links k) (OfNode node) r kept e =
+      let T = turn_step t414 s.wires (length s.nodes) i links k node r e in
+      subst (λ y. OwnKeeps P y.0) T.is (record { is = tt })
+  does_keeps s (Turn i links k) (OfHost ports) r kept e = cc
 
   own_keeps : (s : Network NodeState) (p : ℕ) (was : Own NodeState) → EachPort P s.ports → own s p ≡ Some was → OwnKeeps P was
   own_keeps s p (OfNode node) all e = record { is = tt }

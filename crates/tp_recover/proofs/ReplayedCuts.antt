@@ -12,14 +12,14 @@ use Rattle.tp_model.specs.Image.{node_of}
 use Rattle.tp_model.specs.Node.{t414, t414_ends}
 use Rattle.tp_model.specs.Network.{Network, on_line}
 use Rattle.tp_model.specs.Entries.{next}
-use Rattle.tp_model.specs.EntryBytes.{entry_at, is_in_range}
+use Rattle.tp_model.specs.EntryBytes.{is_in_range}
 use Rattle.tp_model.specs.Markers.{markers, plain}
 use Rattle.tp_model.specs.Numbers.{AreNumbered}
 use Rattle.tp_model.specs.Order.{after}
 use Rattle.tp_model.specs.Sound.{Sound}
 use Rattle.tp_model.specs.Topology.{Topology, is_topology}
 use Rattle.tp_model.specs.CutImage.{or_damaged}
-use Rattle.tp_model.specs.Replay.{Replay, with_entry, is_number, after_row, after_rows, replay_from}
+use Rattle.tp_model.specs.Replay.{Replay, with_entry, is_number, after_row, after_rows, replay_from, row_entry}
 use Rattle.tp_model.specs.Spelling.{IsCut}
 use Rattle.tp_law_machine.specs.NodeOfBytes.{IsNodeOfBytes}
 use Rattle.tp_law_network.proofs.Partial.{all_append, map_some, cond_some}
@@ -79,7 +79,7 @@ replayed_entry r entry now R one number step =
 
 replayed_row : (r v : Replay NodeState) (row : List ℕ) → IsReplayed r → after_row t414 r row ≡ Some v → IsReplayed v
 replayed_row r v row R is =
-    let found = entry_found t414 r v (entry_at row) is in
+    let found = entry_found t414 r v (row_entry row) is in
     let entry = found.0 in
     let tested = cond_some (is_number r entry.1) (option_map (with_entry r entry) (next t414 r.now entry.0)) v found.2 in
     let stepped = map_some (with_entry r entry) (next t414 r.now entry.0) v tested.1 in

@@ -4,7 +4,7 @@ use Rattle.std.specs.Prelude.{◌==◌, ◌+◌, ◌*◌, Result, Ok, Err, is_ok
 use Rattle.std.specs.List.{AllByRecursion}
 use Rattle.tp_law_network.proofs.Local.{process_same}
 use Rattle.tp_model.specs.declared.entry.Entry.{Entry}
-use Rattle.tp_model.specs.declared.entry.Entry.TheVariants.{Run, Take, HostIn, Confirm}
+use Rattle.tp_model.specs.declared.entry.Entry.TheVariants.{Run, Take, HostIn, Confirm, Turn}
 use Rattle.tp_model.specs.NodeState.{NodeState}
 use Rattle.tp_model.specs.Network.{Network, back}
 use Rattle.tp_model.specs.Acts.{Act, Journal}
@@ -33,6 +33,7 @@ takes_like s t number (Run i k ∷ es) w n all = (all.0, takes_like s t number e
 takes_like s t number (Take line token ∷ es) w n all = (sym (process_same s t w n (Take line token)) ∙ all.0, takes_like s t number es w n all.1)
 takes_like s t number (HostIn p x ∷ es) w n all = (all.0, takes_like s t number es w n all.1)
 takes_like s t number (Confirm p upto ∷ es) w n all = (all.0, takes_like s t number es w n all.1)
+takes_like s t number (Turn i links k ∷ es) w n all = (all.0, takes_like s t number es w n all.1)
 
 -- takes are those of another network with these wires and as many nodes
 pub takes_of_like : (s t : Network NodeState) (number : ℕ) (r : Result ℕ Refusal) (es : List Entry) → t.wires ≡ s.wires → length t.nodes ≡ length s.nodes → TakesOf t number r es → TakesOf s number r es

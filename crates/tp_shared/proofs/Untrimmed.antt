@@ -4,7 +4,7 @@ use Rattle.std.specs.Prelude.{Result, Ok, Err, length}
 use Rattle.std.specs.List.{AllByRecursion}
 use Rattle.tp_model.specs.declared.link.Token.{Token}
 use Rattle.tp_model.specs.declared.link.Token.TheVariants.{Data, Ack, Marker}
-use Rattle.tp_model.specs.declared.entry.Entry.TheVariants.{Run, Take, HostIn, Confirm}
+use Rattle.tp_model.specs.declared.entry.Entry.TheVariants.{Run, Take, HostIn, Confirm, Turn}
 use Rattle.tp_model.specs.NodeState.{NodeState}
 use Rattle.tp_model.specs.Network.{Network, back}
 use Rattle.tp_model.specs.Entries.{process}
@@ -32,6 +32,7 @@ IsTurnAct (Journal (Run node count)) = ⊥
 IsTurnAct (Journal (Take line token)) = Unit {0}
 IsTurnAct (Journal (HostIn port byte)) = ⊥
 IsTurnAct (Journal (Confirm port upto)) = ⊥
+IsTurnAct (Journal (Turn node takes count)) = ⊥
 IsTurnAct (Close line) = Unit {0}
 IsTurnAct Trim = ⊥
 
@@ -56,6 +57,7 @@ taken s number (Journal (Run node count) ∷ acts) all own = absurd all.0
 taken s number (Journal (Take line token) ∷ acts) all own = (own.0, taken s number acts all.1 own.1)
 taken s number (Journal (HostIn port byte) ∷ acts) all own = absurd all.0
 taken s number (Journal (Confirm port upto) ∷ acts) all own = absurd all.0
+taken s number (Journal (Turn node takes count) ∷ acts) all own = absurd all.0
 taken s number (Close line ∷ acts) all own = taken s number acts all.1 own
 taken s number (Trim ∷ acts) all own = absurd all.0
 

@@ -2,7 +2,7 @@
 use Rattle.std.specs.Prelude.{◌≡◌, ℕ, List, length, Result, Ok, Err}
 use Rattle.std.specs.List.{AllByRecursion}
 use Rattle.tp_model.specs.declared.entry.Entry.{Entry}
-use Rattle.tp_model.specs.declared.entry.Entry.TheVariants.{Run, Take, HostIn, Confirm}
+use Rattle.tp_model.specs.declared.entry.Entry.TheVariants.{Run, Take, HostIn, Confirm, Turn}
 use Rattle.tp_model.specs.NodeState.{NodeState}
 use Rattle.tp_model.specs.Network.{Network}
 use Rattle.tp_model.specs.Entries.{process}
@@ -15,6 +15,7 @@ IsTakeBy start number (Run i k) = ⊥
 IsTakeBy start number (Take line token) = process start.wires (length start.nodes) (Take line token) ≡ number
 IsTakeBy start number (HostIn p x) = ⊥
 IsTakeBy start number (Confirm p upto) = ⊥
+IsTakeBy start number (Turn i links k) = ⊥
 
 -- all are Takes of this process
 abbrev pub Takes : Network NodeState → ℕ → List Entry → Type 0

@@ -29,7 +29,7 @@ pub(crate) struct Plain {
 /// The process that makes an entry.
 fn process_of(entry: Entry) -> usize {
     match entry {
-        Entry::Run { node, .. } => usize::from(node),
+        Entry::Run { node, .. } | Entry::Turn { node, .. } => usize::from(node),
         Entry::Take { line, .. } => match WIRES.get(usize::from(line)) {
             Some(Some(WireEnd::Link(node, _))) => usize::from(*node),
             _ => HOST,
