@@ -1,14 +1,14 @@
 //! Entries and their bytes.
 
-ghost use Rattle.tp_model.specs.EntryBytes.{IsSpelt};
+ghost use Rattle.tp_model.specs.EntryBytes.{HasSpelling};
 
 use tp_entry::{BadEntry, Numbered, get, put};
 use tp_model::Entry;
 use tp_model::Token::{Ack, Data};
 
 /// Whether the entry with its number is written as `bytes`, and they are read as it.
-fn is_spelt(entry: Entry, number: u64, bytes: [u8; 16]) -> bool
-    requires { IsSpelt entry number }
+pub(crate) fn is_spelt(entry: Entry, number: u64, bytes: [u8; 16]) -> bool
+    requires { HasSpelling entry number }
 {
     let numbered = Numbered { entry, number };
     let mut written = [0xEE; 16];
@@ -96,7 +96,7 @@ fn the_greatest_values_have_their_bytes(rt: HostRuntime) {
 /// Bytes that no entry has.
 const NO_ENTRIES: &[[u8; 16]] = &[
     [0, 0, 1, 0, 0, 0, 0, 0, 0, 0, 0, 0, 0, 0, 0, 0],
-    [5, 0, 1, 0, 0, 0, 0, 0, 0, 0, 0, 0, 0, 0, 0, 0],
+    [6, 0, 1, 0, 0, 0, 0, 0, 0, 0, 0, 0, 0, 0, 0, 0],
     [1, 64, 1, 0, 0, 0, 0, 0, 0, 0, 0, 0, 0, 0, 0, 0],
     [1, 0, 0, 0, 0, 0, 0, 0, 0, 0, 0, 0, 0, 0, 0, 0],
     [1, 0, 1, 16, 0, 0, 0, 0, 0, 0, 0, 0, 0, 0, 0, 0],

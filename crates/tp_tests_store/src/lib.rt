@@ -15,3 +15,5 @@ mod host_calls;
 mod topologies;
 #[cfg(test)]
 mod topology_faults;
+#[cfg(test)]
+mod turns;
