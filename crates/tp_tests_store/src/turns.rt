@@ -30,11 +30,18 @@ fn a_turn_has_its_bytes(rt: HostRuntime) {
     let all_links = is_spelt(
         Entry::Turn {
             node: 63,
-            takes: [DataThenAck(1), AckThenData(2), DataThenAck(255), AckThenData(4)],
+            takes: [
+                DataThenAck(1),
+                AckThenData(2),
+                DataThenAck(255),
+                AckThenData(4),
+            ],
             count: 4096,
         },
         0xFFFF_FFFF_FFFF,
-        [5, 63, 0, 16, 1, 2, 255, 4, 255, 255, 255, 255, 255, 255, 0xE3, 8],
+        [
+            5, 63, 0, 16, 1, 2, 255, 4, 255, 255, 255, 255, 255, 255, 0xE3, 8,
+        ],
     );
     let zero_bytes = is_spelt(
         Entry::Turn {
@@ -75,7 +82,10 @@ const NO_TURNS: &[[u8; 16]] = &[
 #[test]
 fn other_bytes_are_no_turn(rt: HostRuntime) {
     for (i, bytes) in NO_TURNS.iter().enumerate() {
-        assert!(rt; get(bytes) == Err(BadEntry) && get_row(bytes) == Err(BadEntry), "row {i}");
+        assert!(rt;
+            get(bytes) == Err(BadEntry) && get_row(bytes) == Err(BadEntry),
+            "row {i}"
+        );
     }
 }
 
