@@ -8,4 +8,7 @@ pub mod Impossible
 pub mod Pages
 pub mod Ran
 pub mod Rows
+pub mod Stands
 pub mod Steps
+pub mod TakenAll
+pub mod Turned
