@@ -5,6 +5,7 @@ pub mod Fronts
 pub mod History
 pub mod ImagesAgain
 pub mod Impossible
+pub mod Offs
 pub mod Pages
 pub mod Ran
 pub mod Rows

@@ -1,13 +1,13 @@
 -- What a turn takes stands in front of its lines just where it does link by link: links have lines of their own.
-use Rattle.std.proofs.Common.{◌≡◌, ◌≢◌, ℕ, ◌+◌, ◌<◌, Bool, true, false, inl, inr, List, [], ◌∷◌, ◌++◌, length, map, drop, get_or, refl, sym, ap, subst, ◌∙◌, arith, add-one, drop-cons, append_assoc, eqb-true, Option, Some, None}
-use Rattle.std.specs.Prelude.{◌&&◌, ◌==◌, is_some}
+use Rattle.std.proofs.Common.{◌≡◌, ◌≢◌, ℕ, ◌+◌, ◌*◌, ◌<◌, ◌≤◌, Bool, true, false, inl, inr, List, [], ◌∷◌, ◌++◌, length, map, drop, get_or, refl, sym, ap, subst, ◌∙◌, arith, add-one, drop-cons, append_assoc, Option, Some, None}
+use Rattle.std.specs.Prelude.{◌&&◌, is_some}
 use Rattle.std.specs.Cmp.{both_ways}
 use Rattle.std.specs.List.{AllByRecursion}
 use Rattle.std.proofs.lemmas.Bool.{and_parts, and_from, cases_eq, true≢false}
-use Rattle.std.proofs.lemmas.List.{drop_all}
+use Rattle.std.proofs.lemmas.List.{length-append, length-map}
 use Rattle.tp_model.specs.declared.link.Token.{Token}
 use Rattle.tp_model.specs.declared.link.Received.{Received}
-use Rattle.tp_model.specs.declared.link.Received.TheVariants.{Nothing}
+use Rattle.tp_model.specs.declared.link.Received.TheVariants.{Nothing, JustData, JustAck, DataThenAck, AckThenData}
 use Rattle.tp_model.specs.declared.wire.WireEnd.{WireEnd}
 use Rattle.tp_model.specs.declared.wire.WireEnd.TheVariants.{Link}
 use Rattle.tp_model.specs.Network.{receiver, on_line, is_first, taken, for_line}
@@ -183,17 +183,19 @@ module _ (wires : List (Option WireEnd)) (N i : ℕ) where
     pub stand_from : (links : List Received) (k : ℕ) → k < length links → all_stand k (drop k links) ≡ (link_stands wires N lines i k (received (get_or links k Nothing)) && all_stand (k + 1) (drop (k + 1) links))
     stand_from links k below = ap (all_stand k) (drop-cons links k Nothing below ∙ ap (λ n. get_or links k Nothing ∷ drop n links) (sym (add-one k)))
 
-  -- ## A link by itself
+-- ## The tokens of all links
 
-  pub stands_nothing : (lines : List (List Token)) (k : ℕ) (ts : List Token) → (length ts == 0) ≡ true → link_stands wires N lines i k ts ≡ true
-  stands_nothing lines k [] e = refl
-  stands_nothing lines k (t ∷ ts) e = absurd (omega (arith, eqb-true (length (t ∷ ts)) 0 e))
+pub links_from : (links : List Received) (k : ℕ) → k < length links → by_link k (drop k links) ≡ map (λ t. (k, t)) (received (get_or links k Nothing)) ++ by_link (k + 1) (drop (k + 1) links)
+links_from links k below = ap (by_link k) (drop-cons links k Nothing below ∙ ap (λ n. get_or links k Nothing ∷ drop n links) (sym (add-one k)))
 
-  pub stands_elsewhere : (lines : List (List Token)) (k : ℕ) (ts : List Token) → (length ts == 0) ≡ false → is_link i k (receiver wires (incoming wires N i k)) ≡ false → link_stands wires N lines i k ts ≡ false
-  stands_elsewhere lines k [] some e = absurd (true≢false some)
-  stands_elsewhere lines k (t ∷ ts) some e = ap (λ b. b && starts_with (on_line lines (incoming wires N i k)) (t ∷ ts)) e
+-- on one link at most two
+received_length : (one : Received) → length (received one) ≤ 2
+received_length Nothing = omega arith
+received_length (JustData byte) = omega arith
+received_length JustAck = omega arith
+received_length (DataThenAck byte) = omega arith
+received_length (AckThenData byte) = omega arith
 
-  pub stands_there : (lines : List (List Token)) (k : ℕ) (ts : List Token) → (length ts == 0) ≡ false → is_link i k (receiver wires (incoming wires N i k)) ≡ true
-      → link_stands wires N lines i k ts ≡ starts_with (on_line lines (incoming wires N i k)) ts
-  stands_there lines k [] some e = absurd (true≢false some)
-  stands_there lines k (t ∷ ts) some e = ap (λ b. b && starts_with (on_line lines (incoming wires N i k)) (t ∷ ts)) e
+pub received_few : (tokens : List (ℕ × Token)) (k : ℕ) (one : Received) (now : List (ℕ × Token)) → now ≡ tokens ++ map (λ t. (k, t)) (received one) → length tokens ≤ 2 * k → length now ≤ 2 * (k + 1)
+received_few tokens k one now is few =
+    omega (arith, few, received_length one, ap length is, length-append tokens (map (λ t. (k, t)) (received one)), length-map {B = ℕ × Token} (received one) (λ t. (k, t)))

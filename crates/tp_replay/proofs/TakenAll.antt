@@ -5,14 +5,12 @@ use Rattle.std.specs.Option.{option_map}
 use Rattle.std.specs.List.{AllByRecursion}
 use Rattle.std.proofs.lemmas.List.{drop_all}
 use Rattle.tp_model.specs.declared.link.Token.{Token}
-use Rattle.tp_model.specs.declared.link.Token.TheVariants.{Data}
-use Rattle.tp_model.specs.declared.wire.WireEnd.{WireEnd}
 use Rattle.tp_model.specs.declared.entry.Entry.TheVariants.{Take}
 use Rattle.tp_model.specs.NodeState.{NodeState}
-use Rattle.tp_model.specs.Node.{t414, took}
+use Rattle.tp_model.specs.Node.{t414, took, on_link}
 use Rattle.tp_model.specs.Network.{◌>>=◌, Network, has_wire, on_line, is_first, taken, sent}
 use Rattle.tp_model.specs.Turn.{by_line, comes_in, incoming, took_all}
-use Rattle.tp_law_network.proofs.Lines.{line_there, taken_cons, taken-sent}
+use Rattle.tp_law_network.proofs.Lines.{taken_cons, taken-sent}
 use Rattle.tp_law_network.proofs.Local.{comes_first}
 use Rattle.tp_law_network.proofs.Marks.{AreUnmarked}
 use Rattle.tp_law_network.proofs.Partial.{all_append, bind_some, slice_get-set_same}
@@ -91,6 +89,24 @@ next_taken tokens i n d below some =
       is = all.1 ∙ sym R.2 ∙ sym (ap (option_map (with_answers F.0.1)) R.1);
     }
 
+-- where it is known what the node does at the one there
+pub record Behind (tokens : List (ℕ × Token)) (i : ℕ) (n : NodeState) (x : NodeState × List (ℕ × Token)) : Type 0 where
+  pub rest : IsSome (took_all t414 (drop (i + 1) tokens) x.0)
+  pub is : took_all t414 (drop i tokens) n ≡ option_map (with_answers x.1) (took_all t414 (drop (i + 1) tokens) x.0)
+
+pub taken_behind : (tokens : List (ℕ × Token)) (i : ℕ) (n : NodeState) (d : ℕ × Token) (x : NodeState × List (ℕ × Token)) → i < length tokens → IsSome (took_all t414 (drop i tokens) n)
+    → took n (get_or tokens i d).0 (get_or tokens i d).1 ≡ Some x → Behind tokens i n x
+taken_behind tokens i n d x below some did =
+    let N = next_taken tokens i n d below some in
+    let alike : Some N.after ≡ Some x = sym N.took ∙ did in
+    let same : N.after ≡ x = cc in
+    subst (λ y. Behind tokens i n y) same (record { rest = N.rest; is = N.is })
+
+-- to one token at most one
+pub on_link_few : (k : ℕ) (token : Option Token) → length (on_link k token) ≤ 1
+on_link_few k None = omega arith
+on_link_few k (Some token) = omega arith
+
 pub answers_twice : (first second : List (ℕ × Token)) (o : Option (NodeState × List (ℕ × Token))) → option_map (with_answers first) (option_map (with_answers second) o) ≡ option_map (with_answers (first ++ second)) o
 answers_twice first second None = refl
 answers_twice first second (Some r) = ap (λ ms. Some (r.0, ms)) (sym (append_assoc first second r.1))
@@ -102,26 +118,3 @@ answers_none (Some r) = refl
 pub all_done : (tokens : List (ℕ × Token)) (i : ℕ) (n : NodeState) (answers : List (ℕ × Token)) → length tokens ≤ i → option_map (with_answers answers) (took_all t414 (drop i tokens) n) ≡ Some (n, answers)
 unfolding took_all
 all_done tokens i n answers past = ap (λ ms. option_map (with_answers answers) (took_all t414 ms n)) (drop_all i tokens past) ∙ ap (λ ms. Some (n, ms)) (append-nil answers)
-
--- ## Off the lines
-
--- The tokens from a place on: the one there stands in front of its line, and the others can be taken behind it.
-pub record NextOff (wires : List (Option WireEnd)) (N i : ℕ) (lines : List (List Token)) (m : ℕ × Token) (ms rest : List (ℕ × Token)) : Type 0 where
-  pub there : incoming wires N i m.0 < length lines
-  pub some : IsSome (taken (without_front lines (incoming wires N i m.0)) (by_line wires N i rest))
-  pub is : taken lines (by_line wires N i ms) ≡ taken (without_front lines (incoming wires N i m.0)) (by_line wires N i rest)
-
-pub next_off : (wires : List (Option WireEnd)) (N i : ℕ) (lines : List (List Token)) (tokens : List (ℕ × Token)) (k : ℕ) (d : ℕ × Token) → k < length tokens
-    → IsSome (taken lines (by_line wires N i (drop k tokens))) → NextOff wires N i lines (get_or tokens k d) (drop k tokens) (drop (k + 1) tokens)
-next_off wires N i lines tokens k d below some =
-    let m = get_or tokens k d in
-    let line = incoming wires N i m.0 in
-    let rest = by_line wires N i (drop (k + 1) tokens) in
-    let from : by_line wires N i (drop k tokens) ≡ (line, m.1) ∷ rest = ap (by_line wires N i) (drop-cons tokens k d below ∙ ap (λ j. m ∷ drop j tokens) (sym (add-one k))) in
-    let all = there_is (taken lines (by_line wires N i (drop k tokens))) some in
-    let T = taken_cons lines (line, m.1) rest all.0 (ap (taken lines) (sym from) ∙ all.1) in
-    record { there = line_there lines line m.1 T.0; some = ap is_some T.1; is = all.1 ∙ sym T.1 }
-
-pub off_done : (wires : List (Option WireEnd)) (N i : ℕ) (lines : List (List Token)) (tokens : List (ℕ × Token)) (k : ℕ) → length tokens ≤ k → taken lines (by_line wires N i (drop k tokens)) ≡ Some lines
-unfolding taken
-off_done wires N i lines tokens k past = ap (λ ms. taken lines (by_line wires N i ms)) (drop_all k tokens past)

@@ -52,9 +52,10 @@ impl FlatNetwork {
         let tokens = tokens_of(takes);
         take_off(&self.wires, self.nodes.len(), &mut self.lines, i, &tokens);
         let mut answers = ArrayVec::new();
-        take_all(&mut self.nodes[i], &tokens, &mut answers);
         let mut sent = ArrayVec::new();
-        let ran = self.nodes[i].run(most, &mut sent);
+        let at = &mut self.nodes[i];
+        take_all(at, &tokens, &mut answers);
+        let ran = at.run(most, &mut sent);
         send_all(&self.wires, &mut self.lines, link_line(i, 0), &answers);
         send_all(&self.wires, &mut self.lines, link_line(i, 0), &sent);
         ran.count()
