@@ -20,14 +20,14 @@ returns-then-not-is_turn-clause-applies c =
 pub returns-then-not-are_there-clause-applies : goal.returns-then-not-are_there-clause-applies
 returns-then-not-are_there-clause-applies c =
     let n = c.self.inside in
-    let size : c.len-2.result ≡ length (state_of n).nodes = omega (arith, c.len-2.ensures, node_count n c.self.invariant) in
+    let size : c.len-2.result ≡ length (state_of n).nodes = omega (arith, c.len-2.ensures, node_count n c.self.invariant, n.nodes.ok.0) in
     let behind = rw (c.deref.ensures.value, size) at (sym c.are_there.ensures ∙ c.if-not-are_there.true) in
     rw (← c.self.view_is) (refused _ _ _ (turn_behind (state_of n) c.args.node c.args.takes.now c.args.count behind))
 
 pub turn_upto-requires : goal.turn_upto-requires
 turn_upto-requires c =
     let n = c.self.inside in
-    let size : c.len-2.result ≡ length (state_of n).nodes = omega (arith, c.len-2.ensures, node_count n c.self.invariant) in
+    let size : c.len-2.result ≡ length (state_of n).nodes = omega (arith, c.len-2.ensures, node_count n c.self.invariant, n.nodes.ok.0) in
     let stands = rw (c.deref.ensures.value, size) at (sym c.are_there.ensures ∙ c.if-not-are_there.false) in
     let below : c.args.node < length (state_of n).nodes = omega (arith, node_count n c.self.invariant, n.nodes.ok.0) in
     subst (λ s. IsFront s c.args.node c.args.takes.now c.args.count) c.self.view_is

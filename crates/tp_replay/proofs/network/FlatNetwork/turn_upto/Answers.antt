@@ -16,13 +16,14 @@ pub take_off-requires-clause-front : goal.take_off-requires-clause-front
 take_off-requires-clause-front c =
     let n = c.self.inside in
     let F = subst (λ s. IsFront s c.args.node c.args.takes.now c.args.most) (sym c.self.view_is) c.requires in
-    rw (c.deref.ensures.value, c.len.ensures, c.deref-2.ensures.0, c.tokens_of-tokens.ensures.tokens) (off_lines n c.self.invariant c.args.node c.args.takes.now c.args.most F)
+    let size : c.len.result ≡ length n.nodes.items = omega (arith, c.len.ensures, n.nodes.ok.0) in
+    rw (c.deref.ensures.value, size, c.deref-2.ensures.0, c.tokens_of-tokens.ensures.tokens) (off_lines n c.self.invariant c.args.node c.args.takes.now c.args.most F)
 
 pub index_mut-at-requires : goal.index_mut-at-requires
 index_mut-at-requires c =
     let n = c.self.inside in
     let F = subst (λ s. IsFront s c.args.node c.args.takes.now c.args.most) (sym c.self.view_is) c.requires in
-    node_there n c.self.invariant c.args.node c.args.takes.now c.args.most F
+    omega (arith, node_there n c.self.invariant c.args.node c.args.takes.now c.args.most F, n.nodes.ok.0)
 
 pub take_all-requires-clause-thawed : goal.take_all-requires-clause-thawed
 take_all-requires-clause-thawed c =
@@ -57,7 +58,8 @@ send_all-requires-clause-known c =
 pub send_all-requires-clause-there : goal.send_all-requires-clause-there
 send_all-requires-clause-there c =
     let n = c.self.inside in
-    let off = rw (c.deref.ensures.value, c.len.ensures, c.deref-2.ensures.0, c.tokens_of-tokens.ensures.tokens) at c.take_off.ensures in
+    let size : c.len.result ≡ length n.nodes.items = omega (arith, c.len.ensures, n.nodes.ok.0) in
+    let off = rw (c.deref.ensures.value, size, c.deref-2.ensures.0, c.tokens_of-tokens.ensures.tokens) at c.take_off.ensures in
     let wide = length_taken n.lines (by_line n.wires.items (length n.nodes.items) c.args.node (by_link 0 c.args.takes.now)) c.take_off.new.lines off in
     omega (arith, wide, ap length c.deref-4.ensures.value, c.self.invariant.flat.shaped.wires, c.self.invariant.flat.shaped.lines)
 
@@ -68,7 +70,8 @@ send_all-requires-clause-room c =
     let low = subst CarryBytes c.tokens_of-tokens.ensures.tokens c.tokens_of-tokens.ensures.bytes in
     let below = node_there n c.self.invariant c.args.node c.args.takes.now c.args.most F in
     let there = slice_get_read n.nodes.items (length n.nodes.items) c.args.node c.index_mut-at.result.now refl below c.index_mut-at.ensures.value in
-    let off = rw (c.deref.ensures.value, c.len.ensures, c.deref-2.ensures.0, c.tokens_of-tokens.ensures.tokens) at c.take_off.ensures in
+    let size : c.len.result ≡ length n.nodes.items = omega (arith, c.len.ensures, n.nodes.ok.0) in
+    let off = rw (c.deref.ensures.value, size, c.deref-2.ensures.0, c.tokens_of-tokens.ensures.tokens) at c.take_off.ensures in
     let out = out_is n c.self.invariant c.args.node c.args.takes.now c.args.most F c.take_off.new.lines off in
     let took = rw (c.deref-3.ensures.0, c.tokens_of-tokens.ensures.tokens) at c.take_all.ensures.took in
     let kept = c.run-ran.ensures.kept ∙ c.take_all.ensures.thawed ∙ sym (c.self.invariant.thawed c.args.node c.index_mut-at.result.now there) in
@@ -92,7 +95,8 @@ send_all-requires-2-clause-known c =
 pub send_all-requires-2-clause-there : goal.send_all-requires-2-clause-there
 send_all-requires-2-clause-there c =
     let n = c.self.inside in
-    let off = rw (c.deref.ensures.value, c.len.ensures, c.deref-2.ensures.0, c.tokens_of-tokens.ensures.tokens) at c.take_off.ensures in
+    let size : c.len.result ≡ length n.nodes.items = omega (arith, c.len.ensures, n.nodes.ok.0) in
+    let off = rw (c.deref.ensures.value, size, c.deref-2.ensures.0, c.tokens_of-tokens.ensures.tokens) at c.take_off.ensures in
     let wide = length_taken n.lines (by_line n.wires.items (length n.nodes.items) c.args.node (by_link 0 c.args.takes.now)) c.take_off.new.lines off in
     omega (arith, wide, ap length c.send_all.ensures, length_sent (has_wire c.deref-4.result.now) c.take_off.new.lines (from_line c.link_line.result c.deref-5.result.now), ap length c.deref-6.ensures.value, c.self.invariant.flat.shaped.wires, c.self.invariant.flat.shaped.lines)
 
@@ -103,7 +107,8 @@ send_all-requires-2-clause-room c =
     let low = subst CarryBytes c.tokens_of-tokens.ensures.tokens c.tokens_of-tokens.ensures.bytes in
     let below = node_there n c.self.invariant c.args.node c.args.takes.now c.args.most F in
     let there = slice_get_read n.nodes.items (length n.nodes.items) c.args.node c.index_mut-at.result.now refl below c.index_mut-at.ensures.value in
-    let off = rw (c.deref.ensures.value, c.len.ensures, c.deref-2.ensures.0, c.tokens_of-tokens.ensures.tokens) at c.take_off.ensures in
+    let size : c.len.result ≡ length n.nodes.items = omega (arith, c.len.ensures, n.nodes.ok.0) in
+    let off = rw (c.deref.ensures.value, size, c.deref-2.ensures.0, c.tokens_of-tokens.ensures.tokens) at c.take_off.ensures in
     let out = out_is n c.self.invariant c.args.node c.args.takes.now c.args.most F c.take_off.new.lines off in
     let took = rw (c.deref-3.ensures.0, c.tokens_of-tokens.ensures.tokens) at c.take_all.ensures.took in
     let kept = c.run-ran.ensures.kept ∙ c.take_all.ensures.thawed ∙ sym (c.self.invariant.thawed c.args.node c.index_mut-at.result.now there) in
@@ -120,7 +125,8 @@ invariant_of-self c =
     let low = subst CarryBytes c.tokens_of-tokens.ensures.tokens c.tokens_of-tokens.ensures.bytes in
     let below = node_there n c.self.invariant c.args.node c.args.takes.now c.args.most F in
     let there = slice_get_read n.nodes.items (length n.nodes.items) c.args.node c.index_mut-at.result.now refl below c.index_mut-at.ensures.value in
-    let off = rw (c.deref.ensures.value, c.len.ensures, c.deref-2.ensures.0, c.tokens_of-tokens.ensures.tokens) at c.take_off.ensures in
+    let size : c.len.result ≡ length n.nodes.items = omega (arith, c.len.ensures, n.nodes.ok.0) in
+    let off = rw (c.deref.ensures.value, size, c.deref-2.ensures.0, c.tokens_of-tokens.ensures.tokens) at c.take_off.ensures in
     let out = out_is n c.self.invariant c.args.node c.args.takes.now c.args.most F c.take_off.new.lines off in
     let took = rw (c.deref-3.ensures.0, c.tokens_of-tokens.ensures.tokens) at c.take_all.ensures.took in
     let kept = c.run-ran.ensures.kept ∙ c.take_all.ensures.thawed ∙ sym (c.self.invariant.thawed c.args.node c.index_mut-at.result.now there) in
@@ -138,7 +144,8 @@ returns c =
     let low = subst CarryBytes c.tokens_of-tokens.ensures.tokens c.tokens_of-tokens.ensures.bytes in
     let below = node_there n c.self.invariant c.args.node c.args.takes.now c.args.most F in
     let there = slice_get_read n.nodes.items (length n.nodes.items) c.args.node c.index_mut-at.result.now refl below c.index_mut-at.ensures.value in
-    let off = rw (c.deref.ensures.value, c.len.ensures, c.deref-2.ensures.0, c.tokens_of-tokens.ensures.tokens) at c.take_off.ensures in
+    let size : c.len.result ≡ length n.nodes.items = omega (arith, c.len.ensures, n.nodes.ok.0) in
+    let off = rw (c.deref.ensures.value, size, c.deref-2.ensures.0, c.tokens_of-tokens.ensures.tokens) at c.take_off.ensures in
     let out = out_is n c.self.invariant c.args.node c.args.takes.now c.args.most F c.take_off.new.lines off in
     let took = rw (c.deref-3.ensures.0, c.tokens_of-tokens.ensures.tokens) at c.take_all.ensures.took in
     let kept = c.run-ran.ensures.kept ∙ c.take_all.ensures.thawed ∙ sym (c.self.invariant.thawed c.args.node c.index_mut-at.result.now there) in
