@@ -15,7 +15,6 @@ use Rattle.tp_model.specs.Node.{t414}
 use Rattle.tp_model.specs.Network.{◌>>=◌, Machine, steps, Port, Network, Own, OfNode, OfHost, own, receiver, process_at, on_line, is_first, taken}
 use Rattle.tp_model.specs.Turn.{by_link, by_line, comes_in, took_all}
 use Rattle.tp_model.specs.Entries.{process, takes, of_node, of_port, receives, port_took, handed_in, confirmed, does, next}
-use Rattle.tp_law_network.specs.Turns.{IsFront}
 use Rattle.tp_law_network.proofs.Local.{step_of, own_host, own_node, port_step, TurnStep, turn_step}
 use Rattle.tp_law_network.proofs.Turns.{turn_fronts}
 use Rattle.tp_law_network.proofs.Lines.{taken_cons}

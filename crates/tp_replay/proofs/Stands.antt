@@ -1,5 +1,5 @@
 -- What a turn takes stands in front of its lines just where it does link by link: links have lines of their own.
-use Rattle.std.proofs.Common.{◌≡◌, ◌≢◌, ℕ, ◌+◌, ◌*◌, ◌<◌, ◌≤◌, Bool, true, false, inl, inr, List, [], ◌∷◌, ◌++◌, length, map, drop, get_or, refl, sym, ap, subst, ◌∙◌, arith, add-one, drop-cons, append_assoc, Option, Some, None}
+use Rattle.std.proofs.Common.{◌≡◌, ◌≢◌, ℕ, ◌+◌, ◌*◌, ◌<◌, ◌≤◌, Bool, true, inl, inr, List, [], ◌∷◌, ◌++◌, length, map, drop, get_or, refl, sym, ap, subst, ◌∙◌, arith, add-one, drop-cons, append_assoc, Option, Some, None}
 use Rattle.std.specs.Prelude.{◌&&◌, is_some}
 use Rattle.std.specs.Cmp.{both_ways}
 use Rattle.std.specs.List.{AllByRecursion}
@@ -60,9 +60,9 @@ module _ (wires : List (Option WireEnd)) (N i : ℕ) where
       let C = comes_first wires N i m ms into in
       for_line-other (incoming wires N i m.0) l m.1 (by_line wires N i ms)
       (λ same.
-          let ends : Some (Link i m.0) ≡ Some (Link i k) = sym C.0 ∙ ap (receiver wires) same ∙ end in
-          let link : m.0 ≡ k = cc in
-          all.0 link)
+      let ends : Some (Link i m.0) ≡ Some (Link i k) = sym C.0 ∙ ap (receiver wires) same ∙ end in
+      let link : m.0 ≡ k = cc in
+      all.0 link)
       ∙ no_other k ms C.1 all.1 l end
 
   by_line-one : (k : ℕ) (ts : List Token) (ms : List (ℕ × Token)) → by_line wires N i (map (λ t. (k, t)) ts ++ ms) ≡ map (λ t. (incoming wires N i k, t)) ts ++ by_line wires N i ms
@@ -171,8 +171,8 @@ module _ (wires : List (Option WireEnd)) (N i : ℕ) where
         (λ e. and_from (comes_in wires N i (by_link 0 links)) (is_some (taken lines (by_line wires N i (by_link 0 links)))) (stand_into 0 links e)
         (ap is_some (taken_from lines (by_line wires N i (by_link 0 links)) (stand_fronts 0 links e)).1))
         (λ e.
-            let both = and_parts (comes_in wires N i (by_link 0 links)) (is_some (taken lines (by_line wires N i (by_link 0 links)))) e in
-            fronts_stand 0 links both.0 (fronts (taken lines (by_line wires N i (by_link 0 links))) refl both.1))
+        let both = and_parts (comes_in wires N i (by_link 0 links)) (is_some (taken lines (by_line wires N i (by_link 0 links)))) e in
+        fronts_stand 0 links both.0 (fronts (taken lines (by_line wires N i (by_link 0 links))) refl both.1))
       where
         fronts : (o : Option (List (List Token))) → taken lines (by_line wires N i (by_link 0 links)) ≡ o → is_some o ≡ true → HasFronts (by_link 0 links)
         fronts None e some = absurd (true≢false (sym some))

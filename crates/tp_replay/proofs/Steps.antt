@@ -153,7 +153,7 @@ turn_takes s i links most count mid after answers tokens F few took ran =
       sends = on_lines i (answers ++ tokens);
       change =
           cond-true (comes_in s.wires (length s.nodes) i ms && (nat_lt 0 (length ms) && nat_le count MAX_STEPS)) (option_map (of_node i) (turned t414 ms count F.node)) None
-              (and_from (comes_in s.wires (length s.nodes) i ms) (nat_lt 0 (length ms) && nat_le count MAX_STEPS) F.into (and_from (nat_lt 0 (length ms)) (nat_le count MAX_STEPS) F.some few))
+          (and_from (comes_in s.wires (length s.nodes) i ms) (nat_lt 0 (length ms) && nat_le count MAX_STEPS) F.into (and_from (nat_lt 0 (length ms)) (nat_le count MAX_STEPS) F.some few))
           ∙ ap (λ o. option_map (of_node i) (o >>= λ first. steps t414 count first.0 >>= λ rest. Some (rest.0, first.1 ++ rest.1))) took
           ∙ ap (λ o. option_map (of_node i) (o >>= λ rest. Some (rest.0, answers ++ rest.1))) ran;
       makes = refl;

@@ -1,5 +1,5 @@
 -- A node takes the tokens of a turn, one after the other: in a flat network it can, where they stand in front of their lines.
-use Rattle.std.proofs.Common.{◌≡◌, ℕ, ◌+◌, ◌*◌, ◌<◌, ◌≤◌, true, List, [], ◌∷◌, ◌++◌, length, map, drop, get_or, refl, sym, ap, subst, ◌∙◌, arith, add-one, drop-cons, append_assoc, append-nil, length-set, Option, Some, None, IsSome, slice_get}
+use Rattle.std.proofs.Common.{◌≡◌, ℕ, ◌+◌, ◌<◌, ◌≤◌, true, List, [], ◌∷◌, ◌++◌, length, drop, get_or, refl, sym, ap, subst, ◌∙◌, arith, add-one, drop-cons, append_assoc, append-nil, length-set, Option, Some, None, IsSome, slice_get}
 use Rattle.std.specs.Prelude.{is_some}
 use Rattle.std.specs.Option.{option_map}
 use Rattle.std.specs.List.{AllByRecursion}
@@ -8,7 +8,7 @@ use Rattle.tp_model.specs.declared.link.Token.{Token}
 use Rattle.tp_model.specs.declared.entry.Entry.TheVariants.{Take}
 use Rattle.tp_model.specs.NodeState.{NodeState}
 use Rattle.tp_model.specs.Node.{t414, took, on_link}
-use Rattle.tp_model.specs.Network.{◌>>=◌, Network, has_wire, on_line, is_first, taken, sent}
+use Rattle.tp_model.specs.Network.{◌>>=◌, Network, has_wire, taken, sent}
 use Rattle.tp_model.specs.Turn.{by_line, comes_in, incoming, took_all}
 use Rattle.tp_law_network.proofs.Lines.{taken_cons, taken-sent}
 use Rattle.tp_law_network.proofs.Local.{comes_first}
@@ -86,7 +86,7 @@ next_taken tokens i n d below some =
       after = F.0;
       took = F.1;
       rest = ap is_some R.1;
-      is = all.1 ∙ sym R.2 ∙ sym (ap (option_map (with_answers F.0.1)) R.1);
+      is = all.1 ∙ sym (ap (option_map (with_answers F.0.1)) R.1 ∙ R.2);
     }
 
 -- where it is known what the node does at the one there

@@ -21,7 +21,12 @@ use tp_port::send_all;
 impl FlatNetwork {
     /// Has `node` take what came in on its links, and then make `count` steps. Where it can't make them, it has taken the tokens and
     /// made as many as it can.
-    pub(crate) fn turn(&mut self, node: u8, takes: &[Received; 4], count: u16) -> Result<(), NotPossible>
+    pub(crate) fn turn(
+        &mut self,
+        node: u8,
+        takes: &[Received; 4],
+        count: u16,
+    ) -> Result<(), NotPossible>
         ensures applies { Applies (next t414 self.old (Turn node takes.now count)) result self.new }
         ensures err { OnErr result (Leaves self.old (Turn node takes.now count) self.new) }
     {

@@ -1,4 +1,4 @@
-use Rattle.std.proofs.Common.{◌≡◌, ◌<◌, ◌∷◌, length, sym, ap, ◌∙◌}
+use Rattle.std.proofs.Common.{sym, ◌∙◌}
 use Rattle.tp_model.specs.declared.link.Token.TheVariants.{Data}
 use Rattle.tp_replay.proofs.Offs.{next_off, off_done}
 use Rattle.tp_replay.proofs.received.take_off.Goals as goal
