@@ -1,5 +1,5 @@
 -- Every entry keeps what networks in one thread keep, and what it sends finds room.
-use Rattle.std.proofs.Common.{◌≡◌, ℕ, ◌<◌, ◌≤◌, inl, inr, List, length, sym, ap, subst, ◌∙◌, arith, Option, Some, None, slice_get}
+use Rattle.std.proofs.Common.{◌≡◌, ℕ, ◌<◌, ◌≤◌, inl, inr, List, [], ◌∷◌, ◌++◌, length, sym, ap, subst, ◌∙◌, arith, Option, Some, None, slice_get}
 use Rattle.std.specs.Prelude.{nat_lt, nat_le, ◌&&◌, length}
 use Rattle.std.specs.Option.{option_map}
 use Rattle.std.proofs.lemmas.Bool.{cases_eq}
@@ -8,21 +8,22 @@ use Rattle.tp_model.specs.declared.link.Token.{Token}
 use Rattle.tp_model.specs.declared.wire.WireEnd.{WireEnd}
 use Rattle.tp_model.specs.declared.wire.WireEnd.TheVariants.{Link, Port as AtPort}
 use Rattle.tp_model.specs.declared.entry.Entry.{Entry}
-use Rattle.tp_model.specs.declared.entry.Entry.TheVariants.{Run, Take, HostIn, Confirm}
+use Rattle.tp_model.specs.declared.entry.Entry.TheVariants.{Run, Take, HostIn, Confirm, Turn}
 use Rattle.tp_model.specs.declared.limits.TheConstants.{MAX_STEPS}
 use Rattle.tp_model.specs.NodeState.{NodeState}
 use Rattle.tp_model.specs.Node.{t414, t414_ends, took}
 use Rattle.tp_model.specs.Network.{steps, Port, Network, Own, OfNode, OfHost, own, receiver, has_wire, on_line}
+use Rattle.tp_model.specs.Turn.{by_link, took_all}
 use Rattle.tp_model.specs.Entries.{process, takes, of_node, of_port, receives, port_took, handed_in, confirmed, does, next}
 use Rattle.tp_model.specs.Markers.{markers}
 use Rattle.tp_law_network.proofs.Lines.{length_taken}
-use Rattle.tp_law_network.proofs.Local.{Step, step_of, next_from, own_node, own-node, port_step, SameShape, step_shape, step_lines, step_own_same, step_own_other}
-use Rattle.tp_law_network.proofs.Partial.{map_some, cond_some}
+use Rattle.tp_law_network.proofs.Local.{Step, step_of, next_from, own_node, own-node, port_step, turn_step, SameShape, step_shape, step_lines, step_own_same, step_own_other}
+use Rattle.tp_law_network.proofs.Partial.{bind_some, map_some, cond_some}
 use Rattle.tp_model.specs.Sound.{Sound}
 use Rattle.tp_law_network.proofs.Room.{line_room}
 use Rattle.tp_law_network.proofs.Plain.{step_markers}
 use Rattle.tp_law_network.proofs.Sound.{sound_kept}
-use Rattle.tp_law_machine.specs.NodeOfBytes.{CarriesByte, IsNodeOfBytes}
+use Rattle.tp_law_machine.specs.NodeOfBytes.{CarriesByte, CarryBytes, IsNodeOfBytes}
 use Rattle.tp_law_machine.proofs.LinkLaws.{has_four_links, keeps_flight, never_marks}
 use Rattle.tp_law_machine.proofs.Nodes.{node_steps, node_took}
 use Rattle.tp_port.specs.Room.{HasRoom}
@@ -57,6 +58,18 @@ receives_stays N (Some (AtPort p)) token (OfNode n) r node low e = cc
 receives_stays N None token (OfNode n) r node low e = cc
 receives_stays N None token (OfHost ports) r node low e = cc
 
+-- so does a node that takes tokens one after the other
+all_stay : (ms : List (ℕ × Token)) (n : NodeState) (r : NodeState × List (ℕ × Token)) → IsNodeOfBytes n → CarryBytes ms → took_all t414 ms n ≡ Some r → IsNodeOfBytes r.0
+unfolding took_all
+all_stay [] n r node low e =
+    let is : ◌≡◌ {A = NodeState × List (ℕ × Token)} (n, []) r = cc in
+    subst (λ x. IsNodeOfBytes x.0) is node
+all_stay (m ∷ ms) n r node low e =
+    let F = bind_some (took n m.0 m.1) _ r e in
+    let R = bind_some (took_all t414 ms F.0.0) _ r F.2 in
+    let is : ◌≡◌ {A = NodeState × List (ℕ × Token)} (R.0.0, F.0.1 ++ R.0.1) r = cc in
+    subst (λ x. IsNodeOfBytes x.0) is (all_stay ms F.0.0 R.0 (node_took n m.0 m.1 F.0 node low.0 F.1).0 low.1 R.1)
+
 does_stays : (s : Network NodeState) (e : Entry) (was : Own NodeState) (r : Own NodeState × List (ℕ × Token)) → Stays was → TakesByte e → does t414 s.wires (length s.nodes) e was ≡ Some r → Stays r.0
 unfolding does
 does_stays s (Run i k) (OfNode n) r node low e =
@@ -68,6 +81,10 @@ does_stays s (HostIn p b) (OfHost ports) r node low e = port_stays (length s.nod
 does_stays s (HostIn p b) (OfNode n) r node low e = cc
 does_stays s (Confirm p upto) (OfHost ports) r node low e = port_stays (length s.nodes) p ports (confirmed upto) r e
 does_stays s (Confirm p upto) (OfNode n) r node low e = cc
+does_stays s (Turn i links k) (OfNode n) r node low e =
+    let T = turn_step t414 s.wires (length s.nodes) i links k n r e in
+    subst (λ y. Stays y.0) T.is (record { is = (node_steps k T.taken_all.0 T.run (all_stay (by_link 0 links) n T.taken_all node.is low T.takes_all) T.runs).0 })
+does_stays s (Turn i links k) (OfHost ports) r node low e = cc
 
 own_stays : (s : Network NodeState) → IsFlat s → (p : ℕ) (was : Own NodeState) → own s p ≡ Some was → Stays was
 own_stays s F p (OfNode n) e = record { is = F.nodes p n (own_node s p n e).1 }

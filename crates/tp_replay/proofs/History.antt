@@ -9,12 +9,11 @@ use Rattle.tp_model.specs.declared.opening.OpenFault.{OpenFault}
 use Rattle.tp_model.specs.declared.limits.TheConstants.{NUMBER_LIMIT}
 use Rattle.tp_model.specs.Network.{Machine, Network}
 use Rattle.tp_model.specs.Entries.{next}
-use Rattle.tp_model.specs.EntryBytes.{entry_at}
 use Rattle.tp_model.specs.Order.{after}
 use Rattle.tp_model.specs.Numbers.{AreNumbered}
 use Rattle.tp_model.specs.Results.{◌>>=◌}
 use Rattle.tp_model.specs.CutImage.{or_damaged}
-use Rattle.tp_model.specs.Replay.{Replay, with_entry, is_number, after_entry, after_row, after_rows, replay_from}
+use Rattle.tp_model.specs.Replay.{Replay, row_entry, with_entry, is_number, after_entry, after_row, after_rows, replay_from}
 use Rattle.tp_law_network.proofs.Partial.{map_some, cond_some}
 use Rattle.tp_law_network.proofs.Reorder.{after_last}
 use Rattle.tp_replay.specs.History.{IsHistory}
@@ -63,7 +62,7 @@ module _ {Node : Type 0} (M : Machine Node) (start : Network Node) (base : ℕ) 
       }
 
   leads_row : (r after : Replay Node) (row : List ℕ) → Leads r → after_row M r row ≡ Some after → Leads after
-  leads_row r after row L e = go (entry_at row) e
+  leads_row r after row L e = go (row_entry row) e
     where
       go : (o : Option (Entry × ℕ)) → option_and_then (after_entry M r) o ≡ Some after → Leads after
       go None e = cc

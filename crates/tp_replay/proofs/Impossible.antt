@@ -1,19 +1,22 @@
 -- Each kind of entry, where it isn't possible.
 use Rattle.std.proofs.Common.{◌≡◌, ℕ, zero, suc, ◌<◌, true, false, List, [], ◌++◌, length, refl, sym, ap, ◌∙◌, arith, Option, Some, None, slice_get}
-use Rattle.std.specs.Prelude.{nat_lt, nat_le, ◌&&◌}
+use Rattle.std.specs.Prelude.{nat_lt, nat_le, ◌&&◌, is_some}
 use Rattle.std.specs.Option.{option_map}
-use Rattle.std.proofs.lemmas.Bool.{true≢false}
+use Rattle.std.proofs.lemmas.Bool.{true≢false, and_from}
 use Rattle.tp_model.specs.declared.link.Token.{Token}
 use Rattle.tp_model.specs.declared.link.Token.TheVariants.{Marker}
+use Rattle.tp_model.specs.declared.link.Received.{Received}
 use Rattle.tp_model.specs.declared.wire.WireEnd.{WireEnd}
 use Rattle.tp_model.specs.declared.wire.WireEnd.TheVariants.{Port as AtPort}
-use Rattle.tp_model.specs.declared.entry.Entry.TheVariants.{Run, Take, HostIn, Confirm}
+use Rattle.tp_model.specs.declared.entry.Entry.TheVariants.{Run, Take, HostIn, Confirm, Turn}
 use Rattle.tp_model.specs.declared.limits.TheConstants.{MAX_STEPS}
 use Rattle.tp_model.specs.NodeState.{NodeState}
 use Rattle.tp_model.specs.Node.{t414}
-use Rattle.tp_model.specs.Network.{◌>>=◌, Machine, steps, Port, Network, Own, OfNode, OfHost, own, receiver, process_at, on_line, is_first}
+use Rattle.tp_model.specs.Network.{◌>>=◌, Machine, steps, Port, Network, Own, OfNode, OfHost, own, receiver, process_at, on_line, is_first, taken}
+use Rattle.tp_model.specs.Turn.{by_link, by_line, comes_in, took_all}
 use Rattle.tp_model.specs.Entries.{process, takes, of_node, of_port, receives, port_took, handed_in, confirmed, does, next}
-use Rattle.tp_law_network.proofs.Local.{step_of, own_host, own_node, port_step}
+use Rattle.tp_law_network.proofs.Local.{step_of, own_host, own_node, port_step, TurnStep, turn_step}
+use Rattle.tp_law_network.proofs.Turns.{turn_fronts}
 use Rattle.tp_law_network.proofs.Lines.{taken_cons}
 use Rattle.tp_law_network.proofs.Plain.{step_takes_unmarked}
 use Rattle.tp_law_network.proofs.Partial.{bind_some, map_some, cond_some}
@@ -167,3 +170,52 @@ hand_in_none s p byte none = none_of (next t414 s (HostIn p byte)) (λ t h. unch
 
 pub confirm_none : (s : Network NodeState) (p upto : ℕ) → slice_get s.ports p >>= confirmed upto ≡ None → next t414 s (Confirm p upto) ≡ None
 confirm_none s p upto none = none_of (next t414 s (Confirm p upto)) (λ t h. unchanged s p (confirmed upto) none (confirm_apart s p upto t h))
+
+-- ## Turns
+
+-- what a turn that is possible does to its node
+record TurnSteps (s : Network NodeState) (i : ℕ) (links : List Received) (k : ℕ) : Type 0 where
+  node : NodeState
+  there : slice_get s.nodes i ≡ Some node
+  r : Own NodeState × List (ℕ × Token)
+  steps : TurnStep t414 s.wires (length s.nodes) i (by_link 0 links) k node r
+
+turn_apart : (s : Network NodeState) (i : ℕ) (links : List Received) (k : ℕ) (t : Network NodeState) → next t414 s (Turn i links k) ≡ Some t → TurnSteps s i links k
+unfolding process does
+turn_apart s i links k t h = let S = step_of t414 s (Turn i links k) t h in go S.was S.own_was (S.now, S.sends) S.change
+  where
+    go : (was : Own NodeState) → own s i ≡ Some was → (r : Own NodeState × List (ℕ × Token)) → does t414 s.wires (length s.nodes) (Turn i links k) was ≡ Some r → TurnSteps s i links k
+    go (OfHost ports) o r e = cc
+    go (OfNode n) o r e = record { node = n; there = (own_node s i n o).1; r = r; steps = turn_step t414 s.wires (length s.nodes) i links k n r e }
+
+pub turn_nowhere : (s : Network NodeState) (i : ℕ) (links : List Received) (k : ℕ) → slice_get s.nodes i ≡ None → next t414 s (Turn i links k) ≡ None
+turn_nowhere s i links k none = none_of (next t414 s (Turn i links k)) (λ t h. let F = turn_fronts t414 s t i links k h in cc (F.there, none))
+
+pub turn_uncounted : (s : Network NodeState) (i : ℕ) (links : List Received) (k : ℕ) → (nat_lt 0 (length (by_link 0 links)) && nat_le k MAX_STEPS) ≡ false → next t414 s (Turn i links k) ≡ None
+turn_uncounted s i links k none =
+    none_of (next t414 s (Turn i links k))
+    (λ t h. let F = turn_fronts t414 s t i links k h in
+    let is = and_from (nat_lt 0 (length (by_link 0 links))) (nat_le k MAX_STEPS) F.some F.few in
+    true≢false (sym is ∙ none))
+
+-- where a token didn't come in on its link, or isn't among the first of its line
+pub turn_behind : (s : Network NodeState) (i : ℕ) (links : List Received) (k : ℕ)
+    → (comes_in s.wires (length s.nodes) i (by_link 0 links) && is_some (taken s.lines (by_line s.wires (length s.nodes) i (by_link 0 links)))) ≡ false → next t414 s (Turn i links k) ≡ None
+unfolding takes
+turn_behind s i links k none =
+    none_of (next t414 s (Turn i links k))
+    (λ t h. let F = turn_fronts t414 s t i links k h in
+    let is = and_from (comes_in s.wires (length s.nodes) i (by_link 0 links)) (is_some (taken s.lines (by_line s.wires (length s.nodes) i (by_link 0 links)))) F.into (ap is_some F.front) in
+    true≢false (sym is ∙ none))
+
+-- where the node can't make the steps
+pub turn_short : (s : Network NodeState) (i : ℕ) (links : List Received) (k : ℕ) (n : NodeState) (mid : NodeState × List (ℕ × Token)) → slice_get s.nodes i ≡ Some n
+    → took_all t414 (by_link 0 links) n ≡ Some mid → steps t414 k mid.0 ≡ None → next t414 s (Turn i links k) ≡ None
+turn_short s i links k n mid there took none =
+    none_of (next t414 s (Turn i links k))
+    (λ t h. let R = turn_apart s i links k t h in
+    let same : R.node ≡ n = cc (R.there, there) in
+    let all : took_all t414 (by_link 0 links) n ≡ Some R.steps.taken_all = rw same at R.steps.takes_all in
+    let alike : R.steps.taken_all ≡ mid = cc (all, took) in
+    let ran : steps t414 k mid.0 ≡ Some R.steps.run = rw alike at R.steps.runs in
+    cc (ran, none))

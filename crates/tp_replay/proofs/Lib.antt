@@ -5,7 +5,11 @@ pub mod Fronts
 pub mod History
 pub mod ImagesAgain
 pub mod Impossible
+pub mod Offs
 pub mod Pages
 pub mod Ran
 pub mod Rows
+pub mod Stands
 pub mod Steps
+pub mod TakenAll
+pub mod Turned

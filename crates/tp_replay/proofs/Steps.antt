@@ -1,17 +1,20 @@
 -- Each kind of entry, where it is possible: a step of the network.
-use Rattle.std.proofs.Common.{◌≡◌, ℕ, ◌+◌, ◌*◌, ◌<◌, ◌≤◌, true, cond, List, [], ◌∷◌, length, map, set, drop, refl, ap, ◌∙◌, Some, None, slice_get}
-use Rattle.std.specs.Prelude.{nat_le, ◌&&◌}
+use Rattle.std.proofs.Common.{◌≡◌, ℕ, ◌+◌, ◌*◌, ◌<◌, ◌≤◌, true, cond, List, [], ◌∷◌, ◌++◌, length, map, set, drop, refl, ap, ◌∙◌, Some, None, slice_get}
+use Rattle.std.specs.Prelude.{nat_lt, nat_le, ◌&&◌}
 use Rattle.std.specs.Option.{option_map}
-use Rattle.std.proofs.lemmas.Bool.{lt-ltb, le-leb}
+use Rattle.std.proofs.lemmas.Bool.{and_from, cond-true, lt-ltb, le-leb}
 use Rattle.tp_model.specs.declared.link.Token.{Token}
+use Rattle.tp_model.specs.declared.link.Received.{Received}
 use Rattle.tp_model.specs.declared.wire.WireEnd.TheVariants.{Link, Port as AtPort}
 use Rattle.tp_model.specs.declared.entry.Entry.{Entry}
-use Rattle.tp_model.specs.declared.entry.Entry.TheVariants.{Run, Take, HostIn, Confirm}
+use Rattle.tp_model.specs.declared.entry.Entry.TheVariants.{Run, Take, HostIn, Confirm, Turn}
 use Rattle.tp_model.specs.declared.limits.TheConstants.{MAX_STEPS}
 use Rattle.tp_model.specs.NodeState.{NodeState}
 use Rattle.tp_model.specs.Node.{t414, took}
-use Rattle.tp_model.specs.Network.{steps, Port, Network, OfNode, OfHost, own, put, receiver, has_wire, process_at, on_line, is_first, taken, sent}
+use Rattle.tp_model.specs.Network.{◌>>=◌, steps, Port, Network, OfNode, OfHost, own, put, receiver, has_wire, process_at, on_line, is_first, taken, sent}
+use Rattle.tp_model.specs.Turn.{by_link, comes_in, took_all, turned}
 use Rattle.tp_model.specs.Entries.{process, takes, of_node, receives, port_took, handed_in, confirmed, does}
+use Rattle.tp_law_network.specs.Turns.{IsFront}
 use Rattle.tp_law_network.proofs.Lines.{cons_taken}
 use Rattle.tp_law_network.proofs.Local.{Step, own-host}
 pub use Rattle.tp_port.proofs.Owns.{own_there}
@@ -134,3 +137,24 @@ confirm_step s p upto port after tokens at did = made s (Confirm p upto) _ (reco
   change = of_port-is (length s.nodes) p s.ports port (after, tokens) (confirmed upto) at did;
   makes = refl;
 })
+
+pub turn_takes : (s : Network NodeState) (i : ℕ) (links : List Received) (most count : ℕ) (mid after : NodeState) (answers tokens : List (ℕ × Token)) (F : IsFront s i links most)
+    → nat_le count MAX_STEPS ≡ true → took_all t414 (by_link 0 links) F.node ≡ Some (mid, answers) → steps t414 count mid ≡ Some (after, tokens)
+    → Made s (Turn i links count) F.out (on_lines i (answers ++ tokens)) (node_after s F.out i after (answers ++ tokens))
+unfolding taken takes process does put turned
+turn_takes s i links most count mid after answers tokens F few took ran =
+    let ms = by_link 0 links in
+    made s (Turn i links count) _ (record {
+      out = F.out;
+      takes_out = F.front;
+      was = OfNode F.node;
+      own_was = own_there s i F.node F.there;
+      now = OfNode after;
+      sends = on_lines i (answers ++ tokens);
+      change =
+          cond-true (comes_in s.wires (length s.nodes) i ms && (nat_lt 0 (length ms) && nat_le count MAX_STEPS)) (option_map (of_node i) (turned t414 ms count F.node)) None
+          (and_from (comes_in s.wires (length s.nodes) i ms) (nat_lt 0 (length ms) && nat_le count MAX_STEPS) F.into (and_from (nat_lt 0 (length ms)) (nat_le count MAX_STEPS) F.some few))
+          ∙ ap (λ o. option_map (of_node i) (o >>= λ first. steps t414 count first.0 >>= λ rest. Some (rest.0, first.1 ++ rest.1))) took
+          ∙ ap (λ o. option_map (of_node i) (o >>= λ rest. Some (rest.0, answers ++ rest.1))) ran;
+      makes = refl;
+    })

@@ -1,9 +1,10 @@
 -- What a call answers and leaves that applies an entry.
 use Rattle.std.specs.Prelude.{◌≡◌, ◌⊎◌, ◌<◌, ◌≤◌, ℕ, List, Option, Some, None, Result, Ok, Err, slice_get}
 use Rattle.tp_model.specs.declared.entry.Entry.{Entry}
-use Rattle.tp_model.specs.declared.entry.Entry.TheVariants.{Run, Take, HostIn, Confirm}
+use Rattle.tp_model.specs.declared.entry.Entry.TheVariants.{Run, Take, HostIn, Confirm, Turn}
 use Rattle.tp_model.specs.NodeState.{NodeState}
 use Rattle.tp_model.specs.declared.link.Token.{Token}
+use Rattle.tp_model.specs.declared.link.Received.{Received}
 use Rattle.tp_model.specs.Node.{t414, node_step}
 use Rattle.tp_model.specs.Network.{Network, steps}
 use Rattle.tp_model.specs.Entries.{next}
@@ -22,12 +23,19 @@ pub record RanShort (s : Network NodeState) (node count : ℕ) (now : Network No
   pub fewer : made < count
   pub is : next t414 s (Run node made) ≡ Some now
 
--- What an entry leaves that isn't possible: the network as it was, or a run is cut short.
+-- The node took what its turn takes, and made fewer steps than the `count` that it can't all make.
+pub record TurnCutShort (s : Network NodeState) (node : ℕ) (takes : List Received) (count : ℕ) (now : Network NodeState) : Type 0 where
+  pub made : ℕ
+  pub fewer : made < count
+  pub is : next t414 s (Turn node takes made) ≡ Some now
+
+-- What an entry leaves that isn't possible: the network as it was, or a run or the steps of a turn are cut short.
 abbrev pub Leaves : Network NodeState → Entry → Network NodeState → Type 0
 Leaves s (Run node count) now = (now ≡ s) ⊎ RanShort s node count now
 Leaves s (Take line token) now = now ≡ s
 Leaves s (HostIn port byte) now = now ≡ s
 Leaves s (Confirm port upto) now = now ≡ s
+Leaves s (Turn node takes count) now = (now ≡ s) ⊎ TurnCutShort s node takes count now
 
 -- A node ran for at most `most` steps: `count` were made, fewer than that only where the node has no step then. Without a step
 -- the network is as it was.
@@ -42,3 +50,9 @@ pub record RanUpTo (s : Network NodeState) (node most count : ℕ) (now : Networ
   pub none : count ≡ 0 → now ≡ s
   pub some : 0 < count → next t414 s (Run node count) ≡ Some now
   pub all : count < most → node_step behind ≡ None
+
+-- A node took what a turn takes, and then ran for at most `most` steps: `count` were made, fewer only where no more are possible.
+pub record TurnedUpTo (s : Network NodeState) (node : ℕ) (takes : List Received) (most count : ℕ) (now : Network NodeState) : Type 0 where
+  pub few : count ≤ most
+  pub is : next t414 s (Turn node takes count) ≡ Some now
+  pub all : count < most → next t414 s (Turn node takes most) ≡ None

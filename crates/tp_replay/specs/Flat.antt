@@ -3,14 +3,15 @@ use Rattle.std.specs.Prelude.{◌≡◌, ◌≤◌, ◌<◌, ℕ, ◌+◌, ◌*�
 use Rattle.tp_model.specs.declared.link.Token.{Token}
 use Rattle.tp_model.specs.declared.wire.WireEnd.{WireEnd}
 use Rattle.tp_model.specs.declared.entry.Entry.{Entry}
-use Rattle.tp_model.specs.declared.entry.Entry.TheVariants.{Run, Take, HostIn, Confirm}
+use Rattle.tp_model.specs.declared.entry.Entry.TheVariants.{Run, Take, HostIn, Confirm, Turn}
 use Rattle.tp_model.specs.NodeState.{NodeState}
 use Rattle.tp_model.specs.Node.{t414_ends}
 use Rattle.tp_model.specs.Network.{Network, Port, on_line}
 use Rattle.tp_model.specs.Sound.{Sound}
 use Rattle.tp_model.specs.Markers.{markers}
 use Rattle.tp_model.specs.declared.limits.TheConstants.{MAX_NODES, MAX_PORTS}
-use Rattle.tp_law_machine.specs.NodeOfBytes.{CarriesByte, IsNodeOfBytes}
+use Rattle.tp_model.specs.Turn.{by_link}
+use Rattle.tp_law_machine.specs.NodeOfBytes.{CarriesByte, CarryBytes, IsNodeOfBytes}
 use Rattle.tp_node.specs.NodeContents.{NodeContents}
 use Rattle.tp_port.specs.Ports.{PortValue}
 
@@ -34,6 +35,7 @@ TakesByte (Run node count) = Unit {0}
 TakesByte (Take line token) = CarriesByte token
 TakesByte (HostIn port byte) = Unit {0}
 TakesByte (Confirm port upto) = Unit {0}
+TakesByte (Turn node takes count) = CarryBytes (by_link 0 takes)
 
 -- the network of the nodes and ports, with the wires and lines
 abbrev pub network_of : List (Option WireEnd) → List NodeContents → List (List Token) → List PortValue → Network NodeState

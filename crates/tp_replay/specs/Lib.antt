@@ -5,3 +5,4 @@ pub mod Inside
 pub mod PartsOf
 pub mod Replaying
 pub mod Rows
+pub mod Stands

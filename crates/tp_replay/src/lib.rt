@@ -9,9 +9,11 @@ mod image;
 mod laws;
 mod network;
 mod parts;
+mod received;
 mod replaying;
 mod run;
 mod take;
+mod turn;
 
 pub use fault::{NotPossible, ReplayFault, RowFault};
 pub use laws::{cuts_are_sound, entries_keep_flat, rows_are_history, rows_in_parts};

@@ -1,0 +1,199 @@
+//! What a turn takes.
+
+ghost use Rattle.std.specs.Prelude.{◌≡◌, ◌==◌, ◌&&◌, ◌++◌, ◌≤◌, ◌<◌, ◌^◌, [], IsSome, None, Some, is_some, length, map};
+ghost use Rattle.tp_model.specs.Network.{on_line, receiver, taken};
+ghost use Rattle.tp_model.specs.Node.{on_link, t414};
+ghost use Rattle.tp_model.specs.Turn.{by_line, by_link, comes_in, incoming, is_link, received, took_all};
+ghost use Rattle.tp_law_machine.specs.NodeOfBytes.{CarryBytes};
+ghost use Rattle.tp_replay.specs.Stands.{link_stands, starts_with};
+
+use crate::front::stands_in_front;
+use arrayvec::ArrayVec;
+use tp_model::{Received, Token, WireEnd};
+use tp_net::{Lines, line_of, link_line, receiver};
+use tp_node::{NoFrame, Node};
+
+/// Appends the tokens that were received on `link`, in order.
+fn add_received(tokens: &mut ArrayVec<(u8, Token), 8>, link: u8, one: Received)
+    requires { length tokens.old.items ≤ 6 }
+    ensures tokens { tokens.new.items ≡ tokens.old.items ++ map (λ token. (link, token)) (received one) }
+    ensures bytes { CarryBytes (map (λ token. (link, token)) (received one)) }
+{
+    match one {
+        Received::Nothing => {}
+        Received::JustData(byte) => tokens.push((link, Token::Data(byte))),
+        Received::JustAck => tokens.push((link, Token::Ack)),
+        Received::DataThenAck(byte) => {
+            tokens.push((link, Token::Data(byte)));
+            tokens.push((link, Token::Ack));
+        }
+        Received::AckThenData(byte) => {
+            tokens.push((link, Token::Ack));
+            tokens.push((link, Token::Data(byte)));
+        }
+    }
+}
+
+/// The tokens that a turn takes, links in order, each with its link.
+pub(crate) fn tokens_of(takes: &[Received; 4]) -> ArrayVec<(u8, Token), 8>
+    ensures tokens { result.items ≡ by_link 0 takes.now }
+    ensures few { length result.items ≤ 8 }
+    ensures bytes { CarryBytes result.items }
+{
+    let mut tokens = ArrayVec::new();
+    for link in 0..4 {
+        add_received(&mut tokens, link as u8, takes[link]);
+    }
+    tokens
+}
+
+/// The line that comes in on a link of a node, with `nodes` nodes; line 0 where the link has no wire.
+fn incoming(wires: &[Option<WireEnd>], nodes: usize, node: usize, link: usize) -> usize
+    requires nodes { nodes ≤ 2 ^ 32 }
+    requires node { node < 2 ^ 32 }
+    requires link { link < 2 ^ 32 }
+    ensures { result ≡ incoming wires.now nodes node link }
+{
+    match receiver(wires, link_line(node, link)) {
+        Some(end) => line_of(nodes, end),
+        None => 0,
+    }
+}
+
+/// Whether an end is this link of this node.
+fn is_link(end: Option<WireEnd>, node: usize, link: usize) -> bool
+    ensures { result ≡ is_link node link end }
+{
+    match end {
+        Some(WireEnd::Link(other, at)) => usize::from(other) == node && usize::from(at) == link,
+        Some(WireEnd::Port(_)) => false,
+        None => false,
+    }
+}
+
+/// Whether nothing was received.
+fn is_nothing(one: Received) -> bool
+    ensures { result ≡ (length (received one) == 0) }
+{
+    match one {
+        Received::Nothing => true,
+        Received::JustData(_) | Received::JustAck => false,
+        Received::DataThenAck(_) | Received::AckThenData(_) => false,
+    }
+}
+
+/// Whether a line starts with what was received.
+fn starts_with(lines: &Lines, line: usize, one: Received) -> bool
+    requires { line < length lines.now }
+    ensures { result ≡ starts_with (on_line lines.now line) (received one) }
+{
+    let first = lines.get(line, 0);
+    let second = lines.get(line, 1);
+    match one {
+        Received::Nothing => true,
+        Received::JustData(byte) => stands_in_front(first, Token::Data(byte)),
+        Received::JustAck => stands_in_front(first, Token::Ack),
+        Received::DataThenAck(byte) => {
+            stands_in_front(first, Token::Data(byte)) && stands_in_front(second, Token::Ack)
+        }
+        Received::AckThenData(byte) => {
+            stands_in_front(first, Token::Ack) && stands_in_front(second, Token::Data(byte))
+        }
+    }
+}
+
+/// Whether what was received on a link stands in front of the line that comes in on it.
+fn stands(
+    wires: &[Option<WireEnd>],
+    nodes: usize,
+    lines: &Lines,
+    node: usize,
+    link: usize,
+    one: Received,
+) -> bool
+    requires nodes { nodes ≤ 2 ^ 32 }
+    requires node { node < 2 ^ 32 }
+    requires link { link < 2 ^ 32 }
+    requires there { length wires.now ≡ length lines.now }
+    ensures { result ≡ link_stands wires.now nodes lines.now node link (received one) }
+{
+    if is_nothing(one) {
+        return true;
+    }
+    let line = incoming(wires, nodes, node, link);
+    if !is_link(receiver(wires, line), node, link) {
+        return false;
+    }
+    starts_with(lines, line, one)
+}
+
+/// Whether what a turn of `node` takes came in on its links, and all of it stands in front of its lines.
+pub(crate) fn are_there(
+    wires: &[Option<WireEnd>],
+    nodes: usize,
+    lines: &Lines,
+    node: usize,
+    takes: &[Received; 4],
+) -> bool
+    requires nodes { nodes ≤ 2 ^ 32 }
+    requires node { node < 2 ^ 32 }
+    requires there { length wires.now ≡ length lines.now }
+    ensures { result ≡ (comes_in wires.now nodes node (by_link 0 takes.now) && is_some (taken lines.now (by_line wires.now nodes node (by_link 0 takes.now)))) }
+{
+    for link in 0..4 {
+        if !stands(wires, nodes, lines, node, link, takes[link]) {
+            return false;
+        }
+    }
+    true
+}
+
+/// Takes tokens off the fronts of the lines that come in on their links.
+pub(crate) fn take_off(
+    wires: &[Option<WireEnd>],
+    nodes: usize,
+    lines: &mut Lines,
+    node: usize,
+    tokens: &[(u8, Token)],
+)
+    requires nodes { nodes ≤ 2 ^ 32 }
+    requires node { node < 2 ^ 32 }
+    requires front { IsSome (taken lines.old (by_line wires.now nodes node tokens.now)) }
+    ensures { taken lines.old (by_line wires.now nodes node tokens.now) ≡ Some lines.new }
+{
+    for m in tokens {
+        lines.pop(incoming(wires, nodes, node, usize::from(m.0)));
+    }
+}
+
+/// Appends the token that a node answers on `link`, where it answers.
+fn add_answer(answers: &mut ArrayVec<(u8, Token), 8>, link: u8, answer: Option<Token>)
+    requires { length answers.old.items < 8 }
+    ensures { answers.new.items ≡ answers.old.items ++ on_link link answer }
+{
+    if let Some(token) = answer {
+        answers.push((link, token));
+    }
+}
+
+/// Has a node take tokens, one after the other. What it answers goes into `answers`.
+pub(crate) fn take_all(
+    node: &mut Node,
+    tokens: &[(u8, Token)],
+    answers: &mut ArrayVec<(u8, Token), 8>,
+)
+    requires thawed { node.old.frozen ≡ None }
+    requires few { length tokens.now ≤ 8 }
+    requires none { answers.old.items ≡ [] }
+    requires possible { IsSome (took_all t414 tokens.now node.old.live) }
+    ensures took { took_all t414 tokens.now node.old.live ≡ Some (node.new.live, answers.new.items) }
+    ensures thawed { node.new.frozen ≡ None }
+{
+    for m in tokens {
+        let answer = match node.take(m.0, m.1) {
+            Ok(answer) => answer,
+            Err(NoFrame) => unreachable!(),
+        };
+        add_answer(answers, m.0, answer);
+    }
+}

@@ -1,0 +1,75 @@
+//! Turns of nodes.
+
+ghost use Rattle.std.specs.Prelude.{◌≡◌, ◌&&◌, length, nat_lt, nat_le, OnErr};
+ghost use Rattle.tp_model.specs.declared.limits.TheConstants.{MAX_STEPS};
+ghost use Rattle.tp_model.specs.declared.entry.Entry.TheVariants.{Turn};
+ghost use Rattle.tp_model.specs.Entries.{next};
+ghost use Rattle.tp_model.specs.Node.{t414};
+ghost use Rattle.tp_model.specs.Turn.{by_link};
+ghost use Rattle.tp_law_network.specs.Turns.{IsFront};
+ghost use Rattle.tp_replay.specs.Answers.{Applies, Leaves, TurnedUpTo};
+
+use crate::fault::NotPossible;
+use crate::network::FlatNetwork;
+use crate::received::{are_there, take_all, take_off, tokens_of};
+use arrayvec::ArrayVec;
+use tp_model::Received;
+use tp_model::limits::MAX_STEPS;
+use tp_net::link_line;
+use tp_port::send_all;
+
+impl FlatNetwork {
+    /// Has `node` take what came in on its links, and then make `count` steps. Where it can't make them, it has taken the tokens and
+    /// made as many as it can.
+    pub(crate) fn turn(
+        &mut self,
+        node: u8,
+        takes: &[Received; 4],
+        count: u16,
+    ) -> Result<(), NotPossible>
+        ensures applies { Applies (next t414 self.old (Turn node takes.now count)) result self.new }
+        ensures err { OnErr result (Leaves self.old (Turn node takes.now count) self.new) }
+    {
+        let i = node as usize;
+        if i >= self.nodes.len() {
+            return Err(NotPossible);
+        }
+        if !is_turn(takes, count) {
+            return Err(NotPossible);
+        }
+        if !are_there(&self.wires, self.nodes.len(), &self.lines, i, takes) {
+            return Err(NotPossible);
+        }
+        if self.turn_upto(node, takes, count) == count {
+            Ok(())
+        } else {
+            Err(NotPossible)
+        }
+    }
+
+    /// Has `node` take what came in on its links, and then make at most `most` steps; fewer only where it has no step then. All tokens
+    /// are off their lines before the node takes the first one, and nothing is sent before its last step. Answers how many steps it made.
+    fn turn_upto(&mut self, node: u8, takes: &[Received; 4], most: u16) -> u16
+        requires { IsFront self.old node takes.now most }
+        ensures { TurnedUpTo self.old node takes.now most result self.new }
+    {
+        let i = node as usize;
+        let tokens = tokens_of(takes);
+        take_off(&self.wires, self.nodes.len(), &mut self.lines, i, &tokens);
+        let mut answers = ArrayVec::new();
+        let mut sent = ArrayVec::new();
+        let at = &mut self.nodes[i];
+        take_all(at, &tokens, &mut answers);
+        let ran = at.run(most, &mut sent);
+        send_all(&self.wires, &mut self.lines, link_line(i, 0), &answers);
+        send_all(&self.wires, &mut self.lines, link_line(i, 0), &sent);
+        ran.count()
+    }
+}
+
+/// Whether a turn may take this and have `count` steps.
+fn is_turn(takes: &[Received; 4], count: u16) -> bool
+    ensures { result ≡ (nat_lt 0 (length (by_link 0 takes.now)) && nat_le count MAX_STEPS) }
+{
+    !tokens_of(takes).is_empty() && count as usize <= MAX_STEPS
+}
