@@ -9,6 +9,8 @@ mod machines;
 #[cfg(test)]
 mod network;
 #[cfg(test)]
+mod one_entry;
+#[cfg(test)]
 mod one_node;
 #[cfg(test)]
 mod replayed;

@@ -1,0 +1,334 @@
+//! Turns that are one entry: they lead where their takes and their runs lead, and take fronts of the lines before them alone.
+
+use crate::devices::formatted;
+use crate::machines::{Task, image};
+use crate::replayed::{flat_of, is_port};
+use std::alloc::Global;
+use std::test::Fail;
+use tp_book::NetParts;
+use tp_disk::MemDisk;
+use tp_model::Entry;
+use tp_model::Received::{self, AckThenData, JustAck, JustData, Nothing};
+use tp_model::Token::{Ack, Data};
+use tp_net::Topology;
+use tp_replay::FlatNetwork;
+use tp_tests_opening::possible::can_count;
+
+/// A node that sends the byte 58 on link 0, and one that hears it there.
+const TWO: &[u8] = b"node a 4\nnode b 4\nport h\nwire a.0 b.0\nwire a.3 h\n";
+
+const TWO_TASKS: [&[Task]; 2] = [&[Task::Once(0)], &[Task::Relay(0, 1)]];
+
+/// A node that sends the byte 58 on link 2, and hears it on link 1.
+const SELF: &[u8] = b"node a 4\nport h\nwire a.1 a.2\nwire a.3 h\n";
+
+const SELF_TASKS: [&[Task]; 1] = [&[Task::Once(2), Task::Relay(1, 0)]];
+
+/// The byte is sent, and its hearer waits for it.
+const SENT: [Entry; 2] = [
+    Entry::Run { node: 0, count: 5 },
+    Entry::Run { node: 1, count: 6 },
+];
+
+/// Both processes of the node that is wired to itself wait: for an acknowledge, and for a byte.
+const WAITING: [Entry; 1] = [Entry::Run { node: 0, count: 11 }];
+
+const BYTE: [Received; 4] = [JustData(0x58), Nothing, Nothing, Nothing];
+
+const ACKNOWLEDGE: [Received; 4] = [JustAck, Nothing, Nothing, Nothing];
+
+/// A network, and entries that lead to where a row begins.
+#[derive(Clone, Copy)]
+struct Start {
+    text: &'static [u8],
+    tasks: &'static [&'static [Task]],
+    before: &'static [Entry],
+}
+
+const TWO_NODES: Start = Start {
+    text: TWO,
+    tasks: &TWO_TASKS,
+    before: &SENT,
+};
+
+const ONE_NODE: Start = Start {
+    text: SELF,
+    tasks: &SELF_TASKS,
+    before: &WAITING,
+};
+
+/// Where a row begins, takes and runs, and turns that lead where these lead.
+const LEADS: &[(Start, &[Entry], &[Entry])] = &[
+    (
+        TWO_NODES,
+        &[
+            Entry::Take {
+                line: 0,
+                token: Data(0x58),
+            },
+            Entry::Take {
+                line: 4,
+                token: Ack,
+            },
+            Entry::Run { node: 0, count: 2 },
+            Entry::Run { node: 1, count: 3 },
+        ],
+        &[
+            Entry::Turn {
+                node: 1,
+                takes: BYTE,
+                count: 0,
+            },
+            Entry::Turn {
+                node: 0,
+                takes: ACKNOWLEDGE,
+                count: 2,
+            },
+            Entry::Run { node: 1, count: 3 },
+        ],
+    ),
+    (
+        TWO_NODES,
+        &[
+            Entry::Take {
+                line: 0,
+                token: Data(0x58),
+            },
+            Entry::Run { node: 1, count: 3 },
+        ],
+        &[Entry::Turn {
+            node: 1,
+            takes: BYTE,
+            count: 3,
+        }],
+    ),
+    (
+        ONE_NODE,
+        &[
+            Entry::Take {
+                line: 2,
+                token: Data(0x58),
+            },
+            Entry::Take {
+                line: 1,
+                token: Ack,
+            },
+        ],
+        &[
+            Entry::Turn {
+                node: 0,
+                takes: [Nothing, JustData(0x58), Nothing, Nothing],
+                count: 0,
+            },
+            Entry::Turn {
+                node: 0,
+                takes: [Nothing, Nothing, JustAck, Nothing],
+                count: 0,
+            },
+        ],
+    ),
+];
+
+/// Where a row begins, and a turn that isn't possible there.
+const REFUSED: &[(Start, Entry)] = &[
+    // another byte, an acknowledge, and an acknowledge in front of the byte
+    (
+        TWO_NODES,
+        Entry::Turn {
+            node: 1,
+            takes: [JustData(0x59), Nothing, Nothing, Nothing],
+            count: 0,
+        },
+    ),
+    (
+        TWO_NODES,
+        Entry::Turn {
+            node: 1,
+            takes: ACKNOWLEDGE,
+            count: 0,
+        },
+    ),
+    (
+        TWO_NODES,
+        Entry::Turn {
+            node: 1,
+            takes: [AckThenData(0x58), Nothing, Nothing, Nothing],
+            count: 0,
+        },
+    ),
+    // another link, the other node, a node that isn't there
+    (
+        TWO_NODES,
+        Entry::Turn {
+            node: 1,
+            takes: [Nothing, JustData(0x58), Nothing, Nothing],
+            count: 0,
+        },
+    ),
+    (
+        TWO_NODES,
+        Entry::Turn {
+            node: 0,
+            takes: BYTE,
+            count: 0,
+        },
+    ),
+    (
+        TWO_NODES,
+        Entry::Turn {
+            node: 2,
+            takes: BYTE,
+            count: 0,
+        },
+    ),
+    // nothing is taken; a step too many for any run
+    (
+        TWO_NODES,
+        Entry::Turn {
+            node: 0,
+            takes: [Nothing, Nothing, Nothing, Nothing],
+            count: 0,
+        },
+    ),
+    (
+        TWO_NODES,
+        Entry::Turn {
+            node: 1,
+            takes: BYTE,
+            count: 4097,
+        },
+    ),
+    // the acknowledge that the byte's take sends wasn't on its line before the turn
+    (
+        ONE_NODE,
+        Entry::Turn {
+            node: 0,
+            takes: [Nothing, JustData(0x58), JustAck, Nothing],
+            count: 0,
+        },
+    ),
+];
+
+/// The device of a network before its first entry.
+fn device(alloc: Global, start: Start) -> Result<MemDisk, Fail> {
+    let mut images = Vec::new(alloc);
+    for tasks in start.tasks {
+        images.push(image(alloc, *tasks)?)?;
+    }
+    let topology = Topology::read(alloc, start.text)?;
+    let disk = formatted(alloc, &topology, &images);
+    disk
+}
+
+/// Whether `entries` are possible one after another. The network is then that behind them.
+fn goes_on(network: &mut FlatNetwork, entries: &[Entry]) -> bool {
+    for entry in entries {
+        if !can_count(network) {
+            return false;
+        }
+        if network.apply(entry).is_err() {
+            return false;
+        }
+    }
+    true
+}
+
+/// The network where a row begins; `None` where it can't.
+fn begun(alloc: Global, start: Start) -> Result<Option<FlatNetwork>, Fail> {
+    let mut disk = device(alloc, start)?;
+    let mut network = flat_of(alloc, &mut disk)?;
+    if goes_on(&mut network, start.before) {
+        Ok(Some(network))
+    } else {
+        Ok(None)
+    }
+}
+
+/// The network behind `entries`, from where a row begins; `None` where one isn't possible.
+fn behind(alloc: Global, start: Start, entries: &[Entry]) -> Result<Option<NetParts>, Fail> {
+    let Some(mut network) = begun(alloc, start)? else {
+        return Ok(None);
+    };
+    if !goes_on(&mut network, entries) {
+        return Ok(None);
+    }
+    Ok(Some(network.parts(alloc)?))
+}
+
+/// Whether both are there, with one state.
+fn are_one(one: &Option<NetParts>, other: &Option<NetParts>) -> bool {
+    let (Some(one), Some(other)) = (one, other) else {
+        return false;
+    };
+    let ports = one.ports.len() == other.ports.len()
+        && one
+            .ports
+            .iter()
+            .zip(&other.ports)
+            .all(|(a, b)| is_port(a, b));
+    ports && one.images == other.images && one.lines == other.lines
+}
+
+#[test]
+fn a_turn_leads_where_its_takes_and_its_run_lead(rt: HostRuntime) -> Result<(), Fail> {
+    let alloc = rt.alloc();
+    for (i, (start, plain, turns)) in LEADS.iter().enumerate() {
+        let one = behind(alloc, *start, *plain)?;
+        let other = behind(alloc, *start, *turns)?;
+        assert!(rt; are_one(&one, &other), "row {i}");
+    }
+    Ok(())
+}
+
+/// Whether the turn is refused, and leaves the network as it was.
+fn is_refused(alloc: Global, start: Start, turn: &Entry) -> Result<bool, Fail> {
+    let before = behind(alloc, start, &[])?;
+    let Some(mut network) = begun(alloc, start)? else {
+        return Ok(false);
+    };
+    if goes_on(&mut network, &[*turn]) {
+        return Ok(false);
+    }
+    let after = Some(network.parts(alloc)?);
+    Ok(are_one(&before, &after))
+}
+
+#[test]
+fn a_turn_takes_what_stood_on_its_lines_before_it(rt: HostRuntime) -> Result<(), Fail> {
+    let alloc = rt.alloc();
+    for (i, (start, turn)) in REFUSED.iter().enumerate() {
+        let refused = is_refused(alloc, *start, turn)?;
+        assert!(rt; refused, "row {i}");
+    }
+    Ok(())
+}
+
+/// The network in which the hearer's turn was cut short: it can't make that many steps.
+fn cut_short(alloc: Global) -> Result<Option<NetParts>, Fail> {
+    let long = Entry::Turn {
+        node: 1,
+        takes: BYTE,
+        count: 4096,
+    };
+    let Some(mut network) = begun(alloc, TWO_NODES)? else {
+        return Ok(None);
+    };
+    if goes_on(&mut network, &[long]) {
+        return Ok(None);
+    }
+    Ok(Some(network.parts(alloc)?))
+}
+
+#[test]
+fn a_turn_that_is_cut_short_has_taken_its_tokens(rt: HostRuntime) -> Result<(), Fail> {
+    let alloc = rt.alloc();
+    let made = Entry::Turn {
+        node: 1,
+        takes: BYTE,
+        count: 5,
+    };
+    let left = cut_short(alloc)?;
+    let wanted = behind(alloc, TWO_NODES, &[made])?;
+    assert!(rt; are_one(&left, &wanted));
+    Ok(())
+}
