@@ -1,5 +1,5 @@
 -- Tokens of a turn, taken off a part's lines one behind the other.
-use Rattle.std.proofs.Common.{◌≡◌, ℕ, ◌+◌, ◌<◌, Bool, true, false, cond, inl, inr, List, [], ◌∷◌, ◌++◌, length, map, take, drop, get_or, refl, sym, ap, subst, ◌∙◌, Option, Some, None}
+use Rattle.std.proofs.Common.{◌≡◌, ℕ, ◌+◌, ◌<◌, Bool, true, false, cond, inl, inr, List, [], ◌∷◌, ◌++◌, length, map, set, take, drop, get_or, refl, sym, ap, subst, ◌∙◌, Option, Some, None}
 use Rattle.std.specs.Prelude.{MatchBool}
 use Rattle.std.proofs.lemmas.Bool.{cases_Bool}
 use Rattle.std.proofs.lemmas.List.{map_more, map-append, take-append-drop}
@@ -26,13 +26,17 @@ from_both piece N (x ∷ xs) ys = go (sends piece N x.0) (from_both piece N xs y
     go true h = ap (λ zs. x ∷ zs) h
     go false h = h
 
+-- the lines without the front that a token stands at
+abbrev popped : List (List Token) → ℕ × Token → List (List Token)
+popped lines x = set lines x.0 (drop 1 (on_line lines x.0))
+
 taken_both : (lines : List (List Token)) (xs ys : List (ℕ × Token)) → taken lines (xs ++ ys) ≡ (taken lines xs >>= λ left. taken left ys)
 unfolding taken
 taken_both lines [] ys = refl
-taken_both lines (x ∷ xs) ys = go (is_first (on_line lines x.0) x.1) (taken_both _ xs ys)
+taken_both lines (x ∷ xs) ys = go (is_first (on_line lines x.0) x.1) (taken_both (popped lines x) xs ys)
   where
-    go : (b : Bool) → taken _ (xs ++ ys) ≡ (taken _ xs >>= λ left. taken left ys)
-        → cond b (taken _ (xs ++ ys)) None ≡ (cond b (taken _ xs) None >>= λ left. taken left ys)
+    go : (b : Bool) → taken (popped lines x) (xs ++ ys) ≡ (taken (popped lines x) xs >>= λ left. taken left ys)
+        → cond b (taken (popped lines x) (xs ++ ys)) None ≡ (cond b (taken (popped lines x) xs) None >>= λ left. taken left ys)
     go true h = h
     go false h = refl
 
@@ -105,7 +109,7 @@ module _ (was now : Held) (node : ℕ) (tokens : List (ℕ × Token)) (i : ℕ) 
 pub fronts_stop : (was now : Held) (node : ℕ) (tokens : List (ℕ × Token)) (i : ℕ) → TakesTokens was (by_line was.network.wires (length was.network.nodes) node (take i tokens)) false now
     → TakesTokens was (by_line was.network.wires (length was.network.nodes) node tokens) false now
 fronts_stop was now node tokens i A =
-    let f = λ (m : ℕ × Token). (incoming was.network.wires (length was.network.nodes) node m.0, m.1) in
+    let f : ℕ × Token → ℕ × Token = λ m. (incoming was.network.wires (length was.network.nodes) node m.0, m.1) in
     let both : by_line was.network.wires (length was.network.nodes) node (take i tokens) ++ by_line was.network.wires (length was.network.nodes) node (drop i tokens) ≡ by_line was.network.wires (length was.network.nodes) node tokens =
     sym (map-append f (take i tokens) (drop i tokens)) ∙ ap (map f) (take-append-drop i tokens) in
     subst (λ ms. TakesTokens was ms false now) both (tokens_stop was now _ _ A)

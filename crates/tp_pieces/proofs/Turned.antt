@@ -12,6 +12,10 @@ use Rattle.tp_law_network.proofs.Partial.{bind_some}
 abbrev After : Type 0
 After = NodeState × List (ℕ × Token)
 
+-- what is sent behind other tokens
+abbrev behind : List (ℕ × Token) → After → Option After
+behind sent rest = Some (rest.0, sent ++ rest.1)
+
 -- ## Tokens
 
 -- some tokens, and then others
@@ -22,21 +26,21 @@ took_both [] ys n mid e =
     let is : ◌≡◌ {A = After} (n, []) mid = cc in
     subst (λ (m : After). took_all t414 ys n ≡ (took_all t414 ys m.0 >>= λ rest. Some (rest.0, m.1 ++ rest.1))) is (go (took_all t414 ys n))
   where
-    go : (o : Option After) → o ≡ (o >>= λ rest. Some (rest.0, rest.1))
+    go : (o : Option After) → o ≡ (o >>= behind [])
     go None = refl
     go (Some r) = refl
 took_both (x ∷ xs) ys n mid e =
     let F = bind_some (took n x.0 x.1) _ mid e in
     let R = bind_some (took_all t414 xs F.0.0) _ mid F.2 in
     let is : ◌≡◌ {A = After} (R.0.0, F.0.1 ++ R.0.1) mid = cc in
-    ap (λ o. o >>= λ first. took_all t414 (xs ++ ys) first.0 >>= λ rest. Some (rest.0, first.1 ++ rest.1)) F.1
-    ∙ ap (λ o. o >>= λ rest. Some (rest.0, F.0.1 ++ rest.1)) (took_both xs ys F.0.0 R.0 R.1)
+    ap (λ o. o >>= λ first. took_all t414 (xs ++ ys) first.0 >>= behind first.1) F.1
+    ∙ ap (λ (o : Option After). o >>= behind F.0.1) (took_both xs ys F.0.0 R.0 R.1)
     ∙ go F.0.1 R.0.1 (took_all t414 ys R.0.0)
     ∙ ap (λ (m : After). took_all t414 ys m.0 >>= λ rest. Some (rest.0, m.1 ++ rest.1)) is
   where
-    go : (as bs : List (ℕ × Token)) (o : Option After) → ((o >>= λ rest. Some (rest.0, bs ++ rest.1)) >>= λ rest. Some (rest.0, as ++ rest.1)) ≡ (o >>= λ rest. Some (rest.0, (as ++ bs) ++ rest.1))
-    go as bs None = refl
-    go as bs (Some r) = ap (λ ms. Some (r.0, ms)) (sym (append_assoc as bs r.1))
+    go : (us vs : List (ℕ × Token)) (o : Option After) → ((o >>= behind vs) >>= behind us) ≡ (o >>= behind (us ++ vs))
+    go us vs None = refl
+    go us vs (Some r) = ap (λ ms. Some (r.0, ms)) (sym (append_assoc us vs r.1))
 
 -- one token
 took_single : (m : ℕ × Token) (n : NodeState) (after : After) → took n m.0 m.1 ≡ Some after → took_all t414 (m ∷ []) n ≡ Some after
@@ -59,7 +63,7 @@ took_stops tokens i d below n mid before so_far none =
     let it = get_or tokens i d in
     let rest = drop (i + 1) tokens in
     ap (λ ms. took_all t414 ms n) (sym (take-append-drop i tokens) ∙ ap (λ ms. take i tokens ++ ms) (drop_more tokens i d below)) ∙ took_both (take i tokens) (it ∷ rest) n (mid, before) so_far
-    ∙ ap (λ o. (o >>= λ first. took_all t414 rest first.0 >>= λ more. Some (more.0, first.1 ++ more.1)) >>= λ more. Some (more.0, before ++ more.1)) none
+    ∙ ap (λ (o : Option After). (o >>= λ first. took_all t414 rest first.0 >>= behind first.1) >>= behind before) none
 
 -- ## Steps behind them
 

@@ -1,4 +1,4 @@
-use Rattle.std.proofs.Common.{◌≡◌, ◌+◌, ◌≤◌, ◌++◌, ℕ, length, refl, sym, ap, ◌∙◌, arith, Option, Some, None, length-append}
+use Rattle.std.proofs.Common.{◌≡◌, ◌+◌, ◌≤◌, ◌++◌, ℕ, length, refl, sym, ap, ◌∙◌, arith, Option, Some, None, get_or, length-append}
 use Rattle.std.proofs.lemmas.List.{take_all}
 use Rattle.tp_model.specs.declared.link.Token.{Token}
 use Rattle.tp_model.specs.declared.link.Token.TheVariants.{Data}
@@ -28,11 +28,12 @@ pub loop-m-preserved : goal.loop-m-preserved
 loop-m-preserved c =
     let inv = c.loop-m.invariant in
     let one = c.if-not-take_one.ensures.takes in
-    let few = ap length one.2 ∙ length-append c.loop-m.out.items (on_link _ one.0) in
-    let single = at_most_one _ one.0 in (
+    let link : ℕ = (get_or c.args.tokens.now c.loop-m.m-index (0, Data 0)).0 in
+    let few = ap length one.2 ∙ length-append c.loop-m.out.items (on_link link one.0) in
+    let single = at_most_one link one.0 in (
       c.take_one.ensures.live,
       omega (arith, few, single, inv.1),
-      took_next c.args.tokens.now c.loop-m.m-index (0, Data 0) c.loop-m-test.true c.args.node.now.live c.loop-m.node.live c.take_one.new.node.live c.loop-m.out.items _ c.take_one.new.out.items inv.2 one.1 one.2,
+      took_next c.args.tokens.now c.loop-m.m-index (0, Data 0) c.loop-m-test.true c.args.node.now.live c.loop-m.node.live c.take_one.new.node.live c.loop-m.out.items (on_link link one.0) c.take_one.new.out.items inv.2 one.1 one.2,
     )
 
 pub returns-clause-live : goal.returns-clause-live

@@ -11,7 +11,7 @@ pub returns-then-not-take_front : goal.returns-then-not-take_front
 returns-then-not-take_front c =
     fronts_stop c.args.self.now c.take_front.new.self c.args.node c.args.tokens.now (c.loop-m.m-index + 1)
     (fronts_more c.args.self.now c.take_front.new.self c.args.node c.args.tokens.now c.loop-m.m-index (0, Data 0) c.loop-m-test.true c.loop-m.self c.loop-m.invariant false
-    (rw c.incoming.ensures at c.if-not-take_front.ensures))
+    (rw c.incoming-line.ensures at c.if-not-take_front.ensures))
 
 pub returns : goal.returns
 returns c =
@@ -24,4 +24,4 @@ loop-m-init c = none_taken c.args.self.now
 pub loop-m-preserved : goal.loop-m-preserved
 loop-m-preserved c =
     fronts_more c.args.self.now c.take_front.new.self c.args.node c.args.tokens.now c.loop-m.m-index (0, Data 0) c.loop-m-test.true c.loop-m.self c.loop-m.invariant true
-    (rw c.incoming.ensures at c.if-not-take_front.ensures)
+    (rw c.incoming-line.ensures at c.if-not-take_front.ensures)
