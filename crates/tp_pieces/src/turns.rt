@@ -76,12 +76,7 @@ fn is_link(node: u8, link: u8, end: Option<WireEnd>) -> bool
 }
 
 /// Has a node take a token, if it can; what it answers goes behind `out`. Answers whether it could.
-fn take_one(
-    node: &mut Node,
-    link: u8,
-    token: Token,
-    out: &mut ArrayVec<(u8, Token), 8>,
-) -> bool
+fn take_one(node: &mut Node, link: u8, token: Token, out: &mut ArrayVec<(u8, Token), 8>) -> bool
     requires live { IsLive node.old }
     requires room { length out.old.items < 8 }
     ensures live { IsLive node.new }

@@ -27,6 +27,6 @@ loop-m-init c = (none_taken c.args.self.now, refl)
 pub loop-m-preserved : goal.loop-m-preserved
 loop-m-preserved c = (
   fronts_more c.args.self.now c.take_front.new.self c.args.node c.args.tokens.now c.loop-m.m-index (0, Data 0) c.loop-m-test.true c.loop-m.self c.loop-m.invariant.0 true
-  (rw c.incoming-line.ensures at c.if-not-take_front.ensures.takes),
+      (rw c.incoming-line.ensures at c.if-not-take_front.ensures.takes),
   c.take_front.ensures.ports ∙ c.loop-m.invariant.1,
 )
