@@ -5,14 +5,16 @@ use Rattle.std.specs.Option.{option_map}
 use Rattle.std.proofs.lemmas.Bool.{cases_eq, true≢false}
 use Rattle.std.proofs.lemmas.Option.{slice_get_past}
 use Rattle.tp_model.specs.declared.link.Token.{Token}
+use Rattle.tp_model.specs.declared.link.Received.{Received}
 use Rattle.tp_model.specs.declared.wire.WireEnd.{WireEnd}
 use Rattle.tp_model.specs.declared.wire.WireEnd.TheVariants.{Link, Port as AtPort}
 use Rattle.tp_model.specs.declared.entry.Entry.{Entry}
-use Rattle.tp_model.specs.declared.entry.Entry.TheVariants.{Run, Take, HostIn, Confirm}
+use Rattle.tp_model.specs.declared.entry.Entry.TheVariants.{Run, Take, HostIn, Confirm, Turn}
 use Rattle.tp_model.specs.declared.limits.TheConstants.{MAX_STEPS}
 use Rattle.tp_model.specs.NodeState.{NodeState}
 use Rattle.tp_model.specs.Network.{steps, Port, Network, Own, OfNode, OfHost, own, put, receiver, process_at, has_wire, on_line, sent}
 use Rattle.tp_model.specs.Entries.{process, of_node, of_port, does, receives, port_took, handed_in, confirmed, acts}
+use Rattle.tp_model.specs.Turn.{by_link, comes_in, turned}
 use Rattle.tp_model.specs.Sound.{owner}
 use Rattle.tp_model.specs.Node.{t414, took}
 use Rattle.tp_law_network.proofs.Lines.{for_line-elsewhere, on_sent_none}
@@ -128,6 +130,24 @@ pub node_refuses : (wires : List (Option WireEnd)) (N line i k : ℕ) (token : T
 unfolding does receives
 node_refuses wires N line i k token node to none = rw (to, none)
 
+-- a turn that the node can make, that no node can make, and that this one can't
+pub turn_does : (wires : List (Option WireEnd)) (N i k : ℕ) (links : List Received) (node after : NodeState) (tokens : List (ℕ × Token))
+    → (comes_in wires N i (by_link 0 links) && (nat_lt 0 (length (by_link 0 links)) && nat_le k MAX_STEPS)) ≡ true → turned t414 (by_link 0 links) k node ≡ Some (after, tokens)
+    → does t414 wires N (Turn i links k) (OfNode node) ≡ Some (of_node i (after, tokens))
+unfolding does
+turn_does wires N i k links node after tokens may made = rw (may, made)
+
+pub turn_refused : (wires : List (Option WireEnd)) (N i k : ℕ) (links : List Received) (node : NodeState)
+    → (comes_in wires N i (by_link 0 links) && (nat_lt 0 (length (by_link 0 links)) && nat_le k MAX_STEPS)) ≡ false → does t414 wires N (Turn i links k) (OfNode node) ≡ None
+unfolding does
+turn_refused wires N i k links node none = rw none
+
+pub turn_short : (wires : List (Option WireEnd)) (N i k : ℕ) (links : List Received) (node : NodeState)
+    → (comes_in wires N i (by_link 0 links) && (nat_lt 0 (length (by_link 0 links)) && nat_le k MAX_STEPS)) ≡ true → turned t414 (by_link 0 links) k node ≡ None
+    → does t414 wires N (Turn i links k) (OfNode node) ≡ None
+unfolding does
+turn_short wires N i k links node may none = rw (may, none)
+
 -- ## The host's entries
 
 -- an end that no node has is the host's
@@ -196,6 +216,11 @@ linked_takes wires N line i k token ports to = rw to
 pub host_runs : (wires : List (Option WireEnd)) (N i k : ℕ) (ports : List Port) → ◌≡◌ {A = Option (Own NodeState × List (ℕ × Token))} (does t414 wires N (Run i k) (OfHost ports)) None
 unfolding does
 host_runs wires N i k ports = refl
+
+pub host_turns : (wires : List (Option WireEnd)) (N i k : ℕ) (links : List Received) (ports : List Port)
+    → ◌≡◌ {A = Option (Own NodeState × List (ℕ × Token))} (does t414 wires N (Turn i links k) (OfHost ports)) None
+unfolding does
+host_turns wires N i k links ports = refl
 
 pub port_hands : (wires : List (Option WireEnd)) (N p x : ℕ) (ports : List Port)
     → ◌≡◌ {A = Option (Own NodeState × List (ℕ × Token))} (does t414 wires N (HostIn p x) (OfHost ports)) (of_port N p ports (handed_in x))

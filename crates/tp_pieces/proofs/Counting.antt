@@ -8,13 +8,13 @@ use Rattle.tp_model.specs.declared.link.Token.TheVariants.{Data, Ack, Marker}
 use Rattle.tp_model.specs.declared.wire.WireEnd.{WireEnd}
 use Rattle.tp_model.specs.declared.wire.WireEnd.TheVariants.{Link, Port as AtPort}
 use Rattle.tp_model.specs.declared.entry.Entry.{Entry}
-use Rattle.tp_model.specs.declared.entry.Entry.TheVariants.{Run, Take, HostIn, Confirm}
+use Rattle.tp_model.specs.declared.entry.Entry.TheVariants.{Run, Take, HostIn, Confirm, Turn}
 use Rattle.tp_model.specs.declared.limits.TheConstants.{MAX_STEPS, MAX_HELD}
 use Rattle.tp_model.specs.NodeState.{NodeState}
 use Rattle.tp_model.specs.Network.{steps, Port, Network, Own, OfNode, OfHost, own, put, receiver, has_wire, taken, sent}
 use Rattle.tp_model.specs.Entries.{process, takes, of_node, of_port, receives, in_flight, acked, first_only, port_took, handed_in, confirmed, does, acts}
 use Rattle.tp_model.specs.Node.{t414}
-use Rattle.tp_law_network.proofs.Local.{own_host, port_step}
+use Rattle.tp_law_network.proofs.Local.{own_host, port_step, turn_step}
 use Rattle.tp_law_network.proofs.Partial.{bind_some, map_some, cond_some, slice_get-set_same, slice_get-set_other}
 use Rattle.tp_law_parts.specs.Piece.{Piece, from_piece}
 use Rattle.tp_law_parts.specs.InPiece.{next_in}
@@ -146,6 +146,10 @@ does_counts n s (HostIn p b) (OfHost ports) r holds e = host_counts n (length s.
 does_counts n s (HostIn p b) (OfNode node) r holds e = cc
 does_counts n s (Confirm p upto) (OfHost ports) r holds e = host_counts n (length s.nodes) p ports (confirmed upto) r holds.is (confirmed_one upto) e
 does_counts n s (Confirm p upto) (OfNode node) r holds e = cc
+does_counts n s (Turn i links k) (OfNode node) r holds e =
+    let T = turn_step t414 s.wires (length s.nodes) i links k node r e in
+    subst (λ y. OfProcess n y.0) T.is (record { is = tt })
+does_counts n s (Turn i links k) (OfHost ports) r holds e = cc
 
 own_counts : (n : ℕ) (s : Network NodeState) (p : ℕ) (was : Own NodeState) → CanCountMore n s.ports → own s p ≡ Some was → OfProcess n was
 own_counts n s p (OfNode node) all e = record { is = tt }

@@ -3,7 +3,7 @@ use Rattle.std.proofs.Common.{◌≡◌, ℕ, Bool, true, false, cond, inl, List
 use Rattle.std.specs.Prelude.{MatchBool}
 use Rattle.tp_model.specs.declared.link.Token.{Token}
 use Rattle.tp_model.specs.declared.entry.Entry.{Entry}
-use Rattle.tp_model.specs.declared.entry.Entry.TheVariants.{Run, Take, HostIn, Confirm}
+use Rattle.tp_model.specs.declared.entry.Entry.TheVariants.{Run, Take, HostIn, Confirm, Turn}
 use Rattle.tp_model.specs.NodeState.{NodeState}
 use Rattle.tp_model.specs.Network.{◌>>=◌, Network, own, taken}
 use Rattle.tp_model.specs.Entries.{process, takes, acts}
@@ -14,7 +14,7 @@ use Rattle.tp_law_parts.specs.InPiece.{next_in}
 use Rattle.tp_parts.specs.Blocked.{IsBlocked}
 use Rattle.tp_pieces.specs.Whose.{whose}
 use Rattle.tp_pieces.specs.Held.{Held, has}
-use Rattle.tp_pieces.specs.Behind.{behind, without_tokens, IsStuck, SameProcesses, DoesRest, TakesOff}
+use Rattle.tp_pieces.specs.Behind.{behind, without, IsStuck, SameProcesses, DoesRest, TakesOff, TakesTokens}
 
 -- ## Both halves
 
@@ -25,8 +25,9 @@ acts-lines s xs ys (Run i k) = refl
 acts-lines s xs ys (Take line token) = refl
 acts-lines s xs ys (HostIn p x) = refl
 acts-lines s xs ys (Confirm p upto) = refl
+acts-lines s xs ys (Turn i links k) = refl
 
-pub in_two : (piece : Piece) (s : Network NodeState) (e : Entry) → next_in t414 piece s e ≡ (without_tokens piece s e >>= λ u. behind piece u e)
+pub in_two : (piece : Piece) (s : Network NodeState) (e : Entry) → next_in t414 piece s e ≡ (without piece s (takes s.wires (length s.nodes) e) >>= λ u. behind piece u e)
 unfolding next_in
 in_two piece s e = go (taken s.lines (from_piece piece (length s.nodes) (takes s.wires (length s.nodes) e)))
   where
@@ -61,17 +62,17 @@ first_half was mid e T = inl (in_two (has was) was.network e ∙ ap (λ o. o >>=
 
 -- ## Tokens
 
--- an entry takes none
-pub none_taken : (was : Held) (e : Entry) → takes was.network.wires (length was.network.nodes) e ≡ [] → TakesOff was e true was
+-- none
+pub none_taken : (was : Held) → TakesTokens was [] true was
 unfolding taken from_piece
-none_taken was e none = record {
+none_taken was = record {
   same = record { first = refl; past = refl };
-  goes = ap (λ ms. taken was.network.lines (from_piece (has was) (length was.network.nodes) ms) >>= λ lines. Some (record was.network { lines = lines })) none;
+  goes = refl;
 }
 
 -- another part sends the line
-pub taken_elsewhere : (was : Held) (line : ℕ) (token : Token) → sends (has was) (length was.network.nodes) line ≡ false → TakesOff was (Take line token) true was
-unfolding taken from_piece takes
+pub taken_elsewhere : (was : Held) (line : ℕ) (token : Token) → sends (has was) (length was.network.nodes) line ≡ false → TakesTokens was ((line, token) ∷ []) true was
+unfolding taken from_piece
 taken_elsewhere was line token other = record {
   same = record { first = refl; past = refl };
   goes = ap (λ b. taken was.network.lines (cond b ((line, token) ∷ []) []) >>= λ lines. Some (record was.network { lines = lines })) other;
@@ -80,25 +81,17 @@ taken_elsewhere was line token other = record {
 -- the part sends it
 pub taken_here : (was now : Held) (line : ℕ) (token : Token) (could : Bool) (lines : List (List Token)) → SameProcesses was now → now.network ≡ record was.network { lines = lines }
     → sends (has was) (length was.network.nodes) line ≡ true
-    → MatchBool could (taken was.network.lines ((line, token) ∷ []) ≡ Some lines) (taken was.network.lines ((line, token) ∷ []) ≡ None) → TakesOff was (Take line token) could now
-unfolding from_piece takes
+    → MatchBool could (taken was.network.lines ((line, token) ∷ []) ≡ Some lines) (taken was.network.lines ((line, token) ∷ []) ≡ None) → TakesTokens was ((line, token) ∷ []) could now
+unfolding from_piece
 taken_here was now line token could lines same net mine took = record { same = same; goes = go could took }
   where
-    its : without_tokens (has was) was.network (Take line token) ≡ (taken was.network.lines ((line, token) ∷ []) >>= λ lines. Some (record was.network { lines = lines }))
+    its : without (has was) was.network ((line, token) ∷ []) ≡ (taken was.network.lines ((line, token) ∷ []) >>= λ lines. Some (record was.network { lines = lines }))
     its = ap (λ b. taken was.network.lines (cond b ((line, token) ∷ []) []) >>= λ lines. Some (record was.network { lines = lines })) mine
 
     go : (b : Bool) → MatchBool b (taken was.network.lines ((line, token) ∷ []) ≡ Some lines) (taken was.network.lines ((line, token) ∷ []) ≡ None)
-        → MatchBool b (without_tokens (has was) was.network (Take line token) ≡ Some now.network) (without_tokens (has was) was.network (Take line token) ≡ None)
+        → MatchBool b (without (has was) was.network ((line, token) ∷ []) ≡ Some now.network) (without (has was) was.network ((line, token) ∷ []) ≡ None)
     go true all = its ∙ ap (λ o. o >>= λ lines. Some (record was.network { lines = lines })) all ∙ ap Some (sym net)
     go false none = its ∙ ap (λ o. o >>= λ lines. Some (record was.network { lines = lines })) none
-
--- an entry that is no Take takes none
-pub takes_none : (s : Network NodeState) (e : Entry) → ((line : ℕ) (token : Token) → e ≡ Take line token → ⊥) → takes s.wires (length s.nodes) e ≡ []
-unfolding takes
-takes_none s (Run i k) h = refl
-takes_none s (Take line token) h = absurd (h line token refl)
-takes_none s (HostIn p x) h = refl
-takes_none s (Confirm p upto) h = refl
 
 -- it has what it had
 pub same_all : (was mid now : Held) → SameProcesses was mid → SameProcesses mid now → SameProcesses was now

@@ -7,8 +7,10 @@ pub mod Copying
 pub mod Counting
 pub mod Dealing
 pub mod Fewer
+pub mod Fronts
 pub mod Halves
 pub mod Rejoined
 pub mod Replayed
 pub mod Room
 pub mod Stretch
+pub mod Turned

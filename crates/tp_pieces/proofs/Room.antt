@@ -1,5 +1,6 @@
 -- A part's lines, once tokens were taken off or sent.
 use Rattle.std.proofs.Common.{◌≡◌, ℕ, ◌+◌, ◌<◌, ◌≤◌, Bool, true, false, cond, inl, inr, List, [], ◌∷◌, ◌++◌, length, set, take, drop, get_or, refl, sym, ap, subst, ◌∙◌, arith, Some, None, length-append}
+use Rattle.std.specs.Prelude.{MatchBool}
 use Rattle.std.proofs.lemmas.Bool.{cases_eq, cases_lt}
 use Rattle.std.proofs.lemmas.List.{get_or_past, set_past, take_more, take-append-drop, drop_more, map_push, map-append}
 use Rattle.tp_model.specs.declared.link.Token.{Token}
@@ -73,6 +74,21 @@ overfilled_among on lines before m after ms are O =
     let all : sent on lines ms ≡ sent on (pushed on (sent on lines before) m.0 m.1) after = ap (sent on lines) are ∙ sent-append on lines before (m ∷ after) in
     let last = ap (λ ls. length (on_line ls O.line)) all ∙ ap length rest.1 ∙ length-append (on_line (pushed on (sent on lines before) m.0 m.1) O.line) rest.0 in
     record { line = O.line; short = omega (arith, O.short, grown); long = omega (arith, O.long, last) }
+
+-- so is one that is overfull once the first of two lists is sent, or both are
+pub overfilled_first : (on : ℕ → Bool) (lines : List (List Token)) (xs ys : List (ℕ × Token)) → Overfills on lines xs → Overfills on lines (xs ++ ys)
+overfilled_first on lines xs ys O =
+    let rest = sent_behind on (sent on lines xs) ys O.line in
+    let last = ap (λ ls. length (on_line ls O.line)) (sent-append on lines xs ys) ∙ ap length rest.1 ∙ length-append (on_line (sent on lines xs) O.line) rest.0 in
+    record { line = O.line; short = O.short; long = omega (arith, O.long, last) }
+
+pub sent_both : (on : ℕ → Bool) (lines now : List (List Token)) (xs ys : List (ℕ × Token)) (could : Bool) → MatchBool could (now ≡ sent on (sent on lines xs) ys) (Overfills on (sent on lines xs) ys)
+    → MatchBool could (now ≡ sent on lines (xs ++ ys)) (Overfills on lines (xs ++ ys))
+sent_both on lines now xs ys true h = h ∙ sym (sent-append on lines xs ys)
+sent_both on lines now xs ys false O =
+    let first = sent_behind on lines xs O.line in
+    let grown = ap length first.1 ∙ length-append (on_line lines O.line) first.0 in
+    record { line = O.line; short = omega (arith, O.short, grown); long = subst (λ ls. 2 < length (on_line ls O.line)) (sym (sent-append on lines xs ys)) O.long }
 
 -- ## One token after the other
 

@@ -1,5 +1,6 @@
 -- What a call leaves that does an entry, or a half of one.
-use Rattle.std.specs.Prelude.{◌≡◌, ◌⊎◌, Bool, if◌then◌else◌, MatchBool, length, Option, Some, None}
+use Rattle.std.specs.Prelude.{◌≡◌, ◌⊎◌, ℕ, Bool, if◌then◌else◌, List, MatchBool, length, Option, Some, None}
+use Rattle.tp_model.specs.declared.link.Token.{Token}
 use Rattle.tp_model.specs.declared.entry.Entry.{Entry}
 use Rattle.tp_model.specs.NodeState.{NodeState}
 use Rattle.tp_model.specs.Network.{◌>>=◌, Network, taken}
@@ -14,9 +15,9 @@ use Rattle.tp_pieces.specs.Held.{Held, has}
 abbrev pub behind : Piece → Network NodeState → Entry → Option (Network NodeState)
 behind piece s e = if piece (process s.wires (length s.nodes) e) then acts t414 s s.lines e else Some s
 
--- the network with the lines that are left where the entry's tokens, of those that the piece sends, are taken off
-abbrev pub without_tokens : Piece → Network NodeState → Entry → Option (Network NodeState)
-without_tokens piece s e = taken s.lines (from_piece piece (length s.nodes) (takes s.wires (length s.nodes) e)) >>= λ lines. Some (record s { lines = lines })
+-- the network with the lines that are left where tokens, of those that the piece sends, are taken off
+abbrev pub without : Piece → Network NodeState → List (ℕ × Token) → Option (Network NodeState)
+without piece s ms = taken s.lines (from_piece piece (length s.nodes) ms) >>= λ lines. Some (record s { lines = lines })
 
 -- there is no such network, or a line that the piece sends would be overfull in it
 abbrev pub IsStuck : Piece → Option (Network NodeState) → Type 0
@@ -39,7 +40,10 @@ Applies was e could now = GoesOn was (next_in t414 (has was) was.network e) coul
 abbrev pub DoesRest : Held → Entry → Bool → Held → Type 0
 DoesRest was e could now = GoesOn was (behind (has was) was.network e) could now
 
--- It took the entry's tokens off its lines, where they were in front.
-pub record TakesOff (was : Held) (e : Entry) (could : Bool) (now : Held) : Type 0 where
+-- It took tokens off its lines, where they were in front one behind the other; and those that an entry takes.
+pub record TakesTokens (was : Held) (ms : List (ℕ × Token)) (could : Bool) (now : Held) : Type 0 where
   pub same : SameProcesses was now
-  pub goes : MatchBool could (without_tokens (has was) was.network e ≡ Some now.network) (without_tokens (has was) was.network e ≡ None)
+  pub goes : MatchBool could (without (has was) was.network ms ≡ Some now.network) (without (has was) was.network ms ≡ None)
+
+abbrev pub TakesOff : Held → Entry → Bool → Held → Type 0
+TakesOff was e could now = TakesTokens was (takes was.network.wires (length was.network.nodes) e) could now

@@ -12,6 +12,7 @@ mod nodes;
 mod outcome;
 mod ports;
 mod splits;
+mod turns;
 
 pub use apart::Apart;
 pub use host::HostPart;

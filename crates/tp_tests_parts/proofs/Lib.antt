@@ -1,3 +1,4 @@
 pub mod Members
 pub mod Pair
+pub mod PairTurns
 pub mod PairWhole

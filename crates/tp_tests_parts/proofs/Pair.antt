@@ -1,14 +1,16 @@
 -- The parts of the pair do with each entry what the definitions say.
-use Rattle.std.proofs.Common.{◌≡◌, ℕ, suc, zero, ◌/◌, [], ◌∷◌, length, Bool, true, false, cond, inl, inr, refl, sym, ap, ◌∙◌, Option, Some, None, arith, eq-eqb, ne_eqb, MatchBool}
-use Rattle.std.specs.Prelude.{◌==◌}
+use Rattle.std.proofs.Common.{◌≡◌, ℕ, suc, zero, ◌/◌, [], ◌∷◌, length, List, Bool, true, false, cond, inl, inr, refl, sym, ap, ◌∙◌, Option, Some, None, arith, eq-eqb, ne_eqb, MatchBool}
+use Rattle.std.specs.Prelude.{◌==◌, nat_lt}
 use Rattle.std.specs.Option.{option_map}
 use Rattle.std.proofs.lemmas.Bool.{cases_Bool, cases_eq, le-ltb, lt-ltb}
 use Rattle.tp_model.specs.declared.link.Token.{Token}
 use Rattle.tp_model.specs.declared.link.Token.TheVariants.{Data, Ack, Marker}
+use Rattle.tp_model.specs.declared.link.Received.{Received}
 use Rattle.tp_model.specs.declared.entry.Entry.{Entry}
-use Rattle.tp_model.specs.declared.entry.Entry.TheVariants.{Run, Take, HostIn, Confirm}
+use Rattle.tp_model.specs.declared.entry.Entry.TheVariants.{Run, Take, HostIn, Confirm, Turn}
 use Rattle.tp_model.specs.NodeState.{NodeState}
 use Rattle.tp_model.specs.Network.{◌>>=◌, steps, Network, OfHost, has_wire, own, put, taken, pushed, sent, same_token}
+use Rattle.tp_model.specs.Turn.{by_link}
 use Rattle.tp_model.specs.Entries.{process, takes, does, of_port, receives, acts}
 use Rattle.tp_model.specs.Step.{step_of}
 use Rattle.tp_model.specs.Node.{t414, node_step, took}
@@ -18,15 +20,8 @@ use Rattle.tp_parts.specs.Blocked.{IsBlocked}
 use Rattle.tp_parts.specs.FirstNode.{HasNoNode, IsFirstNode}
 use Rattle.tp_tests_parts.specs.declared.side.Side.{Side}
 use Rattle.tp_tests_parts.specs.declared.side.Side.TheVariants.{First, Second}
+use Rattle.tp_tests_parts.proofs.PairTurns.{became, none_either, host_sends_none, next_in-turn}
 use Rattle.tp_tests_parts.specs.Pair.{pair_wires, pair_network, number_of, node_piece, host_piece, node_after, host_goes, host_network}
-
--- the pair after what became of it
-abbrev pub became : Side → Option (Option ℕ × Option ℕ) → Option (Network NodeState)
-became side after = option_map (λ x. pair_network side x.0 x.1) after
-
-none_either : {A B : Type 0} (b : Bool) (f : A → Option B) → (cond b None None >>= f) ≡ None
-none_either true f = refl
-none_either false f = refl
 
 -- ## A node's part
 
@@ -115,6 +110,7 @@ next_in-pair First out held (HostIn port byte) = refl
 next_in-pair Second out held (HostIn port byte) = refl
 next_in-pair First out held (Confirm port upto) = refl
 next_in-pair Second out held (Confirm port upto) = refl
+next_in-pair side out held (Turn i links count) = next_in-turn side out held i links count
 
 -- so code that says what becomes of the part does what a part has to
 pub part_goes : (side now : Side) (out held out_now held_now : Option ℕ) (e : Entry) (result : Bool) → now ≡ side
@@ -125,6 +121,13 @@ part_goes side now out held out_now held_now e true stays h =
 part_goes side now out held out_now held_now e false stays h = inl (next_in-pair side out held e ∙ ap (became side) h)
 
 -- ## The host's part
+
+-- nor makes it a turn
+host_turns_not : (i : ℕ) (links : List Received) (count : ℕ) (b : Bool) (lines : List (List Token))
+    → ((cond b (Some (OfHost [])) None) >>= λ before. does t414 pair_wires 2 (Turn i links count) before >>= λ change. Some (put (record host_network { lines = sent (has_wire pair_wires) lines change.1 }) (process host_network.wires (length host_network.nodes) (Turn i links count)) change.0)) ≡ None
+unfolding does
+host_turns_not i links count true lines = refl
+host_turns_not i links count false lines = refl
 
 -- the host runs nothing
 host_runs_not : (i count : ℕ) (b : Bool)
@@ -139,6 +142,16 @@ next_in-host_run zero count = refl
 next_in-host_run (suc zero) count = refl
 next_in-host_run (suc (suc zero)) count = refl
 next_in-host_run (suc (suc (suc i))) count = host_runs_not (suc (suc (suc i))) count (suc (suc (suc i)) == 2) ∙ sym (ap (λ b. cond b (Some host_network) None) (le-ltb (suc (suc (suc i))) 2 (omega arith)))
+
+next_in-host_turn : (i : ℕ) (links : List Received) (count : ℕ) → next_in t414 host_piece host_network (Turn i links count) ≡ cond (host_goes (Turn i links count)) (Some host_network) None
+unfolding next_in acts own put taken sent process takes does
+next_in-host_turn i links count = ap (λ ms. taken host_network.lines ms >>= λ lines. cond (host_piece i) (acts t414 host_network lines (Turn i links count)) (Some (record host_network { lines = lines }))) (host_sends_none i (by_link 0 links)) ∙ go i
+  where
+    go : (i : ℕ) → cond (host_piece i) (acts t414 host_network host_network.lines (Turn i links count)) (Some host_network) ≡ cond (nat_lt i 2) (Some host_network) None
+    go zero = refl
+    go (suc zero) = refl
+    go (suc (suc zero)) = refl
+    go (suc (suc (suc j))) = host_turns_not (suc (suc (suc j))) links count (suc (suc (suc j)) == 2) host_network.lines ∙ sym (ap (λ b. cond b (Some host_network) None) (le-ltb (suc (suc (suc j))) 2 (omega arith)))
 
 next_in-host_past : (line : ℕ) (token : Token) → next_in t414 host_piece host_network (Take (past line) token) ≡ None
 unfolding next_in from_piece taken process takes
@@ -165,6 +178,7 @@ next_in-host (Run i count) = next_in-host_run i count
 next_in-host (Take line token) = next_in-host_take line token
 next_in-host (HostIn port byte) = refl
 next_in-host (Confirm port upto) = refl
+next_in-host (Turn i links count) = next_in-host_turn i links count
 
 pub host_part_goes : (e : Entry) (result : Bool) → result ≡ host_goes e
     → MatchBool result (next_in t414 host_piece host_network e ≡ Some host_network) (IsBlocked host_piece host_network e)

@@ -1,16 +1,20 @@
 -- Two halted nodes, whose first links are wired to each other, and a host without ports: the whole, and its parts.
-use Rattle.std.specs.Prelude.{ℕ, zero, suc, ◌+◌, ◌^◌, Bool, true, false, ◌&&◌, ◌==◌, nat_lt, if◌then◌else◌, List, [], ◌∷◌, Option, Some, None}
+use Rattle.std.specs.Prelude.{ℕ, zero, suc, ◌+◌, ◌^◌, Bool, true, false, ◌&&◌, ◌==◌, nat_lt, if◌then◌else◌, List, [], ◌∷◌, ◌++◌, Option, Some, None}
+use Rattle.std.specs.Option.{option_map}
 use Rattle.tp_model.specs.declared.link.Token.{Token}
 use Rattle.tp_model.specs.declared.link.Token.TheVariants.{Data}
+use Rattle.tp_model.specs.declared.link.Received.{Received}
+use Rattle.tp_model.specs.declared.link.Received.TheVariants.{Nothing, JustData, JustAck, DataThenAck, AckThenData}
 use Rattle.tp_model.specs.declared.link.OutEnd.TheVariants.{Waits, Idle as NoOutput}
 use Rattle.tp_model.specs.declared.link.InEnd.TheVariants.{Idle}
 use Rattle.tp_model.specs.declared.wire.WireEnd.{WireEnd}
 use Rattle.tp_model.specs.declared.wire.WireEnd.TheVariants.{Link}
 use Rattle.tp_model.specs.declared.processor.Fault.TheVariants.{UnknownOp}
 use Rattle.tp_model.specs.declared.entry.Entry.{Entry}
-use Rattle.tp_model.specs.declared.entry.Entry.TheVariants.{Run, Take, HostIn, Confirm}
+use Rattle.tp_model.specs.declared.entry.Entry.TheVariants.{Run, Take, HostIn, Confirm, Turn}
 use Rattle.tp_model.specs.NodeState.{NodeState}
-use Rattle.tp_model.specs.Network.{Network, same_token}
+use Rattle.tp_model.specs.Network.{◌>>=◌, Network, same_token}
+use Rattle.tp_model.specs.Turn.{received}
 use Rattle.tp_law_machine.specs.Start.{resting, blank, transfer}
 use Rattle.tp_law_parts.specs.Piece.{Piece}
 use Rattle.tp_tests_parts.specs.declared.side.Side.{Side}
@@ -115,6 +119,59 @@ abbrev pub hold : Option ℕ → Option ℕ → Token → Option (Option ℕ × 
 hold out None (Data byte) = Some (out, Some byte)
 hold out held token = None
 
+-- the byte on a line, once tokens are taken off it
+abbrev pub without_front : Option ℕ → Token → Option (Option ℕ)
+without_front None token = None
+without_front (Some byte) token = if same_token (Data byte) token then Some None else None
+
+abbrev pub without_all : Option ℕ → List Token → Option (Option ℕ)
+without_all out [] = Some out
+without_all out (token ∷ tokens) = without_front out token >>= λ left. without_all left tokens
+
+-- the tokens that a turn takes, of all links and of the first one
+abbrev pub all_received : List Received → List Token
+all_received [] = []
+all_received (one ∷ more) = received one ++ all_received more
+
+abbrev pub first_received : List Received → List Token
+first_received [] = []
+first_received (one ∷ more) = received one
+
+-- The tokens that the turn of another node takes of a node's line. Where a link has no wire, it counts as if line 0 came in on it.
+abbrev pub from_line_of : Side → ℕ → List Received → List Token
+from_line_of First i links = all_received links
+from_line_of Second zero links = first_received links
+from_line_of Second (suc i) links = []
+
+-- the byte that a turn takes on the first link, where it takes nothing else
+abbrev pub is_nothing : Received → Bool
+is_nothing Nothing = true
+is_nothing (JustData byte) = false
+is_nothing JustAck = false
+is_nothing (DataThenAck byte) = false
+is_nothing (AckThenData byte) = false
+
+abbrev pub are_nothing : List Received → Bool
+are_nothing [] = true
+are_nothing (one ∷ more) = is_nothing one && are_nothing more
+
+abbrev pub byte_of : Received → Option ℕ
+byte_of Nothing = None
+byte_of (JustData byte) = Some byte
+byte_of JustAck = None
+byte_of (DataThenAck byte) = None
+byte_of (AckThenData byte) = None
+
+abbrev pub only_byte : List Received → Option ℕ
+only_byte [] = None
+only_byte (one ∷ more) = if are_nothing more then byte_of one else None
+
+-- the node's own turn takes one byte, which it then holds, and makes no step
+abbrev pub after_turn : Option ℕ → Option ℕ → Option ℕ → ℕ → Option (Option ℕ × Option ℕ)
+after_turn out held None count = None
+after_turn out held (Some byte) zero = hold out held (Data byte)
+after_turn out held (Some byte) (suc count) = None
+
 -- What is out and what is held in a node's part after an entry; none where the part stops.
 abbrev pub node_after : Side → Option ℕ → Option ℕ → Entry → Option (Option ℕ × Option ℕ)
 node_after side out held (Run i count) = if i == number_of side then None else Some (out, held)
@@ -125,6 +182,9 @@ node_after side out held (Take line token) =
     else Some (out, held)
 node_after side out held (HostIn port byte) = Some (out, held)
 node_after side out held (Confirm port upto) = Some (out, held)
+node_after side out held (Turn i links count) =
+    if i == number_of side then after_turn out held (only_byte links) count
+    else option_map (λ left. (left, held)) (without_all out (from_line_of side i links))
 
 -- whether the host's part goes on with an entry
 abbrev pub host_goes : Entry → Bool
@@ -132,6 +192,7 @@ host_goes (Run i count) = nat_lt i 2
 host_goes (Take line token) = if line == 0 then true else line == 4
 host_goes (HostIn port byte) = false
 host_goes (Confirm port upto) = false
+host_goes (Turn i links count) = nat_lt i 2
 
 -- with how many entries a part can go on: no slice has more
 abbrev pub most_entries : ℕ

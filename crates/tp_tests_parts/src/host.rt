@@ -19,7 +19,7 @@ fn goes_on(entry: &Entry) -> bool
     ensures { result ≡ host_goes entry.now }
 {
     match *entry {
-        Entry::Run { node, .. } => node < 2,
+        Entry::Run { node, .. } | Entry::Turn { node, .. } => node < 2,
         Entry::Take { line, .. } => line == 0 || line == 4,
         Entry::HostIn { .. } | Entry::Confirm { .. } => false,
     }
