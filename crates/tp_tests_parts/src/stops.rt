@@ -2,6 +2,7 @@
 
 use crate::whole::replay_pair;
 use std::test::Fail;
+use tp_model::Received::{JustAck, JustData, Nothing};
 use tp_model::{Entry, Token};
 
 /// Entries, where the parts of the two nodes and of the host stop, and what is answered.
@@ -44,6 +45,50 @@ const NO_LINE: Entry = Entry::Take {
     token: Token::Data(65),
 };
 
+/// The turns of both nodes that take these bytes and make no steps.
+const TURN_SECOND: Entry = Entry::Turn {
+    node: 1,
+    takes: [JustData(65), Nothing, Nothing, Nothing],
+    count: 0,
+};
+
+const TURN_FIRST: Entry = Entry::Turn {
+    node: 0,
+    takes: [JustData(66), Nothing, Nothing, Nothing],
+    count: 0,
+};
+
+/// Turns that take another byte, or an acknowledge, with a step behind the byte, of a node that isn't there, and of no tokens.
+const ANOTHER_TURN: Entry = Entry::Turn {
+    node: 1,
+    takes: [JustData(66), Nothing, Nothing, Nothing],
+    count: 0,
+};
+
+const ACK_TURN: Entry = Entry::Turn {
+    node: 1,
+    takes: [JustAck, Nothing, Nothing, Nothing],
+    count: 0,
+};
+
+const LONG_TURN: Entry = Entry::Turn {
+    node: 1,
+    takes: [JustData(65), Nothing, Nothing, Nothing],
+    count: 1,
+};
+
+const THIRD_TURN: Entry = Entry::Turn {
+    node: 2,
+    takes: [Nothing, JustData(65), Nothing, Nothing],
+    count: 0,
+};
+
+const NO_TURN: Entry = Entry::Turn {
+    node: 1,
+    takes: [Nothing, Nothing, Nothing, Nothing],
+    count: 0,
+};
+
 const RUN_FIRST: Entry = Entry::Run { node: 0, count: 1 };
 
 const RUN_SECOND: Entry = Entry::Run { node: 1, count: 1 };
@@ -53,7 +98,7 @@ const RUN_THIRD: Entry = Entry::Run { node: 2, count: 1 };
 const INPUT: Entry = Entry::HostIn { port: 0, byte: 1 };
 
 /// At first the byte 65 is on the first node's line, and 66 on the second one's.
-const ROWS: [Row; 12] = [
+const ROWS: [Row; 18] = [
     Row {
         entries: &[],
         stops: [0, 0, 0],
@@ -116,6 +161,37 @@ const ROWS: [Row; 12] = [
     Row {
         entries: &[AN_ACK],
         stops: [0, 0, 1],
+        first: Some(0),
+    },
+    // Turns: the sender of a token sees that it is another one, and the node that it can't take it or can't make a step.
+    Row {
+        entries: &[TURN_SECOND, TURN_FIRST],
+        stops: [2, 2, 2],
+        first: None,
+    },
+    Row {
+        entries: &[TO_FIRST, ANOTHER_TURN],
+        stops: [1, 2, 2],
+        first: Some(1),
+    },
+    Row {
+        entries: &[ACK_TURN],
+        stops: [0, 0, 1],
+        first: Some(0),
+    },
+    Row {
+        entries: &[TURN_FIRST, LONG_TURN],
+        stops: [2, 1, 2],
+        first: Some(1),
+    },
+    Row {
+        entries: &[THIRD_TURN],
+        stops: [1, 1, 0],
+        first: Some(0),
+    },
+    Row {
+        entries: &[NO_TURN],
+        stops: [1, 0, 1],
         first: Some(0),
     },
 ];
