@@ -5,8 +5,7 @@ ghost use Rattle.tp_stream_ends.specs.Inputs.{AreFrom, IsLength};
 
 use crate::feeds::Feed;
 use crate::pipes::Pipe;
-use std::fs::OpenFile;
-use std::os::unix::fs::FileExt;
+use crate::system::EndFile;
 use tp_stream_ends::{Source, SourceFailed};
 
 /// Where a port's input comes from.
@@ -16,20 +15,12 @@ pub enum AnySource<'a, F: Drop, I> {
     In(Pipe<'a, I>),
 }
 
-/// How many bytes a file has. None where it is no regular file, or the system doesn't say.
-fn length_of<F: OpenFile>(file: &F) -> Option<u64> {
-    match file.metadata() {
-        Ok(kept) if kept.is_file() => Some(kept.len()),
-        _ => None,
-    }
-}
-
-impl<'a, F: FileExt + OpenFile + Drop, I: Feed> Source for AnySource<'a, F, I> {
+impl<'a, F: EndFile + Drop, I: Feed> Source for AnySource<'a, F, I> {
     ghost input = { λ _. None };
 
     fn length(&self) -> Option<u64> {
         match self {
-            AnySource::File(file) => length_of(file),
+            AnySource::File(file) => file.regular_length(),
             AnySource::In(_) => None,
         }
     }
@@ -43,7 +34,7 @@ impl<'a, F: FileExt + OpenFile + Drop, I: Feed> Source for AnySource<'a, F, I> {
 
     fn read(&mut self, at: u64, out: &mut [u8]) -> Result<usize, SourceFailed> {
         match self {
-            AnySource::File(file) => file.read_at(out, at).map_err(|_| SourceFailed),
+            AnySource::File(file) => file.read_at(at, out).map_err(|_| SourceFailed),
             AnySource::In(pipe) => pipe.read_from(at, out),
         }
     }

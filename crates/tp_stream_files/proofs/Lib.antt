@@ -1,0 +1,3 @@
+pub mod Traces
+pub mod Known
+pub mod Folders

@@ -1,0 +1,4 @@
+pub mod Told
+pub mod Trace
+pub mod Sinks
+pub mod Opening
