@@ -2,3 +2,4 @@ pub mod Told
 pub mod Trace
 pub mod Sinks
 pub mod Opening
+pub mod Any

@@ -143,23 +143,36 @@ impl<F: EndFile + Drop> FileSink<F> {
 }
 
 impl<'a, F: EndFile + Drop, O: Write> Sink for AnySink<'a, F, O> {
+    ghost use Rattle.tp_stream_files.specs.Any.{WasPut, WasSettled, length_of, reach_of};
+
     ghost held = { λ _. None };
 
-    fn reach(&self) -> u64 {
+    fn reach(&self) -> u64
+        ensures there { Reaches result None }
+        ensures exactly { HasReach result None }
+        ensures value { result ≡ reach_of self.now }
+    {
         match self {
             AnySink::File(sink) => sink.size(),
             AnySink::Out(_) | AnySink::Nothing => u64::MAX,
         }
     }
 
-    fn length(&self) -> Option<u64> {
+    fn length(&self) -> Option<u64>
+        ensures held { HasLength result None }
+        ensures value { result ≡ length_of self.now }
+    {
         match self {
             AnySink::File(sink) => Some(sink.size()),
             AnySink::Out(_) | AnySink::Nothing => None,
         }
     }
 
-    fn put(&mut self, at: u64, bytes: &[u8]) -> Result<(), SinkFault> {
+    fn put(&mut self, at: u64, bytes: &[u8]) -> Result<(), SinkFault>
+        ensures put { OnOk result (HasPut at bytes.now None None) }
+        ensures front { KeepsFront at None None }
+        ensures asked { WasPut F.calls O.contents at bytes.now (is_ok result) self.old self.new }
+    {
         match self {
             AnySink::File(sink) => sink.put(at, bytes),
             AnySink::Out(out) => answer(out.write_all(bytes)),
@@ -167,7 +180,11 @@ impl<'a, F: EndFile + Drop, O: Write> Sink for AnySink<'a, F, O> {
         }
     }
 
-    fn settle(&mut self) -> Result<(), SinkFault> {
+    fn settle(&mut self) -> Result<(), SinkFault>
+        ensures safe { OnOk result (IsSafe None) }
+        ensures bytes { KeepsBytes None None }
+        ensures asked { WasSettled F.calls O.contents (is_ok result) self.old self.new }
+    {
         match self {
             AnySink::File(sink) => sink.settle(),
             AnySink::Out(out) => answer(out.flush()),
