@@ -3,3 +3,4 @@ pub mod Trace
 pub mod Sinks
 pub mod Opening
 pub mod Any
+pub mod Named

@@ -1,5 +1,9 @@
 //! How ends are opened.
 
+ghost use Rattle.std.specs.Prelude.{◌≡◌, ◌++◌, [], map, IfOk, OnOk};
+ghost use Rattle.tp_stream_files.specs.Named.{output_away, output_to, outputs_of};
+ghost use Rattle.tp_stream_files.specs.Opening.{KeepsFiles};
+
 use crate::ends::{EndFault, Ends, PortFile};
 use crate::feeds::Feed;
 use crate::outside::{Outside, OutsideFile};
@@ -22,11 +26,14 @@ fn take(taken: &mut Taken, file: Option<FileNumbers>) -> Result<(), EndFault> {
 }
 
 /// Opens a file that takes an output, or makes it. One that has a part already, or is what standard error goes to, is refused as it is.
+#[tactic(auto, using(crate::proofs::Keeping::keeps_written, crate::proofs::Keeping::keeps_then))]
 fn file_sink<S: EndFiles<File = F> + Looks, F: EndFile + Drop>(
     files: &mut S,
     end: &PortFile,
     taken: &mut Taken,
-) -> Result<FileSink<F>, EndFault> {
+) -> Result<FileSink<F>, EndFault>
+    ensures { KeepsFiles (S.calls files.old) (S.calls files.new) }
+{
     let path = end.path.as_str();
     let failed = EndFault::DeviceFailed(end.port);
     let file = file_at(files, path).map_err(|_| failed)?;
@@ -39,12 +46,15 @@ fn file_sink<S: EndFiles<File = F> + Looks, F: EndFile + Drop>(
 }
 
 /// What takes the output of a port: standard output, which only one may have, or a file.
+#[tactic(auto, using(crate::proofs::Keeping::keeps_none))]
 fn sink_at<'a, S: EndFiles<File = F> + Looks, F: EndFile + Drop, O: Write>(
     files: &mut S,
     end: &PortFile,
     taken: &mut Taken,
     out: &mut Option<&'a mut O>,
-) -> Result<AnySink<'a, F, O>, EndFault> {
+) -> Result<AnySink<'a, F, O>, EndFault>
+    ensures { KeepsFiles (S.calls files.old) (S.calls files.new) }
+{
     if end.is_standard() {
         return match out.take() {
             Some(out) => Ok(AnySink::Out(out)),
@@ -55,11 +65,14 @@ fn sink_at<'a, S: EndFiles<File = F> + Looks, F: EndFile + Drop, O: Write>(
 }
 
 /// Opens a file that an input comes from.
+#[tactic(auto, using(crate::proofs::Keeping::keeps_read))]
 fn file_source<S: EndFiles<File = F>, F: EndFile + Drop>(
     files: &mut S,
     end: &PortFile,
     taken: &mut Taken,
-) -> Result<F, EndFault> {
+) -> Result<F, EndFault>
+    ensures { KeepsFiles (S.calls files.old) (S.calls files.new) }
+{
     let failed = EndFault::ReadFailed(end.port);
     let mut how = OpenOptions::new();
     let opened = files.open(how.read(true), end.path.as_str());
@@ -69,12 +82,15 @@ fn file_source<S: EndFiles<File = F>, F: EndFile + Drop>(
 }
 
 /// Where the input of a port comes from: standard input, which only one may have, or a file.
+#[tactic(auto, using(crate::proofs::Keeping::keeps_none))]
 fn source_at<'a, S: EndFiles<File = F> + Looks, F: EndFile + Drop, I: Feed>(
     files: &mut S,
     end: &PortFile,
     taken: &mut Taken,
     feed: &mut Option<&'a mut I>,
-) -> Result<AnySource<'a, F, I>, EndFault> {
+) -> Result<AnySource<'a, F, I>, EndFault>
+    ensures { KeepsFiles (S.calls files.old) (S.calls files.new) }
+{
     if end.is_standard() {
         take(taken, standard_in(files))?;
         return match feed.take() {
@@ -86,13 +102,17 @@ fn source_at<'a, S: EndFiles<File = F> + Looks, F: EndFile + Drop, I: Feed>(
 }
 
 /// Opens what takes the outputs of ports. What standard output goes to is looked at last, once all files are open.
+#[tactic(auto, using(crate::proofs::Keeping::keeps_none, crate::proofs::Keeping::keeps_then))]
 fn outputs_of<'a, S: EndFiles<File = F> + Looks, F: EndFile + Drop, O: Write>(
     files: &mut S,
     alloc: Global,
     ends: &Ends,
     taken: &mut Taken,
     out: &'a mut O,
-) -> Result<Vec<Output<AnySink<'a, F, O>>>, EndFault> {
+) -> Result<Vec<Output<AnySink<'a, F, O>>>, EndFault>
+    ensures kept { KeepsFiles (S.calls files.old) (S.calls files.new) }
+    ensures outputs { IfOk result (λ outputs. outputs.items ≡ map (output_to ends.now.haves.items) ends.now.outs.items) }
+{
     let mut outputs = Vec::new(alloc);
     let mut out = Some(out);
     for end in &ends.outs {
@@ -112,7 +132,9 @@ fn outputs_of<'a, S: EndFiles<File = F> + Looks, F: EndFile + Drop, O: Write>(
 fn add_discards<'a, F: EndFile + Drop, O: Write>(
     ends: &Ends,
     outputs: &mut Vec<Output<AnySink<'a, F, O>>>,
-) -> Result<(), EndFault> {
+) -> Result<(), EndFault>
+    ensures { OnOk result (outputs.new.items ≡ outputs.old.items ++ map output_away ends.now.discards.items) }
+{
     for port in &ends.discards {
         let output = Output::new(*port, None, AnySink::Nothing);
         if outputs.push(output).is_err() {
@@ -123,13 +145,16 @@ fn add_discards<'a, F: EndFile + Drop, O: Write>(
 }
 
 /// Opens where the inputs of ports come from.
+#[tactic(auto, using(crate::proofs::Keeping::keeps_none, crate::proofs::Keeping::keeps_then))]
 fn inputs_of<'a, S: EndFiles<File = F> + Looks, F: EndFile + Drop, I: Feed>(
     files: &mut S,
     alloc: Global,
     ends: &Ends,
     taken: &mut Taken,
     feed: &'a mut I,
-) -> Result<Vec<Input<AnySource<'a, F, I>>>, EndFault> {
+) -> Result<Vec<Input<AnySource<'a, F, I>>>, EndFault>
+    ensures { KeepsFiles (S.calls files.old) (S.calls files.new) }
+{
     let mut inputs = Vec::new(alloc);
     let mut feed = Some(feed);
     for end in &ends.ins {
@@ -144,6 +169,7 @@ fn inputs_of<'a, S: EndFiles<File = F> + Looks, F: EndFile + Drop, I: Feed>(
 /// Opens all ends; `device` is the path of the device's file. A file that takes an output is made where it isn't there. No output goes
 /// into the file of the device, of an input, of another output or of standard error: where that can be told before, no file is made, and
 /// else each file is told from those that were opened before, and left as it is.
+#[tactic(auto, using(crate::proofs::Keeping::keeps_none, crate::proofs::Keeping::keeps_then))]
 pub fn open_ends_over<'a, S: EndFiles<File = F> + Looks, F: EndFile + Drop, I: Feed, O: Write>(
     files: &mut S,
     alloc: Global,
@@ -151,7 +177,10 @@ pub fn open_ends_over<'a, S: EndFiles<File = F> + Looks, F: EndFile + Drop, I: F
     ends: &Ends,
     feed: &'a mut I,
     out: &'a mut O,
-) -> Result<Streams<AnySink<'a, F, O>, AnySource<'a, F, I>>, EndFault> {
+) -> Result<Streams<AnySink<'a, F, O>, AnySource<'a, F, I>>, EndFault>
+    ensures kept { KeepsFiles (S.calls files.old) (S.calls files.new) }
+    ensures outputs { IfOk result (λ streams. streams.outputs.items ≡ outputs_of ends.now) }
+{
     if let Some(port) = same_file(files, device, ends) {
         return Err(EndFault::SameFile(port));
     }
@@ -176,6 +205,8 @@ pub fn open_ends<
     ends: &Ends,
     feed: &'a mut I,
     out: &'a mut O,
-) -> Result<Streams<AnySink<'a, OutsideFile<F>, O>, AnySource<'a, OutsideFile<F>, I>>, EndFault> {
+) -> Result<Streams<AnySink<'a, OutsideFile<F>, O>, AnySource<'a, OutsideFile<F>, I>>, EndFault>
+    ensures { IfOk result (λ streams. streams.outputs.items ≡ outputs_of ends.now) }
+{
     open_ends_over(&mut Outside::new(rt), rt.alloc(), device, ends, feed, out)
 }

@@ -1,9 +1,9 @@
 //! What takes a port's output in the program: a file, standard output, or nothing.
 
-ghost use Rattle.std.specs.Prelude.{◌≡◌, ◌↔◌, ◌++◌, ◌∷◌, [], None, length, is_ok, IfOk, OnOk, OnErr};
+ghost use Rattle.std.specs.Prelude.{◌≡◌, ◌↔◌, ◌++◌, ◌∷◌, [], true, None, length, is_ok, IfOk, OnOk, OnErr};
 ghost use Rattle.std.specs.IoError.{error_kind};
 ghost use Rattle.tp_stream_ends.specs.Held.{HasLength, HasPut, HasReach, IsSafe, KeepsBytes, KeepsFront, Reaches};
-ghost use Rattle.tp_stream_files.specs.Opening.{to_write};
+ghost use Rattle.tp_stream_files.specs.Opening.{KeepsFiles, to_write};
 ghost use Rattle.tp_stream_files.specs.Sinks.{IsFolder, SyncsFolder, before_slash, begin_calls};
 ghost use Rattle.tp_stream_files.specs.Told.{Opened, Synced, Wrote};
 ghost use Rattle.tp_stream_files.specs.Trace.{size_after};
@@ -52,7 +52,8 @@ fn folder_of(path: &str) -> &str
 
 /// Syncs the folder of a file that is empty, since it may be new.
 fn sync_new<S: EndFiles>(files: &mut S, path: &str, size: u64) -> io::Result<()>
-    ensures { OnOk result (SyncsFolder size path.now (S.calls files.old) (S.calls files.new)) }
+    ensures kept { KeepsFiles (S.calls files.old) (S.calls files.new) }
+    ensures synced { OnOk result (SyncsFolder size path.now (S.calls files.old) (S.calls files.new)) }
 {
     if size != 0 {
         return Ok(());
@@ -93,27 +94,38 @@ fn answer(done: io::Result<()>) -> Result<(), SinkFault>
 impl<F: FileExt + OpenFile + Drop> FileSink<OutsideFile<F>> {
     /// The file of that path as it is, or an empty one that is made.
     pub fn open<R: Files<File = F>>(rt: &R, path: &str) -> io::Result<FileSink<OutsideFile<F>>> {
-        let mut files = Outside::new(rt);
-        let file = file_at(&mut files, path)?;
-        FileSink::over(&mut files, path, file)
+        FileSink::open_in(&mut Outside::new(rt), path)
     }
 }
 
 impl<F: EndFile + Drop> FileSink<F> {
     /// The file of that path, which is open, as it is. What is in it is synced: it counts as safe. So is the folder of one that is empty,
     /// since it may be new.
+    #[tactic(auto, using(crate::proofs::Keeping::keeps_none))]
     pub fn over<S: EndFiles<File = F>>(
         files: &mut S,
         path: &str,
         mut file: F,
     ) -> io::Result<FileSink<F>>
         ensures calls { IfOk result (λ sink. F.calls sink.file ≡ F.calls file ++ begin_calls sink.size) }
+        ensures kept { KeepsFiles (S.calls files.old) (S.calls files.new) }
         ensures folder { IfOk result (λ sink. SyncsFolder sink.size path.now (S.calls files.old) (S.calls files.new)) }
     {
         let size = file.measure()?;
         file.sync()?;
         sync_new(files, path, size)?;
         Ok(FileSink { file, size })
+    }
+
+    /// The file of that path as it is, or an empty one that is made.
+    #[tactic(auto, using(crate::proofs::Keeping::keeps_written, crate::proofs::Keeping::keeps_then))]
+    pub fn open_in<S: EndFiles<File = F>>(files: &mut S, path: &str) -> io::Result<FileSink<F>>
+        ensures kept { KeepsFiles (S.calls files.old) (S.calls files.new) }
+        ensures calls { IfOk result (λ sink. F.calls sink.file ≡ begin_calls sink.size) }
+        ensures folder { IfOk result (λ sink. SyncsFolder sink.size path.now (S.calls files.old ++ Opened to_write path.now true ∷ []) (S.calls files.new)) }
+    {
+        let file = file_at(files, path)?;
+        FileSink::over(files, path, file)
     }
 
     /// How many bytes it has.
