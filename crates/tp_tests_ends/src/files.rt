@@ -54,6 +54,26 @@ impl FakeFile {
         }
         Ok(())
     }
+
+    /// Writes bytes from a place on.
+    fn write(&mut self, at: u64, bytes: &[u8]) -> io::Result<()> {
+        if !self.writes.goes() {
+            return Err(io::Error::from(ErrorKind::StorageFull));
+        }
+        for (number, byte) in bytes.iter().enumerate() {
+            self.put((at as usize).saturating_add(number), *byte)?;
+        }
+        Ok(())
+    }
+
+    /// Notes how many bytes are there.
+    fn force(&mut self) -> io::Result<()> {
+        if !self.syncs.goes() {
+            return Err(io::Error::from(ErrorKind::StorageFull));
+        }
+        self.synced = self.bytes.len();
+        Ok(())
+    }
 }
 
 /// A file that is lent to whoever opens it.
@@ -73,30 +93,6 @@ impl<'a> Lent<'a> {
             trace: Trace::new(),
         }
     }
-
-    /// Writes bytes from a place on.
-    fn write(&mut self, at: u64, bytes: &[u8]) -> io::Result<()>
-        ensures { self.new.trace.told ≡ self.old.trace.told }
-    {
-        if !self.file.writes.goes() {
-            return Err(io::Error::from(ErrorKind::StorageFull));
-        }
-        for (number, byte) in bytes.iter().enumerate() {
-            self.file.put((at as usize).saturating_add(number), *byte)?;
-        }
-        Ok(())
-    }
-
-    /// Notes how many bytes are there.
-    fn force(&mut self) -> io::Result<()>
-        ensures { self.new.trace.told ≡ self.old.trace.told }
-    {
-        if !self.file.syncs.goes() {
-            return Err(io::Error::from(ErrorKind::StorageFull));
-        }
-        self.file.synced = self.file.bytes.len();
-        Ok(())
-    }
 }
 
 impl<'a> EndFile for Lent<'a> {
@@ -114,13 +110,13 @@ impl<'a> EndFile for Lent<'a> {
     }
 
     fn write_all(&mut self, at: u64, bytes: &[u8]) -> io::Result<()> {
-        let done = self.write(at, bytes);
+        let done = self.file.write(at, bytes);
         self.trace = self.trace.wrote(at, bytes, done.is_ok());
         done
     }
 
     fn sync(&mut self) -> io::Result<()> {
-        let done = self.force();
+        let done = self.file.force();
         self.trace = self.trace.synced(done.is_ok());
         done
     }
