@@ -1,5 +1,7 @@
 //! What a stream's ports live on, by the names of files.
 
+ghost use Rattle.std.specs.Prelude.{◌≡◌};
+
 use thiserror::Error;
 
 /// A port, and the path of a file; `-` is standard input or output.
@@ -44,6 +46,8 @@ fn standard_of(files: &[PortFile]) -> Option<u8> {
 }
 
 impl Ends {
+    ghost use Rattle.tp_stream_files.specs.Named.{have_in};
+
     /// The port whose output goes to standard output.
     pub fn standard_out(&self) -> Option<u8> {
         standard_of(&self.outs)
@@ -55,7 +59,9 @@ impl Ends {
     }
 
     /// Up to where the reader of a port has its output.
-    pub(crate) fn have_of(&self, port: u8) -> Option<u64> {
+    pub(crate) fn have_of(&self, port: u8) -> Option<u64>
+        ensures { result ≡ have_in self.now.haves.items port }
+    {
         for have in &self.haves {
             if have.port == port {
                 return Some(have.number);

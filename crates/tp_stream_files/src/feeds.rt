@@ -1,23 +1,38 @@
 //! Bytes that come once, in order.
 
+ghost use Rattle.std.specs.Prelude.{◌≡◌, ◌≤◌, List, [], ◌∷◌, ◌++◌, length, IfOk};
+ghost use Rattle.std.specs.Io.KnownBytes.{ReadConsumes};
+ghost use Rattle.tp_stream_files.specs.Told.{Told};
+ghost use Rattle.tp_stream_files.specs.Trace.{gave};
+
+use crate::trace::Trace;
 use std::io::{ErrorKind, Read};
 use tp_model::limits::MAX_HELD;
 use tp_stream_ends::SourceFailed;
 
 /// Bytes that come once, in order, as those of standard input.
 pub trait Feed {
+    /// What it has given so far, the oldest first.
+    ghost given: { Self → List Told };
+
     /// Whether `next` would wait for bytes that haven't come yet.
-    fn would_wait(&mut self) -> bool;
+    fn would_wait(&mut self) -> bool
+        ensures { given self.new ≡ given self.old };
 
     /// Puts the next bytes into `out`, as many as have come, and answers how many: none only at the end. It waits until there are some.
-    fn next(&mut self, out: &mut [u8; MAX_HELD]) -> Result<usize, SourceFailed>;
+    fn next(&mut self, out: &mut [u8; MAX_HELD]) -> Result<usize, SourceFailed>
+        ensures few { IfOk result (λ count. count ≤ length out.new) }
+        ensures noted { given self.new ≡ given self.old ++ gave result out.new ∷ [] };
 }
 
 /// The next bytes of a reader. A read that was interrupted is made again.
 pub(crate) fn read_some<I: Read>(
     reader: &mut I,
     out: &mut [u8; MAX_HELD],
-) -> Result<usize, SourceFailed> {
+) -> Result<usize, SourceFailed>
+    ensures few { IfOk result (λ count. count ≤ length out.new) }
+    ensures bytes { ReadConsumes (I.remaining reader.old) (I.remaining reader.new) result out.new }
+{
     for _ in 0..u64::MAX {
         match reader.read(out) {
             Ok(count) => return Ok(count),
@@ -32,21 +47,41 @@ pub(crate) fn read_some<I: Read>(
 #[derive(Drop)]
 pub struct Plain<I: Drop> {
     reader: I,
+    trace: Trace,
 }
 
 impl<I: Drop> Plain<I> {
     /// The bytes of a reader.
-    pub fn new(reader: I) -> Plain<I> {
-        Plain { reader }
+    pub fn new(reader: I) -> Plain<I>
+        ensures reader { result.reader ≡ reader }
+        ensures none { result.trace.told ≡ [] }
+    {
+        Plain {
+            reader,
+            trace: Trace::new(),
+        }
     }
 }
 
 impl<I: Read + Drop> Feed for Plain<I> {
-    fn would_wait(&mut self) -> bool {
+    ghost given = { λ feed. feed.trace.told };
+
+    fn would_wait(&mut self) -> bool
+        ensures same { self.new ≡ self.old }
+    {
         false
     }
 
-    fn next(&mut self, out: &mut [u8; MAX_HELD]) -> Result<usize, SourceFailed> {
-        read_some(&mut self.reader, out)
+    fn next(&mut self, out: &mut [u8; MAX_HELD]) -> Result<usize, SourceFailed>
+        ensures few { IfOk result (λ count. count ≤ length out.new) }
+        ensures noted { self.new.trace.told ≡ self.old.trace.told ++ gave result out.new ∷ [] }
+        ensures bytes { ReadConsumes (I.remaining self.old.reader) (I.remaining self.new.reader) result out.new }
+    {
+        let done = read_some(&mut self.reader, out);
+        self.trace = match done {
+            Ok(count) => self.trace.gave(&out[..count]),
+            Err(SourceFailed) => self.trace.give_failed(),
+        };
+        done
     }
 }

@@ -1,14 +1,20 @@
 //! How ends are opened.
 
+ghost use Rattle.std.specs.Prelude.{◌≡◌, ◌++◌, [], map, IfOk, OnOk};
+ghost use Rattle.tp_stream_files.specs.Named.{output_away, output_to, outputs_of};
+ghost use Rattle.tp_stream_files.specs.Opening.{KeepsFiles};
+
 use crate::ends::{EndFault, Ends, PortFile};
 use crate::feeds::Feed;
+use crate::outside::{Outside, OutsideFile};
 use crate::pipes::Pipe;
 use crate::same::{
-    FileNumbers, Taken, are_one, numbers_at, numbers_of, same_file, standard_error, standard_in,
-    standard_out,
+    FileNumbers, Taken, are_one, same_file, standard_error, standard_in, standard_out,
 };
 use crate::sinks::{AnySink, FileSink, file_at};
 use crate::sources::AnySource;
+use crate::system::{EndFile, EndFiles, Looks};
+use std::alloc::Global;
 use std::fs::{Files, OpenFile, OpenOptions};
 use std::io::Write;
 use std::os::unix::fs::FileExt;
@@ -20,95 +26,115 @@ fn take(taken: &mut Taken, file: Option<FileNumbers>) -> Result<(), EndFault> {
 }
 
 /// Opens a file that takes an output, or makes it. One that has a part already, or is what standard error goes to, is refused as it is.
-fn file_sink<R: Files<File = F>, F: FileExt + OpenFile + Drop>(
-    rt: &R,
+#[tactic(auto, using(crate::proofs::Keeping::keeps_written, crate::proofs::Keeping::keeps_then))]
+fn file_sink<S: EndFiles<File = F> + Looks, F: EndFile + Drop>(
+    files: &mut S,
     end: &PortFile,
     taken: &mut Taken,
-) -> Result<FileSink<F>, EndFault> {
+) -> Result<FileSink<F>, EndFault>
+    ensures { KeepsFiles (S.calls files.old) (S.calls files.new) }
+{
     let path = end.path.as_str();
     let failed = EndFault::DeviceFailed(end.port);
-    let file = file_at(rt, path).map_err(|_| failed)?;
-    let numbers = numbers_of(&file).map_err(|_| failed)?;
-    if taken.has(numbers) || are_one(numbers, standard_error(rt)) {
+    let file = file_at(files, path).map_err(|_| failed)?;
+    let numbers = file.numbers().map_err(|_| failed)?;
+    if taken.has(numbers) || are_one(numbers, standard_error(files)) {
         return Err(EndFault::SameFile(end.port));
     }
     take(taken, numbers)?;
-    FileSink::over(rt, path, file).map_err(|_| failed)
+    FileSink::over(files, path, file).map_err(|_| failed)
 }
 
 /// What takes the output of a port: standard output, which only one may have, or a file.
-fn sink_at<'a, R: Files<File = F>, F: FileExt + OpenFile + Drop, O: Write>(
-    rt: &R,
+#[tactic(auto, using(crate::proofs::Keeping::keeps_none))]
+fn sink_at<'a, S: EndFiles<File = F> + Looks, F: EndFile + Drop, O: Write>(
+    files: &mut S,
     end: &PortFile,
     taken: &mut Taken,
     out: &mut Option<&'a mut O>,
-) -> Result<AnySink<'a, F, O>, EndFault> {
+) -> Result<AnySink<'a, F, O>, EndFault>
+    ensures { KeepsFiles (S.calls files.old) (S.calls files.new) }
+{
     if end.is_standard() {
         return match out.take() {
             Some(out) => Ok(AnySink::Out(out)),
             None => Err(EndFault::Twice(end.port)),
         };
     }
-    Ok(AnySink::File(file_sink(rt, end, taken)?))
+    Ok(AnySink::File(file_sink(files, end, taken)?))
 }
 
 /// Opens a file that an input comes from.
-fn file_source<R: Files<File = F>, F: FileExt + OpenFile + Drop>(
-    rt: &R,
+#[tactic(auto, using(crate::proofs::Keeping::keeps_read))]
+fn file_source<S: EndFiles<File = F>, F: EndFile + Drop>(
+    files: &mut S,
     end: &PortFile,
     taken: &mut Taken,
-) -> Result<F, EndFault> {
+) -> Result<F, EndFault>
+    ensures { KeepsFiles (S.calls files.old) (S.calls files.new) }
+{
     let failed = EndFault::ReadFailed(end.port);
-    let opened = OpenOptions::new().read(true).open(rt, end.path.as_str());
+    let mut how = OpenOptions::new();
+    let opened = files.open(how.read(true), end.path.as_str());
     let file = opened.map_err(|_| failed)?;
-    take(taken, numbers_of(&file).map_err(|_| failed)?)?;
+    take(taken, file.numbers().map_err(|_| failed)?)?;
     Ok(file)
 }
 
 /// Where the input of a port comes from: standard input, which only one may have, or a file.
-fn source_at<'a, R: Files<File = F>, F: FileExt + OpenFile + Drop, I: Feed>(
-    rt: &R,
+#[tactic(auto, using(crate::proofs::Keeping::keeps_none))]
+fn source_at<'a, S: EndFiles<File = F> + Looks, F: EndFile + Drop, I: Feed>(
+    files: &mut S,
     end: &PortFile,
     taken: &mut Taken,
     feed: &mut Option<&'a mut I>,
-) -> Result<AnySource<'a, F, I>, EndFault> {
+) -> Result<AnySource<'a, F, I>, EndFault>
+    ensures { KeepsFiles (S.calls files.old) (S.calls files.new) }
+{
     if end.is_standard() {
-        take(taken, standard_in(rt))?;
+        take(taken, standard_in(files))?;
         return match feed.take() {
             Some(feed) => Ok(AnySource::In(Pipe::new(feed))),
             None => Err(EndFault::Twice(end.port)),
         };
     }
-    Ok(AnySource::File(file_source(rt, end, taken)?))
+    Ok(AnySource::File(file_source(files, end, taken)?))
 }
 
 /// Opens what takes the outputs of ports. What standard output goes to is looked at last, once all files are open.
-fn outputs_of<'a, R: Files<File = F> + AllocGlobal, F: FileExt + OpenFile + Drop, O: Write>(
-    rt: &R,
+#[tactic(auto, using(crate::proofs::Keeping::keeps_none, crate::proofs::Keeping::keeps_then))]
+fn outputs_of<'a, S: EndFiles<File = F> + Looks, F: EndFile + Drop, O: Write>(
+    files: &mut S,
+    alloc: Global,
     ends: &Ends,
     taken: &mut Taken,
     out: &'a mut O,
-) -> Result<Vec<Output<AnySink<'a, F, O>>>, EndFault> {
-    let mut outputs = Vec::new(rt.alloc());
+) -> Result<Vec<Output<AnySink<'a, F, O>>>, EndFault>
+    ensures kept { KeepsFiles (S.calls files.old) (S.calls files.new) }
+    ensures outputs { IfOk result (λ outputs. outputs.items ≡ map (output_to ends.now.haves.items) ends.now.outs.items) }
+{
+    let mut outputs = Vec::new(alloc);
     let mut out = Some(out);
     for end in &ends.outs {
-        let sink = sink_at(rt, end, taken, &mut out)?;
+        let sink = sink_at(files, end, taken, &mut out)?;
         let have = ends.have_of(end.port);
         if outputs.push(Output::new(end.port, have, sink)).is_err() {
             return Err(EndFault::Memory);
         }
     }
     match ends.standard_out() {
-        Some(port) if taken.has(standard_out(rt)) => Err(EndFault::SameFile(port)),
+        Some(port) if taken.has(standard_out(files)) => Err(EndFault::SameFile(port)),
         _ => Ok(outputs),
     }
 }
 
 /// Adds those whose output is let go.
-fn add_discards<'a, F: Drop + FileExt + OpenFile, O: Write>(
+fn add_discards<'a, F: EndFile + Drop, O: Write>(
     ends: &Ends,
     outputs: &mut Vec<Output<AnySink<'a, F, O>>>,
-) -> Result<(), EndFault> {
+) -> Result<(), EndFault>
+    ensures { OnOk result (outputs.new.items ≡ outputs.old.items ++ map output_away ends.now.discards.items) }
+{
     for port in &ends.discards {
         let output = Output::new(*port, None, AnySink::Nothing);
         if outputs.push(output).is_err() {
@@ -119,16 +145,20 @@ fn add_discards<'a, F: Drop + FileExt + OpenFile, O: Write>(
 }
 
 /// Opens where the inputs of ports come from.
-fn inputs_of<'a, R: Files<File = F> + AllocGlobal, F: FileExt + OpenFile + Drop, I: Feed>(
-    rt: &R,
+#[tactic(auto, using(crate::proofs::Keeping::keeps_none, crate::proofs::Keeping::keeps_then))]
+fn inputs_of<'a, S: EndFiles<File = F> + Looks, F: EndFile + Drop, I: Feed>(
+    files: &mut S,
+    alloc: Global,
     ends: &Ends,
     taken: &mut Taken,
     feed: &'a mut I,
-) -> Result<Vec<Input<AnySource<'a, F, I>>>, EndFault> {
-    let mut inputs = Vec::new(rt.alloc());
+) -> Result<Vec<Input<AnySource<'a, F, I>>>, EndFault>
+    ensures { KeepsFiles (S.calls files.old) (S.calls files.new) }
+{
+    let mut inputs = Vec::new(alloc);
     let mut feed = Some(feed);
     for end in &ends.ins {
-        let source = source_at(rt, end, taken, &mut feed)?;
+        let source = source_at(files, end, taken, &mut feed)?;
         if inputs.push(Input::new(end.port, source)).is_err() {
             return Err(EndFault::Memory);
         }
@@ -139,6 +169,30 @@ fn inputs_of<'a, R: Files<File = F> + AllocGlobal, F: FileExt + OpenFile + Drop,
 /// Opens all ends; `device` is the path of the device's file. A file that takes an output is made where it isn't there. No output goes
 /// into the file of the device, of an input, of another output or of standard error: where that can be told before, no file is made, and
 /// else each file is told from those that were opened before, and left as it is.
+#[tactic(auto, using(crate::proofs::Keeping::keeps_none, crate::proofs::Keeping::keeps_then))]
+pub fn open_ends_over<'a, S: EndFiles<File = F> + Looks, F: EndFile + Drop, I: Feed, O: Write>(
+    files: &mut S,
+    alloc: Global,
+    device: &str,
+    ends: &Ends,
+    feed: &'a mut I,
+    out: &'a mut O,
+) -> Result<Streams<AnySink<'a, F, O>, AnySource<'a, F, I>>, EndFault>
+    ensures kept { KeepsFiles (S.calls files.old) (S.calls files.new) }
+    ensures outputs { IfOk result (λ streams. streams.outputs.items ≡ outputs_of ends.now) }
+{
+    if let Some(port) = same_file(files, device, ends) {
+        return Err(EndFault::SameFile(port));
+    }
+    let mut taken = Taken::new(alloc);
+    take(&mut taken, files.numbers_at(device))?;
+    let inputs = inputs_of(files, alloc, ends, &mut taken, feed)?;
+    let mut outputs = outputs_of(files, alloc, ends, &mut taken, out)?;
+    add_discards(ends, &mut outputs)?;
+    Ok(Streams { outputs, inputs })
+}
+
+/// Opens all ends on the files of the system.
 pub fn open_ends<
     'a,
     R: Files<File = F> + AllocGlobal,
@@ -151,14 +205,8 @@ pub fn open_ends<
     ends: &Ends,
     feed: &'a mut I,
     out: &'a mut O,
-) -> Result<Streams<AnySink<'a, F, O>, AnySource<'a, F, I>>, EndFault> {
-    if let Some(port) = same_file(rt, device, ends) {
-        return Err(EndFault::SameFile(port));
-    }
-    let mut taken = Taken::new(rt.alloc());
-    take(&mut taken, numbers_at(rt, device))?;
-    let inputs = inputs_of(rt, ends, &mut taken, feed)?;
-    let mut outputs = outputs_of(rt, ends, &mut taken, out)?;
-    add_discards(ends, &mut outputs)?;
-    Ok(Streams { outputs, inputs })
+) -> Result<Streams<AnySink<'a, OutsideFile<F>, O>, AnySource<'a, OutsideFile<F>, I>>, EndFault>
+    ensures { IfOk result (λ streams. streams.outputs.items ≡ outputs_of ends.now) }
+{
+    open_ends_over(&mut Outside::new(rt), rt.alloc(), device, ends, feed, out)
 }

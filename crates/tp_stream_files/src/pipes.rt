@@ -1,83 +1,62 @@
 //! A feed by positions.
 
-ghost use Rattle.std.specs.Prelude.{◌≤◌, length, IfOk};
+ghost use Rattle.std.specs.Prelude.{◌≡◌, ◌<◌, ◌≤◌, [], true, length, take, drop, is_err, IfOk};
+ghost use Rattle.tp_stream_files.specs.Trace.{GrewAlike, bytes_of, says_end, says_failed};
 
 use crate::feeds::Feed;
+use crate::held::Held;
 use tp_model::limits::MAX_HELD;
 use tp_stream_ends::SourceFailed;
 
-/// A port's whole input, from a feed. The last bytes that came are kept, since a port may have no room for them yet.
+/// A port's whole input, from a feed.
 #[derive(Drop)]
 pub struct Pipe<'a, I> {
     feed: &'a mut I,
-    /// The position of the first byte that is kept.
-    from: u64,
-    count: usize,
-    kept: [u8; MAX_HELD],
-    has_ended: bool,
-    has_failed: bool,
-}
-
-/// What stands from a place on.
-fn rest_from(bytes: &[u8], at: u64) -> &[u8] {
-    if at < bytes.len() as u64 {
-        &bytes[at as usize..]
-    } else {
-        &bytes[bytes.len()..]
-    }
+    held: Held,
 }
 
 impl<'a, I: Feed> Pipe<'a, I> {
     /// Nothing has come.
-    pub fn new(feed: &'a mut I) -> Pipe<'a, I> {
+    pub fn new(feed: &'a mut I) -> Pipe<'a, I>
+        ensures { result.held.trace.told ≡ [] }
+    {
         Pipe {
             feed,
-            from: 0,
-            count: 0,
-            kept: [0u8; MAX_HELD],
-            has_ended: false,
-            has_failed: false,
+            held: Held::new(),
         }
-    }
-
-    /// What is kept from a position on.
-    fn rest(&self, at: u64) -> &[u8] {
-        match self.kept.get(..self.count) {
-            Some(kept) => rest_from(kept, at.saturating_sub(self.from)),
-            None => &[],
-        }
-    }
-
-    /// Whether a byte at a position is kept, or none comes any more.
-    fn is_ready(&self, at: u64) -> bool {
-        self.has_ended || self.has_failed || !self.rest(at).is_empty()
     }
 
     /// Takes the next bytes in place of those that are kept.
-    fn advance(&mut self) {
-        self.from = self.from.saturating_add(self.count as u64);
-        self.count = 0;
-        match self.feed.next(&mut self.kept) {
-            Ok(0) => self.has_ended = true,
-            Ok(count) => self.count = count,
-            Err(_) => self.has_failed = true,
+    fn advance(&mut self)
+        ensures { GrewAlike (I.given self.old.feed.now) (I.given self.new.feed.now) self.old.held.trace.told self.new.held.trace.told }
+    {
+        let Some(behind) = self.held.behind() else {
+            self.held.stop();
+            return;
+        };
+        let mut kept = [0u8; MAX_HELD];
+        let done = self.feed.next(&mut kept);
+        self.held.take_piece(behind, done, &kept);
+    }
+
+    /// Takes bytes until one at a position is kept, or none comes any more.
+    fn reach(&mut self, at: u64)
+        ensures { GrewAlike (I.given self.old.feed.now) (I.given self.new.feed.now) self.old.held.trace.told self.new.held.trace.told }
+    {
+        for _ in 0..u64::MAX {
+            if self.held.is_ready(at) {
+                return;
+            }
+            self.advance();
         }
     }
 
-    /// Copies what is kept from a position on; none where that lies behind all of it.
-    fn copy_kept(&self, at: u64, out: &mut [u8]) -> usize
-        ensures { result ≤ length out.new }
-    {
-        let rest = self.rest(at);
-        let count = rest.len().min(out.len());
-        out[..count].copy_from_slice(&rest[..count]);
-        count
-    }
-
     /// Whether it would wait for the byte at a position. Bytes in front of it are passed over.
-    pub(crate) fn would_wait_at(&mut self, at: u64) -> bool {
+    pub(crate) fn would_wait_at(&mut self, at: u64) -> bool
+        ensures { GrewAlike (I.given self.old.feed.now) (I.given self.new.feed.now) self.old.held.trace.told self.new.held.trace.told }
+    {
         for _ in 0..u64::MAX {
-            if self.is_ready(at) {
+            if self.held.is_ready(at) {
                 return false;
             }
             if self.feed.would_wait() {
@@ -88,19 +67,18 @@ impl<'a, I: Feed> Pipe<'a, I> {
         false
     }
 
-    /// Reads bytes from a position on. Bytes in front of it are passed over.
+    /// Reads bytes from a position on. Bytes in front of it are passed over. What it gives is what the feed gave at that position, however
+    /// that was cut into pieces; it gives none only where the feed has come to its end in front of the position; and it fails once the feed
+    /// has failed.
     pub(crate) fn read_from(&mut self, at: u64, out: &mut [u8]) -> Result<usize, SourceFailed>
-        ensures { IfOk result (λ count. count ≤ length out.new) }
+        ensures grew { GrewAlike (I.given self.old.feed.now) (I.given self.new.feed.now) self.old.held.trace.told self.new.held.trace.told }
+        ensures few { IfOk result (λ count. count ≤ length out.new) }
+        ensures bytes { IfOk result (λ count. take count out.new ≡ take count (drop at (bytes_of self.new.held.trace.told))) }
+        ensures none { IfOk result (λ count. count ≡ 0 → 0 < length out.new → says_end self.new.held.trace.told ≡ true) }
+        ensures all { IfOk result (λ count. count ≡ 0 → 0 < length out.new → length (bytes_of self.new.held.trace.told) ≤ at) }
+        ensures failed { says_failed self.new.held.trace.told ≡ true → is_err result ≡ true }
     {
-        for _ in 0..u64::MAX {
-            if self.is_ready(at) {
-                break;
-            }
-            self.advance();
-        }
-        if self.has_failed {
-            return Err(SourceFailed);
-        }
-        Ok(self.copy_kept(at, out))
+        self.reach(at);
+        self.held.copy(at, out)
     }
 }

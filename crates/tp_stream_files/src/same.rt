@@ -3,10 +3,11 @@
 ghost use Rattle.std.specs.Prelude.{◌≡◌, ◌↔◌, [], ◌++◌, true, Some, Contains, IfSome, OnOk, option_to_list};
 
 use crate::ends::{Ends, PortFile};
+use crate::outside::Outside;
+use crate::system::Looks;
 use std::alloc::{AllocError, Global};
-use std::fs::{Files, Metadata, OpenFile};
+use std::fs::{Files, Metadata};
 use std::os::unix::fs::MetadataExt;
-use std::{fs, io};
 
 /// What the system calls standard input.
 const STANDARD_IN: &str = "/dev/stdin";
@@ -19,13 +20,13 @@ const STANDARD_ERROR: &str = "/dev/stderr";
 
 /// The numbers by which the system tells a file from all others.
 #[derive(Clone, Copy, PartialEq, Eq)]
-pub(crate) struct FileNumbers {
-    disk: u64,
-    number: u64,
+pub struct FileNumbers {
+    pub disk: u64,
+    pub number: u64,
 }
 
 /// The numbers of a file. None where the system says none.
-fn numbers_in(kept: &Metadata) -> Option<FileNumbers> {
+pub(crate) fn numbers_in(kept: &Metadata) -> Option<FileNumbers> {
     if kept.ino() == 0 {
         return None;
     }
@@ -35,40 +36,19 @@ fn numbers_in(kept: &Metadata) -> Option<FileNumbers> {
     })
 }
 
-/// The numbers of an open file.
-pub(crate) fn numbers_of<F: OpenFile>(file: &F) -> io::Result<Option<FileNumbers>> {
-    Ok(numbers_in(&file.metadata()?))
-}
-
-/// The numbers of the file that a path names.
-pub(crate) fn numbers_at<R: Files>(rt: &R, path: &str) -> Option<FileNumbers> {
-    match fs::metadata(rt, path) {
-        Ok(kept) => numbers_in(&kept),
-        Err(_) => None,
-    }
-}
-
-/// The numbers of the file that a standard stream goes to or comes from. None where that is no file but a terminal or a pipe.
-fn numbers_behind<R: Files>(rt: &R, stream: &str) -> Option<FileNumbers> {
-    match fs::metadata(rt, stream) {
-        Ok(kept) if kept.is_file() => numbers_in(&kept),
-        _ => None,
-    }
-}
-
 /// The numbers of the file that standard input comes from.
-pub(crate) fn standard_in<R: Files>(rt: &R) -> Option<FileNumbers> {
-    numbers_behind(rt, STANDARD_IN)
+pub(crate) fn standard_in<L: Looks>(looks: &L) -> Option<FileNumbers> {
+    looks.numbers_behind(STANDARD_IN)
 }
 
 /// The numbers of the file that standard output goes to.
-pub(crate) fn standard_out<R: Files>(rt: &R) -> Option<FileNumbers> {
-    numbers_behind(rt, STANDARD_OUT)
+pub(crate) fn standard_out<L: Looks>(looks: &L) -> Option<FileNumbers> {
+    looks.numbers_behind(STANDARD_OUT)
 }
 
 /// The numbers of the file that standard error goes to.
-pub(crate) fn standard_error<R: Files>(rt: &R) -> Option<FileNumbers> {
-    numbers_behind(rt, STANDARD_ERROR)
+pub(crate) fn standard_error<L: Looks>(looks: &L) -> Option<FileNumbers> {
+    looks.numbers_behind(STANDARD_ERROR)
 }
 
 /// Whether two numbers are those of one file.
@@ -85,7 +65,8 @@ pub(crate) fn are_one(one: Option<FileNumbers>, other: Option<FileNumbers>) -> b
 pub fn is_one_file<R: Files>(rt: &R, one: &str, other: &str) -> bool
     ensures { one.now ≡ other.now → result ≡ true }
 {
-    one == other || are_one(numbers_at(rt, one), numbers_at(rt, other))
+    let looks = Outside::new(rt);
+    one == other || are_one(looks.numbers_at(one), looks.numbers_at(other))
 }
 
 /// The files that have a part in a stream already.
@@ -126,20 +107,20 @@ impl Taken {
 }
 
 /// The numbers of the file that an output goes into, where it is there.
-fn numbers_out<R: Files>(rt: &R, end: &PortFile) -> Option<FileNumbers> {
+fn numbers_out<L: Looks>(looks: &L, end: &PortFile) -> Option<FileNumbers> {
     if end.is_standard() {
-        standard_out(rt)
+        standard_out(looks)
     } else {
-        numbers_at(rt, end.path.as_str())
+        looks.numbers_at(end.path.as_str())
     }
 }
 
 /// The numbers of the file that an input comes from.
-fn numbers_from<R: Files>(rt: &R, end: &PortFile) -> Option<FileNumbers> {
+fn numbers_from<L: Looks>(looks: &L, end: &PortFile) -> Option<FileNumbers> {
     if end.is_standard() {
-        standard_in(rt)
+        standard_in(looks)
     } else {
-        numbers_at(rt, end.path.as_str())
+        looks.numbers_at(end.path.as_str())
     }
 }
 
@@ -149,11 +130,11 @@ fn have_one_path(one: &PortFile, other: &PortFile) -> bool {
 }
 
 /// Whether an output goes into the file of one of these. Two that are standard output are told elsewhere.
-fn goes_into_output<R: Files>(rt: &R, end: &PortFile, outs: &[PortFile]) -> bool {
-    let numbers = numbers_out(rt, end);
+fn goes_into_output<L: Looks>(looks: &L, end: &PortFile, outs: &[PortFile]) -> bool {
+    let numbers = numbers_out(looks, end);
     for out in outs {
         let are_standard = end.is_standard() && out.is_standard();
-        if have_one_path(end, out) || (!are_standard && are_one(numbers, numbers_out(rt, out))) {
+        if have_one_path(end, out) || (!are_standard && are_one(numbers, numbers_out(looks, out))) {
             return true;
         }
     }
@@ -161,10 +142,10 @@ fn goes_into_output<R: Files>(rt: &R, end: &PortFile, outs: &[PortFile]) -> bool
 }
 
 /// Whether an output goes into the file of one of these inputs.
-fn goes_into_input<R: Files>(rt: &R, end: &PortFile, ins: &[PortFile]) -> bool {
-    let numbers = numbers_out(rt, end);
+fn goes_into_input<L: Looks>(looks: &L, end: &PortFile, ins: &[PortFile]) -> bool {
+    let numbers = numbers_out(looks, end);
     for input in ins {
-        if have_one_path(end, input) || are_one(numbers, numbers_from(rt, input)) {
+        if have_one_path(end, input) || are_one(numbers, numbers_from(looks, input)) {
             return true;
         }
     }
@@ -172,26 +153,26 @@ fn goes_into_input<R: Files>(rt: &R, end: &PortFile, ins: &[PortFile]) -> bool {
 }
 
 /// Whether an output goes into the file of the device, or a file that takes an output is what standard error goes to.
-fn goes_elsewhere<R: Files>(rt: &R, end: &PortFile, device: &str) -> bool {
-    let numbers = numbers_out(rt, end);
-    let is_device = are_one(numbers, numbers_at(rt, device));
+fn goes_elsewhere<L: Looks>(looks: &L, end: &PortFile, device: &str) -> bool {
+    let numbers = numbers_out(looks, end);
+    let is_device = are_one(numbers, looks.numbers_at(device));
     if end.is_standard() {
         return is_device;
     }
-    is_device || end.path.as_str() == device || are_one(numbers, standard_error(rt))
+    is_device || end.path.as_str() == device || are_one(numbers, standard_error(looks))
 }
 
 /// A port whose output goes into the file of the device, of an input, of another port's output or of standard error, as far as can be
 /// told before any file is made.
-pub(crate) fn same_file<R: Files>(rt: &R, device: &str, ends: &Ends) -> Option<u8> {
+pub(crate) fn same_file<L: Looks>(looks: &L, device: &str, ends: &Ends) -> Option<u8> {
     for (number, end) in ends.outs.iter().enumerate() {
         let before = match ends.outs.get(..number) {
             Some(before) => before,
             None => &[],
         };
-        if goes_elsewhere(rt, end, device)
-            || goes_into_output(rt, end, before)
-            || goes_into_input(rt, end, &ends.ins)
+        if goes_elsewhere(looks, end, device)
+            || goes_into_output(looks, end, before)
+            || goes_into_input(looks, end, &ends.ins)
         {
             return Some(end.port);
         }

@@ -1,20 +1,26 @@
 //! What takes a port's output in the program: a file, standard output, or nothing.
 
-ghost use Rattle.std.specs.Prelude.{◌≡◌, ◌↔◌, None, is_ok};
+ghost use Rattle.std.specs.Prelude.{◌≡◌, ◌↔◌, ◌++◌, ◌∷◌, [], true, None, length, is_ok, IfOk, OnOk, OnErr};
+ghost use Rattle.std.specs.IoError.{error_kind};
 ghost use Rattle.tp_stream_ends.specs.Held.{HasLength, HasPut, HasReach, IsSafe, KeepsBytes, KeepsFront, Reaches};
+ghost use Rattle.tp_stream_files.specs.Opening.{KeepsFiles, to_write};
+ghost use Rattle.tp_stream_files.specs.Sinks.{IsFolder, SyncsFolder, before_slash, begin_calls};
+ghost use Rattle.tp_stream_files.specs.Told.{Opened, Synced, Wrote};
+ghost use Rattle.tp_stream_files.specs.Trace.{size_after};
 
+use crate::outside::{Outside, OutsideFile};
+use crate::system::{EndFile, EndFiles};
 use std::fs::{Files, OpenFile, OpenOptions};
 use std::io;
 use std::io::{ErrorKind, Write};
 use std::os::unix::fs::FileExt;
-use tp_disk::{NotedFile, SystemFile};
 use tp_stream_ends::{Sink, SinkFault};
 
 /// A file whose byte number q is byte number q of the port.
 #[derive(Drop)]
 pub struct FileSink<F: Drop> {
-    file: NotedFile<F>,
-    length: u64,
+    file: F,
+    size: u64,
 }
 
 /// What takes a port's output.
@@ -27,23 +33,41 @@ pub enum AnySink<'a, F: Drop, O> {
     Nothing,
 }
 
-/// Syncs the folder of a path, so that a name made in it lasts.
-fn sync_folder<R: Files>(rt: &R, path: &str) -> io::Result<()> {
-    let folder = match path.rsplit_once('/') {
-        Some(("", _)) => "/",
-        Some((folder, _)) => folder,
+/// What is in front of a path's last slash, or the root where nothing is.
+fn before_slash(front: &str) -> &str
+    ensures { result.now ≡ before_slash front.now }
+{
+    if front.is_empty() { "/" } else { front }
+}
+
+/// The folder of a path.
+fn folder_of(path: &str) -> &str
+    ensures { IsFolder path.now result.now }
+{
+    match path.rsplit_once('/') {
+        Some((front, _)) => before_slash(front),
         None => ".",
-    };
-    OpenOptions::new().read(true).open(rt, folder)?.sync_all()
+    }
+}
+
+/// Syncs the folder of a file that is empty, since it may be new.
+fn sync_new<S: EndFiles>(files: &mut S, path: &str, size: u64) -> io::Result<()>
+    ensures kept { KeepsFiles (S.calls files.old) (S.calls files.new) }
+    ensures synced { OnOk result (SyncsFolder size path.now (S.calls files.old) (S.calls files.new)) }
+{
+    if size != 0 {
+        return Ok(());
+    }
+    files.sync_folder(folder_of(path))
 }
 
 /// The file of that path as it is, or an empty one that is made.
-pub(crate) fn file_at<R: Files>(rt: &R, path: &str) -> io::Result<R::File> {
-    OpenOptions::new()
-        .read(true)
-        .write(true)
-        .create(true)
-        .open(rt, path)
+pub(crate) fn file_at<S: EndFiles>(files: &mut S, path: &str) -> io::Result<S::File>
+    ensures noted { S.calls files.new ≡ S.calls files.old ++ Opened to_write path.now (is_ok result) ∷ [] }
+    ensures fresh { IfOk result (λ file. S.File.calls file ≡ []) }
+{
+    let mut how = OpenOptions::new();
+    files.open(how.read(true).write(true).create(true), path)
 }
 
 /// Why a call of the system wasn't done: whoever takes the bytes has gone just where nobody reads a pipe any more.
@@ -67,51 +91,100 @@ fn answer(done: io::Result<()>) -> Result<(), SinkFault>
     }
 }
 
-impl<F: FileExt + OpenFile + Drop> FileSink<F> {
+impl<F: FileExt + OpenFile + Drop> FileSink<OutsideFile<F>> {
     /// The file of that path as it is, or an empty one that is made.
-    pub fn open<R: Files<File = F>>(rt: &R, path: &str) -> io::Result<FileSink<F>> {
-        let file = file_at(rt, path)?;
-        FileSink::over(rt, path, file)
-    }
-
-    /// The file of that path, which is open, as it is. What is in it is synced: it counts as safe. So is the folder of one that is empty,
-    /// since it may be new.
-    pub fn over<R: Files<File = F>>(rt: &R, path: &str, file: F) -> io::Result<FileSink<F>> {
-        let mut file = NotedFile::new(file);
-        let length = file.measure()?;
-        file.sync()?;
-        if length == 0 {
-            sync_folder(rt, path)?;
-        }
-        Ok(FileSink { file, length })
-    }
-
-    /// Writes over what stands at a position.
-    fn put(&mut self, at: u64, bytes: &[u8]) -> Result<(), SinkFault> {
-        answer(self.file.write_all(at, bytes))?;
-        self.length = self.length.max(at.saturating_add(bytes.len() as u64));
-        Ok(())
+    pub fn open<R: Files<File = F>>(rt: &R, path: &str) -> io::Result<FileSink<OutsideFile<F>>> {
+        FileSink::open_in(&mut Outside::new(rt), path)
     }
 }
 
-impl<'a, F: FileExt + OpenFile + Drop, O: Write> Sink for AnySink<'a, F, O> {
+impl<F: EndFile + Drop> FileSink<F> {
+    /// The file of that path, which is open, as it is. What is in it is synced: it counts as safe. So is the folder of one that is empty,
+    /// since it may be new.
+    #[tactic(auto, using(crate::proofs::Keeping::keeps_none))]
+    pub fn over<S: EndFiles<File = F>>(
+        files: &mut S,
+        path: &str,
+        mut file: F,
+    ) -> io::Result<FileSink<F>>
+        ensures calls { IfOk result (λ sink. F.calls sink.file ≡ F.calls file ++ begin_calls sink.size) }
+        ensures kept { KeepsFiles (S.calls files.old) (S.calls files.new) }
+        ensures folder { IfOk result (λ sink. SyncsFolder sink.size path.now (S.calls files.old) (S.calls files.new)) }
+    {
+        let size = file.measure()?;
+        file.sync()?;
+        sync_new(files, path, size)?;
+        Ok(FileSink { file, size })
+    }
+
+    /// The file of that path as it is, or an empty one that is made.
+    #[tactic(auto, using(crate::proofs::Keeping::keeps_written, crate::proofs::Keeping::keeps_then))]
+    pub fn open_in<S: EndFiles<File = F>>(files: &mut S, path: &str) -> io::Result<FileSink<F>>
+        ensures kept { KeepsFiles (S.calls files.old) (S.calls files.new) }
+        ensures calls { IfOk result (λ sink. F.calls sink.file ≡ begin_calls sink.size) }
+        ensures folder { IfOk result (λ sink. SyncsFolder sink.size path.now (S.calls files.old ++ Opened to_write path.now true ∷ []) (S.calls files.new)) }
+    {
+        let file = file_at(files, path)?;
+        FileSink::over(files, path, file)
+    }
+
+    /// How many bytes it has.
+    pub fn size(&self) -> u64
+        ensures { result ≡ self.now.size }
+    {
+        self.size
+    }
+
+    /// Writes over what stands at a position. Where that fails it has as many bytes as before.
+    pub fn put(&mut self, at: u64, bytes: &[u8]) -> Result<(), SinkFault>
+        ensures calls { F.calls self.new.file ≡ F.calls self.old.file ++ Wrote at bytes.now (is_ok result) ∷ [] }
+        ensures size { self.new.size ≡ size_after self.old.size (Wrote at bytes.now (is_ok result)) }
+    {
+        answer(self.file.write_all(at, bytes))?;
+        self.size = self.size.max(at.saturating_add(bytes.len() as u64));
+        Ok(())
+    }
+
+    /// Syncs all that was written.
+    pub fn settle(&mut self) -> Result<(), SinkFault>
+        ensures calls { F.calls self.new.file ≡ F.calls self.old.file ++ Synced (is_ok result) ∷ [] }
+        ensures size { self.new.size ≡ self.old.size }
+    {
+        answer(self.file.sync())
+    }
+}
+
+impl<'a, F: EndFile + Drop, O: Write> Sink for AnySink<'a, F, O> {
+    ghost use Rattle.tp_stream_files.specs.Any.{WasPut, WasSettled, length_of, reach_of};
+
     ghost held = { λ _. None };
 
-    fn reach(&self) -> u64 {
+    fn reach(&self) -> u64
+        ensures there { Reaches result None }
+        ensures exactly { HasReach result None }
+        ensures value { result ≡ reach_of self.now }
+    {
         match self {
-            AnySink::File(sink) => sink.length,
+            AnySink::File(sink) => sink.size(),
             AnySink::Out(_) | AnySink::Nothing => u64::MAX,
         }
     }
 
-    fn length(&self) -> Option<u64> {
+    fn length(&self) -> Option<u64>
+        ensures held { HasLength result None }
+        ensures value { result ≡ length_of self.now }
+    {
         match self {
-            AnySink::File(sink) => Some(sink.length),
+            AnySink::File(sink) => Some(sink.size()),
             AnySink::Out(_) | AnySink::Nothing => None,
         }
     }
 
-    fn put(&mut self, at: u64, bytes: &[u8]) -> Result<(), SinkFault> {
+    fn put(&mut self, at: u64, bytes: &[u8]) -> Result<(), SinkFault>
+        ensures put { OnOk result (HasPut at bytes.now None None) }
+        ensures front { KeepsFront at None None }
+        ensures asked { WasPut F.calls O.contents at bytes.now (is_ok result) self.old self.new }
+    {
         match self {
             AnySink::File(sink) => sink.put(at, bytes),
             AnySink::Out(out) => answer(out.write_all(bytes)),
@@ -119,9 +192,13 @@ impl<'a, F: FileExt + OpenFile + Drop, O: Write> Sink for AnySink<'a, F, O> {
         }
     }
 
-    fn settle(&mut self) -> Result<(), SinkFault> {
+    fn settle(&mut self) -> Result<(), SinkFault>
+        ensures safe { OnOk result (IsSafe None) }
+        ensures bytes { KeepsBytes None None }
+        ensures asked { WasSettled F.calls O.contents (is_ok result) self.old self.new }
+    {
         match self {
-            AnySink::File(sink) => answer(sink.file.sync()),
+            AnySink::File(sink) => sink.settle(),
             AnySink::Out(out) => answer(out.flush()),
             AnySink::Nothing => Ok(()),
         }

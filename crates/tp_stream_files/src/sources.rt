@@ -1,12 +1,11 @@
 //! Where a port's input comes from in the program: a file, or standard input.
 
-ghost use Rattle.std.specs.Prelude.{◌≤◌, None, length, IfOk};
+ghost use Rattle.std.specs.Prelude.{◌≡◌, ◌≤◌, ℕ, List, Option, None, length, take, IfOk};
 ghost use Rattle.tp_stream_ends.specs.Inputs.{AreFrom, IsLength};
 
 use crate::feeds::Feed;
 use crate::pipes::Pipe;
-use std::fs::OpenFile;
-use std::os::unix::fs::FileExt;
+use crate::system::EndFile;
 use tp_stream_ends::{Source, SourceFailed};
 
 /// Where a port's input comes from.
@@ -16,34 +15,36 @@ pub enum AnySource<'a, F: Drop, I> {
     In(Pipe<'a, I>),
 }
 
-/// How many bytes a file has. None where it is no regular file, or the system doesn't say.
-fn length_of<F: OpenFile>(file: &F) -> Option<u64> {
-    match file.metadata() {
-        Ok(kept) if kept.is_file() => Some(kept.len()),
-        _ => None,
-    }
-}
+impl<'a, F: EndFile + Drop, I: Feed> Source for AnySource<'a, F, I> {
+    ghost use Rattle.tp_stream_files.specs.Any.{WasAsked, WasRead};
 
-impl<'a, F: FileExt + OpenFile + Drop, I: Feed> Source for AnySource<'a, F, I> {
     ghost input = { λ _. None };
 
     fn length(&self) -> Option<u64> {
         match self {
-            AnySource::File(file) => length_of(file),
+            AnySource::File(file) => file.regular_length(),
             AnySource::In(_) => None,
         }
     }
 
-    fn would_wait(&mut self, at: u64) -> bool {
+    fn would_wait(&mut self, at: u64) -> bool
+        ensures same { let none : Option (List ℕ) = None in none ≡ none }
+        ensures asked { WasAsked I.given result self.old self.new }
+    {
         match self {
             AnySource::File(_) => false,
             AnySource::In(pipe) => pipe.would_wait_at(at),
         }
     }
 
-    fn read(&mut self, at: u64, out: &mut [u8]) -> Result<usize, SourceFailed> {
+    fn read(&mut self, at: u64, out: &mut [u8]) -> Result<usize, SourceFailed>
+        ensures few { IfOk result (λ count. count ≤ length out.new) }
+        ensures same { let none : Option (List ℕ) = None in none ≡ none }
+        ensures bytes { IfOk result (λ count. AreFrom None at (take count out.new)) }
+        ensures asked { WasRead F.calls I.given at result out.new self.old self.new }
+    {
         match self {
-            AnySource::File(file) => file.read_at(out, at).map_err(|_| SourceFailed),
+            AnySource::File(file) => file.read_at(at, out).map_err(|_| SourceFailed),
             AnySource::In(pipe) => pipe.read_from(at, out),
         }
     }

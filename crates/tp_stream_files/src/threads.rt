@@ -1,6 +1,11 @@
 //! Bytes that a thread of its own reads, so that nobody else waits for them.
 
+ghost use Rattle.std.specs.Prelude.{◌≡◌, ◌≤◌, true, length, is_err, IfNone, IfOk, IfSome};
+ghost use Rattle.std.specs.Io.KnownBytes.{ReadConsumes};
+ghost use Rattle.tp_stream_files.specs.Trace.{count_in};
+
 use crate::feeds::{Feed, read_some};
+use crate::trace::Trace;
 use crossbeam_channel::{Receiver, Sender, TryRecvError, bounded};
 use std::alloc::Global;
 use std::io::Read;
@@ -13,41 +18,46 @@ use tp_stream_ends::SourceFailed;
 /// How many pieces are read before the first one is taken.
 const PIECES: usize = 4;
 
-/// Bytes that were read; none at the end, and none where a read failed.
+/// What one read gave: how many bytes, none at the end, or that it failed; and the bytes.
 #[derive(Drop)]
 struct Piece {
-    count: usize,
-    has_failed: bool,
+    came: Result<usize, SourceFailed>,
     bytes: [u8; MAX_HELD],
+    ghost few: { count_in came ≤ length bytes },
 }
 
 /// Reads the next piece.
-fn read_piece<I: Read>(reader: &mut I) -> Piece {
+fn read_piece<I: Read>(reader: &mut I) -> Piece
+    ensures { ReadConsumes (I.remaining reader.old) (I.remaining reader.new) result.came result.bytes }
+{
     let mut bytes = [0u8; MAX_HELD];
-    match read_some(reader, &mut bytes) {
-        Ok(count) => Piece {
-            count,
-            has_failed: false,
-            bytes,
-        },
-        Err(SourceFailed) => Piece {
-            count: 0,
-            has_failed: true,
-            bytes,
-        },
-    }
+    let came = read_some(reader, &mut bytes);
+    Piece { came, bytes }
 }
 
-/// Sends each piece of a reader, until its end or until nobody takes them.
+/// Sends each piece of a reader, until its end, until a read fails, or until nobody takes them.
 fn send_pieces<R: Wait, I: Read + Drop>(rt: &R, reader: I, pieces: Sender<Piece>) {
     let mut reader = reader;
     for _ in rt.forever() {
         let piece = read_piece(&mut reader);
-        let is_last = piece.count == 0;
+        let is_last = matches!(piece.came, Ok(0) | Err(_));
         if pieces.send(rt, piece).is_err() || is_last {
             break;
         }
     }
+}
+
+/// Gives what a piece has. No piece is a failure: its reader has gone without a word.
+fn give(piece: Option<Piece>, out: &mut [u8; MAX_HELD]) -> Result<usize, SourceFailed>
+    ensures few { IfOk result (λ count. count ≤ length out.new) }
+    ensures piece { IfSome piece (λ piece. (result ≡ piece.came) × (out.new ≡ piece.bytes)) }
+    ensures none { IfNone piece (is_err result ≡ true) }
+{
+    let Some(piece) = piece else {
+        return Err(SourceFailed);
+    };
+    out.copy_from_slice(&piece.bytes);
+    piece.came
 }
 
 /// Bytes that a thread of its own reads. It isn't joined, since a read that waits can't be ended.
@@ -58,6 +68,7 @@ pub struct Threaded<R: Drop> {
     /// A piece that came and wasn't taken.
     ready: Option<Piece>,
     is_over: bool,
+    trace: Trace,
 }
 
 /// Begins a thread that reads all of a reader. None where there is no memory for it, or no thread.
@@ -85,22 +96,40 @@ impl<R: Threads + Wait + AllocGlobal + Copy + Drop + Send + 'static> Threaded<R>
             pieces,
             ready: None,
             is_over: false,
+            trace: Trace::new(),
         }
     }
 }
 
 impl<R: Wait + Drop> Threaded<R> {
     /// The next piece, for which it waits.
-    fn take(&mut self) -> Option<Piece> {
+    fn take(&mut self) -> Option<Piece>
+        ensures { self.new.trace.told ≡ self.old.trace.told }
+    {
         if let Some(piece) = self.ready.take() {
             return Some(piece);
         }
         let pieces = self.pieces.as_ref()?;
         pieces.recv(&self.rt).ok()
     }
+
+    /// Gives the next piece, for which it waits. Behind the end there are no bytes.
+    fn next_piece(&mut self, out: &mut [u8; MAX_HELD]) -> Result<usize, SourceFailed>
+        ensures few { IfOk result (λ count. count ≤ length out.new) }
+        ensures same { self.new.trace.told ≡ self.old.trace.told }
+    {
+        if self.is_over {
+            return Ok(0);
+        }
+        let came = give(self.take(), out);
+        self.is_over = matches!(came, Ok(0));
+        came
+    }
 }
 
 impl<R: Wait + Drop> Feed for Threaded<R> {
+    ghost given = { λ feed. feed.trace.told };
+
     fn would_wait(&mut self) -> bool {
         if self.is_over || self.ready.is_some() {
             return false;
@@ -119,17 +148,11 @@ impl<R: Wait + Drop> Feed for Threaded<R> {
     }
 
     fn next(&mut self, out: &mut [u8; MAX_HELD]) -> Result<usize, SourceFailed> {
-        if self.is_over {
-            return Ok(0);
-        }
-        let Some(piece) = self.take() else {
-            return Err(SourceFailed);
+        let came = self.next_piece(out);
+        self.trace = match came {
+            Ok(count) => self.trace.gave(&out[..count]),
+            Err(SourceFailed) => self.trace.give_failed(),
         };
-        if piece.has_failed {
-            return Err(SourceFailed);
-        }
-        self.is_over = piece.count == 0;
-        out.copy_from_slice(&piece.bytes);
-        Ok(piece.count)
+        came
     }
 }

@@ -1,0 +1,5 @@
+pub mod Traces
+pub mod Known
+pub mod Folders
+pub mod Keeping
+pub mod Pushed

@@ -1,0 +1,6 @@
+pub mod Told
+pub mod Trace
+pub mod Sinks
+pub mod Opening
+pub mod Any
+pub mod Named

@@ -1,0 +1,129 @@
+//! The last bytes that came of a feed, by positions.
+
+ghost use Rattle.std.specs.Prelude.{◌≡◌, ◌+◌, ◌<◌, ◌≤◌, ◌⊎◌, ◌∷◌, [], ◌++◌, true, length, take, drop, is_err, IfOk, IfSome, OnErr, OnOk};
+ghost use Rattle.tp_stream_files.specs.Told.{Gave, GiveFailed};
+ghost use Rattle.tp_stream_files.specs.Trace.{bytes_of, gave, says_end, says_failed};
+
+use crate::trace::Trace;
+use tp_model::limits::MAX_HELD;
+use tp_stream_ends::SourceFailed;
+
+/// The last bytes that came of a feed: they are kept, since a port may have no room for them yet. Those in front of them are gone.
+#[derive(Drop)]
+pub(crate) struct Held {
+    /// What the feed has given.
+    trace: Trace,
+    /// The position of the first byte that is kept.
+    from: u64,
+    count: usize,
+    kept: [u8; MAX_HELD],
+    has_ended: bool,
+    has_failed: bool,
+    ghost few: { count ≤ length kept },
+    ghost place: { from + count ≡ length (bytes_of trace.told) },
+    ghost bytes: { take count kept ≡ drop from (bytes_of trace.told) },
+    ghost ended: { has_ended ≡ true → says_end trace.told ≡ true },
+    ghost failed: { says_failed trace.told ≡ true → has_failed ≡ true },
+}
+
+impl Held {
+    /// Nothing has come.
+    pub(crate) fn new() -> Held
+        ensures { result.trace.told ≡ [] }
+    {
+        Held {
+            trace: Trace::new(),
+            from: 0,
+            count: 0,
+            kept: [0u8; MAX_HELD],
+            has_ended: false,
+            has_failed: false,
+        }
+    }
+
+    /// Whether a byte at a position is kept or in front of those, or none comes any more.
+    pub(crate) fn is_ready(&self, at: u64) -> bool {
+        self.has_ended || self.has_failed || self.from.saturating_add(self.count as u64) > at
+    }
+
+    /// The position behind all bytes that came. None where it is above the greatest number.
+    pub(crate) fn behind(&self) -> Option<u64>
+        ensures { IfSome result (λ behind. behind ≡ length (bytes_of self.now.trace.told)) }
+    {
+        self.from.checked_add(self.count as u64)
+    }
+
+    /// Notes that no more bytes can be counted.
+    pub(crate) fn stop(&mut self)
+        ensures { self.new.trace.told ≡ self.old.trace.told }
+    {
+        self.has_failed = true;
+    }
+
+    /// Takes what a feed gave in place of the bytes that are kept; `behind` is the position behind them.
+    pub(crate) fn take_piece(
+        &mut self,
+        behind: u64,
+        done: Result<usize, SourceFailed>,
+        kept: &[u8; MAX_HELD],
+    )
+        requires few { IfOk done (λ count. count ≤ length kept.now) }
+        requires behind { behind ≡ length (bytes_of self.old.trace.told) }
+        ensures { self.new.trace.told ≡ self.old.trace.told ++ gave done kept.now ∷ [] }
+    {
+        match done {
+            Ok(count) => self.take_bytes(behind, count, kept),
+            Err(SourceFailed) => self.take_failure(),
+        }
+    }
+
+    /// Takes the bytes that a feed gave; none at its end.
+    #[tactic(auto, using(crate::proofs::Traces::bytes_of_gave, crate::proofs::Traces::says_end_gave, crate::proofs::Traces::says_failed_gave))]
+    fn take_bytes(&mut self, behind: u64, count: usize, kept: &[u8; MAX_HELD])
+        requires few { count ≤ length kept.now }
+        requires behind { behind ≡ length (bytes_of self.old.trace.told) }
+        ensures { self.new.trace.told ≡ self.old.trace.told ++ Gave (take count kept.now) ∷ [] }
+    {
+        self.trace = self.trace.gave(&kept[..count]);
+        self.from = behind;
+        self.count = count;
+        self.kept = *kept;
+        self.has_ended = self.has_ended || count == 0;
+    }
+
+    /// Notes that a feed failed.
+    #[tactic(auto, using(crate::proofs::Traces::bytes_of_failed, crate::proofs::Traces::says_end_failed))]
+    fn take_failure(&mut self)
+        ensures { self.new.trace.told ≡ self.old.trace.told ++ GiveFailed ∷ [] }
+    {
+        self.trace = self.trace.give_failed();
+        self.has_failed = true;
+    }
+
+    /// Copies the bytes that came from a position on, as many as are kept and `out` has room for; none at the end. Bytes in front of those
+    /// that are kept, and bytes that haven't come, can't be given.
+    pub(crate) fn copy(&self, at: u64, out: &mut [u8]) -> Result<usize, SourceFailed>
+        ensures few { IfOk result (λ count. count ≤ length out.new) }
+        ensures bytes { IfOk result (λ count. take count out.new ≡ take count (drop at (bytes_of self.now.trace.told))) }
+        ensures none { IfOk result (λ count. count ≡ 0 → 0 < length out.new → says_end self.now.trace.told ≡ true) }
+        ensures all { IfOk result (λ count. count ≡ 0 → 0 < length out.new → length (bytes_of self.now.trace.told) ≤ at) }
+        ensures failed { says_failed self.now.trace.told ≡ true → is_err result ≡ true }
+        ensures front { at < self.now.from → is_err result ≡ true }
+    {
+        if self.has_failed || at < self.from {
+            return Err(SourceFailed);
+        }
+        let place = at - self.from;
+        if place < self.count as u64 {
+            let rest = &self.kept[place as usize..self.count];
+            let count = rest.len().min(out.len());
+            out[..count].copy_from_slice(&rest[..count]);
+            return Ok(count);
+        }
+        if self.has_ended {
+            Ok(0)
+        } else {
+            Err(SourceFailed)
+        }
+    }
+}

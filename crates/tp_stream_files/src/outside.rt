@@ -1,0 +1,139 @@
+//! The files of the system, each call of which is noted.
+//!
+//! That each method here makes the one call that it notes is held by reading alone: no contract can say what a file takes.
+
+ghost use Rattle.std.specs.Prelude.{◌≡◌, [], ◌∷◌, ◌++◌};
+
+use crate::same::{FileNumbers, numbers_in};
+use crate::system::{EndFile, EndFiles, Looks};
+use crate::trace::Trace;
+use std::fs::{Files, OpenFile, OpenOptions};
+use std::os::unix::fs::FileExt;
+use std::{fs, io};
+
+/// What opens files of the system.
+#[derive(Drop)]
+pub struct Outside<'r, R> {
+    rt: &'r R,
+    trace: Trace,
+}
+
+/// An open file of the system.
+#[derive(Drop)]
+pub struct OutsideFile<F: Drop> {
+    file: F,
+    trace: Trace,
+}
+
+impl<'r, R> Outside<'r, R> {
+    /// No call of it was made.
+    pub fn new(rt: &'r R) -> Outside<'r, R>
+        ensures { result.trace.told ≡ [] }
+    {
+        Outside {
+            rt,
+            trace: Trace::new(),
+        }
+    }
+}
+
+impl<F: Drop> OutsideFile<F> {
+    /// No call of it was made.
+    pub(crate) fn new(file: F) -> OutsideFile<F>
+        ensures { result.trace.told ≡ [] }
+    {
+        OutsideFile {
+            file,
+            trace: Trace::new(),
+        }
+    }
+}
+
+impl<F: FileExt + OpenFile + Drop> EndFile for OutsideFile<F> {
+    ghost calls = { λ file. file.trace.told };
+
+    fn measure(&mut self) -> io::Result<u64> {
+        let said = self.file.metadata();
+        match said {
+            Ok(kept) => {
+                self.trace = self.trace.measured(kept.len());
+                Ok(kept.len())
+            }
+            Err(error) => {
+                self.trace = self.trace.measure_failed();
+                Err(error)
+            }
+        }
+    }
+
+    fn read_at(&mut self, at: u64, out: &mut [u8]) -> io::Result<usize> {
+        let done = self.file.read_at(out, at);
+        self.trace = match &done {
+            Ok(count) => self.trace.has_read(at, &out[..*count]),
+            Err(_) => self.trace.read_failed(at),
+        };
+        done
+    }
+
+    fn write_all(&mut self, at: u64, bytes: &[u8]) -> io::Result<()> {
+        let done = self.file.write_all_at(bytes, at);
+        self.trace = self.trace.wrote(at, bytes, done.is_ok());
+        done
+    }
+
+    fn sync(&mut self) -> io::Result<()> {
+        let done = self.file.sync_all();
+        self.trace = self.trace.synced(done.is_ok());
+        done
+    }
+
+    fn regular_length(&self) -> Option<u64> {
+        match self.file.metadata() {
+            Ok(kept) if kept.is_file() => Some(kept.len()),
+            _ => None,
+        }
+    }
+
+    fn numbers(&self) -> io::Result<Option<FileNumbers>> {
+        Ok(numbers_in(&self.file.metadata()?))
+    }
+}
+
+/// Syncs a folder of the system.
+fn sync_folder<R: Files>(rt: &R, folder: &str) -> io::Result<()> {
+    OpenOptions::new().read(true).open(rt, folder)?.sync_all()
+}
+
+impl<'r, R: Files<File = F>, F: FileExt + OpenFile + Drop> EndFiles for Outside<'r, R> {
+    type File = OutsideFile<F>;
+
+    ghost calls = { λ files. files.trace.told };
+
+    fn open(&mut self, how: &OpenOptions, path: &str) -> io::Result<OutsideFile<F>> {
+        let done = how.open(self.rt, path);
+        self.trace = self.trace.opened(how, path, done.is_ok());
+        Ok(OutsideFile::new(done?))
+    }
+
+    fn sync_folder(&mut self, folder: &str) -> io::Result<()> {
+        let done = sync_folder(self.rt, folder);
+        self.trace = self.trace.synced_folder(folder, done.is_ok());
+        done
+    }
+}
+
+impl<'r, R: Files> Looks for Outside<'r, R> {
+    fn numbers_at(&self, path: &str) -> Option<FileNumbers> {
+        match fs::metadata(self.rt, path) {
+            Ok(kept) => numbers_in(&kept),
+            Err(_) => None,
+        }
+    }
+
+    fn numbers_behind(&self, stream: &str) -> Option<FileNumbers> {
+        match fs::metadata(self.rt, stream) {
+            Ok(kept) if kept.is_file() => numbers_in(&kept),
+            _ => None,
+        }
+    }
+}

@@ -1,0 +1,64 @@
+//! The system's calls on the files of streams.
+
+ghost use Rattle.std.specs.Prelude.{◌≡◌, ◌≤◌, List, [], ◌∷◌, ◌++◌, length, is_ok, IfOk};
+ghost use Rattle.tp_stream_files.specs.Told.{Told, Opened, SyncedFolder, Synced, Wrote};
+ghost use Rattle.tp_stream_files.specs.Trace.{measured, read};
+
+use crate::same::FileNumbers;
+use std::fs::OpenOptions;
+use std::io;
+
+/// An open file, as an end uses it. No call of it cuts the file.
+pub trait EndFile {
+    /// The calls that were made on it, the oldest first.
+    ghost calls: { Self → List Told };
+
+    /// How many bytes it has.
+    fn measure(&mut self) -> io::Result<u64>
+        ensures { calls self.new ≡ calls self.old ++ measured result ∷ [] };
+
+    /// Reads bytes from a place on into `out`, and answers how many: fewer than `out` has where fewer are given, none at the end.
+    fn read_at(&mut self, at: u64, out: &mut [u8]) -> io::Result<usize>
+        ensures few { IfOk result (λ count. count ≤ length out.new) }
+        ensures noted { calls self.new ≡ calls self.old ++ read at result out.new ∷ [] };
+
+    /// Writes over what is there. Ok only where all bytes went.
+    fn write_all(&mut self, at: u64, bytes: &[u8]) -> io::Result<()>
+        ensures { calls self.new ≡ calls self.old ++ Wrote at bytes.now (is_ok result) ∷ [] };
+
+    /// Has the system force what was written to the device below.
+    fn sync(&mut self) -> io::Result<()>
+        ensures { calls self.new ≡ calls self.old ++ Synced (is_ok result) ∷ [] };
+
+    /// How many bytes it has, where it is a regular file and the system says so. It is asked anew each time.
+    fn regular_length(&self) -> Option<u64>;
+
+    /// The numbers by which the system tells it from all others. None where it says none.
+    fn numbers(&self) -> io::Result<Option<FileNumbers>>;
+}
+
+/// What opens files.
+pub trait EndFiles {
+    type File: EndFile + Drop;
+
+    /// The calls that were made on it, the oldest first.
+    ghost calls: { Self → List Told };
+
+    /// Opens the file of a path. No call was made on it.
+    fn open(&mut self, how: &OpenOptions, path: &str) -> io::Result<Self::File>
+        ensures noted { calls self.new ≡ calls self.old ++ Opened how.now path.now (is_ok result) ∷ [] }
+        ensures fresh { IfOk result (λ file. Self.File.calls file ≡ []) };
+
+    /// Syncs a folder, so that a name made in it lasts.
+    fn sync_folder(&mut self, folder: &str) -> io::Result<()>
+        ensures { calls self.new ≡ calls self.old ++ SyncedFolder folder.now (is_ok result) ∷ [] };
+}
+
+/// What says which file a path names. It is asked anew each time.
+pub trait Looks {
+    /// The numbers of the file that a path names. None where none is there, or the system says none.
+    fn numbers_at(&self, path: &str) -> Option<FileNumbers>;
+
+    /// The numbers of the file that a standard stream goes to or comes from. None where that is no file but a terminal or a pipe.
+    fn numbers_behind(&self, stream: &str) -> Option<FileNumbers>;
+}
