@@ -175,12 +175,7 @@ fn fill_and_name<R: Files + AllocGlobal, D: Disk, F: FileExt + OpenFile + Drop, 
 }
 
 /// Makes the copy of a device. Answers what is to be printed. Where it isn't made, the file that was made for it is removed.
-fn make_copy<
-    R: Files<File = F> + AllocGlobal,
-    F: FileExt + OpenFile + Drop,
-    D: Disk,
-    E: Write,
->(
+fn make_copy<R: Files<File = F> + AllocGlobal, F: FileExt + OpenFile + Drop, D: Disk, E: Write>(
     rt: &R,
     source: &mut D,
     names: &Names<'_>,

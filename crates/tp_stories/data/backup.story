@@ -29,7 +29,8 @@ tpnet run device --turns 0 --port 1
 tpnet run copy --turns 0 --port 1
 # The copy stays what it was when the device goes on, and so does a copy of a copy.
 tpnet backup copy second
-tpnet run device --turns 0 --port 0 --in in
+text in abc
+tpnet run device --turns 0 --in in
 tpnet recover second
 folder place
 tpnet backup device place/third

@@ -101,7 +101,10 @@ fn each_call_may_be_the_last(rt: HostRuntime) -> Result<(), Fail> {
 #[test]
 fn a_file_that_is_there_stays(rt: HostRuntime) -> Result<(), Fail> {
     let (scratch, device) = network(&rt, "backup_there")?;
-    for (name, line) in [("copy", "tpnet: CopyExists\n"), ("copy.part", "tpnet: PartExists\n")] {
+    for (name, line) in [
+        ("copy", "tpnet: CopyExists\n"),
+        ("copy.part", "tpnet: PartExists\n"),
+    ] {
         cleared(&rt, &scratch)?;
         scratch.put(&rt, name, b"precious")?;
         for number in 0..10u64 {

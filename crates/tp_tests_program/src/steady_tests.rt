@@ -302,7 +302,6 @@ fn call_of(reader: Reader, calls: u64) -> u64 {
     }
 }
 
-
 /// Whether a command says what it has to of a device that is written once in each of so many tries.
 fn is_tried<R: AllocGlobal + Threads + Sync>(
     rt: &R,

@@ -31,11 +31,7 @@ pub fn is_backup(words: &[String]) -> bool {
 }
 
 /// The copy that was found among the words.
-fn backup_of(
-    alloc: Global,
-    words: &[String],
-    matches: &ArgMatches,
-) -> Result<BackupAsked, ArgFault>
+fn backup_of(alloc: Global, words: &[String], matches: &ArgMatches) -> Result<BackupAsked, ArgFault>
     ensures { IfOk result (WasBackupTyped words.now) }
 {
     match matches.subcommand() {
