@@ -2,6 +2,7 @@
 
 use crate::file_tests::network;
 use crate::program::tpnet;
+use crate::tests::Shut;
 use std::fs;
 use std::fs::{Files, OpenFile};
 use std::os::unix::fs::FileExt;
@@ -9,8 +10,10 @@ use std::sync::Wait;
 use std::sync::atomic::Ordering;
 use std::test::Fail;
 use std::thread::Threads;
+use tp_program::answer;
 use tp_tests_files::faults::{Faults, FaultyFiles};
 use tp_tests_files::scratch::{Output, Scratch};
+use tp_tests_files::standing::Standing;
 
 const BACKUP: &[&str] = &["backup", "@device", "@copy"];
 
@@ -151,5 +154,35 @@ fn how_files_are_opened(rt: HostRuntime) -> Result<(), Fail> {
         assert!(rt; !faults.writable.load(Ordering::SeqCst));
         assert!(rt; is_copied(&rt, &scratch)?);
     }
+    scratch.remove(&rt)
+}
+
+/// Where standard output can't be written the copy is made, and that isn't said to be done.
+#[test]
+fn an_output_that_fails(rt: HostRuntime) -> Result<(), Fail> {
+    let (scratch, device) = network(&rt, "backup_untold")?;
+    let line = scratch.line(rt.alloc(), &["backup", "@device", "@copy", "--explain"])?;
+    let mut err = Vec::new(rt.alloc());
+    let status = answer(&rt, line.as_slice(), &mut Shut, &mut err);
+    assert!(rt; status == 1 && err.as_slice().starts_with(b"tpnet: DeviceFailed\n"));
+    assert!(rt;
+        err.as_slice()
+            .ends_with(b"Standard output can't be written.\n")
+    );
+    assert!(rt; is_copied(&rt, &scratch)? && !is_there(&rt, &scratch, "copy.part")?);
+    assert!(rt; is_kept(&rt, &scratch, device.as_slice())?);
+    scratch.remove(&rt)
+}
+
+/// Where standard output is the device's file nothing is copied, nor printed over it.
+#[test]
+fn an_output_into_the_device(rt: HostRuntime) -> Result<(), Fail> {
+    let (scratch, device) = network(&rt, "backup_into")?;
+    let mut streams = Vec::new(rt.alloc());
+    streams.push(("/dev/stdout", scratch.path(rt.alloc(), "device")?))?;
+    let output = tpnet(&Standing::new(&rt, streams.as_slice()), &scratch, BACKUP)?;
+    assert!(rt; output.status == 2 && output.out.is_empty() && !output.err.is_empty());
+    assert!(rt; !is_there(&rt, &scratch, "copy")?);
+    assert!(rt; is_kept(&rt, &scratch, device.as_slice())?);
     scratch.remove(&rt)
 }
