@@ -268,7 +268,7 @@ pub fn view_file<
 }
 
 /// The device in a file that is there, to be read alone. What is no device's file isn't opened.
-fn disk_to_read<R: Files<File = F>, F: FileExt + OpenFile + Drop>(
+pub(crate) fn disk_to_read<R: Files<File = F>, F: FileExt + OpenFile + Drop>(
     rt: &R,
     device: &str,
 ) -> Result<Counted<RawFile<NotedFile<F>>>, Refusal> {

@@ -1,6 +1,10 @@
 //! What the program does for the words of its command line: the commands that write a device, over any device, and all of them on files.
 #![tactic(auto)]
 
+mod backing_up;
+mod backup_explain;
+mod backup_files;
+mod backup_program;
 mod compacting;
 mod files;
 mod formatting;
@@ -12,6 +16,7 @@ mod stream_program;
 mod streaming;
 mod watching;
 
+pub use backing_up::backup_on;
 pub use compacting::compact_on;
 pub use formatting::format_on;
 pub use in_use::refuse_in_use;
@@ -23,7 +28,8 @@ pub use tp_views::{
     Seen, TRY_QUANTUM, check_on, is_device_file, recover_on, show_on, status_on, try_on, view_on,
 };
 pub use tp_words::{
-    ArgFault, Asked, EndsFault, NewDevice, Run, StreamArgFault, StreamAsked, StreamRun, View,
-    is_stream, read_args, read_stream_args, wants_input,
+    ArgFault, Asked, Backup, BackupAsked, EndsFault, NewDevice, Run, StreamArgFault, StreamAsked,
+    StreamRun, View, is_backup, is_stream, read_args, read_backup_args, read_stream_args,
+    wants_input,
 };
 pub use watching::{OneLook, Watch};

@@ -3,6 +3,7 @@
 ghost use Rattle.std.specs.Prelude.{◌≡◌, ◌≤◌};
 ghost use Rattle.tp_words.specs.Args.{IsInRange};
 
+use crate::backup_program::answer_backup;
 use crate::files::{
     check_file, compact_file, format_file, recover_file, run_file, show_file, status_file,
     try_file, view_file,
@@ -16,7 +17,7 @@ use std::sync::Wait;
 use std::thread::Threads;
 use tp_stream_files::is_one_file;
 use tp_views::{explain, print_help, tell_halted};
-use tp_words::{Asked, has_word, read_args};
+use tp_words::{Asked, has_word, is_backup, read_args};
 
 /// Does what was asked for. Answers the program's status: 0 where it was done, 1 where it was refused, 2 where a node or port
 /// isn't there. What the system said of a call on a device that failed is put into `system`.
@@ -74,16 +75,21 @@ fn device_of(asked: &Asked) -> Option<&str> {
     }
 }
 
-/// Whether what is printed would be written over the device.
+/// Whether what is printed would be written over the file of a device.
+pub(crate) fn prints_into<R: Files>(rt: &R, device: &str) -> bool {
+    is_one_file(rt, device, STANDARD_OUT)
+}
+
+/// Whether what is printed would be written over the device that is asked for.
 fn prints_into_device<R: Files>(rt: &R, asked: &Asked) -> bool {
     match device_of(asked) {
-        Some(device) => is_one_file(rt, device, STANDARD_OUT),
+        Some(device) => prints_into(rt, device),
         None => false,
     }
 }
 
 /// Says that what is printed would be written over the device. Answers the status. A failed write is let go.
-fn refuse_output<E: Write>(err: &mut E) -> u8
+pub(crate) fn refuse_output<E: Write>(err: &mut E) -> u8
     ensures { result ≡ 2 }
 {
     let _ = write!(
@@ -105,6 +111,9 @@ pub fn answer_watching<
 >(rt: &R, watch: &mut W, words: &[String], out: &mut O, err: &mut E) -> u8
     ensures { result ≤ 2 }
 {
+    if is_backup(words) {
+        return answer_backup(rt, words, out, err);
+    }
     match read_args(rt.alloc(), words) {
         Ok(asked) if prints_into_device(rt, &asked) => refuse_output(err),
         Ok(asked) => {

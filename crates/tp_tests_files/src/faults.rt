@@ -1,4 +1,4 @@
-//! A file system in which calls on one file fail.
+//! A file system in which calls fail.
 
 use std::alloc::{Allocator, Global};
 use std::fs::{Files, Metadata, OpenFile, OpenOptions};
@@ -20,6 +20,10 @@ pub struct Faults {
     most: usize,
     /// Whether opening it for writing is refused.
     only_reads: bool,
+    /// Whether calls on all files count, and those that open, link and remove a file and look what stands at a path, too.
+    is_everywhere: bool,
+    /// Whether nothing is seen at a path.
+    is_blind: bool,
     /// Whether that was asked for.
     pub writable: AtomicBool,
     /// How many other files and folders were synced.
@@ -34,6 +38,8 @@ impl Faults {
             goes_on,
             most: usize::MAX,
             only_reads: false,
+            is_everywhere: false,
+            is_blind: false,
             writable: AtomicBool::new(false),
             synced: AtomicU64::new(0),
         }
@@ -46,6 +52,8 @@ impl Faults {
             goes_on: true,
             most,
             only_reads: false,
+            is_everywhere: false,
+            is_blind: false,
             writable: AtomicBool::new(false),
             synced: AtomicU64::new(0),
         }
@@ -56,6 +64,32 @@ impl Faults {
         Faults {
             only_reads: true,
             ..Faults::short(usize::MAX)
+        }
+    }
+
+    /// The call of that number fails, whatever the file is, and those behind it unless it goes on. Calls that open, link and remove a file
+    /// count, too, and those that look what stands at a path.
+    pub fn everywhere(number: u64, goes_on: bool) -> Faults {
+        Faults {
+            is_everywhere: true,
+            ..Faults::at(number, goes_on)
+        }
+    }
+
+    /// No call fails, but nothing is seen at a path, as where it comes to stand there behind the look.
+    pub fn blind() -> Faults {
+        Faults {
+            is_blind: true,
+            ..Faults::short(usize::MAX)
+        }
+    }
+
+    /// Whether the next call on a path is done.
+    fn pass_path(&self) -> io::Result<()> {
+        if self.is_everywhere {
+            self.pass()
+        } else {
+            Ok(())
         }
     }
 
@@ -157,7 +191,7 @@ impl<'a, F: OpenFile + Drop> OpenFile for FaultyFile<'a, F> {
     }
 }
 
-/// The files below, with faults of those whose path ends with `device`.
+/// The files below, with faults of those whose path ends with `device`, or of all.
 #[derive(Drop)]
 pub struct FaultyFiles<'a, R> {
     below: &'a R,
@@ -196,10 +230,11 @@ impl<'a, R: Files> Files for FaultyFiles<'a, R> {
                 return Err(io::Error::from(io::ErrorKind::PermissionDenied));
             }
         }
+        self.faults.pass_path()?;
         Ok(FaultyFile {
             file: self.below.open_file(how, path)?,
             faults: self.faults,
-            is_device,
+            is_device: is_device || self.faults.is_everywhere,
         })
     }
 
@@ -212,6 +247,10 @@ impl<'a, R: Files> Files for FaultyFiles<'a, R> {
     }
 
     fn symlink_metadata(&self, path: &str) -> io::Result<Metadata> {
+        self.faults.pass_path()?;
+        if self.faults.is_blind {
+            return Err(io::Error::from(io::ErrorKind::NotFound));
+        }
         self.below.symlink_metadata(path)
     }
 
@@ -224,7 +263,13 @@ impl<'a, R: Files> Files for FaultyFiles<'a, R> {
     }
 
     fn remove_file(&self, path: &str) -> io::Result<()> {
+        self.faults.pass_path()?;
         self.below.remove_file(path)
+    }
+
+    fn hard_link(&self, original: &str, link: &str) -> io::Result<()> {
+        self.faults.pass_path()?;
+        self.below.hard_link(original, link)
     }
 
     fn create_dir(&self, path: &str) -> io::Result<()> {

@@ -4,6 +4,7 @@ use std::alloc::{Allocator, Global};
 use std::fs::{Files, Metadata, OpenOptions};
 use std::io;
 use std::sync::Wait;
+use std::thread::Threads;
 
 /// The files below, where each of these streams, as `/dev/stdout`, is the file of a path.
 #[derive(Drop)]
@@ -38,6 +39,8 @@ impl<'a, R: Alloc<A = Global>> Alloc for Standing<'a, R> {
 }
 
 impl<'a, R: Wait> Wait for Standing<'a, R> {}
+
+impl<'a, R: Threads> Threads for Standing<'a, R> {}
 
 impl<'a, R: Files> Files for Standing<'a, R> {
     type File = R::File;

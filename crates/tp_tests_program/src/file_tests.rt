@@ -15,7 +15,7 @@ use tp_tests_fixtures::{letter, place};
 const FORMAT: &[&str] = &["format", "@device", "@net.txt", "@", "16384"];
 
 /// A folder with a network of one node, and the bytes of its device.
-fn network<
+pub(crate) fn network<
     R: Files<File = F> + AllocGlobal + Threads + Wait + Sync,
     F: FileExt + OpenFile + Drop + Send,
 >(rt: &R, name: &str) -> Result<(Scratch, Vec<u8>), Fail> {

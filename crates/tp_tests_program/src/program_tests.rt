@@ -1,7 +1,9 @@
 //! What is asked where words were typed.
 
 use std::test::Fail;
-use tp_program::{Asked, NewDevice, Run, read_args};
+use tp_program::{
+    ArgFault, Asked, BackupAsked, NewDevice, Run, is_backup, read_args, read_backup_args,
+};
 use tp_tests_files::scratch::Scratch;
 
 fn is_device(new: &NewDevice) -> bool {
@@ -99,5 +101,41 @@ fn each_option_of_a_run(rt: HostRuntime) -> Result<(), Fail> {
         };
         assert!(rt; is_wanted);
     }
+    scratch.remove(&rt)
+}
+
+/// Words of a backup, behind which stand its device `d` and its copy `c`.
+const BACKUPS: &[&[&str]] = &[
+    &["backup", "d", "c"],
+    &["backup", "--explain", "d", "c"],
+    &["backup", "d", "--explain", "c"],
+    &["backup", "--", "d", "c"],
+];
+
+/// The device comes first, and the copy behind it. Words that are none of `backup` are such nowhere, and more than 256 are too many.
+#[test]
+fn the_words_of_a_backup(rt: HostRuntime) -> Result<(), Fail> {
+    let scratch = Scratch::new(&rt, "backup_words")?;
+    for words in BACKUPS {
+        let line = scratch.line(rt.alloc(), words)?;
+        let is_wanted = match read_backup_args(rt.alloc(), line.as_slice()) {
+            Ok(BackupAsked::Make(backup)) => {
+                backup.device.as_str() == "d" && backup.copy.as_str() == "c"
+            }
+            Ok(_other) => false,
+            Err(_fault) => false,
+        };
+        assert!(rt; is_wanted && is_backup(line.as_slice()));
+    }
+    let line = scratch.line(rt.alloc(), &["show", "backup"])?;
+    assert!(rt; !is_backup(line.as_slice()));
+    let mut words = Vec::from_elem(rt.alloc(), "d", 256)?;
+    words[0] = "backup";
+    let line = scratch.line(rt.alloc(), words.as_slice())?;
+    let is_many = match read_backup_args(rt.alloc(), line.as_slice()) {
+        Err(ArgFault::Many) => true,
+        _ => false,
+    };
+    assert!(rt; line.len() == 257 && is_many);
     scratch.remove(&rt)
 }

@@ -6,9 +6,9 @@ use std::alloc::Global;
 use std::sync::Wait;
 use std::test::Fail;
 use std::thread::Threads;
-use tp_disk::Counted;
+use tp_disk::{Counted, Disk, MemDisk};
 use tp_net::Topology;
-use tp_program::{View, compact_on, format_on, recover_on, show_on, view_on};
+use tp_program::{View, backup_on, compact_on, format_on, recover_on, show_on, view_on};
 use tp_tests_files::scratch::Output;
 use tp_tests_fixtures::{ONE_NODE, SIZE, letter};
 
@@ -19,6 +19,8 @@ enum Reader {
     Recover(u8),
     Show,
     Look(View),
+    /// Which makes a copy; that is shown.
+    Backup,
 }
 
 /// What stands behind the gate of a group of the node's first turns and the host's: a run of 3 steps, the letter, its acknowledge, and a
@@ -79,20 +81,35 @@ fn stepped<R: AllocGlobal + Wait>(
     }
 }
 
+/// Makes a copy of a device, and shows it. Answers the status.
+fn show_copy<D: Disk>(
+    alloc: Global,
+    disk: &mut D,
+    out: &mut Vec<u8>,
+    err: &mut Vec<u8>,
+) -> Result<u8, Fail> {
+    let mut copy = MemDisk::zeroed(alloc, SIZE)?;
+    match backup_on(alloc, disk, &mut copy, err) {
+        Ok(_) => Ok(show_on(alloc, &mut copy, out, err)),
+        Err(status) => Ok(status),
+    }
+}
+
 /// What a command says of a device.
 fn asked<R: AllocGlobal + Threads + Sync>(
     rt: &R,
     raw: RawChanging,
     reader: Reader,
-) -> (RawChanging, Output) {
+) -> Result<(RawChanging, Output), Fail> {
     let (alloc, mut disk) = (rt.alloc(), Counted::new(raw));
     let (mut out, mut err) = (Vec::new(alloc), Vec::new(alloc));
     let status = match reader {
         Reader::Recover(workers) => recover_on(rt, alloc, &mut disk, workers, &mut out, &mut err),
         Reader::Show => show_on(alloc, &mut disk, &mut out, &mut err),
         Reader::Look(view) => view_on(alloc, &mut disk, view, &mut out, &mut err),
+        Reader::Backup => show_copy(alloc, &mut disk, &mut out, &mut err)?,
     };
-    (disk.into_raw(), Output { status, out, err })
+    Ok((disk.into_raw(), Output { status, out, err }))
 }
 
 /// What `show` says behind each of the writes, where the device then stays as it is.
@@ -103,7 +120,7 @@ fn said_of_each<R: AllocGlobal + Threads + Sync>(
     let (mut raw, mut said) = (raw, Vec::new(rt.alloc()));
     for done in 0..=raw.count() {
         raw.rewind(done, None);
-        let (back, output) = asked(rt, raw, Reader::Show);
+        let (back, output) = asked(rt, raw, Reader::Show)?;
         raw = back;
         said.push(output)?;
     }
@@ -125,17 +142,18 @@ fn is_of_a_moment(said: &[Output], from: usize, upto: usize, output: &Output) ->
         && !output.err.as_slice().starts_with(b"tpnet: Damaged")
 }
 
-/// Asks `show` while writes come to pass, `count` of them before each call from one on, for each such call of the first `calls`. Answers
-/// how often what was said is of no moment in between.
+/// Asks a command while writes come to pass, `count` of them before each call from one on, for each call that it makes where none come to
+/// pass. Answers how often what was said is of no moment in between.
 fn asked_meanwhile<R: AllocGlobal + Threads + Sync>(
     rt: &R,
     raw: RawChanging,
+    reader: Reader,
     said: &[Output],
     from: usize,
     count: usize,
-    calls: u64,
-) -> (RawChanging, usize) {
-    let (mut raw, mut wrong) = (raw, 0usize);
+) -> Result<(RawChanging, usize), Fail> {
+    let (mut raw, _still) = asked(rt, raw, reader)?;
+    let (calls, mut wrong) = (raw.calls(), 0usize);
     for first in 0..calls {
         let pace = Pace {
             first,
@@ -143,32 +161,48 @@ fn asked_meanwhile<R: AllocGlobal + Threads + Sync>(
             count,
         };
         raw.rewind(from, Some(pace));
-        let (back, output) = asked(rt, raw, Reader::Show);
+        let (back, output) = asked(rt, raw, reader)?;
         raw = back;
         if !is_of_a_moment(said, from, raw.done(), &output) {
             wrong = wrong.saturating_add(1);
         }
     }
-    (raw, wrong)
+    raw.rewind(raw.count(), None);
+    Ok((raw, wrong))
 }
 
 /// How many writes have come to pass when the device is read, and how many come to pass before each call: the first are those of the
 /// format.
 const PACES: &[(usize, usize)] = &[(0, 1), (7, 1), (7, 3), (7, usize::MAX)];
 
-#[test]
-fn an_answer_is_of_one_moment(rt: HostRuntime) -> Result<(), Fail> {
+/// How often a command says of a device what is of no moment in between, at those paces.
+fn asked_at_each_pace<R: AllocGlobal + Threads + Wait + Sync>(
+    rt: &R,
+    reader: Reader,
+) -> Result<usize, Fail> {
     let mut raw = formatted(rt.alloc())?;
     for (gate, body) in GROUPS {
-        raw = stepped(&rt, raw, *gate, body)?;
+        raw = stepped(rt, raw, *gate, body)?;
     }
-    let (mut raw, said) = said_of_each(&rt, raw)?;
-    let calls = raw.calls();
+    let (mut raw, said) = said_of_each(rt, raw)?;
+    let mut wrong = 0usize;
     for (from, count) in PACES {
-        let (back, wrong) = asked_meanwhile(&rt, raw, &said, *from, *count, calls);
+        let (back, more) = asked_meanwhile(rt, raw, reader, &said, *from, *count)?;
         raw = back;
-        assert_eq!(rt; wrong, 0);
+        wrong = wrong.saturating_add(more);
     }
+    Ok(wrong)
+}
+
+#[test]
+fn an_answer_is_of_one_moment(rt: HostRuntime) -> Result<(), Fail> {
+    assert_eq!(rt; asked_at_each_pace(&rt, Reader::Show)?, 0);
+    Ok(())
+}
+
+#[test]
+fn a_copy_is_of_one_moment(rt: HostRuntime) -> Result<(), Fail> {
+    assert_eq!(rt; asked_at_each_pace(&rt, Reader::Backup)?, 0);
     Ok(())
 }
 
@@ -218,7 +252,7 @@ fn switched(alloc: Global) -> Result<RawChanging, Fail> {
 fn is_not_overlooked<R: AllocGlobal + Threads + Sync>(rt: &R) -> Result<bool, Fail> {
     let mut raw = switched(rt.alloc())?;
     let count = raw.count();
-    let (mut raw, still) = asked(rt, raw, Reader::Show);
+    let (mut raw, still) = asked(rt, raw, Reader::Show)?;
     let from = count.wrapping_sub(SWITCHES.len().wrapping_mul(3));
     raw.rewind(
         from,
@@ -228,7 +262,7 @@ fn is_not_overlooked<R: AllocGlobal + Threads + Sync>(rt: &R) -> Result<bool, Fa
             count: 3,
         }),
     );
-    let (raw, output) = asked(rt, raw, Reader::Show);
+    let (raw, output) = asked(rt, raw, Reader::Show)?;
     Ok(output.status == 0 && is_alike(&output, &still) && raw.done() == count)
 }
 
@@ -261,7 +295,19 @@ const TRIES: &[(Reader, u8, bool)] = &[
     (Reader::Look(View::Image(0)), 20, false),
     (Reader::Look(View::Journal(0)), 20, false),
     (Reader::Look(View::Outputs(0)), 20, false),
+    (Reader::Backup, 1, true),
+    (Reader::Backup, 19, true),
+    (Reader::Backup, 20, false),
 ];
+
+/// Before which call of a try the device is written, where one makes so many: behind the first look, or before the last one, which is the
+/// only one of a backup.
+fn call_of(reader: Reader, calls: u64) -> u64 {
+    match reader {
+        Reader::Backup => calls.saturating_sub(1),
+        _ => 6,
+    }
+}
 
 /// Whether a command says what it has to of a device that is written once in each of so many tries.
 fn is_tried<R: AllocGlobal + Threads + Sync>(
@@ -273,17 +319,17 @@ fn is_tried<R: AllocGlobal + Threads + Sync>(
     let mut raw = aged(rt.alloc(), times)?;
     let count = raw.count();
     raw.rewind(count, None);
-    let (mut raw, still) = asked(rt, raw, reader);
+    let (mut raw, still) = asked(rt, raw, reader)?;
     let (from, calls) = (count.wrapping_sub(usize::from(times)), raw.calls());
     raw.rewind(
         from,
         Some(Pace {
-            first: 6,
+            first: call_of(reader, calls),
             period: calls,
             count: 1,
         }),
     );
-    let (_raw, output) = asked(rt, raw, reader);
+    let (_raw, output) = asked(rt, raw, reader)?;
     Ok(if is_read {
         is_alike(&output, &still)
     } else {

@@ -11,7 +11,7 @@ use tp_trial::{try_output, try_standing};
 
 /// Takes nothing.
 #[derive(Drop)]
-struct Shut;
+pub(crate) struct Shut;
 
 impl Write for Shut {
     fn write(&mut self, _buf: &[u8]) -> io::Result<usize> {

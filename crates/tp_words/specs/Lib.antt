@@ -3,3 +3,4 @@ pub mod Given
 pub mod Args
 pub mod Ends
 pub mod StreamArgs
+pub mod BackupArgs

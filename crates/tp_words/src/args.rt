@@ -111,7 +111,7 @@ pub enum ArgFault {
     Many,
     /// This option goes with `--stream`.
     Stream(&'static str),
-    /// A word is missing. `clap` says so itself, so this doesn't come.
+    /// A word is missing, which `clap` says itself; or the words are those of a command that is read by a function of its own.
     Missing,
     Memory,
 }
@@ -322,7 +322,7 @@ fn asked_in(alloc: Global, words: &[String], matches: &ArgMatches) -> Result<Ask
 }
 
 /// Reads the words of a command line, the program's name first. Each number is the decimal that was typed, and in its range;
-/// each text is one of the words.
+/// each text is one of the words. Those of `backup` are read by `read_backup_args`, and are none here.
 pub fn read_args(alloc: Global, words: &[String]) -> Result<Asked, ArgFault>
     ensures range { IfOk result IsInRange }
     ensures typed { IfOk result (WasTyped words.now) }

@@ -85,6 +85,24 @@ Refusals (status 1):
   DeviceFailed  DEVICE can't be written or synced, or standard output can't: look at rights and room
   Memory        there is no memory left";
 
+/// What `tpnet backup` refuses.
+pub const BACKUP_REFUSALS: &str =
+    "DEVICE may be run meanwhile: the copy is of one moment, and has all that was durable when the command began.
+It is made as COPY.part, which gets the name COPY once it is whole and synced: that takes a file system with hard links. Then its
+folder is synced, and only then copied next M is printed. Nothing that is there is written over or removed.
+Refusals (status 1); nothing is written to DEVICE, and there is no COPY but where standard output alone can't be written:
+  CopyExists    COPY is there already, or COPY.part is the file of DEVICE: name another COPY
+  PartExists    COPY.part is there already: a backup that was stopped left it; remove it, unless another backup makes it now
+  ReadFailed    DEVICE can't be opened or read, or is no regular file: look at its path and its rights
+  NotFormatted  DEVICE is none: make one with tpnet format
+  BadVersion    DEVICE is of another version of tpnet
+  NoOpenArea    neither area is open: format was stopped, or the device was written over
+  Damaged AT    what stands at offset AT breaks its rule: restore a copy
+  Busy          another tpnet writes DEVICE so fast that no moment of it could be copied: try again, or stop that one
+  DeviceFailed  COPY can't be made, written, synced or named: look at its folder, at rights and at room; or standard
+                output can't be written: then COPY is there, whole and synced
+  Memory        there is no memory left";
+
 /// What `tpnet run` refuses.
 pub const RUN_REFUSALS: &str =
     "Where FILE can't be read, or DEVICE isn't opened, nothing is written to DEVICE.

@@ -2,6 +2,7 @@
 #![tactic(auto)]
 
 mod args;
+mod backup_args;
 mod found;
 mod help;
 mod numbers;
@@ -12,6 +13,7 @@ mod views;
 mod words;
 
 pub use args::{ArgFault, Asked, MAX_AREA, MAX_WORKERS, NewDevice, Run, read_args};
+pub use backup_args::{Backup, BackupAsked, is_backup, read_backup_args};
 pub use numbers::has_word;
 pub use stream_args::{
     StreamArgFault, StreamAsked, StreamRun, is_stream, read_stream_args, wants_input,

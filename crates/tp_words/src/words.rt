@@ -1,8 +1,8 @@
 //! The words that `clap` takes.
 
 use crate::help::{
-    CHECK_REFUSALS, COMPACT_REFUSALS, FORMAT_REFUSALS, OPENING_REFUSALS, RUN_REFUSALS,
-    STATUS_REFUSALS, TRY_REFUSALS,
+    BACKUP_REFUSALS, CHECK_REFUSALS, COMPACT_REFUSALS, FORMAT_REFUSALS, OPENING_REFUSALS,
+    RUN_REFUSALS, STATUS_REFUSALS, TRY_REFUSALS,
 };
 use clap::{Arg, ArgAction, Command};
 use std::alloc::{AllocError, Global};
@@ -220,6 +220,21 @@ fn compact_command<'a>(alloc: Global) -> Result<Command<'a>, AllocError> {
     .arg(wait_lock(alloc))
 }
 
+fn backup_command<'a>(alloc: Global) -> Result<Command<'a>, AllocError> {
+    explained(
+        alloc,
+        "backup",
+        "Opens a device, which may be run meanwhile, writes nothing to it, makes a copy of it, and prints the number of the copy's next entry",
+        BACKUP_REFUSALS,
+    )?
+    .arg(word(alloc, "DEVICE", "the device's file, which is only read"))?
+    .arg(word(
+        alloc,
+        "COPY",
+        "the file that is made: nothing may be there yet, nor at COPY.part, where it is made",
+    ))
+}
+
 /// A command that opens a device and says something of a node.
 fn node_command<'a>(
     alloc: Global,
@@ -278,6 +293,7 @@ pub fn command<'a>(alloc: Global) -> Result<Command<'a>, AllocError> {
         .subcommand(check_command(alloc)?)?
         .subcommand(format_command(alloc)?)?
         .subcommand(run_command(alloc)?)?
-        .subcommand(compact_command(alloc)?)?;
+        .subcommand(compact_command(alloc)?)?
+        .subcommand(backup_command(alloc)?)?;
     with_views(alloc, command)
 }

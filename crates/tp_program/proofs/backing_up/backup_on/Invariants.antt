@@ -1,0 +1,12 @@
+use Rattle.std.proofs.Common.{◌≡◌}
+use Rattle.tp_recover.specs.Reading.{LeavesNothingNew}
+use Rattle.tp_program.proofs.backing_up.backup_on.Given as goal
+
+-- nothing was written so far
+abbrev pub invariant-loop-left : goal.invariant-loop-left
+invariant-loop-left g l =
+    g.D.Disk.keeps
+    → LeavesNothingNew (g.D.Disk.state l.fn.source) (g.D.Disk.state l.source) × ((g.D.Disk.state l.source).now.bytes ≡ (g.D.Disk.state l.fn.source).now.bytes)
+
+abbrev pub decreases-loop-left : goal.decreases-loop-left
+decreases-loop-left g l = l.left

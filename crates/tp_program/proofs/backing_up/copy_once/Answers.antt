@@ -1,0 +1,31 @@
+use Rattle.std.proofs.Common.{◌≡◌, ◌∙◌, ap, subst, List, ℕ, Option, Some, None, Ok, Err, Result}
+use Rattle.std.specs.Prelude.{IfOk, IfSome}
+use Rattle.tp_copies.specs.Copies.{Answers, IsCopy, kept_of}
+use Rattle.tp_model.specs.Disk.{Moment}
+use Rattle.tp_model.specs.Opening.{Opened, verdict}
+use Rattle.tp_recover.proofs.Leaving.{then_leaves}
+use Rattle.tp_program.specs.Backups.{IsBackup}
+use Rattle.tp_program.proofs.backing_up.copy_once.Goals as goal
+
+-- a copy of what was opened is one of the device
+backed_up : (o : Opened) (source mid : List ℕ) (old new : Moment) (r : Result (Option ℕ) ℕ) → verdict source ≡ Ok o → mid ≡ source → IfOk r (Answers (kept_of o) mid old new)
+    → IfOk r (λ found. IfSome found (IsBackup source new))
+backed_up o source mid old new (Ok (Some next)) is same answers = record {
+  opened = o;
+  is = is;
+  before = old.bytes;
+  copied = subst (λ (bytes : List ℕ). IsCopy (kept_of o) bytes old.bytes new next) same answers;
+}
+backed_up o source mid old new (Ok None) is same answers = tt
+backed_up o source mid old new (Err status) is same answers = tt
+
+pub returns-in-Ok-clause-copied : goal.returns-in-Ok-clause-copied
+returns-in-Ok-clause-copied g c k l =
+    backed_up c.in-Ok.opened (g.D.Disk.state c.args.source.now).now.bytes (g.D.Disk.state c.open.new.disk).now.bytes (g.K.Disk.state c.args.copy.now).now
+    (g.K.Disk.state c.copy_or_refuse.new.copy).now c.copy_or_refuse.result (c.in-Ok.ensures.is k) (ap (λ (m : Moment). m.bytes) (c.in-Ok.ensures.kept k))
+    (c.copy_or_refuse.ensures.is k l)
+
+pub returns-in-Ok-clause-leaves : goal.returns-in-Ok-clause-leaves
+returns-in-Ok-clause-leaves g c k =
+    then_leaves (g.D.Disk.state c.args.source.now) (g.D.Disk.state c.open.new.disk) (g.D.Disk.state c.copy_or_refuse.new.source) (c.open.ensures.leaves k)
+    (c.copy_or_refuse.ensures.leaves k)

@@ -1,0 +1,29 @@
+-- What `backup` makes and prints.
+use Rattle.std.specs.Prelude.{◌≡◌, ℕ, List, [], ◌∷◌, ◌++◌, codes, Ok, Option}
+use Rattle.std.specs.Fmt.{decimal}
+use Rattle.std.specs.Io.KnownBytes.{Appends}
+use Rattle.tp_copies.specs.Copies.{IsCopy, kept_of}
+use Rattle.tp_model.specs.Disk.{Moment}
+use Rattle.tp_model.specs.Opening.{Opened, verdict}
+
+-- the number of the copy's next entry
+abbrev pub copied_line : ℕ → List ℕ
+copied_line next = codes "copied next " ++ (decimal next ++ 10 ∷ [])
+
+-- A device that has these bytes opens, and the copy has what of it counts, over whatever stood there before; it opens to the same, and is
+-- synced.
+pub record IsBackup (source : List ℕ) (copy : Moment) (next : ℕ) : Type 0 where
+  pub opened : Opened
+  pub is : verdict source ≡ Ok opened
+  pub before : List ℕ
+  pub copied : IsCopy (kept_of opened) source before copy next
+
+-- A text is the line of a copy.
+pub record IsCopiedLine (text : List ℕ) : Type 0 where
+  pub next : ℕ
+  pub is : text ≡ copied_line next
+
+-- Exactly the line of a copy was printed.
+pub record PrintsCopied (was now : Option (List ℕ)) : Type 0 where
+  pub next : ℕ
+  pub printed : Appends was now (copied_line next)

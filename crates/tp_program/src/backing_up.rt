@@ -1,0 +1,102 @@
+//! `tpnet backup`, over any device and any copy.
+
+ghost use Rattle.std.specs.Prelude.{◌≡◌, IfErr, IfOk, IfSome, IsErr, string_bytes};
+ghost use Rattle.tp_copies.specs.Copies.{Answers, kept_of};
+ghost use Rattle.tp_model.specs.Opening.{verdict};
+ghost use Rattle.tp_recover.specs.Reading.{LeavesNothingNew};
+ghost use Rattle.tp_program.specs.Backups.{IsBackup, copied_line};
+
+use std::alloc::{AllocError, Global};
+use std::io;
+use std::io::Write;
+use tp_copies::{CopyFault, copy_opened};
+use tp_disk::Disk;
+use tp_recover::{Opened, Unopened, open};
+use tp_views::{Refusal, refuse, show_on};
+
+/// How often a device is opened that another process writes meanwhile.
+const MAX_TRIES: u32 = 20;
+
+/// What is printed of a copy that is made.
+pub(crate) fn copied_line(alloc: Global, next: u64) -> Result<String, AllocError>
+    ensures { IfOk result (λ text. string_bytes text ≡ copied_line next) }
+{
+    format!(in alloc; "copied next {next}\n")
+}
+
+/// Why an opened device wasn't copied.
+fn refusal_of(fault: CopyFault) -> Refusal {
+    match fault {
+        CopyFault::ReadFailed => Refusal::ReadFailed,
+        CopyFault::DeviceFailed => Refusal::DeviceFailed,
+        CopyFault::Memory => Refusal::Memory,
+    }
+}
+
+/// Copies an opened device, or says why it isn't copied, and answers the status then.
+fn copy_or_refuse<D: Disk, K: Disk, E: Write>(
+    alloc: Global,
+    source: &mut D,
+    copy: &mut K,
+    opened: Opened,
+    err: &mut E,
+) -> Result<Option<u64>, u8>
+    ensures status { IfErr result (λ status. status ≡ 1) }
+    ensures kept { D.keeps → IfOk result (λ found. (D.state source.new).now ≡ (D.state source.old).now) }
+    ensures leaves { D.keeps → LeavesNothingNew (D.state source.old) (D.state source.new) }
+    ensures is { D.keeps → K.keeps → IfOk result (Answers (kept_of opened) (D.state source.old).now.bytes (K.state copy.old).now (K.state copy.new).now) }
+{
+    match copy_opened(alloc, source, copy, opened) {
+        Ok(found) => Ok(found),
+        Err(fault) => Err(refuse(err, refusal_of(fault))),
+    }
+}
+
+/// Opens and copies a device once. Answers none where another process wrote it so that another try may do: then `show` opens it, or
+/// the area that was copied is another one now. Else says why there is no copy, and answers the status.
+fn copy_once<D: Disk, K: Disk, E: Write>(
+    alloc: Global,
+    source: &mut D,
+    copy: &mut K,
+    err: &mut E,
+) -> Result<Option<u64>, u8>
+    ensures status { IfErr result (λ status. status ≡ 1) }
+    ensures kept { D.keeps → IfOk result (λ found. (D.state source.new).now.bytes ≡ (D.state source.old).now.bytes) }
+    ensures leaves { D.keeps → LeavesNothingNew (D.state source.old) (D.state source.new) }
+    ensures copied { D.keeps → K.keeps → IfOk result (λ found. IfSome found (IsBackup (D.state source.old).now.bytes (K.state copy.new).now)) }
+    ensures unopened { D.keeps → IsErr (verdict (D.state source.old).now.bytes) → IsErr result }
+{
+    match open(alloc, source) {
+        Ok(opened) => copy_or_refuse(alloc, source, copy, opened, err),
+        Err(Unopened::Fault(_)) => match show_on(alloc, source, &mut io::sink(), err) {
+            0 => Ok(None),
+            status => Err(status),
+        },
+        Err(unopened) => Err(refuse(err, Refusal::Opening(unopened))),
+    }
+}
+
+/// Makes a copy of a device that another process may be running, over what is in `copy`, which has to have as many bytes at least. Answers
+/// the number of the copy's next entry: the device opens then, the copy has what of it counts and opens to the same, and all of it is
+/// synced. Else says why not, as `show` does where the device doesn't open, and answers the status, 1: of the copy nothing is known
+/// then. Nothing is written to the device, and a crash finds nothing there that the call made.
+pub fn backup_on<D: Disk, K: Disk, E: Write>(
+    alloc: Global,
+    source: &mut D,
+    copy: &mut K,
+    err: &mut E,
+) -> Result<u64, u8>
+    ensures status { IfErr result (λ status. status ≡ 1) }
+    ensures leaves { D.keeps → LeavesNothingNew (D.state source.old) (D.state source.new) }
+    ensures copied { D.keeps → K.keeps → IfOk result (IsBackup (D.state source.old).now.bytes (K.state copy.new).now) }
+    ensures unopened { D.keeps → IsErr (verdict (D.state source.old).now.bytes) → IsErr result }
+{
+    let mut left = MAX_TRIES;
+    while left > 0 {
+        left -= 1;
+        if let Some(next) = copy_once(alloc, source, copy, err)? {
+            return Ok(next);
+        }
+    }
+    Err(refuse(err, Refusal::Busy))
+}

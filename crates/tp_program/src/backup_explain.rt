@@ -1,0 +1,94 @@
+//! What `--explain` says of a backup that wasn't done: which file, why, and the way out.
+
+use crate::backup_files::Undone;
+use std::alloc::AllocError;
+use std::fmt::Write as Push;
+use std::fs::{Files, OpenFile};
+use std::io;
+use std::io::Write;
+use std::os::unix::fs::FileExt;
+use tp_stream_files::is_one_file;
+use tp_views::{push_file, push_opening};
+use tp_words::Backup;
+
+/// Says what stands in the way of the copy's name.
+fn push_there<R: Files + AllocGlobal>(
+    rt: &R,
+    text: &mut String,
+    backup: &Backup,
+) -> Result<(), AllocError> {
+    let (device, copy) = (backup.device.as_str(), backup.copy.as_str());
+    let part = format!(in rt.alloc(); "{copy}.part")?;
+    if is_one_file(rt, device, part.as_str()) {
+        write!(
+            text,
+            "  {part} is the file of the device, and a copy is made under that name\n  Name another path.\n"
+        )
+    } else {
+        write!(
+            text,
+            "  {copy}: it is there already\n  Name another path, or remove what is there: a backup writes over nothing.\n"
+        )
+    }
+}
+
+/// Says what the system said of the copy's file or name.
+fn push_failed(text: &mut String, backup: &Backup, error: &io::Error) -> Result<(), AllocError> {
+    let (device, copy) = (backup.device.as_str(), backup.copy.as_str());
+    push_file(text, copy, error)?;
+    write!(
+        text,
+        "  A copy is made as {copy}.part, in a folder that is there and that you may read and write, on a file system with hard links.\n  Mend that, and give the same command again: {device} is as it was.\n"
+    )
+}
+
+/// Says why the device wasn't opened or copied.
+fn push_uncopied<R: Files<File = F> + AllocGlobal, F: FileExt + OpenFile + Drop>(
+    rt: &R,
+    text: &mut String,
+    device: &str,
+) -> Result<(), AllocError> {
+    if push_opening(rt, text, device)?.is_none() {
+        return Ok(());
+    }
+    write!(
+        text,
+        "  {device} opens now. Of Busy: another process writes it so fast that no moment of it could be copied; try again, or stop that process.\n  Of DeviceFailed: the copy didn't open to what the device opened to. Else memory was wanting, or a read failed.\n"
+    )
+}
+
+fn explanation<R: Files<File = F> + AllocGlobal, F: FileExt + OpenFile + Drop>(
+    rt: &R,
+    backup: &Backup,
+    undone: &Undone,
+) -> Result<String, AllocError> {
+    let mut text = String::new(rt.alloc());
+    let copy = backup.copy.as_str();
+    match undone {
+        Undone::CopyExists => push_there(rt, &mut text, backup)?,
+        Undone::PartExists => write!(
+            text,
+            "  {copy}.part: it is there already\n  A backup that was stopped left it: remove it, and give the same command again. Where another backup makes it now, wait until that ends.\n"
+        )?,
+        Undone::CopyFailed(error) => push_failed(&mut text, backup, error)?,
+        Undone::Uncopied(Some(error)) => push_failed(&mut text, backup, error)?,
+        Undone::Uncopied(None) => push_uncopied(rt, &mut text, backup.device.as_str())?,
+        Undone::Unprinted => write!(
+            text,
+            "  {copy}: it is made, whole and synced. Standard output can't be written.\n"
+        )?,
+        Undone::Memory => write!(text, "  memory is wanting\n")?,
+    }
+    Ok(text)
+}
+
+/// Says more of a backup that wasn't done on standard error.
+pub(crate) fn explain_backup<
+    R: Files<File = F> + AllocGlobal,
+    F: FileExt + OpenFile + Drop,
+    E: Write,
+>(rt: &R, backup: &Backup, undone: &Undone, err: &mut E) {
+    if let Ok(text) = explanation(rt, backup, undone) {
+        let _ = err.write_all(text.as_bytes());
+    }
+}

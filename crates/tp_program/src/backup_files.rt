@@ -1,0 +1,223 @@
+//! `tpnet backup`, on files: how a copy comes to its name.
+
+ghost use Rattle.std.specs.Prelude.{◌≡◌, IfOk, OnOk, string_bytes};
+ghost use Rattle.tp_program.specs.Backups.{IsCopiedLine, PrintsCopied};
+
+use crate::backing_up::{backup_on, copied_line};
+use crate::files::disk_to_read;
+use std::alloc::Global;
+use std::fs::{Files, OpenFile, OpenOptions};
+use std::io::Write;
+use std::os::unix::fs::FileExt;
+use std::{fs, io};
+use tp_disk::{Counted, Disk, NewDisk, NewFile, NotedFile};
+use tp_stream_files::is_one_file;
+use tp_views::{Refusal, put, refuse};
+use tp_words::Backup;
+
+/// Why a backup wasn't done.
+#[derive(Drop)]
+pub(crate) enum Undone {
+    /// Something stands at COPY, or COPY.part is the device.
+    CopyExists,
+    /// Something stands at COPY.part.
+    PartExists,
+    /// A call failed that looks for the copy's file, makes it or names it.
+    CopyFailed(io::Error),
+    /// The device's file isn't opened, or the device isn't copied, and it was said why. The system said that of the copy's file, where a
+    /// call on it failed.
+    Uncopied(Option<io::Error>),
+    /// The copy is made, but that can't be printed.
+    Unprinted,
+    Memory,
+}
+
+/// The names of a copy: its own, and the one that it has until it is whole.
+#[derive(Clone, Copy)]
+struct Names<'a> {
+    copy: &'a str,
+    part: &'a str,
+}
+
+/// Writes the name of a refusal. Answers the status. A failed write is let go.
+fn refuse_as<E: Write>(err: &mut E, name: &str) -> u8
+    ensures { result ≡ 1 }
+{
+    let _ = write!(err, "tpnet: {name}\n");
+    1
+}
+
+/// Says why a backup wasn't done, where that wasn't said yet. Answers the status.
+pub(crate) fn refuse_undone<E: Write>(err: &mut E, undone: &Undone) -> u8
+    ensures { result ≡ 1 }
+{
+    match undone {
+        Undone::CopyExists => refuse_as(err, "CopyExists"),
+        Undone::PartExists => refuse_as(err, "PartExists"),
+        Undone::CopyFailed(_) | Undone::Unprinted => refuse(err, Refusal::DeviceFailed),
+        Undone::Uncopied(_) => 1,
+        Undone::Memory => refuse(err, Refusal::Memory),
+    }
+}
+
+/// Whether something stands at a path, be it a link that leads nowhere.
+fn is_there<R: Files>(rt: &R, path: &str) -> Result<bool, Undone> {
+    match fs::symlink_metadata(rt, path) {
+        Ok(_) => Ok(true),
+        Err(error) if error.kind() == io::ErrorKind::NotFound => Ok(false),
+        Err(error) => Err(Undone::CopyFailed(error)),
+    }
+}
+
+/// Refuses names at which something stands. An empty one names no file.
+fn ask_names<R: Files>(rt: &R, device: &str, names: &Names<'_>) -> Result<(), Undone> {
+    if names.copy.is_empty() {
+        let error = io::Error::from(io::ErrorKind::NotFound);
+        return Err(Undone::CopyFailed(error));
+    }
+    if is_there(rt, names.copy)? {
+        return Err(Undone::CopyExists);
+    }
+    if !is_there(rt, names.part)? {
+        return Ok(());
+    }
+    if is_one_file(rt, device, names.part) {
+        Err(Undone::CopyExists)
+    } else {
+        Err(Undone::PartExists)
+    }
+}
+
+/// Makes the copy's file, which gets `size` bytes with the first call of it as a device.
+fn make_part<R: Files<File = F>, F: FileExt + OpenFile + Drop>(
+    rt: &R,
+    names: &Names<'_>,
+    size: u64,
+) -> Result<NewDisk<F>, Undone> {
+    let mut how = OpenOptions::new();
+    let how = how.read(true).write(true).create_new(true);
+    match how.open(rt, names.part) {
+        Ok(file) => Ok(Counted::new(NewFile::over(NotedFile::new(file), size))),
+        Err(error) if error.kind() == io::ErrorKind::AlreadyExists => Err(Undone::PartExists),
+        Err(error) => Err(Undone::CopyFailed(error)),
+    }
+}
+
+/// Copies the device into the copy's file, which is closed then. Answers what is to be printed.
+fn fill_part<D: Disk, F: FileExt + OpenFile + Drop, E: Write>(
+    alloc: Global,
+    source: &mut D,
+    copy: NewDisk<F>,
+    err: &mut E,
+) -> Result<String, Undone>
+    ensures { IfOk result (λ text. IsCopiedLine (string_bytes text)) }
+{
+    let mut copy = copy;
+    match backup_on(alloc, source, &mut copy, err) {
+        Ok(next) => match copied_line(alloc, next) {
+            Ok(text) => Ok(text),
+            Err(_) => Err(Undone::Memory),
+        },
+        Err(_) => Err(Undone::Uncopied(copy.into_raw().into_failure())),
+    }
+}
+
+/// Gives the copy its name, which nothing else may have.
+fn link_copy<R: Files>(rt: &R, names: &Names<'_>) -> Result<(), Undone> {
+    match fs::hard_link(rt, names.part, names.copy) {
+        Ok(()) => Ok(()),
+        Err(error) if error.kind() == io::ErrorKind::AlreadyExists => Err(Undone::CopyExists),
+        Err(error) => Err(Undone::CopyFailed(error)),
+    }
+}
+
+/// Syncs the folder of a path.
+fn sync_folder<R: Files>(rt: &R, path: &str) -> io::Result<()> {
+    let folder = match path.rsplit_once('/') {
+        Some(("", _)) => "/",
+        Some((folder, _)) => folder,
+        None => ".",
+    };
+    OpenOptions::new().read(true).open(rt, folder)?.sync_all()
+}
+
+/// Takes the other name from the copy, and syncs the folder.
+fn settle_names<R: Files>(rt: &R, names: &Names<'_>) -> io::Result<()> {
+    fs::remove_file(rt, names.part)?;
+    sync_folder(rt, names.copy)
+}
+
+/// Gives a copy that is whole and synced its name, which lasts. Where it doesn't, the copy has no such name.
+fn name_copy<R: Files>(rt: &R, names: &Names<'_>) -> Result<(), Undone> {
+    link_copy(rt, names)?;
+    match settle_names(rt, names) {
+        Ok(()) => Ok(()),
+        Err(error) => {
+            let _left = fs::remove_file(rt, names.copy);
+            Err(Undone::CopyFailed(error))
+        }
+    }
+}
+
+/// Copies the device into the copy's file and names that. Answers what is to be printed.
+fn fill_and_name<R: Files + AllocGlobal, D: Disk, F: FileExt + OpenFile + Drop, E: Write>(
+    rt: &R,
+    source: &mut D,
+    names: &Names<'_>,
+    copy: NewDisk<F>,
+    err: &mut E,
+) -> Result<String, Undone>
+    ensures { IfOk result (λ text. IsCopiedLine (string_bytes text)) }
+{
+    let text = fill_part(rt.alloc(), source, copy, err)?;
+    name_copy(rt, names)?;
+    Ok(text)
+}
+
+/// Makes the copy of a device. Answers what is to be printed. Where it isn't made, the file that was made for it is removed.
+fn make_copy<R: Files<File = F> + AllocGlobal, F: FileExt + OpenFile + Drop, D: Disk, E: Write>(
+    rt: &R,
+    source: &mut D,
+    names: &Names<'_>,
+    err: &mut E,
+) -> Result<String, Undone>
+    ensures { IfOk result (λ text. IsCopiedLine (string_bytes text)) }
+{
+    let copy = make_part(rt, names, source.size())?;
+    let made = fill_and_name(rt, source, names, copy, err);
+    if made.is_err() {
+        let _left = fs::remove_file(rt, names.part);
+    }
+    made
+}
+
+/// `tpnet backup`, on files. The copy's names are asked for before the device's file is opened, and its file is made before the
+/// device is read. The device's file is opened to be read alone.
+pub(crate) fn backup_file<
+    R: Files<File = F> + AllocGlobal,
+    F: FileExt + OpenFile + Drop,
+    O: Write,
+    E: Write,
+>(rt: &R, backup: &Backup, out: &mut O, err: &mut E) -> Result<(), Undone>
+    ensures { OnOk result (PrintsCopied (O.contents out.old) (O.contents out.new)) }
+{
+    let (device, copy) = (backup.device.as_str(), backup.copy.as_str());
+    let Ok(part) = format!(in rt.alloc(); "{copy}.part") else {
+        return Err(Undone::Memory);
+    };
+    let part = part.as_str();
+    let names = Names { copy, part };
+    ask_names(rt, device, &names)?;
+    let mut source = match disk_to_read(rt, device) {
+        Ok(source) => source,
+        Err(refusal) => {
+            refuse(err, refusal);
+            return Err(Undone::Uncopied(None));
+        }
+    };
+    let text = make_copy(rt, &mut source, &names, err)?;
+    match put(out, text.as_bytes()) {
+        Ok(()) => Ok(()),
+        Err(_) => Err(Undone::Unprinted),
+    }
+}

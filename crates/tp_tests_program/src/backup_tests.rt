@@ -1,0 +1,188 @@
+//! `tpnet backup` where calls fail, or another process makes a file of that name meanwhile.
+
+use crate::file_tests::network;
+use crate::program::tpnet;
+use crate::tests::Shut;
+use std::fs;
+use std::fs::{Files, OpenFile};
+use std::os::unix::fs::FileExt;
+use std::sync::Wait;
+use std::sync::atomic::Ordering;
+use std::test::Fail;
+use std::thread::Threads;
+use tp_program::answer;
+use tp_tests_files::faults::{Faults, FaultyFiles};
+use tp_tests_files::scratch::{Output, Scratch};
+use tp_tests_files::standing::Standing;
+
+const BACKUP: &[&str] = &["backup", "@device", "@copy"];
+
+/// More calls than a backup makes.
+const MOST: u64 = 300;
+
+/// Whether a file of that name is there.
+fn is_there<R: Files + AllocGlobal>(rt: &R, scratch: &Scratch, name: &str) -> Result<bool, Fail> {
+    Ok(fs::symlink_metadata(rt, scratch.path(rt.alloc(), name)?.as_str()).is_ok())
+}
+
+/// Removes what a backup may have left.
+fn cleared<R: Files + AllocGlobal>(rt: &R, scratch: &Scratch) -> Result<(), Fail> {
+    for name in ["copy", "copy.part"] {
+        let _missing = fs::remove_file(rt, scratch.path(rt.alloc(), name)?.as_str());
+    }
+    Ok(())
+}
+
+/// Whether the device is as it was.
+fn is_kept<R: Files + AllocGlobal>(rt: &R, scratch: &Scratch, device: &[u8]) -> Result<bool, Fail> {
+    Ok(scratch.read(rt, "device")?.as_slice() == device)
+}
+
+/// Whether the copy opens to what the device opens to.
+fn is_copied<
+    R: Files<File = F> + AllocGlobal + Threads + Wait + Sync,
+    F: FileExt + OpenFile + Drop + Send,
+>(rt: &R, scratch: &Scratch) -> Result<bool, Fail> {
+    let device = tpnet(rt, scratch, &["show", "@device"])?;
+    let copy = tpnet(rt, scratch, &["show", "@copy"])?;
+    Ok(copy.status == 0 && copy.out.as_slice() == device.out.as_slice())
+}
+
+/// Whether a backup was refused since a call failed: it said so, and nothing else.
+fn is_refused(output: &Output) -> bool {
+    output.is(1, "", "tpnet: ReadFailed\n") || output.is(1, "", "tpnet: DeviceFailed\n")
+}
+
+/// Each call fails alone: nothing is left of the copy, nor of its file.
+#[test]
+fn each_call_may_fail(rt: HostRuntime) -> Result<(), Fail> {
+    let (scratch, device) = network(&rt, "backup_fails")?;
+    let mut calls = 0u64;
+    for number in 0..MOST {
+        let faults = Faults::everywhere(number, true);
+        let output = tpnet(&FaultyFiles::new(&rt, &faults), &scratch, BACKUP)?;
+        assert!(rt; is_kept(&rt, &scratch, device.as_slice())?);
+        assert!(rt; !is_there(&rt, &scratch, "copy.part")?);
+        if output.status == 0 {
+            calls = number;
+            break;
+        }
+        assert!(rt; is_refused(&output));
+        assert!(rt; !is_there(&rt, &scratch, "copy")?);
+    }
+    assert!(rt; calls > 30);
+    assert!(rt; is_copied(&rt, &scratch)?);
+    scratch.remove(&rt)
+}
+
+/// All calls fail from one on, as where the disk is gone: what has the copy's name is the copy.
+#[test]
+fn each_call_may_be_the_last(rt: HostRuntime) -> Result<(), Fail> {
+    let (scratch, device) = network(&rt, "backup_stops")?;
+    let (mut calls, mut named) = (0u64, 0u64);
+    for number in 0..MOST {
+        cleared(&rt, &scratch)?;
+        let faults = Faults::everywhere(number, false);
+        let output = tpnet(&FaultyFiles::new(&rt, &faults), &scratch, BACKUP)?;
+        assert!(rt; is_kept(&rt, &scratch, device.as_slice())?);
+        if output.status == 0 {
+            calls = number;
+            break;
+        }
+        assert!(rt; is_refused(&output));
+        if is_there(&rt, &scratch, "copy")? {
+            assert!(rt; is_copied(&rt, &scratch)?);
+            named = named.saturating_add(1);
+        }
+    }
+    // The copy has its name where its other one isn't removed, and where its folder isn't opened or synced.
+    assert!(rt; calls > 30 && named == 3);
+    scratch.remove(&rt)
+}
+
+/// What is there stays as it is, whichever call fails.
+#[test]
+fn a_file_that_is_there_stays(rt: HostRuntime) -> Result<(), Fail> {
+    let (scratch, device) = network(&rt, "backup_there")?;
+    for (name, line) in [
+        ("copy", "tpnet: CopyExists\n"),
+        ("copy.part", "tpnet: PartExists\n"),
+    ] {
+        cleared(&rt, &scratch)?;
+        scratch.put(&rt, name, b"precious")?;
+        for number in 0..10u64 {
+            let faults = Faults::everywhere(number, true);
+            let output = tpnet(&FaultyFiles::new(&rt, &faults), &scratch, BACKUP)?;
+            assert!(rt; output.is(1, "", line) || is_refused(&output));
+            assert_eq!(rt; scratch.read(&rt, name)?.as_slice(), b"precious".as_slice());
+        }
+        assert!(rt; tpnet(&rt, &scratch, BACKUP)?.is(1, "", line));
+        assert!(rt; is_kept(&rt, &scratch, device.as_slice())?);
+    }
+    scratch.remove(&rt)
+}
+
+/// A file comes to stand there behind the look: the copy doesn't take its place.
+#[test]
+fn a_file_that_comes_meanwhile_stays(rt: HostRuntime) -> Result<(), Fail> {
+    let (scratch, device) = network(&rt, "backup_meanwhile")?;
+    for (name, line, other) in [
+        ("copy", "tpnet: CopyExists\n", "copy.part"),
+        ("copy.part", "tpnet: PartExists\n", "copy"),
+    ] {
+        cleared(&rt, &scratch)?;
+        scratch.put(&rt, name, b"precious")?;
+        let faults = Faults::blind();
+        let output = tpnet(&FaultyFiles::new(&rt, &faults), &scratch, BACKUP)?;
+        assert!(rt; output.is(1, "", line));
+        assert_eq!(rt; scratch.read(&rt, name)?.as_slice(), b"precious".as_slice());
+        assert!(rt; !is_there(&rt, &scratch, other)?);
+        assert!(rt; is_kept(&rt, &scratch, device.as_slice())?);
+    }
+    scratch.remove(&rt)
+}
+
+/// The device is opened to be read alone. Reads and writes that come in parts make no other copy.
+#[test]
+fn how_files_are_opened(rt: HostRuntime) -> Result<(), Fail> {
+    let (scratch, _device) = network(&rt, "backup_opened")?;
+    for most in [usize::MAX, 7] {
+        cleared(&rt, &scratch)?;
+        let faults = Faults::short(most);
+        let output = tpnet(&FaultyFiles::new(&rt, &faults), &scratch, BACKUP)?;
+        assert!(rt; output.is(0, "copied next 0\n", ""));
+        assert!(rt; !faults.writable.load(Ordering::SeqCst));
+        assert!(rt; is_copied(&rt, &scratch)?);
+    }
+    scratch.remove(&rt)
+}
+
+/// Where standard output can't be written the copy is made, and that isn't said to be done.
+#[test]
+fn an_output_that_fails(rt: HostRuntime) -> Result<(), Fail> {
+    let (scratch, device) = network(&rt, "backup_untold")?;
+    let line = scratch.line(rt.alloc(), &["backup", "@device", "@copy", "--explain"])?;
+    let mut err = Vec::new(rt.alloc());
+    let status = answer(&rt, line.as_slice(), &mut Shut, &mut err);
+    assert!(rt; status == 1 && err.as_slice().starts_with(b"tpnet: DeviceFailed\n"));
+    assert!(rt;
+        err.as_slice()
+            .ends_with(b"Standard output can't be written.\n")
+    );
+    assert!(rt; is_copied(&rt, &scratch)? && !is_there(&rt, &scratch, "copy.part")?);
+    assert!(rt; is_kept(&rt, &scratch, device.as_slice())?);
+    scratch.remove(&rt)
+}
+
+/// Where standard output is the device's file nothing is copied, nor printed over it.
+#[test]
+fn an_output_into_the_device(rt: HostRuntime) -> Result<(), Fail> {
+    let (scratch, device) = network(&rt, "backup_into")?;
+    let mut streams = Vec::new(rt.alloc());
+    streams.push(("/dev/stdout", scratch.path(rt.alloc(), "device")?))?;
+    let output = tpnet(&Standing::new(&rt, streams.as_slice()), &scratch, BACKUP)?;
+    assert!(rt; output.status == 2 && output.out.is_empty() && !output.err.is_empty());
+    assert!(rt; !is_there(&rt, &scratch, "copy")?);
+    assert!(rt; is_kept(&rt, &scratch, device.as_slice())?);
+    scratch.remove(&rt)
+}
