@@ -6,8 +6,9 @@ use tp_model::Received::{JustAck, JustData, Nothing};
 use tp_model::{Entry, Token};
 
 /// Entries, where the parts of the two nodes and of the host stop, and what is answered.
-struct Row {
-    entries: &'static [Entry],
+#[derive(Clone, Copy)]
+struct Row<'a> {
+    entries: &'a [Entry],
     stops: [usize; 3],
     first: Option<usize>,
 }
@@ -98,107 +99,119 @@ const RUN_THIRD: Entry = Entry::Run { node: 2, count: 1 };
 const INPUT: Entry = Entry::HostIn { port: 0, byte: 1 };
 
 /// At first the byte 65 is on the first node's line, and 66 on the second one's.
-const ROWS: [Row; 18] = [
-    Row {
-        entries: &[],
-        stops: [0, 0, 0],
-        first: None,
-    },
-    Row {
-        entries: &[TO_SECOND, TO_FIRST],
-        stops: [2, 2, 2],
-        first: None,
-    },
-    // Another byte than the one on the line: its sender sees that, and its receiver goes on.
-    Row {
-        entries: &[ANOTHER_BYTE],
-        stops: [0, 1, 1],
-        first: Some(0),
-    },
-    Row {
-        entries: &[TO_FIRST, ANOTHER_BYTE, RUN_SECOND],
-        stops: [1, 2, 3],
-        first: Some(1),
-    },
-    // The line is empty, and a byte is held.
-    Row {
-        entries: &[TO_SECOND, TO_SECOND],
-        stops: [1, 1, 2],
-        first: Some(1),
-    },
-    Row {
-        entries: &[TO_FIRST, RUN_SECOND, RUN_FIRST],
-        stops: [2, 1, 3],
-        first: Some(1),
-    },
-    Row {
-        entries: &[TO_FIRST, RUN_FIRST, RUN_SECOND],
-        stops: [1, 2, 3],
-        first: Some(1),
-    },
-    // No such node, line or port: that is the host's to see.
-    Row {
-        entries: &[TO_SECOND, RUN_THIRD],
-        stops: [2, 2, 1],
-        first: Some(1),
-    },
-    Row {
-        entries: &[NO_LINE],
-        stops: [1, 1, 0],
-        first: Some(0),
-    },
-    Row {
-        entries: &[INPUT, RUN_FIRST],
-        stops: [1, 2, 0],
-        first: Some(0),
-    },
-    // A line without a wire is its sender's and has nothing; an Ack is not on the line, and nobody waits for it.
-    Row {
-        entries: &[UNWIRED, RUN_FIRST],
-        stops: [1, 0, 0],
-        first: Some(0),
-    },
-    Row {
-        entries: &[AN_ACK],
-        stops: [0, 0, 1],
-        first: Some(0),
-    },
-    // Turns: the sender of a token sees that it is another one, and the node that it can't take it or can't make a step.
-    Row {
-        entries: &[TURN_SECOND, TURN_FIRST],
-        stops: [2, 2, 2],
-        first: None,
-    },
-    Row {
-        entries: &[TO_FIRST, ANOTHER_TURN],
-        stops: [1, 2, 2],
-        first: Some(1),
-    },
-    Row {
-        entries: &[ACK_TURN],
-        stops: [0, 0, 1],
-        first: Some(0),
-    },
-    Row {
-        entries: &[TURN_FIRST, LONG_TURN],
-        stops: [2, 1, 2],
-        first: Some(1),
-    },
-    Row {
-        entries: &[THIRD_TURN],
-        stops: [1, 1, 0],
-        first: Some(0),
-    },
-    Row {
-        entries: &[NO_TURN],
-        stops: [1, 0, 1],
-        first: Some(0),
-    },
-];
-
 #[test]
 fn the_least_stop_is_answered(rt: HostRuntime) -> Result<(), Fail> {
-    for row in &ROWS {
+    let rows = [
+        Row {
+            entries: &[],
+            stops: [0, 0, 0],
+            first: None,
+        },
+        Row {
+            entries: &[TO_SECOND, TO_FIRST],
+            stops: [2, 2, 2],
+            first: None,
+        },
+        // Another byte than the one on the line: its sender sees that, and its receiver goes on.
+        Row {
+            entries: &[ANOTHER_BYTE],
+            stops: [0, 1, 1],
+            first: Some(0),
+        },
+        Row {
+            entries: &[TO_FIRST, ANOTHER_BYTE, RUN_SECOND],
+            stops: [1, 2, 3],
+            first: Some(1),
+        },
+        // The line is empty, and a byte is held.
+        Row {
+            entries: &[TO_SECOND, TO_SECOND],
+            stops: [1, 1, 2],
+            first: Some(1),
+        },
+        Row {
+            entries: &[TO_FIRST, RUN_SECOND, RUN_FIRST],
+            stops: [2, 1, 3],
+            first: Some(1),
+        },
+        Row {
+            entries: &[TO_FIRST, RUN_FIRST, RUN_SECOND],
+            stops: [1, 2, 3],
+            first: Some(1),
+        },
+        // No such node, line or port: that is the host's to see.
+        Row {
+            entries: &[TO_SECOND, RUN_THIRD],
+            stops: [2, 2, 1],
+            first: Some(1),
+        },
+        Row {
+            entries: &[NO_LINE],
+            stops: [1, 1, 0],
+            first: Some(0),
+        },
+        Row {
+            entries: &[INPUT, RUN_FIRST],
+            stops: [1, 2, 0],
+            first: Some(0),
+        },
+        // A line without a wire is its sender's and has nothing; an Ack is not on the line, and nobody waits for it.
+        Row {
+            entries: &[UNWIRED, RUN_FIRST],
+            stops: [1, 0, 0],
+            first: Some(0),
+        },
+        Row {
+            entries: &[AN_ACK],
+            stops: [0, 0, 1],
+            first: Some(0),
+        },
+    ];
+    for row in &rows {
+        let (played, stop) = replay_pair(&rt, rt.alloc(), row.entries)?;
+        assert_eq!(rt; played.len(), 3);
+        assert_eq!(rt; [played[0].stop, played[1].stop, played[2].stop], row.stops);
+        assert_eq!(rt; stop, row.first);
+    }
+    Ok(())
+}
+
+/// The sender of a token sees that it is another one, and the node that it can't take it or can't make a step.
+#[test]
+fn turns_stop_where_their_tokens_and_steps_do(rt: HostRuntime) -> Result<(), Fail> {
+    let rows = [
+        Row {
+            entries: &[TURN_SECOND, TURN_FIRST],
+            stops: [2, 2, 2],
+            first: None,
+        },
+        Row {
+            entries: &[TO_FIRST, ANOTHER_TURN],
+            stops: [1, 2, 2],
+            first: Some(1),
+        },
+        Row {
+            entries: &[ACK_TURN],
+            stops: [0, 0, 1],
+            first: Some(0),
+        },
+        Row {
+            entries: &[TURN_FIRST, LONG_TURN],
+            stops: [2, 1, 2],
+            first: Some(1),
+        },
+        Row {
+            entries: &[THIRD_TURN],
+            stops: [1, 1, 0],
+            first: Some(0),
+        },
+        Row {
+            entries: &[NO_TURN],
+            stops: [1, 0, 1],
+            first: Some(0),
+        },
+    ];
+    for row in &rows {
         let (played, stop) = replay_pair(&rt, rt.alloc(), row.entries)?;
         assert_eq!(rt; played.len(), 3);
         assert_eq!(rt; [played[0].stop, played[1].stop, played[2].stop], row.stops);
