@@ -22,16 +22,19 @@ stream_opened-disk-requires g c κs within =
     let file = within.1.1.1.0 in
     let out = within.1.1.1.1.0 in
     let one = ⊑_meet κ _ _ file none in
-    let note = ⊑_meet κ _ _ (⊑_meet κ _ _ one one) none in
+    let noted = ⊑_meet κ _ _ one one in
+    let held = ⊑_meet κ _ _ noted none in
     let writer = ⊑_meet κ _ _ (⊑_meet κ _ _ (⊑_meet κ _ _ within.0.0 out) none) none in
-    let sinks = ⊑_meet κ _ _ (⊑_meet κ _ _ file (⊑_meet κ _ _ out none)) (⊑_meet κ _ _ (⊑_meet κ _ _ (⊑_meet κ _ _ one note) none) writer) in
+    let sinks = ⊑_meet κ _ _ (⊑_meet κ _ _ noted (⊑_meet κ _ _ out none)) (⊑_meet κ _ _ (⊑_meet κ _ _ (⊑_meet κ _ _ held held) none) writer) in
     let μ = κs.1.1.1.1.1.1.1.0 in
     let nothing : μ ⊑ [] = ⊑_static μ in
     let read = within.1.1.1.1.1.0 in
     let feed = within.1.1.1.1.1.1.0 in
+    let only = ⊑_meet μ _ _ read nothing in
+    let given = ⊑_meet μ _ _ only only in
     let pipe = ⊑_meet μ _ _ (⊑_meet μ _ _ within.0.1.0 feed) nothing in
     let piped = ⊑_meet μ _ _ (⊑_meet μ _ _ (⊑_meet μ _ _ (⊑_meet μ _ _ feed nothing) pipe) nothing) nothing in
-    let sources = ⊑_meet μ _ _ (⊑_meet μ _ _ read (⊑_meet μ _ _ feed nothing)) (⊑_meet μ _ _ (⊑_meet μ _ _ read nothing) piped) in
+    let sources = ⊑_meet μ _ _ (⊑_meet μ _ _ given (⊑_meet μ _ _ feed nothing)) (⊑_meet μ _ _ (⊑_meet μ _ _ given nothing) piped) in
     (within.1.0, (within.1.1.0, (sinks, (sources, (within.1.1.1.1.1.1.1.0, c.task_of-task.ensures.quantum)))))
 
 pub returns-clause-unopened : goal.returns-clause-unopened
