@@ -15,105 +15,19 @@ use tp_snap::Cut;
 /// What the nodes do, and the acts up to the whole cut; then what is in the cut: the entries of each process and in all, the
 /// lines that aren't empty, and the port's pending bytes, nothing else having come to it; then the entries outside, the next
 /// number, and the port's outputs.
-struct Story {
-    first: &'static [Task],
-    second: &'static [Task],
-    acts: &'static [Act],
+#[derive(Clone, Copy)]
+struct Story<'a> {
+    first: &'a [Task],
+    second: &'a [Task],
+    acts: &'a [Act],
     counts: [u64; 3],
     size: u64,
-    lines: &'static [(usize, Token)],
-    pending: &'static [u8],
-    tail: &'static [(Entry, u64)],
+    lines: &'a [(usize, Token)],
+    pending: &'a [u8],
+    tail: &'a [(Entry, u64)],
     next: u64,
-    outputs: &'static [u8],
+    outputs: &'a [u8],
 }
-
-/// A byte is under way as the nodes record: the receiver recorded before it came, and the sender after it was sent.
-const UNDER_WAY: Story = Story {
-    first: &[Task::Once(0)],
-    second: &[],
-    acts: &[
-        Run(0),
-        Begin,
-        Record(1),
-        Take(0),
-        Record(0),
-        Close(8),
-        Close(4),
-        Close(0),
-        Close(3),
-    ],
-    counts: [1, 0, 0],
-    size: 1,
-    lines: &[(0, Token::Data(0x58))],
-    pending: b"",
-    tail: &[(
-        Entry::Take {
-            line: 0,
-            token: Token::Data(0x58),
-        },
-        1,
-    )],
-    next: 2,
-    outputs: b"",
-};
-
-/// The second node records when the next number is 9, and the cut is whole at 12. Three entries are outside, with gaps
-/// between their numbers.
-const LATE: Story = Story {
-    first: &[Task::Once(0), Task::Relay(0, 3)],
-    second: &[Task::Relay(0, 0)],
-    acts: &[
-        Run(1),
-        Run(0),
-        Take(0),
-        Run(1),
-        Take(4),
-        Take(4),
-        HandIn(0x78),
-        Begin,
-        Run(0),
-        Take(3),
-        Record(1),
-        Take(0),
-        Take(8),
-        Record(0),
-        Close(8),
-        Close(4),
-        Close(0),
-        HandIn(0x79),
-        Close(3),
-    ],
-    counts: [5, 3, 1],
-    size: 9,
-    lines: &[(0, Token::Ack), (3, Token::Data(0x58))],
-    pending: b"x",
-    tail: &[
-        (
-            Entry::Take {
-                line: 3,
-                token: Token::Data(0x58),
-            },
-            8,
-        ),
-        (
-            Entry::Take {
-                line: 0,
-                token: Token::Ack,
-            },
-            9,
-        ),
-        (
-            Entry::HostIn {
-                port: 0,
-                byte: 0x79,
-            },
-            11,
-        ),
-    ],
-    next: 12,
-    outputs: b"X",
-};
 
 /// Whether just the tokens of `lines` stand on the lines of a cut, at most one on each.
 fn are_lines(cut: &Cut, lines: &[(usize, Token)]) -> bool {
@@ -216,11 +130,106 @@ fn play(alloc: Global, story: &Story) -> Result<[bool; 6], Fail> {
     told
 }
 
+/// A byte is under way as the nodes record: the receiver recorded before it came, and the sender after it was sent.
+fn play_under_way(alloc: Global) -> Result<[bool; 6], Fail> {
+    let under_way = Story {
+        first: &[Task::Once(0)],
+        second: &[],
+        acts: &[
+            Run(0),
+            Begin,
+            Record(1),
+            Take(0),
+            Record(0),
+            Close(8),
+            Close(4),
+            Close(0),
+            Close(3),
+        ],
+        counts: [1, 0, 0],
+        size: 1,
+        lines: &[(0, Token::Data(0x58))],
+        pending: b"",
+        tail: &[(
+            Entry::Take {
+                line: 0,
+                token: Token::Data(0x58),
+            },
+            1,
+        )],
+        next: 2,
+        outputs: b"",
+    };
+    let told = play(alloc, &under_way);
+    told
+}
+
+/// The second node records when the next number is 9, and the cut is whole at 12. Three entries are outside, with gaps
+/// between their numbers.
+fn play_late(alloc: Global) -> Result<[bool; 6], Fail> {
+    let late = Story {
+        first: &[Task::Once(0), Task::Relay(0, 3)],
+        second: &[Task::Relay(0, 0)],
+        acts: &[
+            Run(1),
+            Run(0),
+            Take(0),
+            Run(1),
+            Take(4),
+            Take(4),
+            HandIn(0x78),
+            Begin,
+            Run(0),
+            Take(3),
+            Record(1),
+            Take(0),
+            Take(8),
+            Record(0),
+            Close(8),
+            Close(4),
+            Close(0),
+            HandIn(0x79),
+            Close(3),
+        ],
+        counts: [5, 3, 1],
+        size: 9,
+        lines: &[(0, Token::Ack), (3, Token::Data(0x58))],
+        pending: b"x",
+        tail: &[
+            (
+                Entry::Take {
+                    line: 3,
+                    token: Token::Data(0x58),
+                },
+                8,
+            ),
+            (
+                Entry::Take {
+                    line: 0,
+                    token: Token::Ack,
+                },
+                9,
+            ),
+            (
+                Entry::HostIn {
+                    port: 0,
+                    byte: 0x79,
+                },
+                11,
+            ),
+        ],
+        next: 12,
+        outputs: b"X",
+    };
+    let told = play(alloc, &late);
+    told
+}
+
 #[test]
 fn cuts_are_those_that_were_worked_out(rt: HostRuntime) -> Result<(), Fail> {
-    for story in [&UNDER_WAY, &LATE] {
-        let told = play(rt.alloc(), story)?;
-        assert_eq!(rt; told, [true; 6]);
-    }
+    let under_way = play_under_way(rt.alloc())?;
+    assert_eq!(rt; under_way, [true; 6]);
+    let late = play_late(rt.alloc())?;
+    assert_eq!(rt; late, [true; 6]);
     Ok(())
 }

@@ -39,175 +39,32 @@ const ACKNOWLEDGE: [Received; 4] = [JustAck, Nothing, Nothing, Nothing];
 
 /// A network, and entries that lead to where a row begins.
 #[derive(Clone, Copy)]
-struct Start {
-    text: &'static [u8],
-    tasks: &'static [&'static [Task]],
-    before: &'static [Entry],
+struct Start<'a> {
+    text: &'a [u8],
+    tasks: &'a [&'a [Task]],
+    before: &'a [Entry],
 }
 
-const TWO_NODES: Start = Start {
-    text: TWO,
-    tasks: &TWO_TASKS,
-    before: &SENT,
-};
+/// Where rows of two nodes begin, behind the entries `before`.
+fn two_nodes(before: &[Entry]) -> Start {
+    Start {
+        text: TWO,
+        tasks: &TWO_TASKS,
+        before,
+    }
+}
 
-const ONE_NODE: Start = Start {
-    text: SELF,
-    tasks: &SELF_TASKS,
-    before: &WAITING,
-};
+/// Where rows of one node that is wired to itself begin, behind the entries `before`.
+fn one_node(before: &[Entry]) -> Start {
+    Start {
+        text: SELF,
+        tasks: &SELF_TASKS,
+        before,
+    }
+}
 
 /// Where a row begins, takes and runs, and turns that lead where these lead.
-const LEADS: &[(Start, &[Entry], &[Entry])] = &[
-    (
-        TWO_NODES,
-        &[
-            Entry::Take {
-                line: 0,
-                token: Data(0x58),
-            },
-            Entry::Take {
-                line: 4,
-                token: Ack,
-            },
-            Entry::Run { node: 0, count: 2 },
-            Entry::Run { node: 1, count: 3 },
-        ],
-        &[
-            Entry::Turn {
-                node: 1,
-                takes: BYTE,
-                count: 0,
-            },
-            Entry::Turn {
-                node: 0,
-                takes: ACKNOWLEDGE,
-                count: 2,
-            },
-            Entry::Run { node: 1, count: 3 },
-        ],
-    ),
-    (
-        TWO_NODES,
-        &[
-            Entry::Take {
-                line: 0,
-                token: Data(0x58),
-            },
-            Entry::Run { node: 1, count: 3 },
-        ],
-        &[Entry::Turn {
-            node: 1,
-            takes: BYTE,
-            count: 3,
-        }],
-    ),
-    (
-        ONE_NODE,
-        &[
-            Entry::Take {
-                line: 2,
-                token: Data(0x58),
-            },
-            Entry::Take {
-                line: 1,
-                token: Ack,
-            },
-        ],
-        &[
-            Entry::Turn {
-                node: 0,
-                takes: [Nothing, JustData(0x58), Nothing, Nothing],
-                count: 0,
-            },
-            Entry::Turn {
-                node: 0,
-                takes: [Nothing, Nothing, JustAck, Nothing],
-                count: 0,
-            },
-        ],
-    ),
-];
-
-/// Where a row begins, and a turn that isn't possible there.
-const REFUSED: &[(Start, Entry)] = &[
-    // another byte, an acknowledge, and an acknowledge in front of the byte
-    (
-        TWO_NODES,
-        Entry::Turn {
-            node: 1,
-            takes: [JustData(0x59), Nothing, Nothing, Nothing],
-            count: 0,
-        },
-    ),
-    (
-        TWO_NODES,
-        Entry::Turn {
-            node: 1,
-            takes: ACKNOWLEDGE,
-            count: 0,
-        },
-    ),
-    (
-        TWO_NODES,
-        Entry::Turn {
-            node: 1,
-            takes: [AckThenData(0x58), Nothing, Nothing, Nothing],
-            count: 0,
-        },
-    ),
-    // another link, the other node, a node that isn't there
-    (
-        TWO_NODES,
-        Entry::Turn {
-            node: 1,
-            takes: [Nothing, JustData(0x58), Nothing, Nothing],
-            count: 0,
-        },
-    ),
-    (
-        TWO_NODES,
-        Entry::Turn {
-            node: 0,
-            takes: BYTE,
-            count: 0,
-        },
-    ),
-    (
-        TWO_NODES,
-        Entry::Turn {
-            node: 2,
-            takes: BYTE,
-            count: 0,
-        },
-    ),
-    // nothing is taken; a step too many for any run
-    (
-        TWO_NODES,
-        Entry::Turn {
-            node: 0,
-            takes: [Nothing, Nothing, Nothing, Nothing],
-            count: 0,
-        },
-    ),
-    (
-        TWO_NODES,
-        Entry::Turn {
-            node: 1,
-            takes: BYTE,
-            count: 4097,
-        },
-    ),
-    // the acknowledge that the byte's take sends wasn't on its line before the turn
-    (
-        ONE_NODE,
-        Entry::Turn {
-            node: 0,
-            takes: [Nothing, JustData(0x58), JustAck, Nothing],
-            count: 0,
-        },
-    ),
-];
+type Leads<'a> = (Start<'a>, &'a [Entry], &'a [Entry]);
 
 /// The device of a network before its first entry.
 fn device(alloc: Global, start: Start) -> Result<MemDisk, Fail> {
@@ -269,14 +126,93 @@ fn are_one(one: &Option<NetParts>, other: &Option<NetParts>) -> bool {
     ports && one.images == other.images && one.lines == other.lines
 }
 
-#[test]
-fn a_turn_leads_where_its_takes_and_its_run_lead(rt: HostRuntime) -> Result<(), Fail> {
-    let alloc = rt.alloc();
-    for (i, (start, plain, turns)) in LEADS.iter().enumerate() {
+/// The first of `rows` whose turns don't lead where its takes and runs lead.
+fn first_apart(alloc: Global, rows: &[Leads]) -> Result<Option<usize>, Fail> {
+    for (i, (start, plain, turns)) in rows.iter().enumerate() {
         let one = behind(alloc, *start, *plain)?;
         let other = behind(alloc, *start, *turns)?;
-        assert!(rt; are_one(&one, &other), "row {i}");
+        if !are_one(&one, &other) {
+            return Ok(Some(i));
+        }
     }
+    Ok(None)
+}
+
+#[test]
+fn a_turn_leads_where_its_takes_and_its_run_lead(rt: HostRuntime) -> Result<(), Fail> {
+    let (sent, waiting) = (SENT, WAITING);
+    let (two_nodes, one_node) = (two_nodes(&sent), one_node(&waiting));
+    let leads: [Leads; 3] = [
+        (
+            two_nodes,
+            &[
+                Entry::Take {
+                    line: 0,
+                    token: Data(0x58),
+                },
+                Entry::Take {
+                    line: 4,
+                    token: Ack,
+                },
+                Entry::Run { node: 0, count: 2 },
+                Entry::Run { node: 1, count: 3 },
+            ],
+            &[
+                Entry::Turn {
+                    node: 1,
+                    takes: BYTE,
+                    count: 0,
+                },
+                Entry::Turn {
+                    node: 0,
+                    takes: ACKNOWLEDGE,
+                    count: 2,
+                },
+                Entry::Run { node: 1, count: 3 },
+            ],
+        ),
+        (
+            two_nodes,
+            &[
+                Entry::Take {
+                    line: 0,
+                    token: Data(0x58),
+                },
+                Entry::Run { node: 1, count: 3 },
+            ],
+            &[Entry::Turn {
+                node: 1,
+                takes: BYTE,
+                count: 3,
+            }],
+        ),
+        (
+            one_node,
+            &[
+                Entry::Take {
+                    line: 2,
+                    token: Data(0x58),
+                },
+                Entry::Take {
+                    line: 1,
+                    token: Ack,
+                },
+            ],
+            &[
+                Entry::Turn {
+                    node: 0,
+                    takes: [Nothing, JustData(0x58), Nothing, Nothing],
+                    count: 0,
+                },
+                Entry::Turn {
+                    node: 0,
+                    takes: [Nothing, Nothing, JustAck, Nothing],
+                    count: 0,
+                },
+            ],
+        ),
+    ];
+    assert_eq!(rt; first_apart(rt.alloc(), &leads)?, None);
     Ok(())
 }
 
@@ -293,13 +229,100 @@ fn is_refused(alloc: Global, start: Start, turn: &Entry) -> Result<bool, Fail> {
     Ok(are_one(&before, &after))
 }
 
+/// The first of `rows`, where a row begins and a turn, whose turn is possible there or doesn't leave the network as it was.
+fn first_possible(alloc: Global, rows: &[(Start, Entry)]) -> Result<Option<usize>, Fail> {
+    for (i, (start, turn)) in rows.iter().enumerate() {
+        if !is_refused(alloc, *start, turn)? {
+            return Ok(Some(i));
+        }
+    }
+    Ok(None)
+}
+
 #[test]
 fn a_turn_takes_what_stood_on_its_lines_before_it(rt: HostRuntime) -> Result<(), Fail> {
-    let alloc = rt.alloc();
-    for (i, (start, turn)) in REFUSED.iter().enumerate() {
-        let refused = is_refused(alloc, *start, turn)?;
-        assert!(rt; refused, "row {i}");
-    }
+    let (sent, waiting) = (SENT, WAITING);
+    let (two_nodes, one_node) = (two_nodes(&sent), one_node(&waiting));
+    // where a row begins, and a turn that isn't possible there
+    let refused: [(Start, Entry); 9] = [
+        // another byte, an acknowledge, and an acknowledge in front of the byte
+        (
+            two_nodes,
+            Entry::Turn {
+                node: 1,
+                takes: [JustData(0x59), Nothing, Nothing, Nothing],
+                count: 0,
+            },
+        ),
+        (
+            two_nodes,
+            Entry::Turn {
+                node: 1,
+                takes: ACKNOWLEDGE,
+                count: 0,
+            },
+        ),
+        (
+            two_nodes,
+            Entry::Turn {
+                node: 1,
+                takes: [AckThenData(0x58), Nothing, Nothing, Nothing],
+                count: 0,
+            },
+        ),
+        // another link, the other node, a node that isn't there
+        (
+            two_nodes,
+            Entry::Turn {
+                node: 1,
+                takes: [Nothing, JustData(0x58), Nothing, Nothing],
+                count: 0,
+            },
+        ),
+        (
+            two_nodes,
+            Entry::Turn {
+                node: 0,
+                takes: BYTE,
+                count: 0,
+            },
+        ),
+        (
+            two_nodes,
+            Entry::Turn {
+                node: 2,
+                takes: BYTE,
+                count: 0,
+            },
+        ),
+        // nothing is taken; a step too many for any run
+        (
+            two_nodes,
+            Entry::Turn {
+                node: 0,
+                takes: [Nothing, Nothing, Nothing, Nothing],
+                count: 0,
+            },
+        ),
+        (
+            two_nodes,
+            Entry::Turn {
+                node: 1,
+                takes: BYTE,
+                count: 4097,
+            },
+        ),
+        // the acknowledge that the byte's take sends wasn't on its line before the turn
+        (
+            one_node,
+            Entry::Turn {
+                node: 0,
+                takes: [Nothing, JustData(0x58), JustAck, Nothing],
+                count: 0,
+            },
+        ),
+    ];
+    assert_eq!(rt; first_possible(rt.alloc(), &refused)?, None);
     Ok(())
 }
 
@@ -310,7 +333,8 @@ fn cut_short(alloc: Global) -> Result<Option<NetParts>, Fail> {
         takes: BYTE,
         count: 4096,
     };
-    let Some(mut network) = begun(alloc, TWO_NODES)? else {
+    let sent = SENT;
+    let Some(mut network) = begun(alloc, two_nodes(&sent))? else {
         return Ok(None);
     };
     if goes_on(&mut network, &[long]) {
@@ -327,8 +351,9 @@ fn a_turn_that_is_cut_short_has_taken_its_tokens(rt: HostRuntime) -> Result<(), 
         takes: BYTE,
         count: 5,
     };
+    let sent = SENT;
     let left = cut_short(alloc)?;
-    let wanted = behind(alloc, TWO_NODES, &[made])?;
+    let wanted = behind(alloc, two_nodes(&sent), &[made])?;
     assert!(rt; are_one(&left, &wanted));
     Ok(())
 }

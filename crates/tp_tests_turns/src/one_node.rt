@@ -65,8 +65,9 @@ fn are(entries: &[Numbered], wanted: &[Entry]) -> bool {
 fn the_entries_of_four_turns(rt: HostRuntime) -> Result<(), Fail> {
     let mut disk = device(rt.alloc())?;
     let mut net = Net::of_device(rt.alloc(), &mut disk, 4)?;
-    assert!(rt; are(net.book().entries(), &[]));
+    let entries = ENTRIES;
+    assert!(rt; net.book().entries().is_empty());
     assert!(rt; plays(&mut net, 4));
-    assert!(rt; are(net.book().entries(), &ENTRIES));
+    assert!(rt; are(net.book().entries(), &entries));
     Ok(())
 }

@@ -93,7 +93,7 @@ fn is_cut(alloc: Global, book: &Book) -> Result<bool, Fail> {
         return Ok(false);
     };
     let tail = book.tail(alloc)?;
-    let entries = ENTRIES.as_slice();
+    let entries = ENTRIES;
     let byte = cut.lines().count() == 9 && cut.lines().get(0, 0) == Some(Token::Data(0x58));
     let outside = tail.entries() == &entries[1..] && tail.upto() == 2;
     Ok(byte && outside && cut.size() == 1 && cut.counts() == [1, 0, 0].as_slice())
@@ -105,7 +105,7 @@ fn is_behind(net: &Net) -> bool {
         [first, second] => second.holds(0) && !first.holds(0) && first.waits(0),
         _ => false,
     };
-    let (book, entries) = (net.book(), ENTRIES.as_slice());
+    let (book, entries) = (net.book(), ENTRIES);
     held && book.base() == 1 && book.next() == 2 && book.entries() == &entries[1..]
 }
 
@@ -124,8 +124,8 @@ fn first_other(alloc: Global, net: &mut Net) -> Option<Step> {
 
 /// Whether the cut is whole then, and the network goes on from it.
 fn is_taken_in(alloc: Global, net: &mut Net, flat: &mut FlatNetwork) -> Result<bool, Fail> {
-    let wanted = ENTRIES.as_slice();
-    let entries = net.book().entries() == wanted;
+    let wanted = ENTRIES;
+    let entries = net.book().entries() == wanted.as_slice();
     let cut = is_cut(alloc, net.book())?;
     let tokens = take_in(alloc, net, flat)?;
     Ok(entries && cut && tokens == Some(1) && is_behind(net))
