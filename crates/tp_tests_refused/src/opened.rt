@@ -28,7 +28,7 @@ const KEPT: [Numbered; 2] = [
 
 /// Whether it opens as what it holds.
 fn is_grown(opened: &Opened) -> bool {
-    let (network, kept) = (opened.network(), KEPT.as_slice());
+    let (network, kept) = (opened.network(), KEPT);
     let is_pending = match network.ports() {
         [port] => port.pending() == b"xy".as_slice(),
         _ => false,
@@ -38,7 +38,7 @@ fn is_grown(opened: &Opened) -> bool {
         && opened.generation() == 1
         && !opened.second()
         && opened.end() == 13_081
-        && opened.kept() == kept
+        && opened.kept() == kept.as_slice()
         && network.nodes().len() == 1
         && is_pending
 }

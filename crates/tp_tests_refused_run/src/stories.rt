@@ -1,5 +1,10 @@
 //! What is done on the device of one node, step by step, with what has to come of it. Every number was worked out by hand.
+//! The functions play a story each, and answer whether it goes as it should, where memory is refused once at most.
 
+use crate::playing::plays;
+use std::alloc::Global;
+use std::process::Abort;
+use std::sync::Wait;
 use tp_model::{Entry, Token};
 
 /// Something that is done. Each number of an entry is one behind the bytes that the story offers first.
@@ -28,12 +33,12 @@ pub(crate) type Row = (Step, u64);
 /// How many spare frames the node has, the bytes that are offered first, what is done then, and what a crash leaves at the end: how many
 /// entries are in the open area's cut, and those behind it with their numbers.
 #[derive(Clone, Copy)]
-pub(crate) struct Story {
+pub(crate) struct Story<'a> {
     pub(crate) spare: usize,
-    pub(crate) offered: &'static [u8],
-    pub(crate) rows: &'static [Row],
+    pub(crate) offered: &'a [u8],
+    pub(crate) rows: &'a [Row],
     pub(crate) base: u64,
-    pub(crate) kept: &'static [(u64, Entry)],
+    pub(crate) kept: &'a [(u64, Entry)],
 }
 
 const ACK: Entry = Entry::Take {
@@ -55,92 +60,104 @@ const RUN_3: Entry = Entry::Run { node: 0, count: 3 };
 const RUN_16: Entry = Entry::Run { node: 0, count: 16 };
 
 /// Without a spare frame: the node records, takes the acknowledge, closes its line and runs a whole turn, since nothing is written.
-pub(crate) const NOTHING_WRITTEN: Story = Story {
-    spare: 0,
-    offered: b"",
-    rows: &[
-        (Step::Turn(0, 0, Some(3)), 1),
-        (Step::Turn(1, 1, None), 2),
-        (Step::Begin, 2),
-        (Step::Turn(0, 1, Some(16)), 4),
-        (Step::Turn(1, 0, None), 4),
-        (Step::Whole(1, 1, Some(Token::Ack), 2), 4),
-        (Step::Flush(true), 4),
-    ],
-    base: 2,
-    kept: &[(2, ACK), (3, RUN_16)],
-};
+pub(crate) fn nothing_written<R: Wait + Abort>(rt: &R, alloc: Global) -> bool {
+    let story = Story {
+        spare: 0,
+        offered: b"",
+        rows: &[
+            (Step::Turn(0, 0, Some(3)), 1),
+            (Step::Turn(1, 1, None), 2),
+            (Step::Begin, 2),
+            (Step::Turn(0, 1, Some(16)), 4),
+            (Step::Turn(1, 0, None), 4),
+            (Step::Whole(1, 1, Some(Token::Ack), 2), 4),
+            (Step::Flush(true), 4),
+        ],
+        base: 2,
+        kept: &[(2, ACK), (3, RUN_16)],
+    };
+    plays(rt, alloc, &story)
+}
 
 /// Without a spare frame a frozen node ends before the step that writes its workspace, and goes on once its pages are copied.
-pub(crate) const NO_FRAME: Story = Story {
-    spare: 0,
-    offered: b"",
-    rows: &[
-        (Step::Begin, 0),
-        (Step::Turn(0, 0, Some(2)), 1),
-        (Step::Turn(1, 0, None), 1),
-        (Step::Turn(0, 0, Some(0)), 1),
-        (Step::Turn(1, 0, None), 1),
-        (Step::Whole(0, 0, None, 1), 1),
-        (Step::Flush(true), 1),
-        (Step::Turn(0, 0, Some(1)), 2),
-        (Step::Turn(1, 1, None), 3),
-        (Step::Turn(0, 1, Some(16)), 5),
-        (Step::Flush(false), 5),
-    ],
-    base: 0,
-    kept: &[(0, RUN_2), (1, RUN_1), (2, LETTER), (3, ACK), (4, RUN_16)],
-};
+pub(crate) fn no_frame<R: Wait + Abort>(rt: &R, alloc: Global) -> bool {
+    let story = Story {
+        spare: 0,
+        offered: b"",
+        rows: &[
+            (Step::Begin, 0),
+            (Step::Turn(0, 0, Some(2)), 1),
+            (Step::Turn(1, 0, None), 1),
+            (Step::Turn(0, 0, Some(0)), 1),
+            (Step::Turn(1, 0, None), 1),
+            (Step::Whole(0, 0, None, 1), 1),
+            (Step::Flush(true), 1),
+            (Step::Turn(0, 0, Some(1)), 2),
+            (Step::Turn(1, 1, None), 3),
+            (Step::Turn(0, 1, Some(16)), 5),
+            (Step::Flush(false), 5),
+        ],
+        base: 0,
+        kept: &[(0, RUN_2), (1, RUN_1), (2, LETTER), (3, ACK), (4, RUN_16)],
+    };
+    plays(rt, alloc, &story)
+}
 
 /// One spare frame is enough for the page that it writes.
-pub(crate) const ONE_FRAME: Story = Story {
-    spare: 1,
-    offered: b"",
-    rows: &[
-        (Step::Begin, 0),
-        (Step::Turn(0, 0, Some(3)), 1),
-        (Step::Turn(1, 1, None), 2),
-        (Step::Whole(0, 0, None, 2), 2),
-        (Step::Turn(0, 1, Some(16)), 4),
-        (Step::Flush(true), 4),
-    ],
-    base: 0,
-    kept: &[(0, RUN_3), (1, LETTER), (2, ACK), (3, RUN_16)],
-};
+pub(crate) fn one_frame<R: Wait + Abort>(rt: &R, alloc: Global) -> bool {
+    let story = Story {
+        spare: 1,
+        offered: b"",
+        rows: &[
+            (Step::Begin, 0),
+            (Step::Turn(0, 0, Some(3)), 1),
+            (Step::Turn(1, 1, None), 2),
+            (Step::Whole(0, 0, None, 2), 2),
+            (Step::Turn(0, 1, Some(16)), 4),
+            (Step::Flush(true), 4),
+        ],
+        base: 0,
+        kept: &[(0, RUN_3), (1, LETTER), (2, ACK), (3, RUN_16)],
+    };
+    plays(rt, alloc, &story)
+}
 
 /// As many bytes as the journal has room for entries.
 const ALL: &[u8] = &[7; 105];
 
 /// A journal that is full stays so without a snapshot. One that runs takes what it needs from what is kept for it, and its end makes room.
-pub(crate) const FULL: Story = Story {
-    spare: 4,
-    offered: ALL,
-    rows: &[
-        (Step::Refused, 0),
-        (Step::Full, 0),
-        (Step::Turn(1, 0, None), 0),
-        (Step::Flush(false), 0),
-        (Step::Begin, 0),
-        (Step::Full, 1),
-        (Step::Turn(1, 0, None), 1),
-        (Step::Whole(0, 0, Some(Token::Data(7)), 1), 1),
-        (Step::Refused, 1),
-        (Step::Flush(true), 1),
-        (Step::Turn(0, 0, Some(3)), 2),
-        (Step::Flush(false), 2),
-    ],
-    base: 0,
-    kept: &[
-        (
-            0,
-            Entry::Take {
-                line: 4,
-                token: Token::Data(7),
-            },
-        ),
-        (1, RUN_3),
-    ],
-};
+pub(crate) fn full<R: Wait + Abort>(rt: &R, alloc: Global) -> bool {
+    let story = Story {
+        spare: 4,
+        offered: ALL,
+        rows: &[
+            (Step::Refused, 0),
+            (Step::Full, 0),
+            (Step::Turn(1, 0, None), 0),
+            (Step::Flush(false), 0),
+            (Step::Begin, 0),
+            (Step::Full, 1),
+            (Step::Turn(1, 0, None), 1),
+            (Step::Whole(0, 0, Some(Token::Data(7)), 1), 1),
+            (Step::Refused, 1),
+            (Step::Flush(true), 1),
+            (Step::Turn(0, 0, Some(3)), 2),
+            (Step::Flush(false), 2),
+        ],
+        base: 0,
+        kept: &[
+            (
+                0,
+                Entry::Take {
+                    line: 4,
+                    token: Token::Data(7),
+                },
+            ),
+            (1, RUN_3),
+        ],
+    };
+    plays(rt, alloc, &story)
+}
 
 /// A byte comes in, the letter goes out and is confirmed, and a snapshot comes to its end.
 const CALLS: &[Row] = &[
@@ -158,12 +175,13 @@ const CALLS: &[Row] = &[
 ];
 
 /// The same calls behind a number of bytes, so that each of them wants memory for its entry in one of the stories.
-pub(crate) fn calls(offered: &'static [u8]) -> Story {
-    Story {
+pub(crate) fn calls<R: Wait + Abort>(rt: &R, alloc: Global, offered: &[u8]) -> bool {
+    let story = Story {
         spare: 4,
         offered,
         rows: CALLS,
         base: 6,
         kept: &[(6, RUN_16)],
-    }
+    };
+    plays(rt, alloc, &story)
 }
