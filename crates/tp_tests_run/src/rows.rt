@@ -84,67 +84,44 @@ fn play_rows<R: Threads + Wait + Abort + Sync>(
     disk
 }
 
-/// The entries that are kept then.
-const PRINTED: &[Entry] = &[
-    Entry::Run { node: 0, count: 3 },
-    Entry::Take {
-        line: 0,
-        token: Token::Data(0x41),
-    },
-    Entry::Take {
-        line: 4,
-        token: Token::Ack,
-    },
-    Entry::Run { node: 0, count: 16 },
-    Entry::Confirm { port: 0, upto: 1 },
-];
+/// The letter as the host takes it, its acknowledge as the node takes it, and that the letter was printed.
+const LETTER: Entry = Entry::Take {
+    line: 0,
+    token: Token::Data(0x41),
+};
 
-/// Input is handed in once.
-const OFFERED: &[Entry] = &[
-    Entry::HostIn {
-        port: 0,
-        byte: b'a',
-    },
-    Entry::HostIn {
-        port: 0,
-        byte: b'b',
-    },
-    Entry::HostIn {
-        port: 0,
-        byte: b'c',
-    },
-];
+const ACK: Entry = Entry::Take {
+    line: 4,
+    token: Token::Ack,
+};
 
-/// Input stands before what is done with it.
-const TAKEN: &[Entry] = &[
-    Entry::HostIn {
-        port: 0,
-        byte: b'a',
-    },
-    Entry::HostIn {
-        port: 0,
-        byte: b'b',
-    },
-    Entry::Take {
-        line: 4,
-        token: Token::Data(b'a'),
-    },
-    Entry::Run { node: 0, count: 3 },
-    Entry::Take {
-        line: 0,
-        token: Token::Data(0x41),
-    },
-    Entry::Take {
-        line: 4,
-        token: Token::Ack,
-    },
-    Entry::Run { node: 0, count: 16 },
-    Entry::Confirm { port: 0, upto: 1 },
-    Entry::HostIn {
-        port: 0,
-        byte: b'c',
-    },
-];
+const CONFIRMED: Entry = Entry::Confirm { port: 0, upto: 1 };
+
+/// The steps in front of the letter, and those of a whole turn.
+const RUN_3: Entry = Entry::Run { node: 0, count: 3 };
+
+const RUN_16: Entry = Entry::Run { node: 0, count: 16 };
+
+/// Bytes of the input, and the first of them as the node takes it.
+const INPUT_A: Entry = Entry::HostIn {
+    port: 0,
+    byte: b'a',
+};
+
+const INPUT_B: Entry = Entry::HostIn {
+    port: 0,
+    byte: b'b',
+};
+
+const INPUT_C: Entry = Entry::HostIn {
+    port: 0,
+    byte: b'c',
+};
+
+const TAKES_A: Entry = Entry::Take {
+    line: 4,
+    token: Token::Data(b'a'),
+};
 
 /// Whether just `entries` are kept on what a crash leaves of a device.
 fn leaves(alloc: Global, disk: MemDisk, entries: &[Entry]) -> Result<bool, Fail> {
@@ -155,7 +132,20 @@ fn leaves(alloc: Global, disk: MemDisk, entries: &[Entry]) -> Result<bool, Fail>
 #[test]
 fn runs_keep_what_was_worked_out(rt: HostRuntime) -> Result<(), Fail> {
     let alloc = rt.alloc();
-    for (rows, entries) in [(PRINTS, PRINTED), (OFFERS, OFFERED), (TAKES, TAKEN)] {
+    // The entries that are kept then.
+    let printed = [RUN_3, LETTER, ACK, RUN_16, CONFIRMED];
+    // Input is handed in once.
+    let offered = [INPUT_A, INPUT_B, INPUT_C];
+    // Input stands before what is done with it.
+    let taken = [
+        INPUT_A, INPUT_B, TAKES_A, RUN_3, LETTER, ACK, RUN_16, CONFIRMED, INPUT_C,
+    ];
+    let stories: [(&[Row], &[Entry]); 3] = [
+        (PRINTS, &printed),
+        (OFFERS, &offered),
+        (TAKES, &taken),
+    ];
+    for (rows, entries) in stories {
         let disk = play_rows(&rt, alloc, letter(alloc)?, rows);
         let told = leaves(alloc, disk, entries)?;
         assert!(rt; told);

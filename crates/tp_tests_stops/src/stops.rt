@@ -28,39 +28,6 @@ const SCRIPT: &[Step<'static>] = &[
     Step::Switch,
 ];
 
-/// What is journalled: the node takes a byte, which it holds; it sends a letter, which the host takes; it takes the acknowledge, and goes
-/// round, in its next turns too.
-const JOURNAL: &[Entry] = &[
-    Entry::HostIn {
-        port: 0,
-        byte: b'a',
-    },
-    Entry::HostIn {
-        port: 0,
-        byte: b'b',
-    },
-    Entry::Take {
-        line: 4,
-        token: Token::Data(b'a'),
-    },
-    Entry::Run { node: 0, count: 3 },
-    Entry::Take {
-        line: 0,
-        token: Token::Data(0x41),
-    },
-    Entry::Take {
-        line: 4,
-        token: Token::Ack,
-    },
-    Entry::Run { node: 0, count: 9 },
-    Entry::Run { node: 0, count: 9 },
-    Entry::HostIn {
-        port: 0,
-        byte: b'c',
-    },
-    Entry::Run { node: 0, count: 9 },
-];
-
 /// How many of its steps are in front of it, in front of and behind the first checkpoint, and in front of and behind the second.
 const ENDS: [usize; 5] = [0, 3, 4, 6, 7];
 
@@ -384,13 +351,49 @@ fn is_last(alloc: Global, bytes: &[u8]) -> Result<bool, Fail> {
     )
 }
 
+/// Whether `entries` are what is journalled: the node takes a byte, which it holds; it sends a letter, which the host takes; it takes the
+/// acknowledge, and goes round, in its next turns too.
+fn is_journal(entries: &[Entry]) -> bool {
+    let journal = [
+        Entry::HostIn {
+            port: 0,
+            byte: b'a',
+        },
+        Entry::HostIn {
+            port: 0,
+            byte: b'b',
+        },
+        Entry::Take {
+            line: 4,
+            token: Token::Data(b'a'),
+        },
+        Entry::Run { node: 0, count: 3 },
+        Entry::Take {
+            line: 0,
+            token: Token::Data(0x41),
+        },
+        Entry::Take {
+            line: 4,
+            token: Token::Ack,
+        },
+        Entry::Run { node: 0, count: 9 },
+        Entry::Run { node: 0, count: 9 },
+        Entry::HostIn {
+            port: 0,
+            byte: b'c',
+        },
+        Entry::Run { node: 0, count: 9 },
+    ];
+    entries == journal.as_slice()
+}
+
 #[test]
 fn a_script_journals_what_it_does(rt: HostRuntime) -> Result<(), Fail> {
     let alloc = rt.alloc();
     let first = fresh(alloc)?;
     let left = run(&rt, alloc, &first, None, SCRIPT, untold(alloc))?;
     assert!(rt; left.done == Done::All && left.told.mark == 10);
-    assert!(rt; left.told.journal.as_slice() == JOURNAL);
+    assert!(rt; is_journal(&left.told.journal));
     assert!(rt; recovered(alloc, &first, &left)? == Some(10));
     assert!(rt; is_last(alloc, &left.bytes)?);
     Ok(())

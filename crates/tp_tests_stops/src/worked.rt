@@ -24,17 +24,23 @@ struct Story {
     acts: &'static [Act],
 }
 
-/// What a crash leaves: the open area, what opening says of it, pieces of the device's bytes, and words of the nodes' images behind
-/// opening, each with its node and its place.
+/// What a crash leaves of a device: the open area, what opening says of it, pieces of the device's bytes, and words of the nodes' images
+/// behind opening, each with its node and its place.
 #[derive(Clone, Copy)]
-struct Left {
+struct Device {
     second: bool,
     generation: u64,
     base: u64,
     next: u64,
-    kept: &'static [(Entry, u64)],
     bytes: &'static [(usize, &'static [u8])],
     words: &'static [(usize, usize, [u8; 4])],
+}
+
+/// What a crash leaves, with the entries that opening keeps and their numbers.
+#[derive(Clone, Copy)]
+struct Left<'a> {
+    device: &'a Device,
+    kept: &'a [(Entry, u64)],
 }
 
 /// mint; ldnlp 0; ldc 58; outbyte; stopp
@@ -82,18 +88,11 @@ const UNDER_WAY: Story = Story {
     ],
 };
 
-const UNDER_WAY_LEFT: Left = Left {
+const UNDER_WAY_LEFT: Device = Device {
     second: true,
     generation: 2,
     base: 1,
     next: 2,
-    kept: &[(
-        Entry::Take {
-            line: 0,
-            token: Token::Data(0x58),
-        },
-        1,
-    )],
     bytes: &[
         // The gate, the generation, the length of the cut, the base.
         (
@@ -167,30 +166,11 @@ const LATE: Story = Story {
     ],
 };
 
-const LATE_LEFT: Left = Left {
+const LATE_LEFT: Device = Device {
     second: true,
     generation: 2,
     base: 7,
     next: 12,
-    kept: &[
-        (
-            Entry::HostIn {
-                port: 0,
-                byte: 0x78,
-            },
-            7,
-        ),
-        (
-            Entry::HostIn {
-                port: 0,
-                byte: 0x79,
-            },
-            8,
-        ),
-        (Entry::Run { node: 1, count: 4 }, 9),
-        (Entry::Run { node: 0, count: 4 }, 10),
-        (Entry::Run { node: 1, count: 4 }, 11),
-    ],
     bytes: &[
         (
             20_992,
@@ -251,12 +231,11 @@ const THIRD: Story = Story {
     ],
 };
 
-const THIRD_LEFT: Left = Left {
+const THIRD_LEFT: Device = Device {
     second: true,
     generation: 4,
     base: 42,
     next: 43,
-    kept: &[(Entry::Run { node: 0, count: 4 }, 42)],
     bytes: &[
         // The second checkpoint, its count, and its one entry behind the cut.
         (
@@ -325,12 +304,11 @@ const SWITCHED: Story = Story {
 const CALLS: u64 = 100;
 
 /// The same once the gate is open.
-const SWITCHED_LEFT: Left = Left {
+const SWITCHED_LEFT: Device = Device {
     second: true,
     generation: 2,
     base: 4,
     next: 5,
-    kept: &[(Entry::Run { node: 0, count: 16 }, 4)],
     bytes: &[
         (13_033, &[0xA5, 0, 4, 0, 0, 0, 0, 0, 0]),
         (13_113, &[0xA5, 0, 1, 0, 0, 0, 0, 0, 4]),
@@ -347,30 +325,11 @@ const SWITCHED_LEFT: Left = Left {
 };
 
 /// The same where another byte stands there.
-const NOT_SWITCHED_LEFT: Left = Left {
+const NOT_SWITCHED_LEFT: Device = Device {
     second: false,
     generation: 1,
     base: 0,
     next: 5,
-    kept: &[
-        (Entry::Run { node: 0, count: 3 }, 0),
-        (
-            Entry::Take {
-                line: 0,
-                token: Token::Data(0x41),
-            },
-            1,
-        ),
-        (
-            Entry::Take {
-                line: 4,
-                token: Token::Ack,
-            },
-            2,
-        ),
-        (Entry::Run { node: 0, count: 16 }, 3),
-        (Entry::Run { node: 0, count: 16 }, 4),
-    ],
     ..SWITCHED_LEFT
 };
 
@@ -401,15 +360,11 @@ const ONE_SPARE: Story = Story {
     ],
 };
 
-const ONE_SPARE_LEFT: Left = Left {
+const ONE_SPARE_LEFT: Device = Device {
     second: true,
     generation: 2,
     base: 0,
     next: 2,
-    kept: &[
-        (Entry::Run { node: 0, count: 3 }, 0),
-        (Entry::Run { node: 0, count: 2 }, 1),
-    ],
     // Both words as they were when the node recorded.
     bytes: &[(17_601, &[0; 4]), (18_113, &[0; 4])],
     words: &[(0, 684, [4, 0, 0, 0]), (0, 1196, [5, 0, 0, 0])],
@@ -434,14 +389,6 @@ const NONE_SPARE: Story = Story {
     ..ONE_SPARE
 };
 
-const NONE_SPARE_LEFT: Left = Left {
-    kept: &[
-        (Entry::Run { node: 0, count: 1 }, 0),
-        (Entry::Run { node: 0, count: 4 }, 1),
-    ],
-    ..ONE_SPARE_LEFT
-};
-
 /// Whether a piece stands at a place.
 fn stands(bytes: &[u8], at: usize, piece: &[u8]) -> bool {
     bytes
@@ -457,24 +404,25 @@ fn are_kept(kept: &[Numbered], wanted: &[(Entry, u64)]) -> bool {
 }
 
 /// Whether opening says what it should.
-fn is_opened(opened: &Opened, left: &Left) -> bool {
-    opened.second() == left.second
-        && opened.generation() == left.generation
-        && opened.base() == left.base
-        && opened.next() == left.next
+fn is_opened(opened: &Opened, left: &Left<'_>) -> bool {
+    opened.second() == left.device.second
+        && opened.generation() == left.device.generation
+        && opened.base() == left.device.base
+        && opened.next() == left.device.next
         && are_kept(opened.kept(), left.kept)
 }
 
 /// Whether the device has the pieces.
-fn has_pieces(bytes: &[u8], left: &Left) -> bool {
-    left.bytes
+fn has_pieces(bytes: &[u8], device: &Device) -> bool {
+    device
+        .bytes
         .iter()
         .all(|(at, piece)| stands(bytes, *at, piece))
 }
 
 /// Whether the images have the words.
-fn has_words(net: &NetParts, left: &Left) -> bool {
-    left.words.iter().all(|(node, at, word)| {
+fn has_words(net: &NetParts, device: &Device) -> bool {
+    device.words.iter().all(|(node, at, word)| {
         net.images
             .get(*node)
             .is_some_and(|image| stands(image, *at, word))
@@ -508,7 +456,11 @@ fn left_by<R: Wait>(
 }
 
 /// The network of a device, where opening says what it should.
-fn net_of(alloc: Global, bytes: Vec<u8>, left: Option<&Left>) -> Result<Option<NetParts>, Fail> {
+fn net_of(
+    alloc: Global,
+    bytes: Vec<u8>,
+    left: Option<&Left<'_>>,
+) -> Result<Option<NetParts>, Fail> {
     let mut disk = MemDisk::of_bytes(bytes);
     let opened = open(alloc, &mut disk)?;
     if !left.is_none_or(|left| is_opened(&opened, left)) {
@@ -519,19 +471,19 @@ fn net_of(alloc: Global, bytes: Vec<u8>, left: Option<&Left>) -> Result<Option<N
 }
 
 /// The network of a device that opens as it should.
-fn opens(alloc: Global, bytes: Vec<u8>, left: Option<&Left>) -> Result<Option<NetParts>, Fail> {
-    if !left.is_none_or(|left| has_pieces(&bytes, left)) {
+fn opens(alloc: Global, bytes: Vec<u8>, left: Option<&Left<'_>>) -> Result<Option<NetParts>, Fail> {
+    if !left.is_none_or(|left| has_pieces(&bytes, left.device)) {
         return Ok(None);
     }
     let Some(net) = net_of(alloc, bytes, left)? else {
         return Ok(None);
     };
-    let has_words = left.is_none_or(|left| has_words(&net, left));
+    let has_words = left.is_none_or(|left| has_words(&net, left.device));
     Ok(if has_words { Some(net) } else { None })
 }
 
 /// Whether a story goes as it was told, and leaves what it should.
-fn goes<R: Wait>(rt: &R, alloc: Global, story: &Story, left: &Left) -> Result<bool, Fail> {
+fn goes<R: Wait>(rt: &R, alloc: Global, story: &Story, left: &Left<'_>) -> Result<bool, Fail> {
     let Some(bytes) = left_by(rt, alloc, story, None, false)? else {
         return Ok(false);
     };
@@ -551,7 +503,12 @@ fn gate_call<R: Wait>(rt: &R, alloc: Global, story: &Story) -> Result<Option<u64
 }
 
 /// Whether what a story leaves opens as it should, to the network `other`.
-fn opens_to(alloc: Global, bytes: Vec<u8>, left: &Left, other: &NetParts) -> Result<bool, Fail> {
+fn opens_to(
+    alloc: Global,
+    bytes: Vec<u8>,
+    left: &Left<'_>,
+    other: &NetParts,
+) -> Result<bool, Fail> {
     let one = opens(alloc, bytes, Some(left))?;
     Ok(one.is_some_and(|one| is_network(&one, other)))
 }
@@ -562,7 +519,7 @@ fn is_torn_to<R: Wait>(
     alloc: Global,
     story: &Story,
     stop: Option<(u64, u8)>,
-    left: &Left,
+    left: &Left<'_>,
     other: &NetParts,
 ) -> Result<bool, Fail> {
     let Some(bytes) = left_by(rt, alloc, story, stop, false)? else {
@@ -586,7 +543,7 @@ fn is_plain_too<R: Wait>(
     alloc: Global,
     story: &Story,
     stop: Option<(u64, u8)>,
-    left: &Left,
+    left: &Left<'_>,
 ) -> Result<bool, Fail> {
     let Some(other) = plain_net(rt, alloc, story)? else {
         return Ok(false);
@@ -598,12 +555,41 @@ fn is_plain_too<R: Wait>(
 #[test]
 fn checkpoints_leave_what_was_worked_out(rt: HostRuntime) -> Result<(), Fail> {
     let alloc = rt.alloc();
-    for (story, left) in [
-        (&UNDER_WAY, &UNDER_WAY_LEFT),
-        (&LATE, &LATE_LEFT),
-        (&THIRD, &THIRD_LEFT),
-    ] {
-        assert!(rt; is_plain_too(&rt, alloc, story, None, left)?);
+    let under_way: [(Entry, u64); 1] = [(
+        Entry::Take {
+            line: 0,
+            token: Token::Data(0x58),
+        },
+        1,
+    )];
+    let late: [(Entry, u64); 5] = [
+        (
+            Entry::HostIn {
+                port: 0,
+                byte: 0x78,
+            },
+            7,
+        ),
+        (
+            Entry::HostIn {
+                port: 0,
+                byte: 0x79,
+            },
+            8,
+        ),
+        (Entry::Run { node: 1, count: 4 }, 9),
+        (Entry::Run { node: 0, count: 4 }, 10),
+        (Entry::Run { node: 1, count: 4 }, 11),
+    ];
+    let third: [(Entry, u64); 1] = [(Entry::Run { node: 0, count: 4 }, 42)];
+    let rows: [(&Story, &Device, &[(Entry, u64)]); 3] = [
+        (&UNDER_WAY, &UNDER_WAY_LEFT, &under_way),
+        (&LATE, &LATE_LEFT, &late),
+        (&THIRD, &THIRD_LEFT, &third),
+    ];
+    for (story, device, kept) in rows {
+        let left = Left { device, kept };
+        assert!(rt; is_plain_too(&rt, alloc, story, None, &left)?);
     }
     Ok(())
 }
@@ -614,12 +600,34 @@ fn a_gate_that_is_half_written_is_open_or_it_is_not(rt: HostRuntime) -> Result<(
     let Some(call) = gate_call(&rt, alloc, &SWITCHED)? else {
         panic!(rt; "a call writes the gate")
     };
-    for (byte, left) in [
-        (0xA5, &SWITCHED_LEFT),
-        (0x00, &NOT_SWITCHED_LEFT),
-        (0x5A, &NOT_SWITCHED_LEFT),
-    ] {
-        assert!(rt; is_plain_too(&rt, alloc, &SWITCHED, Some((call, byte)), left)?);
+    let switched: [(Entry, u64); 1] = [(Entry::Run { node: 0, count: 16 }, 4)];
+    let not_switched: [(Entry, u64); 5] = [
+        (Entry::Run { node: 0, count: 3 }, 0),
+        (
+            Entry::Take {
+                line: 0,
+                token: Token::Data(0x41),
+            },
+            1,
+        ),
+        (
+            Entry::Take {
+                line: 4,
+                token: Token::Ack,
+            },
+            2,
+        ),
+        (Entry::Run { node: 0, count: 16 }, 3),
+        (Entry::Run { node: 0, count: 16 }, 4),
+    ];
+    let rows: [(u8, &Device, &[(Entry, u64)]); 3] = [
+        (0xA5, &SWITCHED_LEFT, &switched),
+        (0x00, &NOT_SWITCHED_LEFT, &not_switched),
+        (0x5A, &NOT_SWITCHED_LEFT, &not_switched),
+    ];
+    for (byte, device, kept) in rows {
+        let left = Left { device, kept };
+        assert!(rt; is_plain_too(&rt, alloc, &SWITCHED, Some((call, byte)), &left)?);
     }
     Ok(())
 }
@@ -627,11 +635,24 @@ fn a_gate_that_is_half_written_is_open_or_it_is_not(rt: HostRuntime) -> Result<(
 #[test]
 fn frozen_pages_want_spare_frames(rt: HostRuntime) -> Result<(), Fail> {
     let alloc = rt.alloc();
-    for (story, left) in [
-        (&ONE_SPARE, &ONE_SPARE_LEFT),
-        (&NONE_SPARE, &NONE_SPARE_LEFT),
-    ] {
-        assert!(rt; goes(&rt, alloc, story, left)?);
+    let one_spare: [(Entry, u64); 2] = [
+        (Entry::Run { node: 0, count: 3 }, 0),
+        (Entry::Run { node: 0, count: 2 }, 1),
+    ];
+    let none_spare: [(Entry, u64); 2] = [
+        (Entry::Run { node: 0, count: 1 }, 0),
+        (Entry::Run { node: 0, count: 4 }, 1),
+    ];
+    let rows: [(&Story, &[(Entry, u64)]); 2] = [
+        (&ONE_SPARE, &one_spare),
+        (&NONE_SPARE, &none_spare),
+    ];
+    for (story, kept) in rows {
+        let left = Left {
+            device: &ONE_SPARE_LEFT,
+            kept,
+        };
+        assert!(rt; goes(&rt, alloc, story, &left)?);
     }
     Ok(())
 }
