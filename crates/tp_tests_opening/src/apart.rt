@@ -1,11 +1,11 @@
 //! Devices that are opened each node by itself, by several workers, and in one thread: both calls say the same.
 
-use crate::checkpoints::{AFTER_A_GROUP, BEYOND_THE_GROUPS, OVER_OLD_GROUPS};
+use crate::checkpointed::Known;
 use crate::devices::{LETTER, Letter, MORE, append, disk_of, fresh, held_in, is_same, store_of};
 use crate::filled_areas::each_filled;
 use crate::opened_books::grown;
-use crate::switch_faults::both_ends;
-use std::alloc::Global;
+use crate::stories::{after_a_group, beyond_the_groups, over_old_groups};
+use std::alloc::{AllocError, Global};
 use std::process::Abort;
 use std::test::Fail;
 use std::thread::Threads;
@@ -304,13 +304,22 @@ fn are_said_by_both<R: Threads + Sync>(
 /// The device of one node with two groups.
 fn appended(alloc: Global) -> Result<Vec<u8>, Fail> {
     let mut store = store_of(alloc, &fresh(alloc, AREA)?)?;
-    let first = append(&mut store, &LETTER).is_ok();
-    let both = first && append(&mut store, &MORE).is_ok();
+    let (letter, more) = (LETTER, MORE);
+    let first = append(&mut store, &letter).is_ok();
+    let both = first && append(&mut store, &more).is_ok();
     let bytes = store.into_disk().crash();
     if !both {
         return Err(Fail::new("not appended"));
     }
     Ok(bytes)
+}
+
+/// Adds a device in front of its checkpoint, and behind it.
+fn add_ends(devices: &mut Vec<Vec<u8>>, known: Known) -> Result<(), AllocError> {
+    let (start, end) = known.into_ends();
+    devices.push(start)?;
+    devices.push(end)?;
+    Ok(())
 }
 
 /// The devices of the other tables here: with groups, filled, and with checkpoints.
@@ -320,11 +329,9 @@ fn devices_of_other_tables(rt: HostRuntime) -> Result<(), Fail> {
     let mut devices = each_filled(alloc)?;
     devices.push(fresh(alloc, AREA)?)?;
     devices.push(appended(alloc)?)?;
-    for story in [&AFTER_A_GROUP, &BEYOND_THE_GROUPS, &OVER_OLD_GROUPS] {
-        let (start, end) = both_ends(alloc, story)?;
-        devices.push(start)?;
-        devices.push(end)?;
-    }
+    add_ends(&mut devices, after_a_group(alloc)?)?;
+    add_ends(&mut devices, beyond_the_groups(alloc)?)?;
+    add_ends(&mut devices, over_old_groups(alloc)?)?;
     let told = are_said_by_both(&rt, alloc, &devices)?;
     assert!(rt; told);
     Ok(())

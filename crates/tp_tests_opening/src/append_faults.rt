@@ -62,7 +62,8 @@ impl Known {
     }
 
     fn learn_of(&mut self, alloc: Global, first: &[u8]) -> Result<(), Fail> {
-        let groups: [&[&[Entry]]; 3] = [&[], &[&LETTER], &[&LETTER, &MORE]];
+        let (letter, more) = (LETTER, MORE);
+        let groups: [&[&[Entry]]; 3] = [&[], &[&letter], &[&letter, &more]];
         for entries in groups {
             self.held.push(replayed(alloc, first, entries)?)?;
         }
@@ -76,12 +77,13 @@ impl Known {
 
     /// Appends both groups, and copies the device in front of each.
     fn grow(&mut self, alloc: Global, store: &mut Store<MemDisk>) -> Result<(), Fail> {
+        let (letter, more) = (LETTER, MORE);
         self.bytes
             .push(Vec::from_slice(alloc, store.disk.bytes())?)?;
-        append(store, &LETTER)?;
+        append(store, &letter)?;
         self.bytes
             .push(Vec::from_slice(alloc, store.disk.bytes())?)?;
-        append(store, &MORE)?;
+        append(store, &more)?;
         Ok(())
     }
 
@@ -125,7 +127,8 @@ impl Known {
 /// Appends both groups as long as the store takes them. Answers how many it took; none where it answers another fault than
 /// that its device failed.
 fn append_both(store: &mut Store<MemDisk>) -> Option<usize> {
-    for (i, group) in [LETTER.as_slice(), MORE.as_slice()].iter().enumerate() {
+    let (letter, more) = (LETTER, MORE);
+    for (i, group) in [letter.as_slice(), more.as_slice()].iter().enumerate() {
         if let Err(fault) = append(store, group) {
             return if fault == StoreFault::DeviceFailed {
                 Some(i)
@@ -216,8 +219,9 @@ fn what_is_stored_is_what_is_replayed(rt: HostRuntime) -> Result<(), Fail> {
 fn stays_broken(alloc: Global, store: &mut Store<MemDisk>) -> Result<bool, AllocError> {
     let place = store.place;
     let bytes = Vec::from_slice(alloc, store.disk.bytes())?;
-    let told = append(store, &LETTER) == Err(StoreFault::StoreBroken)
-        && append(store, &MORE) == Err(StoreFault::StoreBroken)
+    let (letter, more) = (LETTER, MORE);
+    let told = append(store, &letter) == Err(StoreFault::StoreBroken)
+        && append(store, &more) == Err(StoreFault::StoreBroken)
         && store.disk.failures() == 1;
     Ok(told && store.disk.bytes() == bytes.as_slice() && store.place == place && store.broken)
 }
@@ -243,10 +247,11 @@ fn goes_on(
     next: u64,
     store: &mut Store<MemDisk>,
 ) -> Result<bool, Fail> {
+    let (letter, more) = (LETTER, MORE);
     if next == 0 {
-        append(store, &LETTER)?;
+        append(store, &letter)?;
     }
-    append(store, &MORE)?;
+    append(store, &more)?;
     Ok(store.disk.failures() == 1 && known.holds(alloc, store.disk.bytes(), 2)?)
 }
 

@@ -67,7 +67,8 @@ fn inputs(all: &[Entry], count: usize) -> &[Entry] {
 fn refuses(alloc: Global, store: &mut Store<MemDisk>, count: usize) -> Result<bool, Fail> {
     let place = store.place;
     let bytes = Vec::from_slice(alloc, store.disk.bytes())?;
-    let told = append(store, inputs(&INPUTS, count)) == Err(StoreFault::AreaFull);
+    let all = INPUTS;
+    let told = append(store, inputs(&all, count)) == Err(StoreFault::AreaFull);
     Ok(
         told && store.disk.bytes() == bytes.as_slice()
             && store.disk.failures() == 0
@@ -88,8 +89,9 @@ fn refuses_all(alloc: Global, store: &mut Store<MemDisk>, counts: &[usize]) -> R
 
 /// Appends groups. Answers whether each ends where it ought to.
 fn fill(store: &mut Store<MemDisk>, groups: &[(usize, u64)]) -> Result<bool, StoreFault> {
+    let all = INPUTS;
     for (count, end) in groups {
-        append(store, inputs(&INPUTS, *count))?;
+        append(store, inputs(&all, *count))?;
         if store.place.end != *end {
             return Ok(false);
         }
@@ -97,13 +99,14 @@ fn fill(store: &mut Store<MemDisk>, groups: &[(usize, u64)]) -> Result<bool, Sto
     Ok(true)
 }
 
-/// The entries of groups.
-fn add_groups(
-    entries: &mut Vec<&'static [Entry]>,
+/// The entries of groups, each the first of `all`.
+fn add_groups<'a>(
+    entries: &mut Vec<&'a [Entry]>,
+    all: &'a [Entry],
     groups: &[(usize, u64)],
 ) -> Result<(), AllocError> {
     for (count, _) in groups {
-        entries.push(inputs(&INPUTS, *count))?;
+        entries.push(inputs(all, *count))?;
     }
     Ok(())
 }
@@ -127,8 +130,9 @@ fn is_replayed(
     bytes: &[u8],
     groups: &[(usize, u64)],
 ) -> Result<bool, Fail> {
+    let all = INPUTS;
     let mut entries = Vec::new(alloc);
-    add_groups(&mut entries, groups)?;
+    add_groups(&mut entries, &all, groups)?;
     let told = is_replay(alloc, first, bytes, &entries);
     told
 }

@@ -171,7 +171,8 @@ fn a_format_that_stops_behind_its_head(rt: HostRuntime) -> Result<(), Fail> {
 /// A device in memory with the letter's group appended.
 fn grow(alloc: Global, disk: MemDisk) -> Result<MemDisk, Fail> {
     let (_, mut store) = open_store(alloc, disk)?;
-    append(&mut store, &LETTER)?;
+    let letter = LETTER;
+    append(&mut store, &letter)?;
     Ok(store.into_disk())
 }
 

@@ -7,6 +7,8 @@ mod apart;
 #[cfg(test)]
 mod append_faults;
 #[cfg(test)]
+mod checkpointed;
+#[cfg(test)]
 mod checkpoints;
 #[cfg(test)]
 mod copies;
@@ -23,5 +25,7 @@ mod opened_books;
 pub mod possible;
 #[cfg(test)]
 mod reserve;
+#[cfg(test)]
+mod stories;
 #[cfg(test)]
 mod switch_faults;

@@ -1,155 +1,20 @@
 //! Checkpoints whose device calls fail, or on which the run stops: what the device then opens as.
 
-use crate::checkpoints::{
-    AFTER_A_GROUP, BEYOND_THE_GROUPS, Calls, Look, OVER_OLD_GROUPS, Step, Story,
-};
-use crate::copies::{Pieces, switch};
-use crate::devices::{Held, Letter, append, disk_of, fresh, holds, replayed, store_of};
+use crate::checkpointed::Known;
+use crate::checkpoints::Look;
+use crate::copies::switch;
+use crate::devices::{Held, disk_of, holds};
 use crate::faults::{Case, ENDINGS, Torn};
+use crate::stories::{after_a_group, beyond_the_groups, over_old_groups};
 use std::alloc::{AllocError, Global};
 use std::process::Abort;
 use std::test::Fail;
 use tp_area::{Store, StoreFault};
 use tp_disk::{Disk, MemDisk};
-use tp_model::Entry;
-use tp_net::Topology;
 use tp_recover::{open, open_store};
-use tp_tests_fixtures::{AREA, SECOND, place};
-
-/// A device in front of the checkpoint and behind it, with what a plain replay of the entries gives; and what is put.
-#[derive(Drop)]
-struct Known {
-    calls: Calls,
-    looks: [Look; 2],
-    topology: Topology,
-    pieces: Pieces,
-    start: Vec<u8>,
-    end: Vec<u8>,
-    before: Held,
-    after: Held,
-}
-
-/// Appends a group for each entry.
-fn append_each(store: &mut Store<MemDisk>, entries: &[Entry]) -> Result<(), StoreFault> {
-    for entry in entries {
-        append(store, &[*entry])?;
-    }
-    Ok(())
-}
-
-/// Takes a step on a device, which was formatted with `first`.
-fn take_step(
-    alloc: Global,
-    store: &mut Store<MemDisk>,
-    topology: &Topology,
-    first: &[u8],
-    step: &Step<'_>,
-) -> Result<(), Fail> {
-    match *step {
-        Step::Group(entries) => append(store, entries)?,
-        Step::Each(entries) => append_each(store, entries)?,
-        Step::Switch(cut) => {
-            let pieces = Pieces::of(alloc, first, &cut)?;
-            switch(store, topology, &pieces)?;
-        }
-    }
-    Ok(())
-}
-
-/// Takes steps on it, one after the other.
-fn grow(
-    alloc: Global,
-    store: &mut Store<MemDisk>,
-    topology: &Topology,
-    first: &[u8],
-    steps: &[Step<'_>],
-) -> Result<(), Fail> {
-    for step in steps {
-        take_step(alloc, store, topology, first, step)?;
-    }
-    Ok(())
-}
-
-/// Whether the bytes of a device are those that ought to stand there.
-fn has_bytes(device: &[u8], bytes: &[(usize, u8)]) -> bool {
-    bytes.iter().all(|(at, byte)| device.get(*at) == Some(byte))
-}
-
-/// What plain replays of the entries before and after a checkpoint give, over the device with `first`.
-fn held_of(alloc: Global, first: &[u8], story: &Story<'_>) -> Result<(Held, Held), Fail> {
-    let [before, after] = story.made;
-    let before = replayed(alloc, first, before)?;
-    let after = replayed(alloc, first, after)?;
-    Ok((before, after))
-}
-
-/// Takes the steps, and makes the checkpoint. Answers what the device has in front of it.
-fn switched(
-    alloc: Global,
-    store: &mut Store<MemDisk>,
-    topology: &Topology,
-    pieces: &Pieces,
-    first: &[u8],
-    steps: &[Step<'_>],
-) -> Result<Vec<u8>, Fail> {
-    grow(alloc, store, topology, first, steps)?;
-    let start = Vec::from_slice(alloc, store.disk.bytes())?;
-    switch(store, topology, pieces)?;
-    Ok(start)
-}
-
-/// What the device has in front of the checkpoint and behind it.
-fn ends_of(
-    alloc: Global,
-    topology: &Topology,
-    pieces: &Pieces,
-    first: &[u8],
-    story: &Story<'_>,
-) -> Result<(Vec<u8>, Vec<u8>), Fail> {
-    let mut store = store_of(alloc, first)?;
-    let start = switched(alloc, &mut store, topology, pieces, first, story.steps);
-    let end = store.into_disk().crash();
-    let start = start?;
-    if !has_bytes(&end, story.bytes) {
-        return Err(Fail::new("other bytes"));
-    }
-    Ok((start, end))
-}
-
-/// The same of a device that is formatted first.
-pub(crate) fn both_ends(alloc: Global, story: &Story<'_>) -> Result<(Vec<u8>, Vec<u8>), Fail> {
-    let first = fresh(alloc, AREA)?;
-    let topology = Letter::new(alloc)?.topology;
-    let pieces = Pieces::of(alloc, &first, &story.last)?;
-    let ends = ends_of(alloc, &topology, &pieces, &first, story);
-    ends
-}
+use tp_tests_fixtures::{SECOND, place};
 
 impl Known {
-    /// What is known of a story over the device with `first`, which was just formatted.
-    fn over(alloc: Global, first: &[u8], story: &Story<'_>) -> Result<Known, Fail> {
-        let topology = Letter::new(alloc)?.topology;
-        let pieces = Pieces::of(alloc, first, &story.last)?;
-        let (start, end) = ends_of(alloc, &topology, &pieces, first, story)?;
-        let (before, after) = held_of(alloc, first, story)?;
-        Ok(Known {
-            calls: story.calls,
-            looks: story.looks,
-            topology,
-            pieces,
-            start,
-            end,
-            before,
-            after,
-        })
-    }
-
-    fn of(alloc: Global, story: &Story<'_>) -> Result<Known, Fail> {
-        let first = fresh(alloc, AREA)?;
-        let known = Known::over(alloc, &first, story);
-        known
-    }
-
     /// A store in front of the checkpoint, with the fault of a case behind the calls of opening.
     fn store(&self, alloc: Global, case: Case) -> Result<Store<MemDisk>, Fail> {
         let range = self.calls.range(case.call);
@@ -254,10 +119,9 @@ fn is_whole_at(alloc: Global, known: &Known, call: usize) -> Result<bool, Fail> 
 }
 
 /// Whether it does so in each call.
-fn play<R: AllocGlobal + Abort>(rt: &R, story: &Story<'_>) -> Result<(), Fail> {
-    let known = Known::of(rt.alloc(), story)?;
+fn play<R: AllocGlobal + Abort>(rt: &R, known: &Known) -> Result<(), Fail> {
     for call in 0..known.calls.count().saturating_add(1) {
-        let told = is_whole_at(rt.alloc(), &known, call)?;
+        let told = is_whole_at(rt.alloc(), known, call)?;
         assert!(rt; told, "call {call}");
     }
     Ok(())
@@ -265,15 +129,18 @@ fn play<R: AllocGlobal + Abort>(rt: &R, story: &Story<'_>) -> Result<(), Fail> {
 
 #[test]
 fn a_checkpoint_is_there_or_it_is_not(rt: HostRuntime) -> Result<(), Fail> {
-    play(&rt, &AFTER_A_GROUP)
+    let known = after_a_group(rt.alloc())?;
+    play(&rt, &known)
 }
 
 #[test]
 fn a_tail_reaches_the_next_number(rt: HostRuntime) -> Result<(), Fail> {
-    play(&rt, &BEYOND_THE_GROUPS)
+    let known = beyond_the_groups(rt.alloc())?;
+    play(&rt, &known)
 }
 
 #[test]
 fn old_groups_are_not_read(rt: HostRuntime) -> Result<(), Fail> {
-    play(&rt, &OVER_OLD_GROUPS)
+    let known = over_old_groups(rt.alloc())?;
+    play(&rt, &known)
 }
