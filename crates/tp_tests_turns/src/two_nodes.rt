@@ -94,8 +94,9 @@ fn is_cut(alloc: Global, book: &Book) -> Result<bool, Fail> {
     };
     let tail = book.tail(alloc)?;
     let entries = ENTRIES;
+    let wanted = entries.as_slice();
     let byte = cut.lines().count() == 9 && cut.lines().get(0, 0) == Some(Token::Data(0x58));
-    let outside = tail.entries() == &entries[1..] && tail.upto() == 2;
+    let outside = tail.entries() == &wanted[1..] && tail.upto() == 2;
     Ok(byte && outside && cut.size() == 1 && cut.counts() == [1, 0, 0].as_slice())
 }
 
@@ -105,8 +106,9 @@ fn is_behind(net: &Net) -> bool {
         [first, second] => second.holds(0) && !first.holds(0) && first.waits(0),
         _ => false,
     };
-    let (book, entries) = (net.book(), ENTRIES);
-    held && book.base() == 1 && book.next() == 2 && book.entries() == &entries[1..]
+    let entries = ENTRIES;
+    let (book, wanted) = (net.book(), entries.as_slice());
+    held && book.base() == 1 && book.next() == 2 && book.entries() == &wanted[1..]
 }
 
 /// The first step of the day that isn't as it was told.
