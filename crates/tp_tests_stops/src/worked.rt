@@ -643,15 +643,12 @@ fn frozen_pages_want_spare_frames(rt: HostRuntime) -> Result<(), Fail> {
         (Entry::Run { node: 0, count: 1 }, 0),
         (Entry::Run { node: 0, count: 4 }, 1),
     ];
-    let rows: [(&Story, &[(Entry, u64)]); 2] = [
-        (&ONE_SPARE, &one_spare),
-        (&NONE_SPARE, &none_spare),
+    let rows: [(&Story, &Device, &[(Entry, u64)]); 2] = [
+        (&ONE_SPARE, &ONE_SPARE_LEFT, &one_spare),
+        (&NONE_SPARE, &ONE_SPARE_LEFT, &none_spare),
     ];
-    for (story, kept) in rows {
-        let left = Left {
-            device: &ONE_SPARE_LEFT,
-            kept,
-        };
+    for (story, device, kept) in rows {
+        let left = Left { device, kept };
         assert!(rt; goes(&rt, alloc, story, &left)?);
     }
     Ok(())
