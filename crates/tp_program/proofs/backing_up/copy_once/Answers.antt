@@ -1,4 +1,4 @@
-use Rattle.std.proofs.Common.{◌≡◌, ◌∙◌, ap, subst, List, ℕ, Option, Some, None, Ok, Err, Result}
+use Rattle.std.proofs.Common.{◌≡◌, ap, subst, List, ℕ, Option, Some, None, Ok, Err, Result}
 use Rattle.std.specs.Prelude.{IfOk, IfSome}
 use Rattle.tp_copies.specs.Copies.{Answers, IsCopy, kept_of}
 use Rattle.tp_model.specs.Disk.{Moment}

@@ -1,4 +1,4 @@
-use Rattle.std.proofs.Common.{◌≡◌, ◌∙◌, ap, subst, Ok, Err, Result, OnOk}
+use Rattle.std.proofs.Common.{◌∙◌, subst, Ok, Err, Result, OnOk}
 use Rattle.std.specs.Io.KnownBytes.{Appends}
 use Rattle.tp_program.proofs.compacting.print_done.Goals as goal
 

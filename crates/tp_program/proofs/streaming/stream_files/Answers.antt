@@ -1,9 +1,10 @@
-use Rattle.std.proofs.Common.{◌≡◌, ◌∙◌, [], ap, sym, Ok, Err, Result}
+use Rattle.std.proofs.Common.{◌≡◌, ◌∙◌, [], ap, sym, subst, Ok, Err, Result}
 use contract.BorrowLft.{◌⊑◌, ⊑_meet, ⊑_static}
 use Rattle.tp_recover.specs.declared.unopened.Unopened.{Unopened}
 use Rattle.tp_stream_ends.specs.declared.ending.Ended.{Ended}
 use Rattle.tp_stream.specs.declared.fault.StreamFault.{StreamFault}
 use Rattle.tp_stream.specs.declared.fault.StreamFault.TheVariants.{Opening}
+use Rattle.tp_stream.specs.Streamed.{Streamed as StreamLeft}
 use Rattle.tp_program.proofs.streaming.stream_files.Goals as goal
 
 -- the fault of a stream that ended early
@@ -40,3 +41,15 @@ stream_opened-disk-requires g c κs within =
 pub returns-clause-unopened : goal.returns-clause-unopened
 returns-clause-unopened g c keeps refused =
     same_fault c.stream_opened-disk.result.1 c.in-Err-done.fault c.in-Err-done.is (c.stream_opened-disk.ensures.unopened keeps refused)
+
+pub returns-in-Ok-done-clause-streamed : goal.returns-in-Ok-done-clause-streamed
+returns-in-Ok-done-clause-streamed g c keeps began =
+    subst
+    (λ (done : Result Ended StreamFault). StreamLeft g.history.formatted done (g.D.Disk.state c.args.disk) (g.D.Disk.state c.stream_opened-disk.result.0))
+    c.in-Ok-done.is (c.stream_opened-disk.ensures.streamed keeps began)
+
+pub returns-clause-streamed : goal.returns-clause-streamed
+returns-clause-streamed g c keeps began =
+    subst
+    (λ (done : Result Ended StreamFault). StreamLeft g.history.formatted done (g.D.Disk.state c.args.disk) (g.D.Disk.state c.stream_opened-disk.result.0))
+    c.in-Err-done.is (c.stream_opened-disk.ensures.streamed keeps began)
