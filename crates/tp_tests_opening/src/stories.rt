@@ -27,13 +27,16 @@ const MIXED: [Entry; 5] = [HANDED, HANDED, GO, HANDED, GO];
 
 const FORTY: [Entry; 40] = [GO; 40];
 
-/// The tail has the entry that was made after the node recorded, which stood in the open area.
-pub(crate) fn after_a_group(alloc: Global) -> Result<Known, Fail> {
-    let (letter, round) = (LETTER, [ROUND]);
+/// What is known where the letter's group and one more stand in front of the checkpoint.
+fn behind_a_group<'a>(
+    alloc: Global,
+    letter: &'a [Entry],
+    round: &'a [Entry],
+) -> Result<Known, Fail> {
     let story = Story {
-        steps: &[Step::Group(&letter), Step::Group(&round)],
+        steps: &[Step::Group(letter), Step::Group(round)],
         last: Cut {
-            entries: &[&letter],
+            entries: &[letter],
             token: None,
             tail: &[(ROUND, 4)],
         },
@@ -43,20 +46,29 @@ pub(crate) fn after_a_group(alloc: Global) -> Result<Known, Fail> {
             behind: 12_553,
         },
         looks: [(false, 1, 0, 5, 5), (true, 2, 4, 1, 5)],
-        made: [&[&letter, &round], &[&letter, &round]],
+        made: [&[letter, round], &[letter, round]],
         bytes: &[(512, 0xA5), (16_896, 0xA5)],
     };
     Known::of(alloc, &story)
+}
+
+/// The tail has the entry that was made after the node recorded, which stood in the open area.
+pub(crate) fn after_a_group(alloc: Global) -> Result<Known, Fail> {
+    let (letter, round) = (LETTER, [ROUND]);
+    let known = behind_a_group(alloc, &letter, &round);
+    known
 }
 
 /// The node records when the next number is 9, the cut is whole at 12, and the tail reaches 12.
 pub(crate) fn beyond_the_groups(alloc: Global) -> Result<Known, Fail> {
     let (letter, mixed) = (LETTER, MIXED);
     let (within, last) = ([HANDED, GO, GO], [TAKEN, GO, HANDED]);
+    let (letter, mixed) = (letter.as_slice(), mixed.as_slice());
+    let (within, last) = (within.as_slice(), last.as_slice());
     let story = Story {
-        steps: &[Step::Group(&letter), Step::Group(&mixed)],
+        steps: &[Step::Group(letter), Step::Group(mixed)],
         last: Cut {
-            entries: &[&letter, &within],
+            entries: &[letter, within],
             token: Some((4, DATA)),
             tail: &[(HANDED, 5), (HANDED, 7), (TAKEN, 9), (GO, 10), (HANDED, 11)],
         },
@@ -66,7 +78,7 @@ pub(crate) fn beyond_the_groups(alloc: Global) -> Result<Known, Fail> {
             behind: 12_617,
         },
         looks: [(false, 1, 0, 9, 9), (true, 2, 7, 5, 12)],
-        made: [&[&letter, &mixed], &[&letter, &mixed, &last]],
+        made: [&[letter, mixed], &[letter, mixed, last]],
         bytes: &[(512, 0xA5), (16_896, 0xA5)],
     };
     Known::of(alloc, &story)
@@ -83,7 +95,7 @@ pub(crate) fn over_old_groups(alloc: Global) -> Result<Known, Fail> {
         tail: &[],
     };
     let at_forty = Cut {
-        entries: &[&letter, &forty],
+        entries: &[letter.as_slice(), forty.as_slice()],
         token: None,
         tail: &[],
     };
@@ -96,7 +108,7 @@ pub(crate) fn over_old_groups(alloc: Global) -> Result<Known, Fail> {
             Step::Group(&go),
         ],
         last: Cut {
-            entries: &[&letter, &forty],
+            entries: &[letter.as_slice(), forty.as_slice()],
             token: None,
             tail: &[(GO, 44)],
         },
@@ -106,7 +118,10 @@ pub(crate) fn over_old_groups(alloc: Global) -> Result<Known, Fail> {
             behind: 12_553,
         },
         looks: [(false, 3, 44, 1, 45), (true, 4, 44, 1, 45)],
-        made: [&[&letter, &forty, &go], &[&letter, &forty, &go]],
+        made: [
+            &[letter.as_slice(), forty.as_slice(), go.as_slice()],
+            &[letter.as_slice(), forty.as_slice(), go.as_slice()],
+        ],
         bytes: &[(29_417, 0xA5), (29_449, 0x00), (29_481, 0xA5)],
     };
     Known::of(alloc, &story)
