@@ -329,9 +329,12 @@ fn devices_of_other_tables(rt: HostRuntime) -> Result<(), Fail> {
     let mut devices = each_filled(alloc)?;
     devices.push(fresh(alloc, AREA)?)?;
     devices.push(appended(alloc)?)?;
-    add_ends(&mut devices, after_a_group(alloc)?)?;
-    add_ends(&mut devices, beyond_the_groups(alloc)?)?;
-    add_ends(&mut devices, over_old_groups(alloc)?)?;
+    let known = after_a_group(alloc)?;
+    add_ends(&mut devices, known)?;
+    let known = beyond_the_groups(alloc)?;
+    add_ends(&mut devices, known)?;
+    let known = over_old_groups(alloc)?;
+    add_ends(&mut devices, known)?;
     let told = are_said_by_both(&rt, alloc, &devices)?;
     assert!(rt; told);
     Ok(())

@@ -63,8 +63,9 @@ impl Known {
 
     fn learn_of(&mut self, alloc: Global, first: &[u8]) -> Result<(), Fail> {
         let (letter, more) = (LETTER, MORE);
-        let groups: [&[&[Entry]]; 3] = [&[], &[&letter], &[&letter, &more]];
-        for entries in groups {
+        let groups = [letter.as_slice(), more.as_slice()];
+        for count in 0..3 {
+            let entries = groups.get(..count).unwrap_or(&[]);
             self.held.push(replayed(alloc, first, entries)?)?;
         }
         let mut store = store_of(alloc, first)?;

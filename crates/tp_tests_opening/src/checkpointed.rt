@@ -72,9 +72,8 @@ fn has_bytes(device: &[u8], bytes: &[(usize, u8)]) -> bool {
 
 /// What plain replays of the entries before and after a checkpoint give, over the device with `first`.
 fn held_of(alloc: Global, first: &[u8], story: &Story<'_>) -> Result<(Held, Held), Fail> {
-    let [before, after] = story.made;
-    let before = replayed(alloc, first, before)?;
-    let after = replayed(alloc, first, after)?;
+    let before = replayed(alloc, first, &[story.before])?;
+    let after = replayed(alloc, first, &[story.after])?;
     Ok((before, after))
 }
 

@@ -33,7 +33,8 @@ pub(crate) struct Story<'a> {
     pub(crate) last: Cut<'a>,
     pub(crate) calls: Calls,
     pub(crate) looks: [Look; 2],
-    pub(crate) made: [&'a [&'a [Entry]]; 2],
+    pub(crate) before: &'a [Entry],
+    pub(crate) after: &'a [Entry],
     pub(crate) bytes: &'a [(usize, u8)],
 }
 

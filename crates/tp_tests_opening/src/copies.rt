@@ -27,7 +27,7 @@ const PAGES: usize = 4;
 /// A whole cut: the entries in it, and the token that is on a line then; and the entries outside it with their numbers.
 #[derive(Clone, Copy)]
 pub(crate) struct Cut<'a> {
-    pub(crate) entries: &'a [&'a [Entry]],
+    pub(crate) entries: &'a [Entry],
     pub(crate) token: Option<(usize, Token)>,
     pub(crate) tail: &'a [(Entry, u64)],
 }
@@ -53,7 +53,7 @@ fn numbered_of(alloc: Global, tail: &[(Entry, u64)]) -> Result<Vec<Numbered>, Al
 impl Pieces {
     /// The pieces of a cut over the device with `bytes`, which was just formatted.
     pub(crate) fn of(alloc: Global, bytes: &[u8], cut: &Cut<'_>) -> Result<Pieces, Fail> {
-        let held = replayed(alloc, bytes, cut.entries)?;
+        let held = replayed(alloc, bytes, &[cut.entries])?;
         let mut lines = Lines::new(alloc, 5)?;
         if let Some((line, token)) = cut.token {
             if line < 5 {

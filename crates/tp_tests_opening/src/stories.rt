@@ -4,7 +4,7 @@ use crate::checkpointed::Known;
 use crate::checkpoints::{Calls, Step, Story};
 use crate::copies::Cut;
 use crate::devices::LETTER;
-use std::alloc::Global;
+use std::alloc::{AllocError, Global};
 use std::test::Fail;
 use tp_model::{Entry, Token};
 
@@ -27,13 +27,21 @@ const MIXED: [Entry; 5] = [HANDED, HANDED, GO, HANDED, GO];
 
 const FORTY: [Entry; 40] = [GO; 40];
 
+/// The entries `first`, and `more` behind them.
+fn joined(alloc: Global, first: &[Entry], more: &[Entry]) -> Result<Vec<Entry>, AllocError> {
+    let mut all = Vec::from_slice(alloc, first)?;
+    all.extend_from_slice(more)?;
+    Ok(all)
+}
+
 /// The tail has the entry that was made after the node recorded, which stood in the open area.
 pub(crate) fn after_a_group(alloc: Global) -> Result<Known, Fail> {
     let (letter, round) = (LETTER, [ROUND]);
+    let made = joined(alloc, &letter, &round)?;
     let story = Story {
         steps: &[Step::Group(&letter), Step::Group(&round)],
         last: Cut {
-            entries: &[&letter],
+            entries: &letter,
             token: None,
             tail: &[(ROUND, 4)],
         },
@@ -43,20 +51,24 @@ pub(crate) fn after_a_group(alloc: Global) -> Result<Known, Fail> {
             behind: 12_553,
         },
         looks: [(false, 1, 0, 5, 5), (true, 2, 4, 1, 5)],
-        made: [&[&letter, &round], &[&letter, &round]],
+        before: &made,
+        after: &made,
         bytes: &[(512, 0xA5), (16_896, 0xA5)],
     };
-    Known::of(alloc, &story)
+    let known = Known::of(alloc, &story);
+    known
 }
 
 /// The node records when the next number is 9, the cut is whole at 12, and the tail reaches 12.
 pub(crate) fn beyond_the_groups(alloc: Global) -> Result<Known, Fail> {
     let (letter, mixed) = (LETTER, MIXED);
-    let (within, last) = ([HANDED, GO, GO], [TAKEN, GO, HANDED]);
+    let cut = joined(alloc, &letter, &[HANDED, GO, GO])?;
+    let before = joined(alloc, &letter, &mixed)?;
+    let after = joined(alloc, &before, &[TAKEN, GO, HANDED])?;
     let story = Story {
         steps: &[Step::Group(&letter), Step::Group(&mixed)],
         last: Cut {
-            entries: &[&letter, &within],
+            entries: &cut,
             token: Some((4, DATA)),
             tail: &[(HANDED, 5), (HANDED, 7), (TAKEN, 9), (GO, 10), (HANDED, 11)],
         },
@@ -66,37 +78,38 @@ pub(crate) fn beyond_the_groups(alloc: Global) -> Result<Known, Fail> {
             behind: 12_617,
         },
         looks: [(false, 1, 0, 9, 9), (true, 2, 7, 5, 12)],
-        made: [&[&letter, &mixed], &[&letter, &mixed, &last]],
+        before: &before,
+        after: &after,
         bytes: &[(512, 0xA5), (16_896, 0xA5)],
     };
-    Known::of(alloc, &story)
+    let known = Known::of(alloc, &story);
+    known
 }
 
 /// The second area has forty groups of its own when the first one is opened again, and then the second one once more: the
 /// tail's only group is written over the first of them, and the others stand behind its closed gate.
 pub(crate) fn over_old_groups(alloc: Global) -> Result<Known, Fail> {
     let (letter, forty, go) = (LETTER, FORTY, [GO]);
-    // Cuts without a token on a line, and without a tail.
-    let at_letter = Cut {
-        entries: &[&letter],
-        token: None,
-        tail: &[],
-    };
-    let at_forty = Cut {
-        entries: &[&letter, &forty],
-        token: None,
-        tail: &[],
-    };
+    let cut = joined(alloc, &letter, &forty)?;
+    let made = joined(alloc, &cut, &go)?;
     let story = Story {
         steps: &[
             Step::Group(&letter),
-            Step::Switch(at_letter),
+            Step::Switch(Cut {
+                entries: &letter,
+                token: None,
+                tail: &[],
+            }),
             Step::Each(&forty),
-            Step::Switch(at_forty),
+            Step::Switch(Cut {
+                entries: &cut,
+                token: None,
+                tail: &[],
+            }),
             Step::Group(&go),
         ],
         last: Cut {
-            entries: &[&letter, &forty],
+            entries: &cut,
             token: None,
             tail: &[(GO, 44)],
         },
@@ -106,8 +119,10 @@ pub(crate) fn over_old_groups(alloc: Global) -> Result<Known, Fail> {
             behind: 12_553,
         },
         looks: [(false, 3, 44, 1, 45), (true, 4, 44, 1, 45)],
-        made: [&[&letter, &forty, &go], &[&letter, &forty, &go]],
+        before: &made,
+        after: &made,
         bytes: &[(29_417, 0xA5), (29_449, 0x00), (29_481, 0xA5)],
     };
-    Known::of(alloc, &story)
+    let known = Known::of(alloc, &story);
+    known
 }
