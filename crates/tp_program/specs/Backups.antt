@@ -10,8 +10,8 @@ use Rattle.tp_model.specs.Opening.{Opened, verdict}
 abbrev pub copied_line : ℕ → List ℕ
 copied_line next = codes "copied next " ++ (decimal next ++ 10 ∷ [])
 
--- A device that has these bytes opens, and the copy has what of it counts, over whatever stood there before; it opens to the same, and is
--- synced.
+-- A device that has these bytes opens, and the copy has what of it counts, over some bytes; it opens to the same areas, open area, generation,
+-- end of the groups and next number, and is synced.
 pub record IsBackup (source : List ℕ) (copy : Moment) (next : ℕ) : Type 0 where
   pub opened : Opened
   pub is : verdict source ≡ Ok opened
