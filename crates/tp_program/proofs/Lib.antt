@@ -1,2 +1,3 @@
 pub mod Histories
 mod Statuses
+mod Stayed

@@ -1,6 +1,6 @@
 //! `tpnet backup`, over any device and any copy.
 
-ghost use Rattle.std.specs.Prelude.{◌≡◌, IfErr, IfOk, IfSome, IsErr, string_bytes};
+ghost use Rattle.std.specs.Prelude.{◌≡◌, IfErr, IfOk, IsErr, IsSomeAnd, string_bytes};
 ghost use Rattle.tp_copies.specs.Copies.{Answers, kept_of};
 ghost use Rattle.tp_model.specs.Opening.{verdict};
 ghost use Rattle.tp_recover.specs.Reading.{LeavesNothingNew};
@@ -53,7 +53,8 @@ fn copy_or_refuse<D: Disk, K: Disk, E: Write>(
 }
 
 /// Opens and copies a device once. Answers none where another process wrote it so that another try may do: then `show` opens it, or
-/// the area that was copied is another one now. Else says why there is no copy, and answers the status.
+/// the area that was copied is another one now. Where both keep the model none is never answered. Else says why there is no copy, and answers
+/// the status.
 fn copy_once<D: Disk, K: Disk, E: Write>(
     alloc: Global,
     source: &mut D,
@@ -63,7 +64,7 @@ fn copy_once<D: Disk, K: Disk, E: Write>(
     ensures status { IfErr result (λ status. status ≡ 1) }
     ensures kept { D.keeps → IfOk result (λ found. (D.state source.new).now.bytes ≡ (D.state source.old).now.bytes) }
     ensures leaves { D.keeps → LeavesNothingNew (D.state source.old) (D.state source.new) }
-    ensures copied { D.keeps → K.keeps → IfOk result (λ found. IfSome found (IsBackup (D.state source.old).now.bytes (K.state copy.new).now)) }
+    ensures copied { D.keeps → K.keeps → IfOk result (λ found. IsSomeAnd found (IsBackup (D.state source.old).now.bytes (K.state copy.old).now.bytes (K.state copy.new).now)) }
     ensures unopened { D.keeps → IsErr (verdict (D.state source.old).now.bytes) → IsErr result }
 {
     match open(alloc, source) {
@@ -79,7 +80,12 @@ fn copy_once<D: Disk, K: Disk, E: Write>(
 /// Makes a copy of a device that another process may be running, over what is in `copy`, which has to have as many bytes at least. Answers
 /// the number of the copy's next entry: the device opens then, the copy has what of it counts, opens to the same areas, open area,
 /// generation, end of the groups and number, and all of it is synced. Else says why not, as `show` does where the device doesn't open, and
+<<<<<<< HEAD
 /// answers the status, 1: of the copy nothing is known then. Nothing is written to the device, and a crash finds nothing there that the call made.
+=======
+/// answers the status, 1: of the copy nothing is known then. Nothing is written to the device, and a crash finds nothing there that the
+/// call made.
+>>>>>>> 2785b1cb1666a308d5dc046a977bedcdeec424a2
 pub fn backup_on<D: Disk, K: Disk, E: Write>(
     alloc: Global,
     source: &mut D,
@@ -88,7 +94,7 @@ pub fn backup_on<D: Disk, K: Disk, E: Write>(
 ) -> Result<u64, u8>
     ensures status { IfErr result (λ status. status ≡ 1) }
     ensures leaves { D.keeps → LeavesNothingNew (D.state source.old) (D.state source.new) }
-    ensures copied { D.keeps → K.keeps → IfOk result (IsBackup (D.state source.old).now.bytes (K.state copy.new).now) }
+    ensures copied { D.keeps → K.keeps → IfOk result (IsBackup (D.state source.old).now.bytes (K.state copy.old).now.bytes (K.state copy.new).now) }
     ensures unopened { D.keeps → IsErr (verdict (D.state source.old).now.bytes) → IsErr result }
 {
     let mut left = MAX_TRIES;
