@@ -10,15 +10,9 @@ use Rattle.tp_model.specs.Opening.{Opened, verdict}
 abbrev pub copied_line : ℕ → List ℕ
 copied_line next = codes "copied next " ++ (decimal next ++ 10 ∷ [])
 
-<<<<<<< HEAD
--- A device that has these bytes opens, and the copy has what of it counts, over some bytes; it opens to the same areas, open area, generation,
--- end of the groups and next number, and is synced.
-pub record IsBackup (source : List ℕ) (copy : Moment) (next : ℕ) : Type 0 where
-=======
 -- A device that has the bytes `source` opens, and the copy has what of it counts, over the bytes `before`; it opens to the same areas, open
 -- area, generation, end of the groups and next number, and is synced.
 pub record IsBackup (source before : List ℕ) (copy : Moment) (next : ℕ) : Type 0 where
->>>>>>> 2785b1cb1666a308d5dc046a977bedcdeec424a2
   pub opened : Opened
   pub is : verdict source ≡ Ok opened
   pub copied : IsCopy (kept_of opened) source before copy next
