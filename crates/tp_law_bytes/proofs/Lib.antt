@@ -2,6 +2,5 @@ pub mod EntryLaws
 pub mod FieldBytes
 pub mod FieldEntries
 pub mod GroupLaws
-pub mod PlainEntries
 pub mod Rows
 pub mod Writes

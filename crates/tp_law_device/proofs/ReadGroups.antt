@@ -12,7 +12,7 @@ use Rattle.tp_model.specs.Entries.{next}
 use Rattle.tp_model.specs.Order.{after}
 use Rattle.tp_model.specs.Numbers.{AreNumbered}
 use Rattle.tp_model.specs.Device.{is_open}
-use Rattle.tp_model.specs.EntryBytes.{IsSpelt, entry_bytes, is_in_range, is_spelling}
+use Rattle.tp_model.specs.EntryBytes.{IsSpelt, entry_bytes, is_in_range, is_in_range}
 use Rattle.tp_model.specs.Group.{rows_of, rows_behind, header, group_length, group_bytes, or_bad}
 use Rattle.tp_model.specs.CutImage.{or_damaged}
 use Rattle.tp_model.specs.Spelling.{groups_bytes, entries_in, IsGroup}
@@ -138,7 +138,7 @@ entry_read M r v row is =
     let entry = found.0 in
     let own = row_spells row entry.0 entry.1 found.1 in
     let bytes = entry_at-bytes row entry.0 entry.1 own.at in
-    let low_number = (and_parts (is_spelling entry.0) (nat_lt entry.1 NUMBER_LIMIT) bytes.0).1 in
+    let low_number = (and_parts (is_in_range entry.0) (nat_lt entry.1 NUMBER_LIMIT) bytes.0).1 in
     let tested = cond_some (is_number r entry.1) (option_map (with_entry r entry) (next M r.now entry.0)) v found.2 in
     let stepped = map_some (with_entry r entry) (next M r.now entry.0) v tested.1 in
     let low = and_parts (nat_le r.least entry.1) (nat_le entry.1 r.next && nat_lt r.next (NUMBER_LIMIT - 1)) tested.0 in

@@ -3,6 +3,7 @@
 #![tactic(auto)]
 
 ghost use Rattle.std.specs.Prelude.{◌≡◌, ◌⊎◌, ◌<◌, ◌≤◌, ◌+◌, ◌++◌, ℕ, List, [], ◌∷◌, Some, length};
+ghost use Rattle.tp_model.specs.declared.form.Form.{Form};
 ghost use Rattle.tp_model.specs.declared.limits.TheConstants.{NUMBER_LIMIT};
 ghost use Rattle.tp_model.specs.declared.link.Token.{Token};
 ghost use Rattle.tp_model.specs.declared.entry.Entry.{Entry};
@@ -52,8 +53,8 @@ pub fn pieces_make_the_network()
 /// before the last row, all of them are replayed. Either no entry is read, or all are numbered below the limit, so they are fewer
 /// than that.
 pub fn rows_stop_with_entries()
-    ensures stop { (r : Replay NodeState) (rows : List (ℕ × List ℕ)) → RowsStop t414 r rows (readable r.least r.next rows) (reach (next t414) r.now (bare (readable r.least r.next rows))) }
-    ensures few { (least next : ℕ) (rows : List (ℕ × List ℕ)) → (readable least next rows ≡ []) ⊎ (next + length (readable least next rows) < NUMBER_LIMIT) }
+    ensures stop { (r : Replay NodeState) (rows : List (ℕ × List ℕ)) → RowsStop t414 r rows (readable r.form r.least r.next rows) (reach (next t414) r.now (bare (readable r.form r.least r.next rows))) }
+    ensures few { (form : Form) (least next : ℕ) (rows : List (ℕ × List ℕ)) → (readable form least next rows ≡ []) ⊎ (next + length (readable form least next rows) < NUMBER_LIMIT) }
 {}
 
 /// In a sound network, entries stop at the first that its process can't do with its own entries and their tokens alone, or that names
@@ -71,6 +72,6 @@ pub fn tokens_come_from_senders()
 /// at that of a row before it.
 pub fn another_token_is_refused()
     ensures { (r : Replay NodeState) (rows : List (ℕ × List ℕ)) → Sound t414_ends r.now → (xs ys : List Entry) (line : ℕ) (token : Token)
-        → bare (readable r.least r.next rows) ≡ xs ++ Take line token ∷ ys
+        → bare (readable r.form r.least r.next rows) ≡ xs ++ Take line token ∷ ys
         → ((rest : List Token) → came t414 r.now line xs ≡ Some (named r.now line xs ++ token ∷ rest) → ⊥) → IsRefusedBy t414 r rows (length xs) }
 {}

@@ -1,6 +1,6 @@
 //! Entries and their bytes.
 
-ghost use Rattle.tp_model.specs.EntryBytes.{HasSpelling};
+ghost use Rattle.tp_model.specs.EntryBytes.{IsSpelt};
 
 use tp_entry::{BadEntry, Numbered, get, put};
 use tp_model::Entry;
@@ -8,7 +8,7 @@ use tp_model::Token::{Ack, Data};
 
 /// Whether the entry with its number is written as `bytes`, and they are read as it.
 pub(crate) fn is_spelt(entry: Entry, number: u64, bytes: [u8; 16]) -> bool
-    requires { HasSpelling entry number }
+    requires { IsSpelt entry number }
 {
     let numbered = Numbered { entry, number };
     let mut written = [0xEE; 16];

@@ -1,6 +1,6 @@
 //! Turns and their bytes.
 
-ghost use Rattle.tp_model.specs.EntryBytes.{HasSpelling};
+ghost use Rattle.tp_model.specs.EntryBytes.{IsSpelt};
 
 use crate::entries::is_spelt;
 use tp_entry::{BadEntry, Numbered, get, get_row, number_of};

@@ -32,13 +32,13 @@ pub fn entries_are_refused()
     ensures filler { entry_at (1 ∷ 0 ∷ 3 ∷ 0 ∷ 1 ∷ zeros 11) ≡ None }
 {}
 
-/// Turns with their numbers: what each link gave, its data bytes, and a number of 6 bytes in front of the pattern. The same bytes
-/// are no entry of an area of form 1.
+/// Turns with their numbers: what each link gave, its data bytes, and a number of 6 bytes in front of the pattern. The same row
+/// is no entry of an area without turns.
 pub fn turns_are_read()
     ensures ack { entry_at (5 ∷ 0 ∷ 16 ∷ 0 ∷ zeros 4 ++ (2 ∷ zeros 5 ++ (2 ∷ 0 ∷ []))) ≡ Some (Turn 0 (JustAck ∷ Nothing ∷ Nothing ∷ Nothing ∷ []) 16, 2) }
     ensures links { entry_at (5 ∷ 3 ∷ 0 ∷ 0 ∷ 0 ∷ 0x5A ∷ 0x61 ∷ 0x62 ∷ 0x2C ∷ 1 ∷ 0 ∷ 0 ∷ 0 ∷ 0 ∷ 0xCA ∷ 8 ∷ [])
         ≡ Some (Turn 3 (JustAck ∷ JustData 0x5A ∷ DataThenAck 0x61 ∷ AckThenData 0x62 ∷ []) 0, 300) }
-    ensures form_1 { row_entry (5 ∷ 0 ∷ 16 ∷ 0 ∷ zeros 4 ++ (2 ∷ zeros 5 ++ (2 ∷ 0 ∷ []))) ≡ None }
+    ensures plain { row_entry Plain (5 ∷ 0 ∷ 16 ∷ 0 ∷ zeros 4 ++ (2 ∷ zeros 5 ++ (2 ∷ 0 ∷ []))) ≡ None }
 {}
 
 /// A turn that takes nothing, a digit of 5, a bit above those of four links, a data byte where no data was taken, and a node and a count
