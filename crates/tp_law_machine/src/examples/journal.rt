@@ -4,6 +4,7 @@
 ghost use Rattle.std.specs.Prelude.{◌≡◌, ◌++◌, [], ◌∷◌, true, false, take, drop};
 ghost use Rattle.tp_model.specs.declared.link.Token.TheVariants.{Data, Ack};
 ghost use Rattle.tp_model.specs.declared.link.Received.TheVariants.{Nothing, JustData, JustAck, DataThenAck, AckThenData};
+ghost use Rattle.tp_model.specs.declared.form.Form.TheVariants.{Plain};
 ghost use Rattle.tp_model.specs.declared.entry.Entry.TheVariants.{Run, Take, HostIn, Confirm, Turn};
 ghost use Rattle.tp_model.specs.Bytes.{zeros};
 ghost use Rattle.tp_model.specs.EntryBytes.{entry_at};

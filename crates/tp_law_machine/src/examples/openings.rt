@@ -1,21 +1,35 @@
 //! What opening a device answers.
 
 ghost use Rattle.std.specs.Prelude.{◌≡◌, [], ◌∷◌, take};
+ghost use Rattle.tp_model.specs.declared.form.Form.TheVariants.{Plain, Turns};
+ghost use Rattle.tp_model.specs.declared.head.HeadVersion.TheVariants.{Narrow, Wide};
 ghost use Rattle.tp_model.specs.declared.opening.OpenFault.TheVariants.{NotFormatted, BadVersion, NoOpenArea, Damaged};
 ghost use Rattle.tp_model.specs.Memory.{set_byte};
 ghost use Rattle.tp_model.specs.Opening.{verdict};
-ghost use Rattle.tp_law_machine.specs.OneDevice.{fresh_device, device_with, later_device, opened_later};
+ghost use Rattle.tp_law_machine.specs.OneDevice.{device_of, device_with, four_entries, fresh_device, later_device, opened_as};
 
-/// A device that was formatted, with one byte too few for a head, with another version, with its open gate closed, and
-/// with an open gate behind the cut but no group there.
+/// A device that was formatted, with one byte too few for a head, with another version, with its open gate closed, with an open gate
+/// behind the cut but no group there, and with a form of its area that isn't known.
 pub fn devices_are_refused()
     ensures short { verdict (take 511 fresh_device) ≡ Err NotFormatted }
     ensures version { verdict (set_byte fresh_device 7 9) ≡ Err BadVersion }
     ensures closed { verdict (set_byte fresh_device 512 0) ≡ Err NoOpenArea }
     ensures no_group { verdict (device_with (0xA5 ∷ [])) ≡ Err (Damaged 13033) }
+    ensures form { verdict (set_byte fresh_device 531 1) ≡ Err (Damaged 512) }
 {}
 
 /// The network is the one that the entries of the group lead to, and the next group goes behind them.
 pub fn a_device_opens()
-    ensures { verdict later_device ≡ Ok opened_later }
+    ensures { verdict later_device ≡ Ok (opened_as Narrow Turns 13113) }
+{}
+
+/// So does one whose area holds no turns.
+pub fn a_plain_area_opens()
+    ensures { verdict (device_of Narrow Plain four_entries) ≡ Ok (opened_as Narrow Plain 13113) }
+{}
+
+/// A wide head is read, too, of a network that a narrow one can say; a wide one of fewer bytes than it has is damaged.
+pub fn a_wide_head_opens()
+    ensures opens { verdict (device_of Wide Turns four_entries) ≡ Ok (opened_as Wide Turns 13625) }
+    ensures short { verdict (take 1023 (device_of Wide Turns [])) ≡ Err (Damaged 0) }
 {}
