@@ -1,5 +1,5 @@
 -- The form of an area: how the field of its base says it, and which entries are read of its rows.
-use Rattle.std.proofs.Common.{◌≡◌, ℕ, ◌+◌, ◌*◌, ◌/◌, ◌%◌, ◌^◌, ◌<◌, ◌≤◌, Bool, true, false, cond, List, [], ◌∷◌, ◌++◌, refl, sym, ap, ◌∙◌, arith, Option, Some, None}
+use Rattle.std.proofs.Common.{◌≡◌, ℕ, ◌+◌, ◌*◌, ◌/◌, ◌%◌, ◌^◌, ◌<◌, ◌≤◌, Bool, true, false, cond, List, [], ◌∷◌, ◌++◌, refl, sym, ap, ◌∙◌, arith, Option, Some, None, Ok}
 use Rattle.std.specs.Prelude.{◌==◌, ◌&&◌}
 use Rattle.std.specs.List.{list_all, AllByRecursion}
 use Rattle.std.proofs.lemmas.Bool.{and_parts, cond-true, eqb-true, cases_Bool}
@@ -7,14 +7,15 @@ use Rattle.tp_model.specs.declared.entry.Entry.{Entry}
 use Rattle.tp_model.specs.declared.form.Form.{Form}
 use Rattle.tp_model.specs.declared.form.Form.TheVariants.{Plain, Turns}
 use Rattle.tp_model.specs.declared.limits.TheConstants.{NUMBER_LIMIT, PLAIN_FORM, TURNS_FORM}
+use Rattle.tp_model.specs.Topology.{Topology}
 use Rattle.tp_model.specs.EntryBytes.{AreOf, entry_at, entry_bytes, is_of, is_spelt}
-use Rattle.tp_model.specs.CutImage.{base_number, form_number, only_if}
-use Rattle.tp_model.specs.Opening.{form_at}
+use Rattle.tp_model.specs.CutImage.{base_number, form_number, only_if, or_damaged}
+use Rattle.tp_model.specs.Opening.{form_at, form_of, front_in, has_front}
 use Rattle.tp_model.specs.Replay.{row_entry}
 use Rattle.tp_model.specs.Spelling.{IsGroup, entries_in}
 use Rattle.tp_law_bytes.specs.ReadBack.{AreSpellings}
 use Rattle.tp_law_bytes.proofs.EntryLaws.{entry_at-entry_bytes}
-use Rattle.tp_law_device.proofs.Faults.{tested}
+use Rattle.tp_law_device.proofs.Faults.{or_damaged_ok, tested}
 
 -- ## The field of the base
 
@@ -55,6 +56,17 @@ field_is field form is = let number = number_is (field / NUMBER_LIMIT) form is i
 
 pub base_below : (field : ℕ) → field % NUMBER_LIMIT < NUMBER_LIMIT
 base_below field = omega arith
+
+-- ## The front of a content
+
+pub front_found : (t : Topology) (at : ℕ) (content : List ℕ) (form : Form) → form_of content ≡ Some form → has_front t content ≡ true → front_in t at content ≡ Ok form
+front_found t at content form form_is front =
+    ap (λ found. or_damaged at (only_if (λ f. has_front t content) found)) form_is
+    ∙ ap (λ b. or_damaged at (cond b (Some form) None)) front
+
+pub front_parts : (t : Topology) (at : ℕ) (content : List ℕ) (form : Form) → front_in t at content ≡ Ok form → (form_of content ≡ Some form) × (has_front t content ≡ true)
+front_parts t at content form is =
+    tested (λ f. has_front t content) (form_of content) form (or_damaged_ok at (only_if (λ f. has_front t content) (form_of content)) form is)
 
 -- ## Rows
 

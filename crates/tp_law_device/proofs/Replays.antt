@@ -63,6 +63,22 @@ replays_rows M s base r v (row ∷ rows) R is =
 pub replay_holds : {Node : Type 0} (M : Machine Node) (form : Form) (s : Network Node) (base : ℕ) (v : Replay Node) (rows : List (ℕ × List ℕ)) → after_rows M (replay_from form s base) rows ≡ Ok v → Replays M s base v
 replay_holds M form s base v rows is = replays_rows M s base (replay_from form s base) v rows (replays_first M form s base) is
 
+-- the area's form stays
+row_form : {Node : Type 0} (M : Machine Node) (r v : Replay Node) (row : List ℕ) → after_row M r row ≡ Some v → v.form ≡ r.form
+row_form M r v row is =
+    let found = entry_found M r v (row_entry r.form row) is in
+    let entry = found.0 in
+    let tested = cond_some (is_number r entry.1) (option_map (with_entry r entry) (next M r.now entry.0)) v found.2 in
+    let stepped = map_some (with_entry r entry) (next M r.now entry.0) v tested.1 in
+    ap (λ (u : Replay _). u.form) (sym stepped.2)
+
+pub rows_form : {Node : Type 0} (M : Machine Node) (r v : Replay Node) (rows : List (ℕ × List ℕ)) → after_rows M r rows ≡ Ok v → v.form ≡ r.form
+unfolding after_rows
+rows_form M r v [] is = let same : r ≡ v = cc in ap (λ (u : Replay _). u.form) (sym same)
+rows_form M r v (row ∷ rows) is =
+    let first = bind_ok (or_damaged row.0 (after_row M r row.1)) (λ more. after_rows M more rows) v is in
+    rows_form M first.0 v rows first.2 ∙ row_form M r first.0 row.1 (or_damaged_ok row.0 (after_row M r row.1) first.0 first.1)
+
 -- ## Entries that were written
 
 -- the next entry, as it is spelt with a number that it may have
