@@ -17,7 +17,7 @@ use Rattle.tp_model.specs.Acts.{IsOpened}
 use Rattle.tp_model.specs.Node.{t414, t414_ends}
 use Rattle.tp_model.specs.Topology.{Topology, node_count, line_count}
 use Rattle.tp_model.specs.Device.{content_of, is_open}
-use Rattle.tp_model.specs.Head.{Head}
+use Rattle.tp_model.specs.Head.{Head, version_for}
 use Rattle.tp_model.specs.Spelling.{groups_bytes}
 use Rattle.tp_model.specs.Opening.{Opened, network_of, opening, verdict, StandsFor}
 use Rattle.tp_model.specs.Format.{start_of, fresh_nodes, fresh_port}
@@ -25,6 +25,7 @@ use Rattle.tp_model.specs.Runs.{fresh, IsFormatted}
 use Rattle.tp_model.specs.DeviceAreas.{areas_of}
 use Rattle.tp_law_network.proofs.Partial.{map_some}
 use Rattle.tp_law_device.specs.FormattedWorld.{formatted_world, WasFormatted}
+use Rattle.tp_law_device.proofs.Heads.{version_keeps}
 use Rattle.tp_law_device.proofs.Wires.{HasShape, has_shape}
 use Rattle.tp_law_device.proofs.FreshHeads.{head_of-head_bytes}
 use Rattle.tp_law_device.proofs.FreshCuts.{AreFresh, fresh_nodes_are, no_lines, no_line, fresh_reads_back}
@@ -64,7 +65,7 @@ module _ (t : Topology) (given : List (List ℕ)) (s : Network NodeState) (start
 
 module _ (M : Machine NodeState) (t : Topology) (areas : TwoAreas) (given : List (List ℕ)) (s : Network NodeState) (bytes : List ℕ) (W : WasFormatted t areas given s bytes) where
   abbrev pub head : Head
-  head = record { topology = t; areas = areas }
+  head = record { version = version_for t; topology = t; areas = areas }
 
   abbrev first : Begins t given s W.network
   first = begins t given s W.network
@@ -97,7 +98,7 @@ module _ (M : Machine NodeState) (t : Topology) (areas : TwoAreas) (given : List
       let opened = W.format.open_gate in
       let closed = W.format.closed_gate in
       opening_from M t414_ends bytes head false found
-      (head_of-head_bytes t areas bytes W.topology W.room W.format.first W.area_fits W.format.head)
+      (head_of-head_bytes (version_for t) t areas bytes W.topology (version_keeps t W.topology) W.room W.format.first W.area_fits W.format.head)
       (chosen_alone areas bytes false (ap (λ gate. is_open gate) opened) (ap (λ gate. is_open gate) closed))
       (area_spelt M t414_ends head false limits (content_of areas false bytes) 1 Turns 0 s [] s area_is)
 

@@ -2,6 +2,7 @@
 use Rattle.std.proofs.Common.{◌≡◌, ℕ, ◌+◌, ◌-◌, ◌^◌, ◌<◌, ◌≤◌, ◌⊎◌, inl, inr, Bool, true, false, not, cond, List, ◌∷◌, ◌++◌, length, drop, refl, sym, ap, subst, ◌∙◌, arith, length-drop, Ok, Err}
 use Rattle.std.specs.Prelude.{◌==◌, nat_lt, map}
 use Rattle.std.proofs.lemmas.Bool.{and_parts, cases_Bool, ltb-true}
+use Rattle.tp_model.specs.declared.head.HeadVersion.{HeadVersion}
 use Rattle.tp_model.specs.declared.areas.TwoAreas.{TwoAreas}
 use Rattle.tp_model.specs.declared.entry.Entry.{Entry}
 use Rattle.tp_model.specs.Numbers.{AreNumbered}
@@ -125,9 +126,9 @@ area_read M E head second content o wires h A =
 
 -- ## The device
 
-area_below : (bytes : List ℕ) (head : Head) → AreBytes bytes → head_at bytes ≡ head → head.areas.length < 2 ^ 64
+area_below : (version : HeadVersion) (bytes : List ℕ) (head : Head) → AreBytes bytes → head_at version bytes ≡ head → head.areas.length < 2 ^ 64
 unfolding head_at
-area_below bytes head h is = subst (λ (p : Head). p.areas.length < 2 ^ 64) is (u64_below bytes 16 h)
+area_below version bytes head h is = subst (λ (p : Head). p.areas.length < 2 ^ 64) is (u64_below bytes 16 h)
 
 pub opens_stand : (M : Machine NodeState) (E : Ends NodeState) (bytes : List ℕ) (o : Opened) → AreBytes bytes → opening M E bytes ≡ Ok o → Stands M E bytes o
 opens_stand M E bytes o h is =
@@ -142,8 +143,9 @@ opens_stand M E bytes o h is =
       starts = head_first bytes o.head R.head;
       head = H.front;
       topology = H.topology;
+      limits = H.limits;
       room = H.room;
-      area_fits = area_below bytes o.head h H.read;
+      area_fits = area_below o.head.version bytes o.head h H.read;
       gate = chosen_open areas bytes o.second R.chosen;
       groups = S.groups;
       spells = S.spells;

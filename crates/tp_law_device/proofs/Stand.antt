@@ -72,7 +72,7 @@ stands_opens M E bytes o S =
     ] in
     let kept = S.kept in
     let end = sym S.end in
-    opening_from M E bytes o.head o.second o (head_of-head_bytes t areas bytes S.topology S.room S.starts S.area_fits S.head) chosen
+    opening_from M E bytes o.head o.second o (head_of-head_bytes o.head.version t areas bytes S.topology S.limits S.room S.starts S.area_fits S.head) chosen
     (area_spelt M E o.head o.second L content o.generation o.form o.base o.cut S.groups o.now A
     ∙ (λ i. Ok (record { head = o.head; second = o.second; generation = o.generation; form = o.form; base = o.base; cut = o.cut; kept = kept i; now = o.now; end = end i })))
 
