@@ -6,6 +6,8 @@ use Rattle.std.proofs.lemmas.List.{take_at, drop_at, drop-drop, get_or_at, lengt
 use Rattle.tp_model.specs.declared.areas.TwoAreas.{TwoAreas}
 use Rattle.tp_model.specs.declared.limits.TheConstants.{GATE_OPEN, GATE_CLOSED}
 use Rattle.tp_model.specs.Bytes.{zeros}
+use Rattle.tp_model.specs.declared.form.Form.{Form}
+use Rattle.tp_model.specs.declared.form.Form.TheVariants.{Turns}
 use Rattle.tp_model.specs.NodeState.{NodeState}
 use Rattle.tp_model.specs.Image.{image}
 use Rattle.tp_model.specs.Network.{Network}
@@ -27,9 +29,9 @@ use Rattle.tp_law_device.proofs.SpeltCuts.{ReadsBack, length-images, length-line
 use Rattle.tp_law_device.proofs.Formatted.{start_reads_back}
 
 -- the fields and the cut are as long as the place of the groups says
-pub length-front_bytes : (E : Ends NodeState) (t : Topology) (L : HasShape t) (generation base : ℕ) (s : Network NodeState) → ReadsBack E t base s → length (front_bytes t generation base s) ≡ groups_place t
+pub length-front_bytes : (E : Ends NodeState) (t : Topology) (L : HasShape t) (generation : ℕ) (form : Form) (base : ℕ) (s : Network NodeState) → ReadsBack E t base s → length (front_bytes t generation form base s) ≡ groups_place t
 unfolding front_bytes cut_bytes
-length-front_bytes E t L generation base s C =
+length-front_bytes E t L generation form base s C =
     let images = flat_map image s.nodes in
     let lines = flat_map line_bytes s.lines in
     let ports = flat_map port_bytes s.ports in
@@ -47,10 +49,10 @@ module _ (t : Topology) (areas : TwoAreas) (given : List (List ℕ)) (s : Networ
   head = head_bytes (version_for t) t areas
 
   abbrev front : List ℕ
-  front = front_bytes t 1 0 s
+  front = front_bytes t 1 Turns 0 s
 
   size_front : length front ≡ groups_place t
-  size_front = length-front_bytes t414_ends t limits 1 0 s (start_reads_back t given s start limits)
+  size_front = length-front_bytes t414_ends t limits 1 Turns 0 s (start_reads_back t given s start limits)
 
   size_head : length head ≡ areas.first
   size_head = length-head_bytes (version_for t) t limits (version_keeps t topology) areas starts

@@ -8,6 +8,7 @@ use Rattle.tp_model.specs.declared.link.Token.{Token}
 use Rattle.tp_model.specs.declared.wire.WireEnd.{WireEnd}
 use Rattle.tp_model.specs.declared.limits.TheConstants.{GATE_CLOSED}
 use Rattle.tp_model.specs.Image.{page_count}
+use Rattle.tp_model.specs.declared.form.Form.TheVariants.{Turns}
 use Rattle.tp_model.specs.NodeState.{NodeState}
 use Rattle.tp_model.specs.Network.{Machine, Network, has_wire, on_line}
 use Rattle.tp_model.specs.Markers.{markers, plain}
@@ -74,9 +75,9 @@ module _ (M : Machine NodeState) (t : Topology) (areas : TwoAreas) (given : List
 
   -- what opening answers of it
   abbrev pub found : Opened
-  found = record { head = head; second = false; generation = 1; base = 0; cut = s; kept = []; now = s; end = end_of_groups head false [] }
+  found = record { head = head; second = false; generation = 1; form = Turns; base = 0; cut = s; kept = []; now = s; end = end_of_groups head false [] }
 
-  area_is : SpeltArea M t414_ends t (content_of areas false bytes) 1 0 s [] s
+  area_is : SpeltArea M t414_ends t (content_of areas false bytes) 1 Turns 0 s [] s
   unfolding groups_bytes after
   area_is = record {
     gate = GATE_CLOSED;
@@ -86,6 +87,7 @@ module _ (M : Machine NodeState) (t : Topology) (areas : TwoAreas) (given : List
     generation_fits = omega arith;
     cut = start_reads_back t given s W.network limits;
     each = tt;
+    of_form = tt;
     numbers = tt;
     last = omega arith;
     leads = refl;
@@ -98,7 +100,7 @@ module _ (M : Machine NodeState) (t : Topology) (areas : TwoAreas) (given : List
       opening_from M t414_ends bytes head false found
       (head_of-head_bytes (version_for t) t areas bytes W.topology (version_keeps t W.topology) W.room W.format.first W.area_fits W.format.head)
       (chosen_alone areas bytes false (ap (λ gate. is_open gate) opened) (ap (λ gate. is_open gate) closed))
-      (area_spelt M t414_ends head false limits (content_of areas false bytes) 1 0 s [] s area_is)
+      (area_spelt M t414_ends head false limits (content_of areas false bytes) 1 Turns 0 s [] s area_is)
 
   pub formatted_holds : held_in (opening M t414_ends bytes) ≡ Some (record { network = s; entries = []; base = 0 })
   formatted_holds = held_from (opening M t414_ends bytes) found (record { network = s; entries = []; base = 0 }) formatted_opens refl

@@ -5,6 +5,7 @@
 ghost use Rattle.std.specs.Prelude.{◌≡◌, ◌≤◌, ◌<◌, ◌+◌, ◌++◌, ◌*◌, ◌^◌, ℕ, true, false, List, [], Some, Ok, length, map, take, drop, slice_get};
 ghost use Rattle.tp_model.specs.declared.areas.TwoAreas.{TwoAreas};
 ghost use Rattle.tp_model.specs.declared.entry.Entry.{Entry};
+ghost use Rattle.tp_model.specs.declared.form.Form.{Form};
 ghost use Rattle.tp_model.specs.declared.head.HeadVersion.{HeadVersion};
 ghost use Rattle.tp_model.specs.declared.limits.TheConstants.{AREA_HEAD_BYTES};
 ghost use Rattle.tp_model.specs.NodeState.{NodeState};
@@ -196,8 +197,8 @@ pub fn groups_fit()
 /// without an entry lead to, and on one node acts lead to one.
 pub fn checkpoints_switch()
     ensures other { (bytes : List ℕ) (o : Opened) → verdict bytes ≡ Ok o → other_is_open o bytes ≡ false
-        → (generation base : ℕ) (s : Network NodeState) (groups : List (List (Entry × ℕ))) (now : Network NodeState)
-        → Spells t414 t414_ends o.head.topology (other_content o bytes) generation base s groups now → o.generation < generation
+        → (generation : ℕ) (form : Form) (base : ℕ) (s : Network NodeState) (groups : List (List (Entry × ℕ))) (now : Network NodeState)
+        → Spells t414 t414_ends o.head.topology (other_content o bytes) generation form base s groups now → o.generation < generation
         → device_areas.other bytes ≡ Some (other_start o, record { network = s; entries = map (λ e. e.0) (entries_in groups); base = base }) }
     ensures switches { (w : World NodeState) (cut : WholeCut) (nodes : List NodeState) (o : Opened) (pieces : List (ℕ × List ℕ)) (generation : ℕ)
         → w.at ≡ Resting → HasCut w.net cut nodes → SpellsCopy w o pieces (copy_of w.net w.base cut nodes) generation → Switches w o cut nodes generation }
