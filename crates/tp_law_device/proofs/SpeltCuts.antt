@@ -232,7 +232,7 @@ pub record ReadsBack (E : Ends NodeState) (t : Topology) (base : ℕ) (s : Netwo
   pub flights : (line : ℕ) → line < line_count t → is_in_one_place E s line (back s line) ≡ true
   pub base_fits : base < NUMBER_LIMIT
 
-images_most : (pages : List ℕ) → list_all is_page_count pages ≡ true → sum_by image_length pages ≤ 1048748 * length pages
+images_most : (pages : List ℕ) → list_all is_page_count pages ≡ true → sum_by image_length pages ≤ image_length MAX_PAGES * length pages
 images_most [] h = omega arith
 images_most (n ∷ ns) h =
     let both = and_parts (is_page_count n) (list_all is_page_count ns) h in
