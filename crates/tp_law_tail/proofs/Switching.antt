@@ -69,6 +69,7 @@ closed_switches w o cut nodes rests is closed has P =
       opens = is;
       closed = closed;
       inside = (subst (λ range. IsWithin range (other_start o + 1, length P.content)) (sym spare_is) (le_refl (other_start o + 1), omega (arith, P.long)), tt);
+      form = Turns;
       groups = P.groups;
       now = P.now;
       spelt = subst (λ content. SpeltArea t414 t414_ends o.head.topology content (o.generation + 1) Turns copy.base copy.network P.groups P.now) (sym C) S;
