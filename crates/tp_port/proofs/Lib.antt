@@ -1,6 +1,6 @@
 pub mod Lists
 pub mod Owns
 pub mod Sending
-pub mod Received
+pub mod InFront
 pub mod OpenedPorts
 pub mod Counted

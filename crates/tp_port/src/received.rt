@@ -7,6 +7,7 @@ ghost use Rattle.tp_model.specs.Network.{on_line, taken};
 ghost use Rattle.tp_model.specs.Sound.{acks, datas};
 ghost use Rattle.tp_model.specs.Turn.{by_line, by_link, incoming, received};
 ghost use Rattle.tp_law_machine.specs.NodeOfBytes.{CarryBytes};
+ghost use Rattle.tp_port.specs.FirstTwo.{by_two};
 
 use arrayvec::ArrayVec;
 use tp_model::{Received, Token, WireEnd};
@@ -89,6 +90,22 @@ pub fn take_off(lines: &mut Lines, tokens: &[(u16, Token)])
     }
 }
 
+/// What stands in front of the first Marker of a line with at most one Data and one Ack, by its first two tokens.
+fn by_two(first: Option<Token>, second: Option<Token>) -> Received
+    ensures { result ≡ by_two first second }
+{
+    match (first, second) {
+        (Some(Token::Data(byte)), Some(Token::Ack)) => Received::DataThenAck(byte),
+        (Some(Token::Data(byte)), Some(Token::Data(_) | Token::Marker)) => Received::JustData(byte),
+        (Some(Token::Data(byte)), None) => Received::JustData(byte),
+        (Some(Token::Ack), Some(Token::Data(byte))) => Received::AckThenData(byte),
+        (Some(Token::Ack), Some(Token::Ack | Token::Marker)) => Received::JustAck,
+        (Some(Token::Ack), None) => Received::JustAck,
+        (Some(Token::Marker), _) => Received::Nothing,
+        (None, _) => Received::Nothing,
+    }
+}
+
 /// What stands on a line in front of its first Marker.
 pub fn waiting(lines: &Lines, line: usize) -> Received
     requires there { line < length lines.now }
@@ -96,12 +113,5 @@ pub fn waiting(lines: &Lines, line: usize) -> Received
     requires ack { acks (on_line lines.now line) ≤ 1 }
     ensures { received result ≡ before (on_line lines.now line) }
 {
-    match (lines.get(line, 0), lines.get(line, 1)) {
-        (Some(Token::Data(byte)), Some(Token::Ack)) => Received::DataThenAck(byte),
-        (Some(Token::Data(byte)), _) => Received::JustData(byte),
-        (Some(Token::Ack), Some(Token::Data(byte))) => Received::AckThenData(byte),
-        (Some(Token::Ack), _) => Received::JustAck,
-        (Some(Token::Marker), _) => Received::Nothing,
-        (None, _) => Received::Nothing,
-    }
+    by_two(lines.get(line, 0), lines.get(line, 1))
 }

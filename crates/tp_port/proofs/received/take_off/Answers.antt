@@ -1,6 +1,6 @@
 use Rattle.std.proofs.Common.{sym, ◌∙◌}
 use Rattle.tp_model.specs.declared.link.Token.TheVariants.{Data}
-use Rattle.tp_port.proofs.Received.{next_off, off_done}
+use Rattle.tp_port.proofs.InFront.{next_off, off_done}
 use Rattle.tp_port.proofs.received.take_off.Goals as goal
 
 pub pop-requires : goal.pop-requires

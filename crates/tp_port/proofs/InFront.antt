@@ -1,16 +1,19 @@
 -- What a node receives: links in order, taken off the fronts of their lines, up to each line's first Marker.
-use Rattle.std.proofs.Common.{◌≡◌, ℕ, ◌+◌, ◌*◌, ◌<◌, ◌≤◌, true, cond, List, [], ◌∷◌, ◌++◌, length, map, drop, set, get_or, refl, sym, ap, ◌∙◌, arith, add-one, drop-cons, Option, Some, None, IsSome, slice_get}
+use Rattle.std.proofs.Common.{◌≡◌, ℕ, zero, suc, ◌+◌, ◌*◌, ◌<◌, ◌≤◌, true, cond, List, [], ◌∷◌, ◌++◌, length, map, drop, set, get_or, refl, sym, ap, ◌∙◌, arith, add-one, drop-cons, Option, Some, None, IsSome, slice_get}
 use Rattle.std.specs.Prelude.{is_some}
+use Rattle.std.specs.List.{AllByRecursion}
 use Rattle.std.proofs.lemmas.Bool.{true≢false}
 use Rattle.std.proofs.lemmas.List.{length-append, length-map, drop_all}
 use Rattle.tp_model.specs.declared.link.Token.{Token}
 use Rattle.tp_model.specs.declared.link.Token.TheVariants.{Data, Ack, Marker}
 use Rattle.tp_model.specs.declared.link.Received.{Received}
 use Rattle.tp_model.specs.declared.link.Received.TheVariants.{Nothing, JustData, JustAck, DataThenAck, AckThenData}
+use Rattle.tp_model.specs.declared.wire.WireEnd.{WireEnd}
 use Rattle.tp_model.specs.Markers.{before}
 use Rattle.tp_model.specs.Network.{on_line, taken}
 use Rattle.tp_model.specs.Sound.{acks, datas}
-use Rattle.tp_model.specs.Turn.{by_link, received}
+use Rattle.tp_model.specs.Turn.{by_line, by_link, incoming, received}
+use Rattle.tp_port.specs.FirstTwo.{by_two}
 use Rattle.tp_law_network.proofs.Lines.{line_there, taken_cons}
 
 -- ## The tokens of all links
@@ -29,6 +32,13 @@ received_length (AckThenData byte) = omega arith
 pub received_few : (tokens : List (ℕ × Token)) (k : ℕ) (one : Received) (now : List (ℕ × Token)) → now ≡ tokens ++ map (λ t. (k, t)) (received one) → length tokens ≤ 2 * k → length now ≤ 2 * (k + 1)
 received_few tokens k one now is few =
     omega (arith, few, received_length one, ap length is, length-append tokens (map (λ t. (k, t)) (received one)), length-map {B = ℕ × Token} (received one) (λ t. (k, t)))
+
+-- the tokens are on lines with low numbers
+pub low_at : (wires : List (Option WireEnd)) (N i most : ℕ) (tokens : List (ℕ × Token)) (k : ℕ) (d : ℕ × Token) → AllByRecursion (λ m. m.0 < most) (by_line wires N i tokens) → k < length tokens
+    → incoming wires N i (get_or tokens k d).0 < most
+low_at wires N i most [] k d all below = absurd (omega (arith, below))
+low_at wires N i most (m ∷ ms) zero d all below = all.0
+low_at wires N i most (m ∷ ms) (suc k) d all below = low_at wires N i most ms k d all.1 (omega (arith, below))
 
 -- ## Taken off
 
@@ -68,27 +78,14 @@ none_before (Data b ∷ ts) d a = absurd (omega (arith, d))
 none_before (Ack ∷ ts) d a = absurd (omega (arith, a))
 none_before (Marker ∷ ts) d a = refl
 
--- what stands there, by the first two tokens
-abbrev pub read_of : Option Token → Option Token → Received
-read_of (Some (Data b)) (Some Ack) = DataThenAck b
-read_of (Some (Data b)) (Some (Data c)) = JustData b
-read_of (Some (Data b)) (Some Marker) = JustData b
-read_of (Some (Data b)) None = JustData b
-read_of (Some Ack) (Some (Data b)) = AckThenData b
-read_of (Some Ack) (Some Ack) = JustAck
-read_of (Some Ack) (Some Marker) = JustAck
-read_of (Some Ack) None = JustAck
-read_of (Some Marker) second = Nothing
-read_of None second = Nothing
-
-pub read_before : (ts : List Token) → datas ts ≤ 1 → acks ts ≤ 1 → received (read_of (slice_get ts 0) (slice_get ts 1)) ≡ before ts
-read_before [] d a = refl
-read_before (Data b ∷ []) d a = refl
-read_before (Data b ∷ Data c ∷ ts) d a = absurd (omega (arith, d))
-read_before (Data b ∷ Ack ∷ ts) d a = ap (λ us. Data b ∷ Ack ∷ us) (sym (none_before ts (omega (arith, d)) (omega (arith, a))))
-read_before (Data b ∷ Marker ∷ ts) d a = refl
-read_before (Ack ∷ []) d a = refl
-read_before (Ack ∷ Data b ∷ ts) d a = ap (λ us. Ack ∷ Data b ∷ us) (sym (none_before ts (omega (arith, d)) (omega (arith, a))))
-read_before (Ack ∷ Ack ∷ ts) d a = absurd (omega (arith, a))
-read_before (Ack ∷ Marker ∷ ts) d a = refl
-read_before (Marker ∷ ts) d a = refl
+pub by_two-before : (ts : List Token) → datas ts ≤ 1 → acks ts ≤ 1 → received (by_two (slice_get ts 0) (slice_get ts 1)) ≡ before ts
+by_two-before [] d a = refl
+by_two-before (Data b ∷ []) d a = refl
+by_two-before (Data b ∷ Data c ∷ ts) d a = absurd (omega (arith, d))
+by_two-before (Data b ∷ Ack ∷ ts) d a = ap (λ us. Data b ∷ Ack ∷ us) (sym (none_before ts (omega (arith, d)) (omega (arith, a))))
+by_two-before (Data b ∷ Marker ∷ ts) d a = refl
+by_two-before (Ack ∷ []) d a = refl
+by_two-before (Ack ∷ Data b ∷ ts) d a = ap (λ us. Ack ∷ Data b ∷ us) (sym (none_before ts (omega (arith, d)) (omega (arith, a))))
+by_two-before (Ack ∷ Ack ∷ ts) d a = absurd (omega (arith, a))
+by_two-before (Ack ∷ Marker ∷ ts) d a = refl
+by_two-before (Marker ∷ ts) d a = refl
