@@ -1,9 +1,11 @@
 pub mod Commit
 pub mod Changes
 pub mod Fields
+pub mod Formed
 pub mod Ranged
 pub mod Journalled
 pub mod Ran
+pub mod Turned
 pub mod Took
 pub mod Fresh
 pub mod PortEnds
@@ -18,6 +20,7 @@ pub mod ShownOutputs
 pub mod Entered
 pub mod Stood
 pub mod Committed
+pub mod TurnEntered
 pub mod Hosted
 pub mod Tallied
 pub mod Remarked
