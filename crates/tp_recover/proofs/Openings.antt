@@ -24,7 +24,7 @@ use Rattle.tp_recover.proofs.Passing.{passed}
 
 -- ## In front of the groups
 
-front_there : (content : List ℕ) (front : CutFront) (given : Result Form OpenFault) → (given >>= (λ form. found (cut_front form content))) ≡ Ok front → front.base ≡ base_of content
+front_there : (content : List ℕ) (front : CutFront) (given : Result Form OpenFault) → (given >>= (λ form. found (cut_front content form))) ≡ Ok front → front.base ≡ base_of content
 front_there content front (Ok form) is = ap (λ r. told r) (sym is)
   where
     told : Result CutFront OpenFault → ℕ
@@ -52,12 +52,12 @@ area_in-read head second content = go (front_in head.topology (area_start head.a
   where
     go : (front : Result Form OpenFault) (cut : Result (Network NodeState) OpenFault)
         → (front >>= (λ form. cut >>= (λ s. after_rows t414 (replay_from form s (base_of content)) (groups_of head second content).rows
-        >>= (λ last. closed_in (groups_of head second content) >>= (λ shut. Ok (opened_with head second (read_as (cut_front form content) s) (last, (groups_of head second content).end)))))))
-        ≡ (((front >>= (λ form. found (cut_front form content))) >>= (λ f. cut >>= (λ s. Ok (read_as f s)))) >>= opened_after head second content)
+        >>= (λ last. closed_in (groups_of head second content) >>= (λ shut. Ok (opened_with head second (read_as (cut_front content form) s) (last, (groups_of head second content).end)))))))
+        ≡ (((front >>= (λ form. found (cut_front content form))) >>= (λ f. cut >>= (λ s. Ok (read_as f s)))) >>= opened_after head second content)
     go (Err fault) cut = refl
     go (Ok form) (Err fault) = refl
     go (Ok form) (Ok s) =
-        rows_then head second (read_as (cut_front form content) s) (groups_of head second content).end (after_rows t414 (replay_from form s (base_of content)) (groups_of head second content).rows)
+        rows_then head second (read_as (cut_front content form) s) (groups_of head second content).end (after_rows t414 (replay_from form s (base_of content)) (groups_of head second content).rows)
         (closed_in (groups_of head second content))
 
 -- the content of an area at another moment

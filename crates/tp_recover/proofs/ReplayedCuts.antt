@@ -13,7 +13,7 @@ use Rattle.tp_model.specs.Image.{node_of}
 use Rattle.tp_model.specs.Node.{t414, t414_ends}
 use Rattle.tp_model.specs.Network.{Network, on_line}
 use Rattle.tp_model.specs.Entries.{next}
-use Rattle.tp_model.specs.EntryBytes.{AreOf, is_in_range, is_of}
+use Rattle.tp_model.specs.EntryBytes.{AreOf, is_in_range}
 use Rattle.tp_model.specs.Markers.{markers, plain}
 use Rattle.tp_model.specs.Numbers.{AreNumbered}
 use Rattle.tp_model.specs.Order.{after}
@@ -39,9 +39,8 @@ use Rattle.tp_replay.proofs.Flat.{flat_next, markers_next}
 use Rattle.tp_replay.proofs.History.{history_of}
 use Rattle.tp_law_device.proofs.UnmarkedLines.{lines_unmarked, plain_lines}
 use Rattle.tp_recover.proofs.HeldPorts.{EachPort, IsHeld, held_next}
-use Rattle.tp_recover.proofs.Leading.{rows_form}
 use Rattle.tp_recover.proofs.CutsAreFlat.{cut_flat, cut_counted, cut_held}
-use Rattle.tp_recover.proofs.Ranged.{entry_of_form, entry_ranged, ranged_takes}
+use Rattle.tp_recover.proofs.Ranged.{entry_ranged, ranged_takes}
 
 -- ## What a replay keeps
 
@@ -53,7 +52,6 @@ pub record IsReplayed (r : Replay NodeState) : Type 0 where
   pub held : EachPort IsHeld r.now.ports
   pub few : r.next < NUMBER_LIMIT
   pub ranged : AllByRecursion (λ (e : Entry × ℕ). is_in_range e.0 ≡ true) r.kept
-  pub of_form : AreOf r.form r.kept
 
 replayed_first : (form : Form) (t : Topology) (base : ℕ) (s : Network NodeState) → is_topology t ≡ true → IsCut t414_ends t base s → AllByRecursion IsNodeOfBytes s.nodes → IsReplayed (replay_from form s base)
 replayed_first form t base s topology C bytes = record {
@@ -63,12 +61,11 @@ replayed_first form t base s topology C bytes = record {
   held = cut_held t414_ends t base s C;
   few = C.base_fits;
   ranged = tt;
-  of_form = tt;
 }
 
-replayed_entry : (r : Replay NodeState) (entry : Entry × ℕ) (now : Network NodeState) → IsReplayed r → is_in_range entry.0 ≡ true → is_of r.form entry.0 ≡ true → is_number r entry.1 ≡ true → next t414 r.now entry.0 ≡ Some now
+replayed_entry : (r : Replay NodeState) (entry : Entry × ℕ) (now : Network NodeState) → IsReplayed r → is_in_range entry.0 ≡ true → is_number r entry.1 ≡ true → next t414 r.now entry.0 ≡ Some now
     → IsReplayed (with_entry r entry now)
-replayed_entry r entry now R one its number step =
+replayed_entry r entry now R one number step =
     let low = and_parts (nat_le r.least entry.1) (nat_le entry.1 r.next && nat_lt r.next (NUMBER_LIMIT - 1)) number in
     let last = and_parts (nat_le entry.1 r.next) (nat_lt r.next (NUMBER_LIMIT - 1)) low.1 in
     let room = ltb-true r.next (NUMBER_LIMIT - 1) last.1 in
@@ -79,7 +76,6 @@ replayed_entry r entry now R one its number step =
       held = held_next r.now entry.0 now R.held step;
       few = omega (arith, room);
       ranged = all_append (λ (e : Entry × ℕ). is_in_range e.0 ≡ true) r.kept (entry ∷ []) R.ranged (one, tt);
-      of_form = all_append (λ (e : Entry × ℕ). is_of r.form e.0 ≡ true) r.kept (entry ∷ []) R.of_form (its, tt);
     }
 
 replayed_row : (r v : Replay NodeState) (row : List ℕ) → IsReplayed r → after_row t414 r row ≡ Some v → IsReplayed v
@@ -88,7 +84,7 @@ replayed_row r v row R is =
     let entry = found.0 in
     let tested = cond_some (is_number r entry.1) (option_map (with_entry r entry) (next t414 r.now entry.0)) v found.2 in
     let stepped = map_some (with_entry r entry) (next t414 r.now entry.0) v tested.1 in
-    subst IsReplayed stepped.2 (replayed_entry r entry stepped.0 R (entry_ranged r.form row entry found.1) (entry_of_form r.form row entry found.1) tested.0 stepped.1)
+    subst IsReplayed stepped.2 (replayed_entry r entry stepped.0 R (entry_ranged r.form row entry found.1) tested.0 stepped.1)
 
 replayed_rows : (r v : Replay NodeState) (rows : List (ℕ × List ℕ)) → IsReplayed r → after_rows t414 r rows ≡ Ok v → IsReplayed v
 unfolding after_rows
@@ -120,7 +116,7 @@ pub replayed_opened : (form : Form) (t : Topology) (base : ℕ) (s : Network Nod
     → o.generation < NUMBER_LIMIT → map (λ image. node_of image.items) o.net.images.items ≡ map (λ node. Some node) (now_of o).nodes → IsOpened o
 replayed_opened form t base s rows r o topology C bytes is cut now kept base_is form_is next_is age images =
     let R = replayed_holds form t base s rows r topology C bytes is in
-    let history : IsHistory t414 s base r = history_of t414 form s base r rows is in
+    let history : IsHistory t414 form s base r = history_of t414 form s base r rows is in
     let entries : map (λ (e : Entry × ℕ). e.0) o.kept.items ≡ map (λ (e : Entry × ℕ). e.0) r.kept = ap (map (λ (e : Entry × ℕ). e.0)) kept in
     let numbers : map (λ (e : Entry × ℕ). e.1) o.kept.items ≡ map (λ (e : Entry × ℕ). e.1) r.kept = ap (map (λ (e : Entry × ℕ). e.1)) kept in
     let flat : IsFlat (now_of o) = subst IsFlat (sym now) R.flat in
@@ -136,7 +132,7 @@ replayed_opened form t base s rows r o topology C bytes is cut now kept base_is 
       few = omega (arith, next_is, R.few);
       age = age;
       ranged = subst AreInRange (sym entries) (ranged_entries r.kept R.ranged);
-      of_form = subst (AreOf o.form) (sym kept) (subst (λ f. AreOf f r.kept) (rows_form (replay_from form s base) r rows is ∙ sym form_is) R.of_form);
+      of_form = subst (AreOf o.form) (sym kept) (subst (λ f. AreOf f r.kept) (sym form_is) history.of_form);
       counted = subst (λ x. AreCounted o.next x.ports) (sym now) (subst (λ n. AreCounted n r.now.ports) (sym next_is) R.counted);
       pending = λ k d below. let part = parts_held o.net.ports.items held k d below in omega (arith, part.pending, (get_or o.net.ports.items k d).pending.ok.0);
       outputs = λ k d below. let part = parts_held o.net.ports.items held k d below in omega (arith, part.outputs, (get_or o.net.ports.items k d).outputs.ok.0);
