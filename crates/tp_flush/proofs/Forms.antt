@@ -1,5 +1,5 @@
 -- What the open area may hold, beside what is told of the book.
-use Rattle.std.proofs.Common.{◌≡◌, List, ap, subst, sym, ◌∙◌, true, ℕ, ◌+◌, Bool, Option, Result, Ok, Err}
+use Rattle.std.proofs.Common.{◌≡◌, List, ap, subst, sym, ◌∙◌, true, ℕ, Bool, Option, Result, Ok, Err}
 use Rattle.std.proofs.ByRecursion.{All-weaker}
 use Rattle.tp_model.specs.declared.entry.Entry.{Entry}
 use Rattle.tp_model.specs.declared.form.Form.{Form}
