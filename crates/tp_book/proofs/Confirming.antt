@@ -32,6 +32,7 @@ use Rattle.tp_port.proofs.Owns.{of_port-is}
 use Rattle.tp_book.proofs.Journalled.{state_after, numbers_after, fields_after}
 use Rattle.tp_port.proofs.Counted.{counted_set}
 use Rattle.tp_book.specs.Kept.{AreRising}
+use Rattle.tp_book.proofs.Formed.{confirm_of}
 use Rattle.tp_book.proofs.Ranged.{confirm_in_range}
 use Rattle.std.proofs.lemmas.Option.{slice_get_within}
 use Rattle.tp_book.proofs.Rising.{rising_to, rising_drop, rising_set}
@@ -103,6 +104,7 @@ module _ (b : Inside) (B : IsJournal b) (p upto : ℕ) (was after : PortValue) (
       (rising_drop (upto - was.port.out_base) 0 (b.base + vec_len entries) was.marks
       (rising_to 0 (b.base + vec_len b.entries) (b.base + vec_len entries) was.marks (B.rising p was.marks (slice_get-map (λ q. q.marks) b.ports.items p ∙ ap (option_map (λ q. q.marks)) at)) (omega (arith, len)))) (omega (arith, len))))
       (confirm_in_range p upto (omega (arith, slice_get_within (state_of b).ports p was.port port_there, B.shaped.few_ports)) (omega (arith, held, (B.counted p was.port port_there).outputs, B.numbers)))
+      (confirm_of b.form p upto)
 
   pub confirm_value : value_of fields ≡ bare (after_confirm (value_of b) p upto)
   confirm_value =

@@ -4,11 +4,13 @@ use Rattle.std.specs.Prelude.{vec_len, count_by}
 use Rattle.std.proofs.lemmas.List.{length-map, length-replicate}
 use Rattle.std.proofs.lemmas.List.Sums.{sum_by-cons}
 use Rattle.tp_model.specs.declared.entry.Entry.{Entry}
+use Rattle.tp_model.specs.declared.form.Form.TheVariants.{Turns}
 use Rattle.tp_model.specs.NodeState.{NodeState}
 use Rattle.tp_model.specs.Node.{t414_ends}
 use Rattle.tp_model.specs.declared.link.Token.{Token}
 use Rattle.tp_model.specs.Image.{node_at}
 use Rattle.tp_model.specs.Network.{Network, Port, on_line}
+use Rattle.tp_model.specs.EntryBytes.{AreOf}
 use Rattle.tp_model.specs.Numbers.{AreNumbered}
 use Rattle.tp_model.specs.Order.{after}
 use Rattle.tp_model.specs.Sound.{Sound}
@@ -72,7 +74,7 @@ module _ (b : Inside) (parts : NetParts) (start : b.start.network ≡ network_of
   s = network_of parts
 
   abbrev fields : Inside
-  fields = record b { base = 0; reserved = 0; ready = None; broken = false }
+  fields = record b { base = 0; reserved = 0; ready = None; broken = false; form = Turns }
 
   port_count : vec_len parts.ports ≡ length s.ports
   port_count = parts.ports.ok.0 ∙ sym (length-map parts.ports.items port_of)
@@ -116,6 +118,7 @@ module _ (b : Inside) (parts : NetParts) (start : b.start.network ≡ network_of
     counted = λ p port at. fresh_counted (0 + vec_len b.entries) (length s.ports) p port (ap (λ given. slice_get given p) (sym (these_ports ∙ F.ports)) ∙ at);
     numbered = subst (λ given. AreNumbered 0 0 (map (λ (e : Entry × ℕ). e.1) given)) (sym entries) tt;
     ranged = subst (λ given. AreInRange (map (λ (e : Entry × ℕ). e.0) given)) (sym entries) tt;
+    of_form = subst (AreOf Turns) (sym entries) tt;
     rising = λ p ns at. fresh_rising (0 + vec_len b.entries) (vec_len parts.ports) p ns (ap (λ given. slice_get given p) (sym (ap (map (λ q. q.marks)) ports ∙ map-replicate (λ q. q.marks) (vec_len parts.ports) fresh_port)) ∙ at);
   }
 

@@ -1,6 +1,7 @@
 pub mod Commit
 pub mod Changes
 pub mod Fields
+pub mod Formed
 pub mod Ranged
 pub mod Journalled
 pub mod Ran

@@ -26,6 +26,7 @@ module _ (b : Inside) (B : IsJournal b) where
     counted = B.counted;
     numbered = B.numbered;
     ranged = B.ranged;
+    of_form = B.of_form;
     rising = B.rising;
   }
 

@@ -13,6 +13,7 @@ use Rattle.tp_model.specs.Node.{t414, t414_ends}
 use Rattle.tp_model.specs.declared.link.Token.{Token}
 use Rattle.tp_model.specs.Image.{node_at}
 use Rattle.tp_model.specs.Network.{Network, on_line}
+use Rattle.tp_model.specs.EntryBytes.{AreOf}
 use Rattle.tp_model.specs.Numbers.{AreNumbered}
 use Rattle.tp_model.specs.Order.{after}
 use Rattle.tp_model.specs.Sound.{Sound}
@@ -34,7 +35,8 @@ use Rattle.tp_port.specs.Parts.{port_of}
 use Rattle.tp_port.specs.Ports.{opened_port}
 use Rattle.tp_book.specs.Inside.{state_of, value_of, IsJournal}
 use Rattle.tp_book.specs.Bare.{bare}
-use Rattle.tp_book.specs.Opened.{cut_of, now_of, kept_of, numbers_of, IsOpened, opened_book}
+use Rattle.tp_book.specs.Opened.{cut_of, now_of, kept_of, numbers_of, IsOpened, book_form, opened_book}
+use Rattle.tp_book.proofs.Formed.{opened_form}
 use Rattle.tp_book.proofs.Fresh.{none_reserved}
 use Rattle.tp_book.specs.Kept.{IsRising}
 use Rattle.tp_book.proofs.Rising.{rising_zeros}
@@ -98,7 +100,8 @@ opened_rising next (q ∷ qs) (suc p) ns e = opened_rising next qs p ns e
 
 module _ (b : Inside) (s : NetState) (O : IsOpened s) (cut : b.start.network ≡ cut_of s) (wires : b.wires.items ≡ s.net.wires.items)
     (lines : b.lines ≡ map (λ line. line.items) s.net.lines.items) (ports : b.ports.items ≡ map (λ port. opened_port (port_of port)) s.net.ports.items)
-    (runs : b.runs.items ≡ replicate (vec_len s.net.images) false) (entries : b.entries.items ≡ s.kept.items) (base : b.base ≡ s.base) where
+    (runs : b.runs.items ≡ replicate (vec_len s.net.images) false) (entries : b.entries.items ≡ s.kept.items) (base : b.base ≡ s.base)
+    (form : b.form ≡ book_form b.room s.form) where
   abbrev fields : Inside
   fields = record b { reserved = 0; ready = None; broken = false }
 
@@ -147,6 +150,7 @@ module _ (b : Inside) (s : NetState) (O : IsOpened s) (cut : b.start.network ≡
         (subst (λ n. AreCounted n (now_of s).ports) (omega (arith, entry_count, base, O.next)) O.counted);
     numbered = subst (λ given. AreNumbered 0 given (map (λ (e : Entry × ℕ). e.1) b.entries.items)) (sym base) (subst (λ given. AreNumbered 0 s.base (map (λ (e : Entry × ℕ). e.1) given)) (sym entries) O.numbered);
     ranged = subst AreInRange (sym these_entries) O.ranged;
+    of_form = subst (λ given. AreOf given b.entries.items) (sym form) (subst (AreOf (book_form b.room s.form)) (sym entries) (opened_form b.room s.form s.kept.items O.of_form));
     rising = λ p ns at. opened_rising (b.base + vec_len b.entries) (now_of s).ports p ns (ap (λ given. slice_get given p) (sym these_marks) ∙ at);
   }
 
@@ -158,5 +162,6 @@ module _ (b : Inside) (s : NetState) (O : IsOpened s) (cut : b.start.network ≡
       ∙ ap (λ given. record (value_of fields) { state = record (opened_book s b.room).state { lines = given } }) lines
       ∙ ap (λ given. record (value_of fields) { state = (opened_book s b.room).state; numbers = map (λ (e : Entry × ℕ). e.1) given }) entries
       ∙ ap (λ given. record (value_of fields) { state = (opened_book s b.room).state; numbers = numbers_of s; base = given }) base
+      ∙ ap (λ given. record (value_of fields) { state = (opened_book s b.room).state; numbers = numbers_of s; base = s.base; form = given }) form
       ∙ ap (λ given. bare (record (opened_book s b.room) { runs = given; marks = map (λ p. p.marks) b.ports.items })) (runs ∙ ap (λ n. replicate n false) node_count)
       ∙ ap (λ given. bare (record (opened_book s b.room) { marks = given })) these_marks

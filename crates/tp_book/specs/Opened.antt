@@ -1,8 +1,11 @@
 -- A book of an opened device.
 use Rattle.std.specs.Prelude.{[], ◌≡◌, ◌<◌, ◌≤◌, ℕ, ◌+◌, false, List, All, length, map, replicate, vec_len, Option, Some, None}
 use Rattle.tp_model.specs.declared.entry.Entry.{Entry}
+use Rattle.tp_model.specs.declared.form.Form.{Form}
+use Rattle.tp_model.specs.declared.form.Form.TheVariants.{Turns}
 use Rattle.tp_model.specs.declared.limits.TheConstants.{MAX_HELD, NUMBER_LIMIT}
 use Rattle.tp_model.specs.NodeState.{NodeState}
+use Rattle.tp_model.specs.EntryBytes.{AreOf}
 use Rattle.tp_model.specs.Image.{node_of}
 use Rattle.tp_model.specs.Node.{t414, t414_ends}
 use Rattle.tp_model.specs.Network.{Network}
@@ -32,7 +35,7 @@ kept_of s = map (λ (e : Entry × ℕ). e.0) s.kept.items
 abbrev pub numbers_of : NetState → List ℕ
 numbers_of s = map (λ (e : Entry × ℕ). e.1) s.kept.items
 
--- What opening leaves: the kept entries are in the range of their bytes, and lead from the kept cut's network to the one that is
+-- What opening leaves: the kept entries are in the range of their bytes, are such as the area's form holds, and lead from the kept cut's network to the one that is
 -- there, which is sound and has no Markers under way; each node's image spells it; each port holds what it has room for, and has counted no more than there are
 -- entries; the number of the next entry and the generation are in their ranges.
 pub record IsOpened (s : NetState) : Type 0 where
@@ -42,6 +45,7 @@ pub record IsOpened (s : NetState) : Type 0 where
   pub lines : length (now_of s).lines ≡ length (now_of s).wires
   pub unmarked : map plain (now_of s).lines ≡ (now_of s).lines
   pub ranged : AreInRange (kept_of s)
+  pub of_form : AreOf s.form s.kept.items
   pub numbered : AreNumbered 0 s.base (numbers_of s)
   pub next : s.next ≡ s.base + vec_len s.kept
   pub few : s.next < NUMBER_LIMIT
@@ -51,6 +55,11 @@ pub record IsOpened (s : NetState) : Type 0 where
   pub outputs : All (λ port. vec_len port.outputs ≤ MAX_HELD) s.net.ports.items
   pub origin : Sound t414_ends (cut_of s)
   pub images : map (λ image. node_of image.items) s.net.images.items ≡ map (λ node. Some node) (now_of s).nodes
+
+-- the form of a book: that of the area on its device; without a device it may hold every entry
+abbrev pub book_form : Option ℕ → Form → Form
+book_form None form = Turns
+book_form (Some most) form = form
 
 -- The book of an opened device, whose groups may fill `room` bytes: nothing is reserved, and what the ports hold is shown
 -- by every mark.
@@ -68,4 +77,5 @@ opened_book s room = record {
   history = [];
   generation = s.generation;
   floor = vec_len s.kept;
+  form = book_form room s.form;
 }

@@ -4,6 +4,7 @@ use Rattle.tp_model.specs.NodeState.{NodeState}
 use Rattle.tp_model.specs.Node.{t414_ends}
 use Rattle.tp_model.specs.Network.{Network}
 use Rattle.tp_model.specs.Sound.{Sound}
+use Rattle.tp_model.specs.declared.form.Form.TheVariants.{Turns}
 use Rattle.tp_model.specs.declared.limits.TheConstants.{MAX_NODES, MAX_PORTS}
 use Rattle.tp_port.specs.Ports.{fresh_port}
 use Rattle.tp_book.specs.Book.{BookValue}
@@ -35,4 +36,5 @@ first_book s room = record {
   history = [];
   generation = 1;
   floor = 0;
+  form = Turns;
 }

@@ -2,12 +2,23 @@
 
 ghost use Rattle.std.specs.Prelude.{◌≡◌, IfOk};
 ghost use Rattle.tp_book.specs.Bare.{bare};
-ghost use Rattle.tp_book.specs.Opened.{IsOpened, opened_book};
+ghost use Rattle.tp_book.specs.Opened.{IsOpened, book_form, opened_book};
 
 use crate::journal::Journal;
 use crate::state::NetState;
 use std::alloc::{AllocError, Global};
+use tp_model::Form;
 use tp_port::{lines_with, ports_with};
+
+/// The form of a book: that of the area on its device; without a device it may hold every entry.
+fn book_form(room: Option<u64>, form: Form) -> Form
+    ensures { result ≡ book_form room form }
+{
+    match room {
+        Some(_) => form,
+        None => Form::Turns,
+    }
+}
 
 impl Journal {
     /// Opens the book of an opened device, whose groups may fill `room` bytes. Nothing is reserved or made ready.
@@ -31,6 +42,7 @@ impl Journal {
             ready: None,
             broken: false,
             room,
+            form: book_form(room, state.form),
         })
     }
 }

@@ -3,6 +3,7 @@
 use crate::cut::CutNetwork;
 use crate::parts::NetParts;
 use tp_entry::Numbered;
+use tp_model::Form;
 
 /// What an opened device stands for. It is written once, by opening.
 #[derive(Drop)]
@@ -13,6 +14,8 @@ pub struct NetState {
     pub net: NetParts,
     /// How many entries the kept cut holds.
     pub base: u64,
+    /// The form of the area that is open. Without a device it is one with turns.
+    pub form: Form,
     /// The entries behind the kept cut, with their numbers.
     pub kept: Vec<Numbered>,
     /// The number that the next entry gets.

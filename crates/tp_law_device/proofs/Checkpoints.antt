@@ -4,6 +4,8 @@ use Rattle.std.specs.Prelude.{map}
 use Rattle.std.specs.List.{AllByRecursion}
 use Rattle.std.proofs.lemmas.Bool.{lt-ltb}
 use Rattle.tp_model.specs.declared.entry.Entry.{Entry}
+use Rattle.tp_model.specs.declared.form.Form.{Form}
+use Rattle.tp_model.specs.declared.form.Form.TheVariants.{Turns}
 use Rattle.tp_model.specs.NodeState.{NodeState}
 use Rattle.tp_model.specs.Node.{t414, t414_ends}
 use Rattle.tp_model.specs.Network.{Machine, Network}
@@ -34,14 +36,15 @@ use Rattle.tp_law_device.proofs.Holds.{areas_keep}
 -- ## What the other area is, by its spelling
 
 module _ (M : Machine NodeState) (E : Ends NodeState) (bytes : List ℕ) (o : Opened) (is : opening M E bytes ≡ Ok o) (closed : other_is_open o bytes ≡ false)
-    (generation base : ℕ) (s : Network NodeState) (groups : List (List (Entry × ℕ))) (now : Network NodeState)
-    (spelt : SpeltArea M E o.head.topology (other_content o bytes) generation base s groups now) (later : o.generation < generation) where
+    (generation : ℕ) (form : Form) (base : ℕ) (s : Network NodeState) (groups : List (List (Entry × ℕ))) (now : Network NodeState)
+    (spelt : SpeltArea M E o.head.topology (other_content o bytes) generation form base s groups now) (later : o.generation < generation) where
   -- what it opens as
   abbrev pub other_opened : Opened
   other_opened = record {
     head = o.head;
     second = not o.second;
     generation = generation;
+    form = form;
     base = base;
     cut = s;
     kept = entries_in groups;
@@ -52,7 +55,7 @@ module _ (M : Machine NodeState) (E : Ends NodeState) (bytes : List ℕ) (o : Op
   other_read : area_in M E o.head (not o.second) (other_content o bytes) ≡ Ok other_opened
   other_read =
       let topology = (head_parts bytes o.head (reads_of M E bytes o is).head).topology in
-      area_spelt M E o.head (not o.second) (has_shape o.head.topology topology) (other_content o bytes) generation base s groups now spelt
+      area_spelt M E o.head (not o.second) (has_shape o.head.topology topology) (other_content o bytes) generation form base s groups now spelt
 
   pub other_spelt : other_of M E (opening M E bytes) bytes ≡ Some (other_start o, held_of other_opened)
   unfolding other_of
@@ -115,7 +118,7 @@ pub record ReadsCopy (w : World NodeState) (o : Opened) (pieces : List (ℕ × L
   pub inside : AllByRecursion (λ piece. IsWithin (device_areas.spare w.disk.bytes) (piece.0, length piece.1)) pieces
   pub groups : List (List (Entry × ℕ))
   pub now : Network NodeState
-  pub spelt : SpeltArea t414 t414_ends o.head.topology (other_content o (all_done (put_calls pieces) w.disk).bytes) generation copy.base copy.network groups now
+  pub spelt : SpeltArea t414 t414_ends o.head.topology (other_content o (all_done (put_calls pieces) w.disk).bytes) generation Turns copy.base copy.network groups now
   pub entries : map (λ e. e.0) (entries_in groups) ≡ copy.entries
   pub later : o.generation < generation
 
@@ -127,7 +130,7 @@ spells_reads w o pieces copy generation S = record {
   inside = S.inside;
   groups = S.groups;
   now = S.now;
-  spelt = spelt_area t414 t414_ends o.head.topology (other_content o (all_done (put_calls pieces) w.disk).bytes) generation copy.base copy.network S.groups S.now S.spells;
+  spelt = spelt_area t414 t414_ends o.head.topology (other_content o (all_done (put_calls pieces) w.disk).bytes) generation Turns copy.base copy.network S.groups S.now S.spells;
   entries = S.entries;
   later = S.later;
 }
@@ -160,14 +163,14 @@ module _ (w : World NodeState) (cut : WholeCut) (nodes : List NodeState) (o : Op
   kept = puts_keep t414 t414_ends o w.disk (device_areas.spare w.disk.bytes) pieces (record { opens = S.opens; closed = S.closed; range = refl }) S.inside
 
   abbrev next : Opened
-  next = other_opened t414 t414_ends bytes o kept.opens kept.closed generation copy.base copy.network S.groups S.now S.spelt S.later
+  next = other_opened t414 t414_ends bytes o kept.opens kept.closed generation Turns copy.base copy.network S.groups S.now S.spelt S.later
 
   holds : held_of next ≡ copy
   holds = let entries = S.entries in λ i. record { network = copy.network; entries = entries i; base = copy.base }
 
   other_is : device_areas.other bytes ≡ Some (other_start o, copy)
   other_is =
-      other_spelt t414 t414_ends bytes o kept.opens kept.closed generation copy.base copy.network S.groups S.now S.spelt S.later
+      other_spelt t414 t414_ends bytes o kept.opens kept.closed generation Turns copy.base copy.network S.groups S.now S.spelt S.later
       ∙ (λ i. Some (other_start o, holds i))
 
   to_tail : (events : List (Event NodeState)) × Run t414 device_areas copied events tailed
@@ -195,7 +198,7 @@ module _ (w : World NodeState) (cut : WholeCut) (nodes : List NodeState) (o : Op
     base = refl;
     journal = refl;
     opened = next;
-    reads = other_opens t414 t414_ends bytes o kept.opens kept.closed generation copy.base copy.network S.groups S.now S.spelt S.later;
+    reads = other_opens t414 t414_ends bytes o kept.opens kept.closed generation Turns copy.base copy.network S.groups S.now S.spelt S.later;
     holds = holds;
     second = refl;
     age = refl;

@@ -1,12 +1,12 @@
 -- A cut image is read of its own bytes alone.
-use Rattle.std.proofs.Common.{◌≡◌, ℕ, zero, suc, ◌+◌, ◌*◌, ◌^◌, ◌<◌, Bool, true, false, List, [], ◌∷◌, length, take, drop, refl, sym, ap, ◌∙◌, arith, Option, Some, Ok}
+use Rattle.std.proofs.Common.{◌≡◌, ℕ, zero, suc, ◌+◌, ◌*◌, ◌%◌, ◌^◌, ◌<◌, Bool, true, false, List, [], ◌∷◌, length, take, drop, refl, sym, ap, ◌∙◌, arith, Option, Some, Ok}
 use Rattle.std.specs.Prelude.{◌==◌, ◌&&◌, nat_le, bytes_eq, sum_by}
 use Rattle.std.proofs.lemmas.Bool.{and_parts, leb-true}
 use Rattle.std.proofs.lemmas.List.Sums.{sum_by-cons}
 use Rattle.std.proofs.lemmas.Nat.{from_le_bytes-to_le_bytes_2}
 use Rattle.std.proofs.lemmas.Slice.Eq.{bytes_eq-Decides}
 use Rattle.tp_model.specs.declared.wire.WireEnd.{WireEnd}
-use Rattle.tp_model.specs.declared.limits.TheConstants.{MAX_HELD}
+use Rattle.tp_model.specs.declared.limits.TheConstants.{MAX_HELD, NUMBER_LIMIT}
 use Rattle.tp_model.specs.Results.{◌>>=◌}
 use Rattle.tp_model.specs.Bytes.{u16_at}
 use Rattle.tp_model.specs.NodeState.{NodeState}
@@ -17,7 +17,7 @@ use Rattle.tp_model.specs.Topology.{Topology, line_count}
 use Rattle.tp_model.specs.Journal.{image_length}
 use Rattle.tp_model.specs.Flight.{flights_in}
 use Rattle.tp_model.specs.CutImage.{only_if, tokens_of, is_record, is_line_of, line_with, port_at, port_bytes, is_port_of, port_with, or_damaged, nodes_in, lines_in, ports_in}
-use Rattle.tp_model.specs.Opening.{base_of, nodes_place, lines_place, ports_place, groups_place, network_of, cut_in}
+use Rattle.tp_model.specs.Opening.{base_field, base_of, nodes_place, lines_place, ports_place, groups_place, network_of, cut_in}
 use Rattle.tp_law_device.proofs.Faults.{bind_ok, or_damaged_ok}
 use Rattle.tp_law_device.proofs.Fronts.{SameFront, front_shorter, front_part, front_get, u16_front, u64_front, whole_front}
 
@@ -120,7 +120,8 @@ pub cut_same : (E : Ends NodeState) (t : Topology) (at : ℕ) (xs ys : List ℕ)
 unfolding cut_in
 cut_same E t at xs ys s lines h is =
     let images = sum_by image_length t.pages in
-    let base : base_of ys ≡ base_of xs = sym (u64_front 12 (groups_place t) xs ys (omega arith) h) in
+    let field : base_field ys ≡ base_field xs = sym (u64_front 12 (groups_place t) xs ys (omega arith) h) in
+    let base : base_of ys ≡ base_of xs = ap (λ n. n % NUMBER_LIMIT) field in
     let n = bind_ok (nodes_in (at + nodes_place) t.pages (drop nodes_place xs)) _ s is in
     let l = bind_ok (lines_in (at + lines_place t) t.wires (drop (lines_place t) xs)) _ s n.2 in
     let p = bind_ok (ports_in (base_of xs) (at + ports_place t) t.ports (drop (ports_place t) xs)) _ s l.2 in

@@ -7,6 +7,7 @@ use Rattle.std.proofs.lemmas.List.{drop_at}
 use Rattle.std.proofs.Math.Seq.{take-append-add}
 use Rattle.tp_model.specs.declared.areas.TwoAreas.{TwoAreas}
 use Rattle.tp_model.specs.declared.limits.TheConstants.{GATE_CLOSED}
+use Rattle.tp_model.specs.declared.form.Form.TheVariants.{Turns}
 use Rattle.tp_model.specs.NodeState.{NodeState}
 use Rattle.tp_model.specs.Node.{t414, t414_ends}
 use Rattle.tp_model.specs.Network.{Machine, Network, own, put, taken, pushed, sent}
@@ -83,13 +84,13 @@ module _ (t : Topology) (areas : TwoAreas) (given : List (List ℕ)) (s : Networ
   place = area_start areas true + 1
 
   abbrev front : List ℕ
-  front = front_bytes t 2 0 s
+  front = front_bytes t 2 Turns 0 s
 
   abbrev piece : List ℕ
   piece = front ++ GATE_CLOSED ∷ []
 
   size_piece : length piece ≡ groups_place t + 1
-  size_piece = omega (arith, length-append front (GATE_CLOSED ∷ []), length-front_bytes t414_ends t shape 2 0 s back)
+  size_piece = omega (arith, length-append front (GATE_CLOSED ∷ []), length-front_bytes t414_ends t shape 2 Turns 0 s back)
 
   long : areas_end areas ≤ length bytes
   long = leb-true (areas_end areas) (length bytes) (and_parts (nat_le (areas_end areas) (length bytes)) (is_roomy t areas.length) W.room).0
@@ -124,7 +125,7 @@ module _ (t : Topology) (areas : TwoAreas) (given : List (List ℕ)) (s : Networ
       ∙ take-append-add piece behind (areas.length - 1 - length piece)
       ∙ append_assoc front (GATE_CLOSED ∷ []) rest
 
-  spelt : SpeltArea t414 t414_ends t (content_of areas true (written bytes place piece)) 2 0 s [] s
+  spelt : SpeltArea t414 t414_ends t (content_of areas true (written bytes place piece)) 2 Turns 0 s [] s
   unfolding groups_bytes after
   spelt = record {
     gate = GATE_CLOSED;
@@ -134,6 +135,7 @@ module _ (t : Topology) (areas : TwoAreas) (given : List (List ℕ)) (s : Networ
     generation_fits = omega arith;
     cut = back;
     each = tt;
+    of_form = tt;
     numbers = tt;
     last = omega arith;
     leads = refl;

@@ -4,8 +4,10 @@ use Rattle.std.specs.Prelude.{nat_le, flat_map, sum_by}
 use Rattle.std.proofs.lemmas.Bool.{and_from, le-leb, leb-true}
 use Rattle.std.proofs.lemmas.List.{take_at, drop_at, drop-drop, get_or_at, length-replicate}
 use Rattle.tp_model.specs.declared.areas.TwoAreas.{TwoAreas}
-use Rattle.tp_model.specs.declared.limits.TheConstants.{HEAD_BYTES, GATE_OPEN, GATE_CLOSED}
+use Rattle.tp_model.specs.declared.limits.TheConstants.{GATE_OPEN, GATE_CLOSED}
 use Rattle.tp_model.specs.Bytes.{zeros}
+use Rattle.tp_model.specs.declared.form.Form.{Form}
+use Rattle.tp_model.specs.declared.form.Form.TheVariants.{Turns}
 use Rattle.tp_model.specs.NodeState.{NodeState}
 use Rattle.tp_model.specs.Image.{image}
 use Rattle.tp_model.specs.Network.{Network}
@@ -14,21 +16,22 @@ use Rattle.tp_model.specs.Node.{t414_ends}
 use Rattle.tp_model.specs.Topology.{Topology, is_topology}
 use Rattle.tp_model.specs.Journal.{image_length, is_roomy}
 use Rattle.tp_model.specs.Device.{areas_end, gate_of, content_of}
-use Rattle.tp_model.specs.Head.{head_bytes}
+use Rattle.tp_model.specs.Head.{head_length, head_bytes, version_for}
 use Rattle.tp_model.specs.CutImage.{line_bytes, port_bytes, cut_bytes}
 use Rattle.tp_model.specs.Spelling.{front_bytes}
 use Rattle.tp_model.specs.Opening.{groups_place}
 use Rattle.tp_model.specs.Format.{start_of}
 use Rattle.tp_law_device.specs.FormattedWorld.{WasFormatted}
+use Rattle.tp_law_device.proofs.Heads.{version_keeps}
 use Rattle.tp_law_device.proofs.Wires.{HasShape, has_shape}
 use Rattle.tp_law_device.proofs.FreshHeads.{length-head_bytes}
 use Rattle.tp_law_device.proofs.SpeltCuts.{ReadsBack, length-images, length-lines, length-ports}
 use Rattle.tp_law_device.proofs.Formatted.{start_reads_back}
 
 -- the fields and the cut are as long as the place of the groups says
-pub length-front_bytes : (E : Ends NodeState) (t : Topology) (L : HasShape t) (generation base : ℕ) (s : Network NodeState) → ReadsBack E t base s → length (front_bytes t generation base s) ≡ groups_place t
+pub length-front_bytes : (E : Ends NodeState) (t : Topology) (L : HasShape t) (generation : ℕ) (form : Form) (base : ℕ) (s : Network NodeState) → ReadsBack E t base s → length (front_bytes t generation form base s) ≡ groups_place t
 unfolding front_bytes cut_bytes
-length-front_bytes E t L generation base s C =
+length-front_bytes E t L generation form base s C =
     let images = flat_map image s.nodes in
     let lines = flat_map line_bytes s.lines in
     let ports = flat_map port_bytes s.ports in
@@ -37,22 +40,22 @@ length-front_bytes E t L generation base s C =
     let c = length-ports base s.ports C.ports in
     omega (arith, length-append images (lines ++ ports), length-append lines ports, C.count, L.lines)
 
-module _ (t : Topology) (areas : TwoAreas) (given : List (List ℕ)) (s : Network NodeState) (topology : is_topology t ≡ true) (roomy : is_roomy t areas.length ≡ true) (starts : areas.first ≡ HEAD_BYTES)
+module _ (t : Topology) (areas : TwoAreas) (given : List (List ℕ)) (s : Network NodeState) (topology : is_topology t ≡ true) (roomy : is_roomy t areas.length ≡ true) (starts : areas.first ≡ head_length (version_for t))
     (low : areas.length < 2 ^ 64) (start : start_of t given ≡ Some s) where
   limits : HasShape t
   limits = has_shape t topology
 
   abbrev head : List ℕ
-  head = head_bytes t areas
+  head = head_bytes (version_for t) t areas
 
   abbrev front : List ℕ
-  front = front_bytes t 1 0 s
+  front = front_bytes t 1 Turns 0 s
 
   size_front : length front ≡ groups_place t
-  size_front = length-front_bytes t414_ends t limits 1 0 s (start_reads_back t given s start limits)
+  size_front = length-front_bytes t414_ends t limits 1 Turns 0 s (start_reads_back t given s start limits)
 
   size_head : length head ≡ areas.first
-  size_head = length-head_bytes t limits areas starts
+  size_head = length-head_bytes (version_for t) t limits (version_keeps t topology) areas starts
 
   wide : groups_place t + 2 ≤ areas.length
   wide = let room = leb-true _ _ roomy in omega arith
@@ -106,6 +109,6 @@ module _ (t : Topology) (areas : TwoAreas) (given : List (List ℕ)) (s : Networ
     },
   )
 
-pub formattable : (t : Topology) (areas : TwoAreas) (given : List (List ℕ)) (s : Network NodeState) → is_topology t ≡ true → is_roomy t areas.length ≡ true → areas.first ≡ HEAD_BYTES → areas.length < 2 ^ 64
+pub formattable : (t : Topology) (areas : TwoAreas) (given : List (List ℕ)) (s : Network NodeState) → is_topology t ≡ true → is_roomy t areas.length ≡ true → areas.first ≡ head_length (version_for t) → areas.length < 2 ^ 64
     → start_of t given ≡ Some s → (bytes : List ℕ) × WasFormatted t areas given s bytes
 formattable t areas given s topology roomy starts low start = formattable_with t areas given s topology roomy starts low start

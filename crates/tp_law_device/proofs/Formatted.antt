@@ -8,6 +8,7 @@ use Rattle.tp_model.specs.declared.link.Token.{Token}
 use Rattle.tp_model.specs.declared.wire.WireEnd.{WireEnd}
 use Rattle.tp_model.specs.declared.limits.TheConstants.{GATE_CLOSED}
 use Rattle.tp_model.specs.Image.{page_count}
+use Rattle.tp_model.specs.declared.form.Form.TheVariants.{Turns}
 use Rattle.tp_model.specs.NodeState.{NodeState}
 use Rattle.tp_model.specs.Network.{Machine, Network, has_wire, on_line}
 use Rattle.tp_model.specs.Markers.{markers, plain}
@@ -16,7 +17,7 @@ use Rattle.tp_model.specs.Acts.{IsOpened}
 use Rattle.tp_model.specs.Node.{t414, t414_ends}
 use Rattle.tp_model.specs.Topology.{Topology, node_count, line_count}
 use Rattle.tp_model.specs.Device.{content_of, is_open}
-use Rattle.tp_model.specs.Head.{Head}
+use Rattle.tp_model.specs.Head.{Head, version_for}
 use Rattle.tp_model.specs.Spelling.{groups_bytes}
 use Rattle.tp_model.specs.Opening.{Opened, network_of, opening, verdict, StandsFor}
 use Rattle.tp_model.specs.Format.{start_of, fresh_nodes, fresh_port}
@@ -24,6 +25,7 @@ use Rattle.tp_model.specs.Runs.{fresh, IsFormatted}
 use Rattle.tp_model.specs.DeviceAreas.{areas_of}
 use Rattle.tp_law_network.proofs.Partial.{map_some}
 use Rattle.tp_law_device.specs.FormattedWorld.{formatted_world, WasFormatted}
+use Rattle.tp_law_device.proofs.Heads.{version_keeps}
 use Rattle.tp_law_device.proofs.Wires.{HasShape, has_shape}
 use Rattle.tp_law_device.proofs.FreshHeads.{head_of-head_bytes}
 use Rattle.tp_law_device.proofs.FreshCuts.{AreFresh, fresh_nodes_are, no_lines, no_line, fresh_reads_back}
@@ -63,7 +65,7 @@ module _ (t : Topology) (given : List (List ℕ)) (s : Network NodeState) (start
 
 module _ (M : Machine NodeState) (t : Topology) (areas : TwoAreas) (given : List (List ℕ)) (s : Network NodeState) (bytes : List ℕ) (W : WasFormatted t areas given s bytes) where
   abbrev pub head : Head
-  head = record { topology = t; areas = areas }
+  head = record { version = version_for t; topology = t; areas = areas }
 
   abbrev first : Begins t given s W.network
   first = begins t given s W.network
@@ -73,9 +75,9 @@ module _ (M : Machine NodeState) (t : Topology) (areas : TwoAreas) (given : List
 
   -- what opening answers of it
   abbrev pub found : Opened
-  found = record { head = head; second = false; generation = 1; base = 0; cut = s; kept = []; now = s; end = end_of_groups head false [] }
+  found = record { head = head; second = false; generation = 1; form = Turns; base = 0; cut = s; kept = []; now = s; end = end_of_groups head false [] }
 
-  area_is : SpeltArea M t414_ends t (content_of areas false bytes) 1 0 s [] s
+  area_is : SpeltArea M t414_ends t (content_of areas false bytes) 1 Turns 0 s [] s
   unfolding groups_bytes after
   area_is = record {
     gate = GATE_CLOSED;
@@ -85,6 +87,7 @@ module _ (M : Machine NodeState) (t : Topology) (areas : TwoAreas) (given : List
     generation_fits = omega arith;
     cut = start_reads_back t given s W.network limits;
     each = tt;
+    of_form = tt;
     numbers = tt;
     last = omega arith;
     leads = refl;
@@ -95,9 +98,9 @@ module _ (M : Machine NodeState) (t : Topology) (areas : TwoAreas) (given : List
       let opened = W.format.open_gate in
       let closed = W.format.closed_gate in
       opening_from M t414_ends bytes head false found
-      (head_of-head_bytes t areas bytes W.topology W.room W.format.first W.area_fits W.format.head)
+      (head_of-head_bytes (version_for t) t areas bytes W.topology (version_keeps t W.topology) W.room W.format.first W.area_fits W.format.head)
       (chosen_alone areas bytes false (ap (λ gate. is_open gate) opened) (ap (λ gate. is_open gate) closed))
-      (area_spelt M t414_ends head false limits (content_of areas false bytes) 1 0 s [] s area_is)
+      (area_spelt M t414_ends head false limits (content_of areas false bytes) 1 Turns 0 s [] s area_is)
 
   pub formatted_holds : held_in (opening M t414_ends bytes) ≡ Some (record { network = s; entries = []; base = 0 })
   formatted_holds = held_from (opening M t414_ends bytes) found (record { network = s; entries = []; base = 0 }) formatted_opens refl

@@ -88,7 +88,7 @@ listing_room zero at (gate ∷ bytes) = go (gate == GATE_OPEN) (rows_behind byte
 -- one entry is kept of each row
 row_kept : {Node : Type 0} (M : Machine Node) (r v : Replay Node) (row : List ℕ) → after_row M r row ≡ Some v → length v.kept ≡ length r.kept + 1
 row_kept M r v row is =
-    let found = entry_found M r v (row_entry row) is in
+    let found = entry_found M r v (row_entry r.form row) is in
     let entry = found.0 in
     let tested = cond_some (is_number r entry.1) (option_map (with_entry r entry) (next M r.now entry.0)) v found.2 in
     let stepped = map_some (with_entry r entry) (next M r.now entry.0) v tested.1 in
@@ -108,7 +108,7 @@ opening_ends M E bytes o is =
     let content = content_of o.head.areas o.second bytes in
     let A = area_parts M E o.head o.second content o R.area in
     let found = groups_in o.head o.second content in
-    let kept = rows_kept M (replay_from A.cut (base_of content)) A.replay found.rows A.leads in
+    let kept = rows_kept M (replay_from A.form A.cut (base_of content)) A.replay found.rows A.leads in
     let same = ap (λ (p : Opened). length p.kept) A.is in
     let end = ap (λ (p : Opened). p.end) A.is in
     let most = listing_room 0 (groups_at o.head o.second) (drop (groups_place o.head.topology) content) in

@@ -9,6 +9,7 @@ pub mod Faults
 pub mod FirstCheckpoints
 pub mod Formattable
 pub mod Formatted
+pub mod Forms
 pub mod FreshCuts
 pub mod FreshHeads
 pub mod Fronts

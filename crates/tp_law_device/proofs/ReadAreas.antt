@@ -2,6 +2,7 @@
 use Rattle.std.proofs.Common.{◌≡◌, ℕ, ◌+◌, ◌-◌, ◌^◌, ◌<◌, ◌≤◌, ◌⊎◌, inl, inr, Bool, true, false, not, cond, List, ◌∷◌, ◌++◌, length, drop, refl, sym, ap, subst, ◌∙◌, arith, length-drop, Ok, Err}
 use Rattle.std.specs.Prelude.{◌==◌, nat_lt, map}
 use Rattle.std.proofs.lemmas.Bool.{and_parts, cases_Bool, ltb-true}
+use Rattle.tp_model.specs.declared.head.HeadVersion.{HeadVersion}
 use Rattle.tp_model.specs.declared.areas.TwoAreas.{TwoAreas}
 use Rattle.tp_model.specs.declared.entry.Entry.{Entry}
 use Rattle.tp_model.specs.Numbers.{AreNumbered}
@@ -14,13 +15,15 @@ use Rattle.tp_model.specs.Order.{after}
 use Rattle.tp_model.specs.Sound.{Ends}
 use Rattle.tp_model.specs.Topology.{line_count}
 use Rattle.tp_model.specs.Journal.{cut_length}
+use Rattle.tp_model.specs.EntryBytes.{AreOf}
 use Rattle.tp_model.specs.Device.{area_start, content_of, generation_of}
 use Rattle.tp_model.specs.Head.{Head, head_at}
 use Rattle.tp_model.specs.Replay.{replay_from}
 use Rattle.tp_model.specs.Spelling.{front_bytes, entries_in, Spells, Stands}
-use Rattle.tp_model.specs.Opening.{Opened, base_of, groups_place, choice, chosen_area, opening}
+use Rattle.tp_model.specs.Opening.{Opened, base_field, base_of, groups_place, choice, chosen_area, opening}
 use Rattle.tp_law_machine.proofs.Numbers.{AreBytes, are_bytes-take, are_bytes-drop}
 use Rattle.tp_law_device.proofs.Heads.{head_first, head_parts, wires_count}
+use Rattle.tp_law_device.proofs.Forms.{base_below}
 use Rattle.tp_law_device.proofs.Listings.{listing_ends}
 use Rattle.tp_law_device.proofs.Chosen.{open_in, age_in, chosen_open}
 use Rattle.tp_law_device.proofs.AreaReads.{AreaParts, area_parts, groups_at, groups_in}
@@ -70,7 +73,7 @@ chosen_over areas bytes true is = choice_second (area_start areas true) (open_in
 -- what is spelt in it
 record AreaSpelt (M : Machine NodeState) (E : Ends NodeState) (head : Head) (second : Bool) (content : List ℕ) (o : Opened) : Type 0 where
   groups : List (List (Entry × ℕ))
-  spells : Spells M E head.topology content o.generation o.base o.cut groups o.now
+  spells : Spells M E head.topology content o.generation o.form o.base o.cut groups o.now
   kept : entries_in groups ≡ o.kept
   end : o.end ≡ end_of_groups head second groups
 
@@ -82,27 +85,28 @@ area_read M E head second content o wires h A =
     let behind = drop (groups_place t) content in
     let gate = listing_ends 0 at behind A.closed in
     let room : 20 ≤ length content = omega (arith, gate.within, length-drop (groups_place t) content) in
-    let C = cut_read E t (area_start head.areas second + 1) content A.cut wires h room A.front A.cut_is in
+    let C = cut_read E t (area_start head.areas second + 1) content A.form A.cut wires h room A.form_is A.front A.cut_is in
     let G = groups_read 0 at behind A.closed in
-    let V = entries_read M (replay_from A.cut (base_of content)) A.replay (groups_in head second content).rows A.leads in
+    let V = entries_read M (replay_from A.form A.cut (base_of content)) A.replay (groups_in head second content).rows A.leads in
     let D = grouped G.groups V.entries G.each V.spelt (V.rows_are ∙ G.rows) in
     let age : generation_of content ≡ o.generation = ap (λ (p : Opened). p.generation) A.is in
+    let form : A.form ≡ o.form = ap (λ (p : Opened). p.form) A.is in
     let base : base_of content ≡ o.base = ap (λ (p : Opened). p.base) A.is in
     let cut : A.cut ≡ o.cut = ap (λ (p : Opened). p.cut) A.is in
     let kept : A.replay.kept ≡ o.kept = ap (λ (p : Opened). p.kept) A.is in
     let now : A.replay.now ≡ o.now = ap (λ (p : Opened). p.now) A.is in
     let end : (groups_in head second content).end ≡ o.end = ap (λ (p : Opened). p.end) A.is in
-    let tests = and_parts (u32_at content 8 == cut_length t) _ A.front in
-    let below = and_parts (nat_lt (generation_of content) NUMBER_LIMIT) (nat_lt (base_of content) NUMBER_LIMIT) tests.1 in
-    let base_low = ltb-true (base_of content) NUMBER_LIMIT below.1 in
-    let here : Spells M E t content (generation_of content) (base_of content) A.cut D.in_groups A.replay.now = record {
+    let tests = and_parts (u32_at content 8 == cut_length t) (nat_lt (generation_of content) NUMBER_LIMIT) A.front in
+    let base_low = base_below (base_field content) in
+    let here : Spells M E t content (generation_of content) A.form (base_of content) A.cut D.in_groups A.replay.now = record {
       gate = G.gate;
       rest = G.rest;
       shut = G.shut;
-      spelled = C.are ∙ ap (λ zs. front_bytes t (generation_of content) (base_of content) A.cut ++ zs) (G.are ∙ ap (λ zs. zs ++ G.gate ∷ G.rest) (sym D.bytes));
-      generation_fits = ltb-true (generation_of content) NUMBER_LIMIT below.0;
+      spelled = C.are ∙ ap (λ zs. front_bytes t (generation_of content) A.form (base_of content) A.cut ++ zs) (G.are ∙ ap (λ zs. zs ++ G.gate ∷ G.rest) (sym D.bytes));
+      generation_fits = ltb-true (generation_of content) NUMBER_LIMIT tests.1;
       cut = C.cut;
       each = D.each;
+      of_form = subst (AreOf A.form) (sym D.are) V.of_form;
       numbers = subst (λ es. AreNumbered 0 (base_of content) (map (λ e. e.1) es)) (sym D.are) V.numbers;
       last = (let most = V.last (omega arith) in let same = ap length D.are in omega arith);
       leads = ap (λ es. after M A.cut (map (λ e. e.0) es)) D.are ∙ V.leads;
@@ -110,19 +114,20 @@ area_read M E head second content o wires h A =
     let size = ap length D.bytes in
     record {
       groups = D.in_groups;
-      spells = subst (λ g. Spells M E t content g o.base o.cut D.in_groups o.now) age
-          (subst (λ b. Spells M E t content (generation_of content) b o.cut D.in_groups o.now) base
-          (subst (λ s. Spells M E t content (generation_of content) (base_of content) s D.in_groups o.now) cut
-          (subst (λ n. Spells M E t content (generation_of content) (base_of content) A.cut D.in_groups n) now here)));
+      spells = subst (λ g. Spells M E t content g o.form o.base o.cut D.in_groups o.now) age
+          (subst (λ f. Spells M E t content (generation_of content) f o.base o.cut D.in_groups o.now) form
+          (subst (λ b. Spells M E t content (generation_of content) A.form b o.cut D.in_groups o.now) base
+          (subst (λ s. Spells M E t content (generation_of content) A.form (base_of content) s D.in_groups o.now) cut
+          (subst (λ n. Spells M E t content (generation_of content) A.form (base_of content) A.cut D.in_groups n) now here))));
       kept = D.are ∙ sym V.kept ∙ kept;
       end = sym end ∙ G.end ∙ omega arith;
     }
 
 -- ## The device
 
-area_below : (bytes : List ℕ) (head : Head) → AreBytes bytes → head_at bytes ≡ head → head.areas.length < 2 ^ 64
+area_below : (version : HeadVersion) (bytes : List ℕ) (head : Head) → AreBytes bytes → head_at version bytes ≡ head → head.areas.length < 2 ^ 64
 unfolding head_at
-area_below bytes head h is = subst (λ (p : Head). p.areas.length < 2 ^ 64) is (u64_below bytes 16 h)
+area_below version bytes head h is = subst (λ (p : Head). p.areas.length < 2 ^ 64) is (u64_below bytes 16 h)
 
 pub opens_stand : (M : Machine NodeState) (E : Ends NodeState) (bytes : List ℕ) (o : Opened) → AreBytes bytes → opening M E bytes ≡ Ok o → Stands M E bytes o
 opens_stand M E bytes o h is =
@@ -137,8 +142,9 @@ opens_stand M E bytes o h is =
       starts = head_first bytes o.head R.head;
       head = H.front;
       topology = H.topology;
+      limits = H.limits;
       room = H.room;
-      area_fits = area_below bytes o.head h H.read;
+      area_fits = area_below o.head.version bytes o.head h H.read;
       gate = chosen_open areas bytes o.second R.chosen;
       groups = S.groups;
       spells = S.spells;

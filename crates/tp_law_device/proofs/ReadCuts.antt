@@ -2,13 +2,14 @@
 use Rattle.std.proofs.Common.{◌≡◌, ℕ, zero, suc, ◌+◌, ◌*◌, ◌^◌, ◌<◌, ◌≤◌, Bool, true, false, cond, List, [], ◌∷◌, ◌++◌, length, take, drop, get_or, refl, sym, ap, subst, ◌∙◌, arith, append_assoc, length-drop, length-take, Option, Some, Ok}
 use Rattle.std.specs.Prelude.{◌==◌, ◌&&◌, nat_lt, flat_map, sum_by, bytes_eq}
 use Rattle.std.specs.List.{AllByRecursion}
-use Rattle.std.proofs.lemmas.Bool.{and_parts, and_from, eqb-true, ltb-true}
+use Rattle.std.proofs.lemmas.Bool.{and_parts, and_from, eqb-true}
 use Rattle.std.proofs.lemmas.List.{take-append-drop, drop-drop}
 use Rattle.std.proofs.lemmas.List.Sums.{sum_by-cons}
 use Rattle.std.proofs.lemmas.Nat.{le_bytes_4, le_bytes_8}
 use Rattle.std.proofs.lemmas.Slice.Eq.{bytes_eq-Decides}
 use Rattle.tp_model.specs.declared.link.Token.{Token}
 use Rattle.tp_model.specs.declared.link.Token.TheVariants.{Data, Ack}
+use Rattle.tp_model.specs.declared.form.Form.{Form}
 use Rattle.tp_model.specs.declared.wire.WireEnd.{WireEnd}
 use Rattle.tp_model.specs.declared.limits.TheConstants.{NUMBER_LIMIT}
 use Rattle.tp_model.specs.Bytes.{u8_at, u32_at, u64_at, u32_bytes, u64_bytes}
@@ -20,13 +21,14 @@ use Rattle.tp_model.specs.Topology.{Topology, line_count}
 use Rattle.tp_model.specs.Journal.{image_length, images_length, cut_length}
 use Rattle.tp_model.specs.Device.{generation_of}
 use Rattle.tp_model.specs.Flight.{flights_in}
-use Rattle.tp_model.specs.CutImage.{line_bytes, port_bytes, node_with, tokens_of, tokens_at, is_record, line_with, is_line_of, port_at, is_port_of, port_with, or_damaged, nodes_in, lines_in, ports_in, cut_bytes}
+use Rattle.tp_model.specs.CutImage.{line_bytes, port_bytes, node_with, tokens_of, tokens_at, is_record, line_with, is_line_of, port_at, is_port_of, port_with, or_damaged, nodes_in, lines_in, ports_in, base_number, cut_bytes}
 use Rattle.tp_model.specs.Spelling.{has_record, are_lines, IsCut, front_bytes}
-use Rattle.tp_model.specs.Opening.{base_of, has_front, nodes_place, lines_place, ports_place, groups_place, network_of, cut_in}
+use Rattle.tp_model.specs.Opening.{base_field, base_of, form_of, has_front, nodes_place, lines_place, ports_place, groups_place, network_of, cut_in}
 use Rattle.tp_law_machine.proofs.Numbers.{AreBytes, byte_below, are_bytes-take, are_bytes-drop}
 use Rattle.tp_law_machine.proofs.Images.{image-node_of, is_node-node_of}
 use Rattle.tp_law_network.proofs.InPlace.{flights_found}
 use Rattle.tp_law_device.proofs.Faults.{bind_ok, or_damaged_ok, tested}
+use Rattle.tp_law_device.proofs.Forms.{base_below, field_is}
 use Rattle.tp_law_device.proofs.Fronts.{u32_front, u64_front, whole_front}
 use Rattle.tp_law_device.proofs.SpeltCuts.{pages_of}
 
@@ -148,14 +150,14 @@ ports_read base at (suc count) xs ports is =
 
 -- ## The cut
 
-pub record CutRead (E : Ends NodeState) (t : Topology) (content : List ℕ) (s : Network NodeState) : Type 0 where
+pub record CutRead (E : Ends NodeState) (t : Topology) (content : List ℕ) (form : Form) (s : Network NodeState) : Type 0 where
   pub cut : IsCut E t (base_of content) s
-  pub are : content ≡ front_bytes t (generation_of content) (base_of content) s ++ drop (groups_place t) content
+  pub are : content ≡ front_bytes t (generation_of content) form (base_of content) s ++ drop (groups_place t) content
 
-pub cut_read : (E : Ends NodeState) (t : Topology) (at : ℕ) (content : List ℕ) (s : Network NodeState) → length t.wires ≡ line_count t → AreBytes content → 20 ≤ length content
-    → has_front t content ≡ true → cut_in E t at content ≡ Ok s → CutRead E t content s
+pub cut_read : (E : Ends NodeState) (t : Topology) (at : ℕ) (content : List ℕ) (form : Form) (s : Network NodeState) → length t.wires ≡ line_count t → AreBytes content → 20 ≤ length content
+    → form_of content ≡ Some form → has_front t content ≡ true → cut_in E t at content ≡ Ok s → CutRead E t content form s
 unfolding cut_in front_bytes cut_bytes
-cut_read E t at content s lines h room front is =
+cut_read E t at content form s lines h room form_is front is =
     let a = bind_ok (nodes_in (at + nodes_place) t.pages (drop nodes_place content)) _ s is in
     let b = bind_ok (lines_in (at + lines_place t) t.wires (drop (lines_place t) content)) _ s a.2 in
     let c = bind_ok (ports_in (base_of content) (at + ports_place t) t.ports (drop (ports_place t) content)) _ s b.2 in
@@ -165,8 +167,8 @@ cut_read E t at content s lines h room front is =
     let tokens = lines_read (at + lines_place t) t.wires (drop (lines_place t) content) b.0 b.1 in
     let ports = ports_read (base_of content) (at + ports_place t) t.ports (drop (ports_place t) content) c.0 c.1 in
     let same : network ≡ s = let both = d.2 in cc in
-    let F = and_parts (u32_at content 8 == cut_length t) _ front in
-    let G = and_parts (nat_lt (generation_of content) NUMBER_LIMIT) (nat_lt (base_of content) NUMBER_LIMIT) F.1 in
+    let F = and_parts (u32_at content 8 == cut_length t) (nat_lt (generation_of content) NUMBER_LIMIT) front in
+    let field : base_field content ≡ base_number form (base_of content) = field_is (base_field content) form form_is in
     let images = flat_map image a.0 in
     let line_part = flat_map line_bytes b.0 in
     let port_part = flat_map port_bytes c.0 in
@@ -177,8 +179,8 @@ cut_read E t at content s lines h room front is =
     tokens.are ∙ ap (λ zs. line_part ++ zs) (drop-drop (4 * length t.wires) (lines_place t) content ∙ ap (λ k. drop k content) (omega arith) ∙ behind_ports) in
     let behind_nodes : drop 20 content ≡ images ++ (line_part ++ (port_part ++ rest)) =
     nodes.are ∙ ap (λ zs. images ++ zs) (drop-drop (images_length t) 20 content ∙ behind_lines) in
-    let behind_length : drop 12 content ≡ u64_bytes (base_of content) ++ drop 20 content =
-    sym (take-append-drop 8 (drop 12 content)) ∙ ap (λ zs. zs ++ drop 8 (drop 12 content)) (sym (u64_bytes-u64_at content 12 h (omega arith))) ∙ ap (λ zs. u64_bytes (base_of content) ++ zs) (drop-drop 8 12 content) in
+    let behind_length : drop 12 content ≡ u64_bytes (base_number form (base_of content)) ++ drop 20 content =
+    sym (take-append-drop 8 (drop 12 content)) ∙ ap (λ zs. zs ++ drop 8 (drop 12 content)) (sym (u64_bytes-u64_at content 12 h (omega arith)) ∙ ap u64_bytes field) ∙ ap (λ zs. u64_bytes (base_number form (base_of content)) ++ zs) (drop-drop 8 12 content) in
     let long : u32_bytes (cut_length t) ≡ take 4 (drop 8 content) = ap u32_bytes (sym (eqb-true (u32_at content 8) (cut_length t) F.0)) ∙ u32_bytes-u32_at content 8 h (omega arith) in
     let behind_generation : drop 8 content ≡ u32_bytes (cut_length t) ++ drop 12 content =
     sym (take-append-drop 4 (drop 8 content)) ∙ ap (λ zs. zs ++ drop 4 (drop 8 content)) (sym long) ∙ ap (λ zs. u32_bytes (cut_length t) ++ zs) (drop-drop 4 8 content) in
@@ -186,10 +188,10 @@ cut_read E t at content s lines h room front is =
     sym (take-append-drop 8 content) ∙ ap (λ zs. zs ++ drop 8 content) (sym (u64_bytes-u64_at content 0 h (omega arith))) in
     let generation = u64_bytes (generation_of content) in
     let size = u32_bytes (cut_length t) in
-    let base = u64_bytes (base_of content) in
+    let base = u64_bytes (base_number form (base_of content)) in
     let joined : images ++ (line_part ++ (port_part ++ rest)) ≡ (images ++ (line_part ++ port_part)) ++ rest =
     ap (λ zs. images ++ zs) (sym (append_assoc line_part port_part rest)) ∙ sym (append_assoc images (line_part ++ port_part) rest) in
-    subst (CutRead E t content) same (record {
+    subst (CutRead E t content form) same (record {
       cut = record {
         wires = refl;
         nodes = nodes.are_nodes;
@@ -198,7 +200,7 @@ cut_read E t at content s lines h room front is =
         count = ports.count_is;
         ports = ports.are_ports;
         flights = λ line low. flights_found E network (at + lines_place t) 0 (line_count t) d.1 line (omega arith) (omega arith);
-        base_fits = ltb-true (base_of content) NUMBER_LIMIT G.1;
+        base_fits = base_below (base_field content);
       };
       are = whole ∙ ap (λ zs. generation ++ zs) (behind_generation ∙ ap (λ zs. size ++ zs) (behind_length ∙ ap (λ zs. base ++ zs) (behind_nodes ∙ joined)));
     })

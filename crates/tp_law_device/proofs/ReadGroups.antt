@@ -3,7 +3,7 @@ use Rattle.std.proofs.Common.{◌≡◌, ℕ, zero, suc, ◌+◌, ◌-◌, ◌*�
 use Rattle.std.specs.Prelude.{◌==◌, ◌&&◌, nat_le, nat_lt, map, flat_map}
 use Rattle.std.specs.Option.{option_map}
 use Rattle.std.specs.List.{AllByRecursion, concat}
-use Rattle.std.proofs.lemmas.Bool.{and_from, and_parts, leb-true, ltb-true, false≢true}
+use Rattle.std.proofs.lemmas.Bool.{and_parts, leb-true, ltb-true, false≢true}
 use Rattle.std.proofs.lemmas.List.{take_at, drop_at, take-append-drop, map-append, length-map, take-map, drop-map}
 use Rattle.tp_model.specs.declared.entry.Entry.{Entry}
 use Rattle.tp_model.specs.declared.limits.TheConstants.{GATE_OPEN, MAX_GROUP, NUMBER_LIMIT}
@@ -12,17 +12,17 @@ use Rattle.tp_model.specs.Entries.{next}
 use Rattle.tp_model.specs.Order.{after}
 use Rattle.tp_model.specs.Numbers.{AreNumbered}
 use Rattle.tp_model.specs.Device.{is_open}
-use Rattle.tp_model.specs.EntryBytes.{IsSpelt, entry_bytes, is_in_range, is_in_range}
+use Rattle.tp_model.specs.EntryBytes.{AreOf, IsSpelt, entry_bytes, is_of}
 use Rattle.tp_model.specs.Group.{rows_of, rows_behind, header, group_length, group_bytes, or_bad}
 use Rattle.tp_model.specs.CutImage.{or_damaged}
 use Rattle.tp_model.specs.Spelling.{groups_bytes, entries_in, IsGroup}
 use Rattle.tp_model.specs.Replay.{Listing, Replay, row_entry, placed, at_open_gate, listing, with_entry, is_number, after_row, after_rows}
 use Rattle.tp_law_bytes.proofs.EntryLaws.{entry_at-bytes}
 use Rattle.tp_law_bytes.proofs.GroupLaws.{group_at-are}
-use Rattle.tp_law_bytes.proofs.PlainEntries.{row_spells}
 use Rattle.tp_law_network.proofs.Partial.{map_some, cond_some}
 use Rattle.tp_law_network.proofs.Reorder.{after_first}
 use Rattle.tp_law_device.proofs.Faults.{bind_ok, or_damaged_ok}
+use Rattle.tp_law_device.proofs.Forms.{row_spells}
 use Rattle.tp_law_device.proofs.Replays.{bytes_of_rows, entry_found}
 use Rattle.tp_law_device.proofs.SpeltAreas.{placed_rows}
 
@@ -116,6 +116,7 @@ pub record EntriesRead {Node : Type 0} (M : Machine Node) (r v : Replay Node) (r
   pub kept : v.kept ≡ r.kept ++ entries
   pub rows_are : rows_of entries ≡ bytes_of_rows rows
   pub spelt : AllByRecursion (λ e. IsSpelt e.0 e.1) entries
+  pub of_form : AreOf r.form entries
   pub numbers : AreNumbered r.least r.next (map (λ e. e.1) entries)
   pub leads : after M r.now (map (λ e. e.0) entries) ≡ Some v.now
   pub last : r.next ≤ NUMBER_LIMIT - 1 → r.next + length entries ≤ NUMBER_LIMIT - 1
@@ -124,6 +125,7 @@ pub record EntriesRead {Node : Type 0} (M : Machine Node) (r v : Replay Node) (r
 record EntryRead {Node : Type 0} (M : Machine Node) (r v : Replay Node) (row : List ℕ) : Type 0 where
   entry : Entry × ℕ
   spelt : IsSpelt entry.0 entry.1
+  of_form : is_of r.form entry.0 ≡ true
   row_is : entry_bytes entry.0 entry.1 ≡ row
   least : r.least ≤ entry.1
   most : entry.1 ≤ r.next
@@ -134,18 +136,18 @@ record EntryRead {Node : Type 0} (M : Machine Node) (r v : Replay Node) (row : L
 
 entry_read : {Node : Type 0} (M : Machine Node) (r v : Replay Node) (row : List ℕ) → after_row M r row ≡ Some v → EntryRead M r v row
 entry_read M r v row is =
-    let found = entry_found M r v (row_entry row) is in
+    let found = entry_found M r v (row_entry r.form row) is in
     let entry = found.0 in
-    let own = row_spells row entry.0 entry.1 found.1 in
-    let bytes = entry_at-bytes row entry.0 entry.1 own.at in
-    let low_number = (and_parts (is_in_range entry.0) (nat_lt entry.1 NUMBER_LIMIT) bytes.0).1 in
+    let own = row_spells r.form row entry found.1 in
+    let bytes = entry_at-bytes row entry.0 entry.1 own.0 in
     let tested = cond_some (is_number r entry.1) (option_map (with_entry r entry) (next M r.now entry.0)) v found.2 in
     let stepped = map_some (with_entry r entry) (next M r.now entry.0) v tested.1 in
     let low = and_parts (nat_le r.least entry.1) (nat_le entry.1 r.next && nat_lt r.next (NUMBER_LIMIT - 1)) tested.0 in
     let high = and_parts (nat_le entry.1 r.next) (nat_lt r.next (NUMBER_LIMIT - 1)) low.1 in
     record {
       entry = entry;
-      spelt = and_from (is_in_range entry.0) (nat_lt entry.1 NUMBER_LIMIT) own.ranged low_number;
+      spelt = bytes.0;
+      of_form = own.1;
       row_is = sym bytes.1;
       least = leb-true r.least entry.1 low.0;
       most = leb-true entry.1 r.next high.0;
@@ -165,7 +167,7 @@ pub entries_read : {Node : Type 0} (M : Machine Node) (r v : Replay Node) (rows 
 unfolding after_rows after
 entries_read M r v [] is =
     let same : r ≡ v = cc in
-    subst (λ u. EntriesRead M r u []) same (record { entries = []; kept = sym (append-nil r.kept); rows_are = refl; spelt = tt; numbers = tt; leads = refl; last = λ low. omega arith })
+    subst (λ u. EntriesRead M r u []) same (record { entries = []; kept = sym (append-nil r.kept); rows_are = refl; spelt = tt; of_form = tt; numbers = tt; leads = refl; last = λ low. omega arith })
 entries_read M r v (row ∷ rows) is =
     let first = bind_ok (or_damaged row.0 (after_row M r row.1)) (λ more. after_rows M more rows) v is in
     let E = entry_read M r first.0 row.1 (or_damaged_ok row.0 (after_row M r row.1) first.0 first.1) in
@@ -178,6 +180,7 @@ entries_read M r v (row ∷ rows) is =
       kept = entry_kept v.kept r.kept rest.entries E.entry rest.kept;
       rows_are = λ i. here i ∷ behind i;
       spelt = (E.spelt, rest.spelt);
+      of_form = (E.of_form, rest.of_form);
       numbers = (E.least, E.most, rest.numbers);
       leads = entry_leads M r.now E.now v.now E.entry.0 (map (λ e. e.0) rest.entries) E.leads rest.leads;
       last = λ low. let below = E.below in let end = rest.last (omega arith) in omega arith;

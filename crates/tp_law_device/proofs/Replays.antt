@@ -6,20 +6,21 @@ use Rattle.std.specs.List.{AllByRecursion}
 use Rattle.std.proofs.lemmas.Bool.{and_parts, and_from, leb-true, le-leb, lt-ltb}
 use Rattle.std.proofs.lemmas.List.{map_push, length_push}
 use Rattle.tp_model.specs.declared.entry.Entry.{Entry}
+use Rattle.tp_model.specs.declared.form.Form.{Form}
 use Rattle.tp_model.specs.declared.limits.TheConstants.{NUMBER_LIMIT}
 use Rattle.tp_model.specs.Results.{◌>>=◌}
 use Rattle.tp_model.specs.Network.{Machine, Network}
 use Rattle.tp_model.specs.Entries.{next}
 use Rattle.tp_model.specs.Order.{after}
-use Rattle.tp_model.specs.EntryBytes.{entry_bytes, is_spelt, IsSpelt}
+use Rattle.tp_model.specs.EntryBytes.{entry_bytes, is_of, is_spelt, AreOf, IsSpelt}
 use Rattle.tp_model.specs.Group.{rows_of}
 use Rattle.tp_model.specs.CutImage.{or_damaged}
 use Rattle.tp_model.specs.Replay.{Replay, row_entry, placed, with_entry, is_number, after_entry, after_row, after_rows, replay_from}
 use Rattle.tp_model.specs.Numbers.{AreNumbered}
-use Rattle.tp_law_bytes.proofs.PlainEntries.{row_entry-spelt}
 use Rattle.tp_law_network.proofs.Partial.{map_some, cond_some}
 use Rattle.tp_law_network.proofs.Reorder.{after_last, first_possible}
 use Rattle.tp_law_device.proofs.Faults.{bind_ok, or_damaged_ok}
+use Rattle.tp_law_device.proofs.Forms.{row_entry-spelt}
 
 -- ## What a replay keeps
 
@@ -29,9 +30,9 @@ pub record Replays {Node : Type 0} (M : Machine Node) (s : Network Node) (base :
   pub next : r.next ≡ base + length r.kept
   pub leads : after M s (map (λ e. e.0) r.kept) ≡ Some r.now
 
-replays_first : {Node : Type 0} (M : Machine Node) (s : Network Node) (base : ℕ) → Replays M s base (replay_from s base)
+replays_first : {Node : Type 0} (M : Machine Node) (form : Form) (s : Network Node) (base : ℕ) → Replays M s base (replay_from form s base)
 unfolding after
-replays_first M s base = record { least = omega arith; next = omega arith; leads = refl }
+replays_first M form s base = record { least = omega arith; next = omega arith; leads = refl }
 
 pub entry_found : {Node : Type 0} (M : Machine Node) (r v : Replay Node) (read : Option (Entry × ℕ)) → option_and_then (after_entry M r) read ≡ Some v
     → (entry : Entry × ℕ) × (read ≡ Some entry) × (after_entry M r entry ≡ Some v)
@@ -40,7 +41,7 @@ entry_found M r v (Some entry) e = (entry, refl, e)
 
 replays_row : {Node : Type 0} (M : Machine Node) (s : Network Node) (base : ℕ) (r v : Replay Node) (row : List ℕ) → Replays M s base r → after_row M r row ≡ Some v → Replays M s base v
 replays_row M s base r v row R is =
-    let found = entry_found M r v (row_entry row) is in
+    let found = entry_found M r v (row_entry r.form row) is in
     let entry = found.0 in
     let tested = cond_some (is_number r entry.1) (option_map (with_entry r entry) (next M r.now entry.0)) v found.2 in
     let stepped = map_some (with_entry r entry) (next M r.now entry.0) v tested.1 in
@@ -59,16 +60,32 @@ replays_rows M s base r v (row ∷ rows) R is =
     let first = bind_ok (or_damaged row.0 (after_row M r row.1)) (λ more. after_rows M more rows) v is in
     replays_rows M s base first.0 v rows (replays_row M s base r first.0 row.1 R (or_damaged_ok row.0 (after_row M r row.1) first.0 first.1)) first.2
 
-pub replay_holds : {Node : Type 0} (M : Machine Node) (s : Network Node) (base : ℕ) (v : Replay Node) (rows : List (ℕ × List ℕ)) → after_rows M (replay_from s base) rows ≡ Ok v → Replays M s base v
-replay_holds M s base v rows is = replays_rows M s base (replay_from s base) v rows (replays_first M s base) is
+pub replay_holds : {Node : Type 0} (M : Machine Node) (form : Form) (s : Network Node) (base : ℕ) (v : Replay Node) (rows : List (ℕ × List ℕ)) → after_rows M (replay_from form s base) rows ≡ Ok v → Replays M s base v
+replay_holds M form s base v rows is = replays_rows M s base (replay_from form s base) v rows (replays_first M form s base) is
+
+-- the area's form stays
+row_form : {Node : Type 0} (M : Machine Node) (r v : Replay Node) (row : List ℕ) → after_row M r row ≡ Some v → v.form ≡ r.form
+row_form M r v row is =
+    let found = entry_found M r v (row_entry r.form row) is in
+    let entry = found.0 in
+    let tested = cond_some (is_number r entry.1) (option_map (with_entry r entry) (next M r.now entry.0)) v found.2 in
+    let stepped = map_some (with_entry r entry) (next M r.now entry.0) v tested.1 in
+    ap (λ (u : Replay _). u.form) (sym stepped.2)
+
+pub rows_form : {Node : Type 0} (M : Machine Node) (r v : Replay Node) (rows : List (ℕ × List ℕ)) → after_rows M r rows ≡ Ok v → v.form ≡ r.form
+unfolding after_rows
+rows_form M r v [] is = let same : r ≡ v = cc in ap (λ (u : Replay _). u.form) (sym same)
+rows_form M r v (row ∷ rows) is =
+    let first = bind_ok (or_damaged row.0 (after_row M r row.1)) (λ more. after_rows M more rows) v is in
+    rows_form M first.0 v rows first.2 ∙ row_form M r first.0 row.1 (or_damaged_ok row.0 (after_row M r row.1) first.0 first.1)
 
 -- ## Entries that were written
 
 -- the next entry, as it is spelt with a number that it may have
 row_spelt : {Node : Type 0} (M : Machine Node) (r : Replay Node) (e : Entry) (number : ℕ) (now : Network Node) → next M r.now e ≡ Some now → r.least ≤ number → number ≤ r.next
-    → r.next < NUMBER_LIMIT - 1 → is_spelt e number ≡ true → after_row M r (entry_bytes e number) ≡ Some (with_entry r (e, number) now)
-row_spelt M r e number now step least most below spelt =
-    let read = row_entry-spelt e number spelt in
+    → r.next < NUMBER_LIMIT - 1 → is_spelt e number ≡ true → is_of r.form e ≡ true → after_row M r (entry_bytes e number) ≡ Some (with_entry r (e, number) now)
+row_spelt M r e number now step least most below spelt of =
+    let read = row_entry-spelt r.form e number spelt of in
     let tests : is_number r number ≡ true = and_from (nat_le r.least number) (nat_le number r.next && nat_lt r.next (NUMBER_LIMIT - 1)) (le-leb r.least number least)
     (and_from (nat_le number r.next) (nat_lt r.next (NUMBER_LIMIT - 1)) (le-leb number r.next most) (lt-ltb r.next (NUMBER_LIMIT - 1) below)) in
     (λ i. option_and_then (after_entry M r) (read i))
@@ -84,14 +101,14 @@ pub record Replayed {Node : Type 0} (M : Machine Node) (r : Replay Node) (rows :
 -- Possible entries are replayed from their rows, with numbers that they may have.
 pub rows_spelt : {Node : Type 0} (M : Machine Node) (entries : List (Entry × ℕ)) (r : Replay Node) (at : ℕ) (last : Network Node) → after M r.now (map (λ e. e.0) entries) ≡ Some last
     → AreNumbered r.least r.next (map (λ e. e.1) entries) → r.next + length entries < NUMBER_LIMIT → AllByRecursion (λ e. IsSpelt e.0 e.1) entries
-    → Replayed M r (placed at (rows_of entries)) entries last
+    → AreOf r.form entries → Replayed M r (placed at (rows_of entries)) entries last
 unfolding after_rows after
-rows_spelt M [] r at last possible numbers below spelt = record { to = r; is = refl; kept = sym (append-nil r.kept); now = let same = possible in cc }
-rows_spelt {Node} M (e ∷ es) r at last possible numbers below spelt =
+rows_spelt M [] r at last possible numbers below spelt of = record { to = r; is = refl; kept = sym (append-nil r.kept); now = let same = possible in cc }
+rows_spelt {Node} M (e ∷ es) r at last possible numbers below spelt of =
     let step = first_possible M r.now last e.0 (map (λ e. e.0) es) possible in
     let v : Replay Node = with_entry r e step.0 in
-    let row = row_spelt M r e.0 e.1 step.0 step.1 numbers.0 numbers.1 (omega arith) spelt.0 in
-    let rest = rows_spelt M es v (at + 16) last step.2 numbers.2 (omega arith) spelt.1 in
+    let row = row_spelt M r e.0 e.1 step.0 step.1 numbers.0 numbers.1 (omega arith) spelt.0 of.0 in
+    let rest = rows_spelt M es v (at + 16) last step.2 numbers.2 (omega arith) spelt.1 of.1 in
     record {
       to = rest.to;
       is = (λ i. or_damaged at (row i) >>= λ more. after_rows M more (placed (at + 16) (rows_of es))) ∙ rest.is;

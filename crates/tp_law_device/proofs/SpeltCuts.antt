@@ -1,5 +1,5 @@
 -- A cut that is spelt is read back.
-use Rattle.std.proofs.Common.{◌≡◌, ℕ, zero, suc, ◌+◌, ◌-◌, ◌*◌, ◌^◌, ◌<◌, ◌≤◌, true, cond, List, [], ◌∷◌, ◌++◌, length, take, drop, refl, sym, ap, ◌∙◌, arith, append_assoc, length-append, length-drop, Option, Some, None, Ok, Err}
+use Rattle.std.proofs.Common.{◌≡◌, ℕ, zero, suc, ◌+◌, ◌-◌, ◌*◌, ◌/◌, ◌%◌, ◌^◌, ◌<◌, ◌≤◌, true, cond, List, [], ◌∷◌, ◌++◌, length, take, drop, refl, sym, ap, ◌∙◌, arith, append_assoc, length-append, length-drop, Option, Some, None, Ok, Err}
 use Rattle.std.specs.Prelude.{◌==◌, ◌&&◌, nat_le, nat_lt, map, flat_map, sum_by, bytes_eq}
 use Rattle.std.specs.List.{list_all, AllByRecursion}
 use Rattle.std.proofs.lemmas.Bool.{and_parts, and_from, leb-true, lt-ltb, eqb-true, eq-eqb, cond-true, false≢true}
@@ -10,6 +10,7 @@ use Rattle.std.proofs.lemmas.Option.{cond_some}
 use Rattle.std.proofs.lemmas.Slice.Eq.{bytes_eq-Decides}
 use Rattle.tp_model.specs.declared.link.Token.{Token}
 use Rattle.tp_model.specs.declared.link.Token.TheVariants.{Data, Ack}
+use Rattle.tp_model.specs.declared.form.Form.{Form}
 use Rattle.tp_model.specs.declared.wire.WireEnd.{WireEnd}
 use Rattle.tp_model.specs.declared.opening.OpenFault.TheVariants.{Damaged}
 use Rattle.tp_model.specs.declared.limits.TheConstants.{MIN_PAGES, MAX_PAGES, MAX_HELD, NUMBER_LIMIT}
@@ -23,9 +24,10 @@ use Rattle.tp_model.specs.Topology.{Topology, line_count, is_page_count}
 use Rattle.tp_model.specs.Journal.{image_length, images_length, cut_length}
 use Rattle.tp_model.specs.Device.{generation_of}
 use Rattle.tp_model.specs.Flight.{is_in_one_place, flights_in}
-use Rattle.tp_model.specs.CutImage.{line_bytes, port_bytes, only_if, node_with, tokens_at, is_record, line_with, is_line_of, port_at, is_port_of, port_with, or_damaged, nodes_in, lines_in, ports_in, cut_bytes}
+use Rattle.tp_model.specs.CutImage.{line_bytes, port_bytes, only_if, node_with, tokens_at, is_record, line_with, is_line_of, port_at, is_port_of, port_with, or_damaged, nodes_in, lines_in, ports_in, base_number, cut_bytes}
 use Rattle.tp_model.specs.Spelling.{has_record, are_lines, front_bytes}
-use Rattle.tp_model.specs.Opening.{base_of, has_front, nodes_place, lines_place, ports_place, groups_place, network_of, cut_in}
+use Rattle.tp_model.specs.Opening.{base_field, base_of, form_at, form_of, has_front, nodes_place, lines_place, ports_place, groups_place, network_of, cut_in}
+use Rattle.tp_law_device.proofs.Forms.{base_back, base_number_below, form_back}
 use Rattle.tp_law_device.proofs.Wires.{HasShape}
 
 -- ## Nodes
@@ -230,7 +232,7 @@ pub record ReadsBack (E : Ends NodeState) (t : Topology) (base : ℕ) (s : Netwo
   pub flights : (line : ℕ) → line < line_count t → is_in_one_place E s line (back s line) ≡ true
   pub base_fits : base < NUMBER_LIMIT
 
-images_most : (pages : List ℕ) → list_all is_page_count pages ≡ true → sum_by image_length pages ≤ 262316 * length pages
+images_most : (pages : List ℕ) → list_all is_page_count pages ≡ true → sum_by image_length pages ≤ image_length MAX_PAGES * length pages
 images_most [] h = omega arith
 images_most (n ∷ ns) h =
     let both = and_parts (is_page_count n) (list_all is_page_count ns) h in
@@ -241,8 +243,8 @@ pub cut_fits : (t : Topology) → HasShape t → cut_length t < 2 ^ 32
 cut_fits t L = omega (arith, images_most t.pages L.pages, L.few_nodes, L.few_ports)
 
 -- A content that begins with the fields and the cut image.
-module _ (E : Ends NodeState) (t : Topology) (L : HasShape t) (generation base : ℕ) (s : Network NodeState) (C : ReadsBack E t base s) (content more : List ℕ)
-    (is : content ≡ front_bytes t generation base s ++ more) where
+module _ (E : Ends NodeState) (t : Topology) (L : HasShape t) (generation : ℕ) (form : Form) (base : ℕ) (s : Network NodeState) (C : ReadsBack E t base s) (content more : List ℕ)
+    (is : content ≡ front_bytes t generation form base s ++ more) where
   abbrev images : List ℕ
   images = flat_map image s.nodes
 
@@ -256,9 +258,15 @@ module _ (E : Ends NodeState) (t : Topology) (L : HasShape t) (generation base :
   unfolding front_bytes cut_bytes
   front_generation low = ap generation_of is ∙ from_le_bytes-to_le_bytes_8 generation (omega arith)
 
-  pub front_base : base_of content ≡ base
+  front_field : base_field content ≡ base_number form base
   unfolding front_bytes cut_bytes
-  front_base = ap base_of is ∙ from_le_bytes-to_le_bytes_8 base (omega (arith, C.base_fits))
+  front_field = ap base_field is ∙ from_le_bytes-to_le_bytes_8 (base_number form base) (base_number_below form base C.base_fits)
+
+  pub front_base : base_of content ≡ base
+  front_base = ap (λ n. n % NUMBER_LIMIT) front_field ∙ base_back form base C.base_fits
+
+  pub front_form : form_of content ≡ Some form
+  front_form = ap (λ n. form_at (n / NUMBER_LIMIT)) front_field ∙ form_back form base C.base_fits
 
   front_length : u32_at content 8 ≡ cut_length t
   unfolding front_bytes cut_bytes
@@ -288,10 +296,8 @@ module _ (E : Ends NodeState) (t : Topology) (L : HasShape t) (generation base :
   front_is low =
       let size = front_length in
       let age = front_generation low in
-      let start = front_base in
-      let fits = C.base_fits in
-      and_from (u32_at content 8 == cut_length t) (nat_lt (generation_of content) NUMBER_LIMIT && nat_lt (base_of content) NUMBER_LIMIT) (eq-eqb (u32_at content 8) (cut_length t) size)
-      (and_from (nat_lt (generation_of content) NUMBER_LIMIT) (nat_lt (base_of content) NUMBER_LIMIT) (lt-ltb (generation_of content) NUMBER_LIMIT (omega arith)) (lt-ltb (base_of content) NUMBER_LIMIT (omega arith)))
+      and_from (u32_at content 8 == cut_length t) (nat_lt (generation_of content) NUMBER_LIMIT) (eq-eqb (u32_at content 8) (cut_length t) size)
+      (lt-ltb (generation_of content) NUMBER_LIMIT (omega arith))
 
   pub cut_spelt : (at : ℕ) → cut_in E t at content ≡ Ok s
   unfolding cut_in

@@ -3,6 +3,7 @@ use Rattle.std.proofs.Common.{◌≡◌, ℕ, inl, inr, not, List, [], ◌∷◌
 use Rattle.std.specs.List.{AllByRecursion}
 use Rattle.std.proofs.lemmas.Bool.{cases_Bool}
 use Rattle.tp_model.specs.declared.entry.Entry.{Entry}
+use Rattle.tp_model.specs.declared.form.Form.{Form}
 use Rattle.tp_model.specs.NodeState.{NodeState}
 use Rattle.tp_model.specs.Image.{IsNode}
 use Rattle.tp_model.specs.Network.{Machine, Network}
@@ -38,9 +39,9 @@ cut_back E t base s C = record {
   base_fits = C.base_fits;
 }
 
-pub spelt_area : (M : Machine NodeState) (E : Ends NodeState) (t : Topology) (content : List ℕ) (generation base : ℕ) (s : Network NodeState) (groups : List (List (Entry × ℕ))) (now : Network NodeState)
-    → Spells M E t content generation base s groups now → SpeltArea M E t content generation base s groups now
-spelt_area M E t content generation base s groups now S = record {
+pub spelt_area : (M : Machine NodeState) (E : Ends NodeState) (t : Topology) (content : List ℕ) (generation : ℕ) (form : Form) (base : ℕ) (s : Network NodeState) (groups : List (List (Entry × ℕ))) (now : Network NodeState)
+    → Spells M E t content generation form base s groups now → SpeltArea M E t content generation form base s groups now
+spelt_area M E t content generation form base s groups now S = record {
   gate = S.gate;
   rest = S.rest;
   shut = S.shut;
@@ -48,6 +49,7 @@ spelt_area M E t content generation base s groups now S = record {
   generation_fits = S.generation_fits;
   cut = cut_back E t base s S.cut;
   each = S.each;
+  of_form = S.of_form;
   numbers = S.numbers;
   last = S.last;
   leads = S.leads;
@@ -59,8 +61,8 @@ stands_opens M E bytes o S =
     let areas = o.head.areas in
     let content = content_of areas o.second bytes in
     let L = has_shape t S.topology in
-    let A = spelt_area M E t content o.generation o.base o.cut S.groups o.now S.spells in
-    let age : age_in areas bytes o.second ≡ o.generation = front_generation E t L o.generation o.base o.cut A.cut content _ A.spelled A.generation_fits in
+    let A = spelt_area M E t content o.generation o.form o.base o.cut S.groups o.now S.spells in
+    let age : age_in areas bytes o.second ≡ o.generation = front_generation E t L o.generation o.form o.base o.cut A.cut content _ A.spelled A.generation_fits in
     let chosen : chosen_area areas bytes ≡ Ok o.second = elim (cases_Bool (open_in areas bytes (not o.second))) [
       | inr closed ↦ chosen_alone areas bytes o.second S.gate closed
       | inl opened ↦ chosen_higher areas bytes o.second S.gate opened (elim S.first [
@@ -70,9 +72,9 @@ stands_opens M E bytes o S =
     ] in
     let kept = S.kept in
     let end = sym S.end in
-    opening_from M E bytes o.head o.second o (head_of-head_bytes t areas bytes S.topology S.room S.starts S.area_fits S.head) chosen
-    (area_spelt M E o.head o.second L content o.generation o.base o.cut S.groups o.now A
-    ∙ (λ i. Ok (record { head = o.head; second = o.second; generation = o.generation; base = o.base; cut = o.cut; kept = kept i; now = o.now; end = end i })))
+    opening_from M E bytes o.head o.second o (head_of-head_bytes o.head.version t areas bytes S.topology S.limits S.room S.starts S.area_fits S.head) chosen
+    (area_spelt M E o.head o.second L content o.generation o.form o.base o.cut S.groups o.now A
+    ∙ (λ i. Ok (record { head = o.head; second = o.second; generation = o.generation; form = o.form; base = o.base; cut = o.cut; kept = kept i; now = o.now; end = end i })))
 
 pub stands_for_verdict : (bytes : List ℕ) (o : Opened) → Stands t414 t414_ends bytes o → verdict bytes ≡ Ok o
 unfolding verdict

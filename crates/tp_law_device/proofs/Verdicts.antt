@@ -37,7 +37,7 @@ module _ (M : Machine NodeState) (E : Ends NodeState) (bytes : List ℕ) (o : Op
       let R = reads_of M E bytes o is in
       let content = content_of o.head.areas o.second bytes in
       let A = area_parts M E o.head o.second content o R.area in
-      let L = replay_holds M A.cut (base_of content) A.replay (groups_in o.head o.second content).rows A.leads in
+      let L = replay_holds M A.form A.cut (base_of content) A.replay (groups_in o.head o.second content).rows A.leads in
       let cut : o.cut ≡ A.cut = ap (λ (p : Opened). p.cut) (sym A.is) in
       let kept : o.kept ≡ A.replay.kept = ap (λ (p : Opened). p.kept) (sym A.is) in
       let now : A.replay.now ≡ o.now = ap (λ (p : Opened). p.now) A.is in

@@ -1,5 +1,5 @@
 -- The wires of a topology are read back of its links' ends.
-use Rattle.std.proofs.Common.{◌≡◌, ℕ, zero, suc, ◌+◌, ◌-◌, ◌*◌, ◌/◌, ◌%◌, ◌<◌, ◌≤◌, inl, inr, true, cond, List, [], ◌∷◌, length, take, get_or, refl, sym, ap, ◌∙◌, arith, length-append, length-take, Option, Some, None}
+use Rattle.std.proofs.Common.{◌≡◌, ℕ, zero, suc, ◌+◌, ◌-◌, ◌*◌, ◌/◌, ◌%◌, ◌^◌, ◌<◌, ◌≤◌, inl, inr, true, cond, List, [], ◌∷◌, length, take, get_or, refl, sym, ap, ◌∙◌, arith, length-append, length-take, Option, Some, None}
 use Rattle.std.specs.Prelude.{◌==◌, ◌&&◌, nat_lt, nat_le, map}
 use Rattle.std.specs.Option.{option_map}
 use Rattle.std.specs.List.{list_all, range_with_len, position_or_len}
@@ -9,10 +9,12 @@ use Rattle.std.proofs.lemmas.List.FromFn.{get_or-map-range_with_len, length-rang
 use Rattle.std.proofs.lemmas.List.Sums.{position_or_len_is}
 use Rattle.tp_model.specs.declared.wire.WireEnd.{WireEnd}
 use Rattle.tp_model.specs.declared.wire.WireEnd.TheVariants.{Link, Port as AtPort}
+use Rattle.tp_model.specs.declared.head.HeadVersion.{HeadVersion}
+use Rattle.tp_model.specs.declared.head.HeadVersion.TheVariants.{Narrow, Wide}
 use Rattle.tp_model.specs.declared.limits.TheConstants.{MAX_NODES, MAX_PORTS}
 use Rattle.tp_model.specs.Network.{receiver, line_of}
 use Rattle.tp_model.specs.Topology.{Topology, node_count, line_count, end_of, is_end, is_line, joins_link, leads_back, all_lead_back, is_page_count, is_topology}
-use Rattle.tp_model.specs.Head.{end_byte, end_of_byte, is_port, port_wire, all_wires}
+use Rattle.tp_model.specs.Head.{head_nodes, first_port, end_number, end_of_number, is_port, port_wire, all_wires}
 
 -- ## Wires that lead back
 
@@ -77,6 +79,15 @@ has_shape t h =
       wires = d.1;
     }
 
+-- the numbers of links are below those of ports, and both are below 2^16
+links_below : (version : HeadVersion) → 4 * head_nodes version < first_port version
+links_below Narrow = omega arith
+links_below Wide = omega arith
+
+ports_below : (version : HeadVersion) → first_port version + MAX_PORTS < 2 ^ 16
+ports_below Narrow = omega arith
+ports_below Wide = omega arith
+
 module _ (t : Topology) (L : HasShape t) where
   abbrev N : ℕ
   N = node_count t
@@ -88,33 +99,51 @@ module _ (t : Topology) (L : HasShape t) where
       ∙ ap (λ place. leads_back N t.ports t.wires place (receiver t.wires line)) (omega arith)
       ∙ each_leads N t.ports t.wires 0 t.wires L.wires line)
 
-  -- ## The byte of an end
+  -- ## The number of an end
 
-  link_byte : (j k : ℕ) → j < 16 → k < 4 → end_of_byte (1 + 4 * j + k) ≡ Some (Link j k)
-  link_byte j k low small =
-      let byte = 1 + 4 * j + k in
-      let node : (byte - 1) / 4 ≡ j = omega arith in
-      let link : (byte - 1) % 4 ≡ k = omega arith in
-      cond-false (byte == 0) None (cond (nat_lt byte 128) (Some (Link ((byte - 1) / 4) ((byte - 1) % 4))) (Some (AtPort (byte - 128)))) (ne_eqb byte 0 (λ e. omega arith))
-      ∙ cond-true (nat_lt byte 128) (Some (Link ((byte - 1) / 4) ((byte - 1) % 4))) (Some (AtPort (byte - 128))) (lt-ltb byte 128 (omega arith))
-      ∙ (λ i. Some (Link (node i) (link i)))
+  -- a version whose head has a field for each node
+  module _ (version : HeadVersion) (few : N ≤ head_nodes version) where
+    link_number : (j k : ℕ) → j < head_nodes version → k < 4 → end_of_number version (1 + 4 * j + k) ≡ Some (Link j k)
+    link_number j k low small =
+        let number = 1 + 4 * j + k in
+        let first = first_port version in
+        let node : (number - 1) / 4 ≡ j = omega arith in
+        let link : (number - 1) % 4 ≡ k = omega arith in
+        cond-false (number == 0) None (cond (nat_lt number first) (Some (Link ((number - 1) / 4) ((number - 1) % 4))) (Some (AtPort (number - first)))) (ne_eqb number 0 (λ e. omega arith))
+        ∙ cond-true (nat_lt number first) (Some (Link ((number - 1) / 4) ((number - 1) % 4))) (Some (AtPort (number - first))) (lt-ltb number first (omega (arith, links_below version)))
+        ∙ (λ i. Some (Link (node i) (link i)))
 
-  port_byte : (p : ℕ) → end_of_byte (128 + p) ≡ Some (AtPort p)
-  port_byte p =
-      let byte = 128 + p in
-      let port : byte - 128 ≡ p = omega arith in
-      cond-false (byte == 0) None (cond (nat_lt byte 128) (Some (Link ((byte - 1) / 4) ((byte - 1) % 4))) (Some (AtPort (byte - 128)))) (ne_eqb byte 0 (λ e. omega arith))
-      ∙ cond-false (nat_lt byte 128) (Some (Link ((byte - 1) / 4) ((byte - 1) % 4))) (Some (AtPort (byte - 128))) (le-ltb byte 128 (omega arith))
-      ∙ (λ i. Some (AtPort (port i)))
+    port_number : (p : ℕ) → end_of_number version (first_port version + p) ≡ Some (AtPort p)
+    port_number p =
+        let first = first_port version in
+        let number = first + p in
+        let port : number - first ≡ p = omega arith in
+        cond-false (number == 0) None (cond (nat_lt number first) (Some (Link ((number - 1) / 4) ((number - 1) % 4))) (Some (AtPort (number - first)))) (ne_eqb number 0 (λ e. omega (arith, links_below version)))
+        ∙ cond-false (nat_lt number first) (Some (Link ((number - 1) / 4) ((number - 1) % 4))) (Some (AtPort (number - first))) (le-ltb number first (omega arith))
+        ∙ (λ i. Some (AtPort (port i)))
 
-  end_back : (line : ℕ) (found : Option WireEnd) → receiver t.wires line ≡ found → end_of_byte (end_byte found) ≡ found
-  end_back line None is = refl
-  end_back line (Some (Link j k)) is =
-      let B = leads line (Link j k) is in
-      let both = and_parts (nat_lt j N) (nat_lt k 4) B.end in
-      let low = ltb-true j N both.0 in
-      link_byte j k (let most = L.few_nodes in omega arith) (ltb-true k 4 both.1)
-  end_back line (Some (AtPort p)) is = port_byte p
+    end_back : (line : ℕ) (found : Option WireEnd) → receiver t.wires line ≡ found → end_of_number version (end_number version found) ≡ found
+    end_back line None is = refl
+    end_back line (Some (Link j k)) is =
+        let B = leads line (Link j k) is in
+        let both = and_parts (nat_lt j N) (nat_lt k 4) B.end in
+        let low = ltb-true j N both.0 in
+        link_number j k (omega (arith, few)) (ltb-true k 4 both.1)
+    end_back line (Some (AtPort p)) is = port_number p
+
+    -- two bytes hold it
+    pub end_low : (line : ℕ) (found : Option WireEnd) → receiver t.wires line ≡ found → end_number version found < 2 ^ 16
+    end_low line None is = omega arith
+    end_low line (Some (Link j k)) is =
+        let B = leads line (Link j k) is in
+        let both = and_parts (nat_lt j N) (nat_lt k 4) B.end in
+        let low = ltb-true j N both.0 in
+        let small = ltb-true k 4 both.1 in
+        omega (arith, few, links_below version, ports_below version)
+    end_low line (Some (AtPort p)) is =
+        let B = leads line (AtPort p) is in
+        let low = ltb-true p t.ports B.end in
+        omega (arith, L.few_ports, ports_below version)
 
   -- the wires of the links
   abbrev pub links : List (Option WireEnd)
@@ -123,16 +152,24 @@ module _ (t : Topology) (L : HasShape t) where
   pub length-links : length links ≡ 4 * N
   length-links = omega (arith, length-take (4 * N) t.wires, L.lines)
 
-  pub links_back : map end_of_byte (map end_byte links) ≡ links
-  links_back = ext_get_or None (map end_of_byte (map end_byte links)) links (length-map (map end_byte links) end_of_byte ∙ length-map links end_byte)
+  pub links_back : (version : HeadVersion) → N ≤ head_nodes version → map (end_of_number version) (map (end_number version) links) ≡ links
+  links_back version few = ext_get_or None (map (end_of_number version) (map (end_number version) links)) links
+      (length-map (map (end_number version) links) (end_of_number version) ∙ length-map links (end_number version))
       (λ i low.
-      let within : i < length links = omega (arith, length-map (map end_byte links) end_of_byte, length-map links end_byte) in
-      let few : i < 4 * N = omega (arith, length-links) in
-      get_or-map end_of_byte (map end_byte links) i 0 None (omega (arith, length-map links end_byte))
-      ∙ ap end_of_byte (get_or-map end_byte links i None 0 within)
-      ∙ ap (λ found. end_of_byte (end_byte found)) (get_or-take (4 * N) t.wires i None few)
-      ∙ end_back i (receiver t.wires i) refl
-      ∙ sym (get_or-take (4 * N) t.wires i None few))
+      let within : i < length links = omega (arith, length-map (map (end_number version) links) (end_of_number version), length-map links (end_number version)) in
+      let below : i < 4 * N = omega (arith, length-links) in
+      get_or-map (end_of_number version) (map (end_number version) links) i 0 None (omega (arith, length-map links (end_number version)))
+      ∙ ap (end_of_number version) (get_or-map (end_number version) links i None 0 within)
+      ∙ ap (λ found. end_of_number version (end_number version found)) (get_or-take (4 * N) t.wires i None below)
+      ∙ end_back version few i (receiver t.wires i) refl
+      ∙ sym (get_or-take (4 * N) t.wires i None below))
+
+  pub numbers_low : (version : HeadVersion) → N ≤ head_nodes version → (i : ℕ) → i < length links → get_or (map (end_number version) links) i 0 < 2 ^ 16
+  numbers_low version few i low =
+      let below : i < 4 * N = omega (arith, length-links) in
+      let is : get_or (map (end_number version) links) i 0 ≡ end_number version (receiver t.wires i) =
+      get_or-map (end_number version) links i None 0 low ∙ ap (end_number version) (get_or-take (4 * N) t.wires i None below) in
+      omega (arith, is, end_low version few i (receiver t.wires i) refl)
 
   -- ## The wire of a port
 

@@ -3,6 +3,7 @@ use Rattle.std.specs.Prelude.{◌≡◌, ◌<◌, ℕ, ◌+◌, false, not, List
 use Rattle.std.specs.List.{AllByRecursion}
 use Rattle.tp_model.specs.declared.entry.Entry.{Entry}
 use Rattle.tp_model.specs.declared.wire.WireEnd.TheVariants.{Link, Port as AtPort}
+use Rattle.tp_model.specs.declared.form.Form.TheVariants.{Turns}
 use Rattle.tp_model.specs.NodeState.{NodeState}
 use Rattle.tp_model.specs.Node.{t414, t414_ends}
 use Rattle.tp_model.specs.Network.{Network}
@@ -29,7 +30,7 @@ pub record SpellsCopy (w : World NodeState) (o : Opened) (pieces : List (ℕ × 
   pub inside : AllByRecursion (λ piece. IsWithin (device_areas.spare w.disk.bytes) (piece.0, length piece.1)) pieces
   pub groups : List (List (Entry × ℕ))
   pub now : Network NodeState
-  pub spells : Spells t414 t414_ends o.head.topology (other_content o (all_done (put_calls pieces) w.disk).bytes) generation copy.base copy.network groups now
+  pub spells : Spells t414 t414_ends o.head.topology (other_content o (all_done (put_calls pieces) w.disk).bytes) generation Turns copy.base copy.network groups now
   pub entries : map (λ e. e.0) (entries_in groups) ≡ copy.entries
   pub later : o.generation < generation
 

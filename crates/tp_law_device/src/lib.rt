@@ -5,7 +5,9 @@
 ghost use Rattle.std.specs.Prelude.{◌≡◌, ◌≤◌, ◌<◌, ◌+◌, ◌++◌, ◌*◌, ◌^◌, ℕ, true, false, List, [], Some, Ok, length, map, take, drop, slice_get};
 ghost use Rattle.tp_model.specs.declared.areas.TwoAreas.{TwoAreas};
 ghost use Rattle.tp_model.specs.declared.entry.Entry.{Entry};
-ghost use Rattle.tp_model.specs.declared.limits.TheConstants.{AREA_HEAD_BYTES, HEAD_BYTES};
+ghost use Rattle.tp_model.specs.declared.form.Form.{Form};
+ghost use Rattle.tp_model.specs.declared.head.HeadVersion.{HeadVersion};
+ghost use Rattle.tp_model.specs.declared.limits.TheConstants.{AREA_HEAD_BYTES};
 ghost use Rattle.tp_model.specs.NodeState.{NodeState};
 ghost use Rattle.std.specs.List.{AllByRecursion, count_by};
 ghost use Rattle.tp_model.specs.Node.{t414, t414_ends};
@@ -17,7 +19,7 @@ ghost use Rattle.tp_model.specs.CutOrder.{HasOrder};
 ghost use Rattle.tp_model.specs.Markers.{markers, plain_network};
 ghost use Rattle.tp_model.specs.Topology.{Topology, is_topology};
 ghost use Rattle.tp_model.specs.Device.{fits};
-ghost use Rattle.tp_model.specs.Head.{head_bytes, head_of};
+ghost use Rattle.tp_model.specs.Head.{head_bytes, head_length, head_of, keeps_limits, version_for};
 ghost use Rattle.tp_model.specs.Format.{start_of};
 ghost use Rattle.tp_model.specs.Journal.{cut_length, entry_room, is_full, is_full_for_cut, is_roomy, reserve, room};
 ghost use Rattle.tp_model.specs.Group.{group_length};
@@ -91,10 +93,12 @@ pub fn every_run_holds()
         → (number < next_number r.held) × (take (number + 1) last.journal ≡ take (number + 1) s.reading.journal) }
 {}
 
-/// A head that was written is read back: the topology, whose wires the head has for links alone, and the areas.
+/// A head of either version that was written is read back, where its version can say the topology: the topology, whose wires
+/// the head has for links alone, and the areas.
 pub fn heads_read_back()
-    ensures { (t : Topology) (areas : TwoAreas) (bytes : List ℕ) → is_topology t ≡ true → fits (length bytes) t areas ≡ true → areas.first ≡ HEAD_BYTES → areas.length < 2 ^ 64
-        → take areas.first bytes ≡ head_bytes t areas → head_of bytes ≡ Ok (record { topology = t; areas = areas }) }
+    ensures { (version : HeadVersion) (t : Topology) (areas : TwoAreas) (bytes : List ℕ) → is_topology t ≡ true → keeps_limits version t ≡ true → fits (length bytes) t areas ≡ true
+        → areas.first ≡ head_length version → areas.length < 2 ^ 64
+        → take areas.first bytes ≡ head_bytes version t areas → head_of bytes ≡ Ok (record { version = version; topology = t; areas = areas }) }
 {}
 
 /// A device that was formatted stands for the network of its images, with no entries behind it. So a run may begin there,
@@ -111,7 +115,7 @@ pub fn formatted_starts()
 
 /// There is such a device for each topology, each area with room for it, and each network of images.
 pub fn devices_can_be_formatted()
-    ensures { (t : Topology) (areas : TwoAreas) (images : List (List ℕ)) (start : Network NodeState) → is_topology t ≡ true → is_roomy t areas.length ≡ true → areas.first ≡ HEAD_BYTES → areas.length < 2 ^ 64
+    ensures { (t : Topology) (areas : TwoAreas) (images : List (List ℕ)) (start : Network NodeState) → is_topology t ≡ true → is_roomy t areas.length ≡ true → areas.first ≡ head_length (version_for t) → areas.length < 2 ^ 64
         → start_of t images ≡ Some start → (bytes : List ℕ) × WasFormatted t areas images start bytes }
 {}
 
@@ -193,8 +197,8 @@ pub fn groups_fit()
 /// without an entry lead to, and on one node acts lead to one.
 pub fn checkpoints_switch()
     ensures other { (bytes : List ℕ) (o : Opened) → verdict bytes ≡ Ok o → other_is_open o bytes ≡ false
-        → (generation base : ℕ) (s : Network NodeState) (groups : List (List (Entry × ℕ))) (now : Network NodeState)
-        → Spells t414 t414_ends o.head.topology (other_content o bytes) generation base s groups now → o.generation < generation
+        → (generation : ℕ) (form : Form) (base : ℕ) (s : Network NodeState) (groups : List (List (Entry × ℕ))) (now : Network NodeState)
+        → Spells t414 t414_ends o.head.topology (other_content o bytes) generation form base s groups now → o.generation < generation
         → device_areas.other bytes ≡ Some (other_start o, record { network = s; entries = map (λ e. e.0) (entries_in groups); base = base }) }
     ensures switches { (w : World NodeState) (cut : WholeCut) (nodes : List NodeState) (o : Opened) (pieces : List (ℕ × List ℕ)) (generation : ℕ)
         → w.at ≡ Resting → HasCut w.net cut nodes → SpellsCopy w o pieces (copy_of w.net w.base cut nodes) generation → Switches w o cut nodes generation }

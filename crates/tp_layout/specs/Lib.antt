@@ -1,4 +1,5 @@
 pub mod Capacity
+pub mod Ends
 pub mod Fronts
 pub mod Heads
 pub mod Lines

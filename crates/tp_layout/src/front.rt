@@ -1,16 +1,17 @@
-//! What an area begins with: its gate, its generation, the length of its cut image, and the number of entries in the cut.
+//! What an area begins with: its gate, its generation, the length of its cut image, the number of entries in the cut, and its form.
 
 ghost use Rattle.std.specs.Prelude.{◌≡◌, ◌≤◌, ◌<◌, ◌++◌, drop, length, IfOk};
 ghost use Rattle.tp_model.specs.Journal.{cut_length};
 ghost use Rattle.tp_model.specs.Topology.{Topology};
 ghost use Rattle.tp_layout.specs.Fronts.{area_front, fields_bytes, front_given};
 
+use crate::form::{base_number, form_at};
 use crate::number::{u32_at, u64_at};
 use byteorder::{ByteOrder, LittleEndian};
-use tp_model::OpenFault;
 use tp_model::limits::{AREA_HEAD_BYTES, BASE_BYTES, GATE_OPEN, NUMBER_LIMIT};
+use tp_model::{Form, OpenFault};
 
-/// Where the length of the cut image stands behind an area's gate, and where its base does.
+/// Where the length of the cut image stands behind an area's gate, and where its base does, with the form of the area.
 const LENGTH_PLACE: usize = 8;
 
 const BASE_PLACE: usize = AREA_HEAD_BYTES - 1;
@@ -28,10 +29,11 @@ pub struct AreaFront {
     pub generation: u64,
 }
 
-/// The generation of an area, and the number of entries in its cut.
+/// The generation of an area, its form, and the number of entries in its cut.
 #[derive(Clone, Copy, Debug, PartialEq, Eq)]
 pub struct CutFront {
     pub generation: u64,
+    pub form: Form,
     pub base: u64,
 }
 
@@ -54,10 +56,18 @@ pub fn cut_front(bytes: &[u8], wanted: u64, at: u64) -> Result<CutFront, OpenFau
     ensures few { IfOk result (λ front. front.base < NUMBER_LIMIT) }
 {
     let generation = u64_at(bytes, 0);
-    let base = u64_at(bytes, BASE_PLACE);
+    let field = u64_at(bytes, BASE_PLACE);
     let is_wanted = u64::from(u32_at(bytes, LENGTH_PLACE)) == wanted;
-    if is_wanted && generation < NUMBER_LIMIT && base < NUMBER_LIMIT {
-        Ok(CutFront { generation, base })
+    let Some(form) = form_at(field / NUMBER_LIMIT) else {
+        return Err(OpenFault::Damaged(at));
+    };
+    if is_wanted && generation < NUMBER_LIMIT {
+        let base = field % NUMBER_LIMIT;
+        Ok(CutFront {
+            generation,
+            form,
+            base,
+        })
     } else {
         Err(OpenFault::Damaged(at))
     }
@@ -65,10 +75,11 @@ pub fn cut_front(bytes: &[u8], wanted: u64, at: u64) -> Result<CutFront, OpenFau
 
 /// Writes the fields between an area's gate and its node images to the front of `out`, with a cut image of `cut` bytes.
 pub fn put_fields(front: CutFront, cut: u32, out: &mut [u8])
-    requires { FIELDS_BYTES ≤ length out.old }
-    ensures { out.new ≡ fields_bytes front.generation cut front.base ++ drop FIELDS_BYTES out.old }
+    requires room { FIELDS_BYTES ≤ length out.old }
+    requires base { front.base < NUMBER_LIMIT }
+    ensures { out.new ≡ fields_bytes front.generation cut front.form front.base ++ drop FIELDS_BYTES out.old }
 {
     LittleEndian::write_u64(out, front.generation);
     LittleEndian::write_u32(&mut out[LENGTH_PLACE..], cut);
-    LittleEndian::write_u64(&mut out[BASE_PLACE..], front.base);
+    LittleEndian::write_u64(&mut out[BASE_PLACE..], base_number(front.form, front.base));
 }

@@ -1,6 +1,10 @@
 //! Where the fields of a head stand.
 
-use tp_model::limits::HEAD_NODES;
+ghost use Rattle.std.specs.Prelude.{◌≡◌};
+ghost use Rattle.tp_model.specs.Head.{ends_place};
+
+use crate::version::head_nodes;
+use tp_model::HeadVersion;
 
 /// The version, behind the bytes that a formatted device begins with.
 pub const VERSION_PLACE: usize = 7;
@@ -16,5 +20,9 @@ pub const AREA_PLACE: usize = 16;
 /// The pages of each node, in two bytes each.
 pub const PAGES_PLACE: usize = 24;
 
-/// The end that each link's wire leads to, in one byte each; the ports' follow.
-pub const ENDS_PLACE: usize = PAGES_PLACE + 2 * HEAD_NODES;
+/// The end that each link's wire leads to, behind the pages of as many nodes as the head has fields for.
+pub fn ends_place(version: HeadVersion) -> usize
+    ensures { result ≡ ends_place version }
+{
+    PAGES_PLACE + 2 * head_nodes(version)
+}

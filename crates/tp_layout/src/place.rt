@@ -9,18 +9,18 @@ ghost use Rattle.tp_model.specs.declared.limits.TheConstants.{MAX_PAGES};
 ghost use Rattle.tp_layout.specs.Pieces.{piece_length, piece_place};
 
 use crate::front::FIELDS_BYTES;
-use crate::head::head_length;
 use crate::room::{cut_length, images_bytes, images_length};
-use tp_model::TwoAreas;
-use tp_model::limits::{AREA_HEAD_BYTES, HEAD_VERSION, IMAGE_HEAD_BYTES, LINE_BYTES, PAGE_BYTES};
+use crate::version::head_length;
+use tp_model::limits::{AREA_HEAD_BYTES, IMAGE_HEAD_BYTES, LINE_BYTES, PAGE_BYTES};
+use tp_model::{HeadVersion, TwoAreas};
 use tp_net::Topology;
 
-/// The areas of `length` bytes each behind a head.
-pub fn areas_of_length(length: u64) -> TwoAreas
-    ensures { result ≡ areas_of_length length }
+/// The areas of `length` bytes each behind a head of version `version`.
+pub fn areas_of_length(version: HeadVersion, length: u64) -> TwoAreas
+    ensures { result ≡ areas_of_length version length }
 {
     TwoAreas {
-        first: head_length(HEAD_VERSION),
+        first: head_length(version) as u64,
         length,
     }
 }

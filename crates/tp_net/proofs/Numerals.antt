@@ -8,6 +8,7 @@ use Rattle.std.proofs.lemmas.Bool.{and_parts, and_right, leb-true, lt-leb, cond-
 use Rattle.std.proofs.lemmas.Int.Digits.{digits_value_more}
 use Rattle.std.proofs.lemmas.Str.{digit_value_digit}
 use Rattle.std.proofs.lemmas.Str.Parse.{digits_value-take-le}
+use Rattle.tp_model.specs.declared.limits.TheConstants.{MIN_PAGES, MAX_PAGES}
 use Rattle.tp_model.specs.Topology.{is_page_count}
 use Rattle.tp_model.specs.TopologyWords.{is_digit, is_pages}
 
@@ -30,10 +31,10 @@ digits_value_next word i pages digit h lt e d =
     omega (arith, value, more)
 
 -- a front of the digits is too much already
-pub not_pages : (word : List ℕ) (i : ℕ) → 256 < digits_value 10 (take i word) → cond (is_pages word) (Some (digits_value 10 word)) None ≡ None
+pub not_pages : (word : List ℕ) (i : ℕ) → MAX_PAGES < digits_value 10 (take i word) → cond (is_pages word) (Some (digits_value 10 word)) None ≡ None
 not_pages word i above =
     let value = digits_value 10 word in
-    let more : 256 < value = omega (arith, digits_value-take-le 10 word i (omega arith)) in
-    let count : is_page_count value ≡ false = and_right (nat_le 4 value) (nat_le value 256) (lt-leb value 256 more) in
+    let more : MAX_PAGES < value = omega (arith, digits_value-take-le 10 word i (omega arith)) in
+    let count : is_page_count value ≡ false = and_right (nat_le MIN_PAGES value) (nat_le value MAX_PAGES) (lt-leb value MAX_PAGES more) in
     cond-false (is_pages word) (Some value) None
     (and_right (list_all is_digit word) (not (get_or word 0 0 == 48) && is_page_count value) (and_right (not (get_or word 0 0 == 48)) (is_page_count value) count))

@@ -7,7 +7,9 @@ use Rattle.std.proofs.lemmas.List.{get_or-take, length-take}
 use Rattle.tp_model.specs.declared.wire.WireEnd.{WireEnd}
 use Rattle.tp_model.specs.declared.wire.WireEnd.TheVariants.{Link, Port as AtPort}
 use Rattle.tp_model.specs.declared.limits.TheConstants.{MAX_NODES, MAX_PORTS}
-use Rattle.tp_model.specs.Head.{end_byte}
+use Rattle.tp_model.specs.declared.head.HeadVersion.{HeadVersion}
+use Rattle.tp_model.specs.declared.head.HeadVersion.TheVariants.{Narrow, Wide}
+use Rattle.tp_model.specs.Head.{head_nodes, first_port, end_number}
 use Rattle.tp_model.specs.Topology.{Topology, all_lead_back, leads_back, is_end, joins_link, is_page_count, is_topology, line_count, node_count}
 
 pub record HasShape (t : Topology) : Type 0 where
@@ -68,24 +70,34 @@ pub wire_leads_back : (t : Topology) (i : ℕ) → HasShape t → i < length t.w
 wire_leads_back t i shape lt =
     subst (λ n. leads_back (node_count t) t.ports t.wires n (get_or t.wires i None) ≡ true) (omega arith) (leads_back_at (node_count t) t.ports 0 i t.wires t.wires shape.wires lt)
 
--- an end that is there has a byte
-end_byte-there : (N H line : ℕ) (wires : List (Option WireEnd)) (end : Option WireEnd) → N ≤ MAX_NODES → H ≤ MAX_PORTS
-    → leads_back N H wires line end ≡ true → end_byte end < 256
-end_byte-there N H line wires None few few_ports h = omega arith
-end_byte-there N H line wires (Some (Link j k)) few few_ports h =
+-- a link that a wire leads to is there, and so is a port
+link_there : (N H line : ℕ) (wires : List (Option WireEnd)) (j k : ℕ) → leads_back N H wires line (Some (Link j k)) ≡ true → (j < N) × (k < 4)
+link_there N H line wires j k h =
     let parts = and_parts (is_end N H (Link j k) && joins_link N line (Link j k)) _ h in
     let both = and_parts (is_end N H (Link j k)) (joins_link N line (Link j k)) parts.0 in
     let ends = and_parts (nat_lt j N) (nat_lt k 4) both.0 in
-    omega (arith, ltb-true j N ends.0, ltb-true k 4 ends.1)
-end_byte-there N H line wires (Some (AtPort p)) few few_ports h =
+    (ltb-true j N ends.0, ltb-true k 4 ends.1)
+
+port_there : (N H line : ℕ) (wires : List (Option WireEnd)) (p : ℕ) → leads_back N H wires line (Some (AtPort p)) ≡ true → p < H
+port_there N H line wires p h =
     let parts = and_parts (is_end N H (AtPort p) && joins_link N line (AtPort p)) _ h in
     let both = and_parts (is_end N H (AtPort p)) (joins_link N line (AtPort p)) parts.0 in
-    omega (arith, ltb-true p H both.0)
+    ltb-true p H both.0
 
-pub end_byte-bound : (t : Topology) (wires : List (Option WireEnd)) (n i : ℕ) → HasShape t → wires ≡ t.wires → i < length (take n wires)
-    → end_byte (get_or (take n wires) i None) < 256
-end_byte-bound t wires n i shape is lt =
+-- the number of an end that is there, in a head that has fields for all nodes: so a narrow one says it in a byte, and a wide one in two
+end_number-there : (version : HeadVersion) (N H line : ℕ) (wires : List (Option WireEnd)) (end : Option WireEnd) → N ≤ head_nodes version → H ≤ MAX_PORTS
+    → leads_back N H wires line end ≡ true → end_number version end < first_port version + MAX_PORTS
+end_number-there Narrow N H line wires None few few_ports h = omega arith
+end_number-there Wide N H line wires None few few_ports h = omega arith
+end_number-there Narrow N H line wires (Some (Link j k)) few few_ports h = let ends = link_there N H line wires j k h in omega (arith, ends.0, ends.1, few)
+end_number-there Wide N H line wires (Some (Link j k)) few few_ports h = let ends = link_there N H line wires j k h in omega (arith, ends.0, ends.1, few)
+end_number-there Narrow N H line wires (Some (AtPort p)) few few_ports h = omega (arith, port_there N H line wires p h, few_ports)
+end_number-there Wide N H line wires (Some (AtPort p)) few few_ports h = omega (arith, port_there N H line wires p h, few_ports)
+
+pub end_number-bound : (version : HeadVersion) (t : Topology) (wires : List (Option WireEnd)) (n i : ℕ) → HasShape t → node_count t ≤ head_nodes version → wires ≡ t.wires
+    → i < length (take n wires) → end_number version (get_or (take n wires) i None) < first_port version + MAX_PORTS
+end_number-bound version t wires n i shape few is lt =
     let first : i < n = omega (arith, length-take n wires) in
     let there : i < length t.wires = omega (arith, length-take n wires, ap length is) in
     rw (get_or-take n wires i None first, is)
-    (end_byte-there (node_count t) t.ports i t.wires (get_or t.wires i None) shape.few_nodes shape.few_ports (wire_leads_back t i shape there))
+    (end_number-there version (node_count t) t.ports i t.wires (get_or t.wires i None) few shape.few_ports (wire_leads_back t i shape there))

@@ -5,6 +5,7 @@ use Rattle.std.specs.Option.{option_map, option_and_then}
 use Rattle.std.proofs.lemmas.Bool.{and_parts, leb-true}
 use Rattle.std.proofs.lemmas.List.{length-map, map-append}
 use Rattle.tp_model.specs.declared.entry.Entry.{Entry}
+use Rattle.tp_model.specs.declared.form.Form.{Form}
 use Rattle.tp_model.specs.declared.opening.OpenFault.{OpenFault}
 use Rattle.tp_model.specs.declared.limits.TheConstants.{NUMBER_LIMIT}
 use Rattle.tp_model.specs.Network.{Machine, Network}
@@ -12,9 +13,10 @@ use Rattle.tp_model.specs.Entries.{next}
 use Rattle.tp_model.specs.Order.{after}
 use Rattle.tp_model.specs.Numbers.{AreNumbered}
 use Rattle.tp_model.specs.Results.{◌>>=◌}
-use Rattle.tp_model.specs.CutImage.{or_damaged}
+use Rattle.tp_model.specs.EntryBytes.{is_of, entry_at}
+use Rattle.tp_model.specs.CutImage.{only_if, or_damaged}
 use Rattle.tp_model.specs.Replay.{Replay, row_entry, with_entry, is_number, after_entry, after_row, after_rows, replay_from}
-use Rattle.tp_law_network.proofs.Partial.{map_some, cond_some}
+use Rattle.tp_law_network.proofs.Partial.{all_append, map_some, cond_some}
 use Rattle.tp_law_network.proofs.Reorder.{after_last}
 use Rattle.tp_replay.specs.History.{IsHistory}
 
@@ -40,14 +42,26 @@ replayed_first : {A B : Type 0} (place : ℕ) (o : Option A) (rest : A → Resul
 replayed_first place None rest last e = cc
 replayed_first place (Some x) rest last e = (x, refl, e)
 
-module _ {Node : Type 0} (M : Machine Node) (start : Network Node) (base : ℕ) where
+-- what is read of a row is such as the area's form holds
+row_of : (form : Form) (row : List ℕ) (entry : Entry × ℕ) → row_entry form row ≡ Some entry → is_of form entry.0 ≡ true
+row_of form row entry e = go (entry_at row) e
+  where
+    go : (read : Option (Entry × ℕ)) → only_if (λ x. is_of form x.0) read ≡ Some entry → is_of form entry.0 ≡ true
+    go None e = cc
+    go (Some x) e =
+        let C = cond_some (is_of form x.0) (Some x) entry e in
+        let same : x ≡ entry = let both = C.1 in cc in
+        subst (λ (x : Entry × ℕ). is_of form x.0 ≡ true) same C.0
+
+module _ {Node : Type 0} (M : Machine Node) (form : Form) (start : Network Node) (base : ℕ) where
   -- with the least number that may follow
   record Leads (r : Replay Node) : Type 0 where
-    history : IsHistory M start base r
+    history : IsHistory M form start base r
     least : r.least ≡ behind 0 (map (λ e. e.1) r.kept)
 
-  leads_entry : (r : Replay Node) (entry : Entry × ℕ) (t : Network Node) → Leads r → is_number r entry.1 ≡ true → next M r.now entry.0 ≡ Some t → Leads (with_entry r entry t)
-  leads_entry r entry t L number step =
+  leads_entry : (r : Replay Node) (entry : Entry × ℕ) (t : Network Node) → Leads r → is_of form entry.0 ≡ true → is_number r entry.1 ≡ true → next M r.now entry.0 ≡ Some t
+      → Leads (with_entry r entry t)
+  leads_entry r entry t L held number step =
       let parts = and_parts (nat_le r.least entry.1) (nat_le entry.1 r.next && nat_lt r.next (NUMBER_LIMIT - 1)) number in
       let last = and_parts (nat_le entry.1 r.next) (nat_lt r.next (NUMBER_LIMIT - 1)) parts.1 in
       let low : r.least ≤ entry.1 = leb-true r.least entry.1 parts.0 in
@@ -57,19 +71,21 @@ module _ {Node : Type 0} (M : Machine Node) (start : Network Node) (base : ℕ) 
           leads = ap (after M start) (map-append (λ e. e.0) r.kept (entry ∷ [])) ∙ after_last M start r.now (map (λ e. e.0) r.kept) entry.0 L.history.leads ∙ step;
           numbered = rw (map-append (λ e. e.1) r.kept (entry ∷ [])) (numbered_last 0 base (map (λ e. e.1) r.kept) entry.1 L.history.numbered (omega (arith, L.least, low)) (omega (arith, high, L.history.next, length-map r.kept (λ e. e.1))));
           next = omega (arith, L.history.next, length-append r.kept (entry ∷ []));
+          form_is = L.history.form_is;
+          of_form = all_append (λ (e : Entry × ℕ). is_of form e.0 ≡ true) r.kept (entry ∷ []) L.history.of_form (held, tt);
         };
         least = sym (ap (behind 0) (map-append (λ e. e.1) r.kept (entry ∷ [])) ∙ behind-last 0 (map (λ e. e.1) r.kept) entry.1);
       }
 
   leads_row : (r after : Replay Node) (row : List ℕ) → Leads r → after_row M r row ≡ Some after → Leads after
-  leads_row r after row L e = go (row_entry row) e
+  leads_row r after row L e = go (row_entry r.form row) (λ entry read. subst (λ given. is_of given entry.0 ≡ true) L.history.form_is (row_of r.form row entry read)) e
     where
-      go : (o : Option (Entry × ℕ)) → option_and_then (after_entry M r) o ≡ Some after → Leads after
-      go None e = cc
-      go (Some entry) e =
+      go : (o : Option (Entry × ℕ)) → ((entry : Entry × ℕ) → o ≡ Some entry → is_of form entry.0 ≡ true) → option_and_then (after_entry M r) o ≡ Some after → Leads after
+      go None held e = cc
+      go (Some entry) held e =
           let C = cond_some (is_number r entry.1) (option_map (with_entry r entry) (next M r.now entry.0)) after e in
           let S = map_some (with_entry r entry) (next M r.now entry.0) after C.1 in
-          subst Leads S.2 (leads_entry r entry S.0 L C.0 S.1)
+          subst Leads S.2 (leads_entry r entry S.0 L (held entry refl) C.0 S.1)
 
   leads_rows : (r last : Replay Node) (rows : List (ℕ × List ℕ)) → Leads r → after_rows M r rows ≡ Ok last → Leads last
   unfolding after_rows
@@ -78,7 +94,7 @@ module _ {Node : Type 0} (M : Machine Node) (start : Network Node) (base : ℕ) 
       let A = replayed_first row.0 (after_row M r row.1) (λ more. after_rows M more rows) last e in
       leads_rows A.0 last rows (leads_row r A.0 row.1 L A.1) A.2
 
-  pub history_of : (last : Replay Node) (rows : List (ℕ × List ℕ)) → after_rows M (replay_from start base) rows ≡ Ok last → IsHistory M start base last
+  pub history_of : (last : Replay Node) (rows : List (ℕ × List ℕ)) → after_rows M (replay_from form start base) rows ≡ Ok last → IsHistory M form start base last
   unfolding after
   history_of last rows e =
-      (leads_rows (replay_from start base) last rows (record { history = record { leads = refl; numbered = tt; next = omega arith }; least = refl }) e).history
+      (leads_rows (replay_from form start base) last rows (record { history = record { leads = refl; numbered = tt; next = omega arith; form_is = refl; of_form = tt }; least = refl }) e).history

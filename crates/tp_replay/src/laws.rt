@@ -4,6 +4,7 @@ ghost use Rattle.std.specs.Prelude.{◌≡◌, ◌<◌, ◌+◌, ◌*◌, ℕ, L
 ghost use Rattle.tp_model.specs.declared.entry.Entry.{Entry};
 ghost use Rattle.tp_model.specs.declared.link.Token.{Token};
 ghost use Rattle.tp_model.specs.declared.wire.WireEnd.TheVariants.{Link};
+ghost use Rattle.tp_model.specs.declared.form.Form.{Form};
 ghost use Rattle.tp_model.specs.NodeState.{NodeState};
 ghost use Rattle.tp_model.specs.Entries.{next};
 ghost use Rattle.tp_model.specs.Markers.{is_marker, markers};
@@ -29,9 +30,9 @@ pub fn entries_keep_flat()
 {}
 
 /// What is replayed behind a cut is a history: the kept entries lead from the cut's network to the one that is there, their
-/// numbers rise, and the next entry's number counts them.
+/// numbers rise, the next entry's number counts them, and each is one that the area's form holds.
 pub fn rows_are_history()
-    ensures { (start : Network NodeState) (base : ℕ) (rows : List (ℕ × List ℕ)) (last : Replay NodeState) → after_rows t414 (replay_from start base) rows ≡ Ok last → IsHistory t414 start base last }
+    ensures { (form : Form) (start : Network NodeState) (base : ℕ) (rows : List (ℕ × List ℕ)) (last : Replay NodeState) → after_rows t414 (replay_from form start base) rows ≡ Ok last → IsHistory t414 form start base last }
 {}
 
 /// A cut that passes opening's test of each line is sound, where its wires are wires and a line without one is empty.

@@ -30,7 +30,7 @@ over_done b new line ready is act = record {
   added = record {
     did = one_act (world_of b) (world_of new) (Close line) act;
     grew = subst (Grew [] b) (sym is)
-        (record { start = refl; entries_are = sym (append-nil b.state.entries); numbers = sym (append-nil b.numbers); base = refl; runs = refl; ready = refl; broken = refl; room = refl; history = sym (append-nil b.history); generation = refl; floor = refl });
+        (record { start = refl; entries_are = sym (append-nil b.state.entries); numbers = sym (append-nil b.numbers); base = refl; runs = refl; ready = refl; broken = refl; room = refl; history = sym (append-nil b.history); generation = refl; floor = refl; form = refl });
     own = tt;
     nodes = ap (λ x. agreed x.state) is ∙ over_agreed b line;
     recorded = λ process. ap (λ x. has_recorded_in x.state.snapshot process) is ∙ over_recorded b.state.snapshot line process _;

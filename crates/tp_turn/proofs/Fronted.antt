@@ -98,7 +98,7 @@ module _ (b r new : BookValue) (line number link : ℕ) (n m : NodeContents) (an
     did = one_act (world_of b) (world_of new) (Journal (Take line (front_of b line)))
         (subst (λ x. happens t414 (world_of x) (Journal (Take line (front_of x line))) ≡ Some (world_of new)) is_ready act);
     grew = subst (Grew (Take line (front_of b line) ∷ []) b) (sym is_after)
-        (record { start = refl; entries_are = refl; numbers = refl; base = refl; runs = refl; ready = sym idle; broken = refl; room = refl; history = refl; generation = refl; floor = refl });
+        (record { start = refl; entries_are = refl; numbers = refl; base = refl; runs = refl; ready = sym idle; broken = refl; room = refl; history = refl; generation = refl; floor = refl; form = refl });
     own = (take_own b.state.start line number link (front_of b line) goes, tt);
     nodes = nodes;
     recorded = λ other apart. ap (λ x. has_recorded_in x.state.snapshot other) is_after ∙ collected_recorded b.state.snapshot _ other _;
@@ -133,7 +133,7 @@ module _ (b new : BookValue) (line number : ℕ) (n : NodeContents) (is : new �
   closed_added act = record {
     did = one_act (world_of b) (world_of new) (Close line) act;
     grew = subst (Grew [] b) (sym is)
-        (record { start = refl; entries_are = sym (append-nil b.state.entries); numbers = sym (append-nil b.numbers); base = refl; runs = refl; ready = refl; broken = refl; room = refl; history = sym (append-nil b.history); generation = refl; floor = refl });
+        (record { start = refl; entries_are = sym (append-nil b.state.entries); numbers = sym (append-nil b.numbers); base = refl; runs = refl; ready = refl; broken = refl; room = refl; history = sym (append-nil b.history); generation = refl; floor = refl; form = refl });
     own = tt;
     nodes = closed_nodes ∙ sym (set_back (agreed b.state) number n.live N.there);
     recorded = λ other apart. ap (λ x. has_recorded_in x.state.snapshot other) is ∙ closed_recorded b.state.snapshot line other;

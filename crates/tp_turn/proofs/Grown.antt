@@ -7,7 +7,7 @@ use Rattle.tp_book.specs.Book.{BookValue, next_number}
 use Rattle.tp_turn.specs.Books.{Grew}
 
 pub grew_none : (b : BookValue) → Grew [] b b
-grew_none b = record { start = refl; entries_are = sym (append-nil b.state.entries); numbers = sym (append-nil b.numbers); base = refl; runs = refl; ready = refl; broken = refl; room = refl; history = sym (append-nil b.history); generation = refl; floor = refl }
+grew_none b = record { start = refl; entries_are = sym (append-nil b.state.entries); numbers = sym (append-nil b.numbers); base = refl; runs = refl; ready = refl; broken = refl; room = refl; history = sym (append-nil b.history); generation = refl; floor = refl; form = refl }
 
 -- numbers behind numbers
 range_more : (n : ℕ) (es fs : List Entry) → range_with_len n (length es) ++ range_with_len (n + length es) (length fs) ≡ range_with_len n (length (es ++ fs))
@@ -36,4 +36,5 @@ grew_more es fs a b c G H = record {
   history = H.history ∙ ap (λ xs. xs ++ fs) G.history ∙ append_assoc a.history es fs;
   generation = H.generation ∙ G.generation;
   floor = H.floor ∙ G.floor;
+  form = H.form ∙ G.form;
 }

@@ -97,7 +97,7 @@ port_taken b new line port goes H nodes act =
     record {
       did = one_act (world_of b) (world_of new) (Journal (Take line (front_of b line))) act;
       grew = subst (Grew (Take line (front_of b line) ∷ []) b) (sym H.is)
-          (record { start = refl; entries_are = refl; numbers = refl; base = refl; runs = refl; ready = refl; broken = refl; room = refl; history = refl; generation = refl; floor = refl });
+          (record { start = refl; entries_are = refl; numbers = refl; base = refl; runs = refl; ready = refl; broken = refl; room = refl; history = refl; generation = refl; floor = refl; form = refl });
       own = (take_own b.state.start line port (front_of b line) goes, tt);
       nodes = nodes;
       recorded = λ process. ap (λ x. has_recorded_in x.state.snapshot process) H.is ∙ collected_recorded b.state.snapshot _ process _;
@@ -115,7 +115,7 @@ port_closed b new line is first act =
     record {
       did = one_act (world_of b) (world_of new) (Close line) act;
       grew = subst (Grew [] b) (sym is)
-          (record { start = refl; entries_are = sym (append-nil b.state.entries); numbers = sym (append-nil b.numbers); base = refl; runs = refl; ready = refl; broken = refl; room = refl; history = sym (append-nil b.history); generation = refl; floor = refl });
+          (record { start = refl; entries_are = sym (append-nil b.state.entries); numbers = sym (append-nil b.numbers); base = refl; runs = refl; ready = refl; broken = refl; room = refl; history = sym (append-nil b.history); generation = refl; floor = refl; form = refl });
       own = tt;
       nodes = ap (λ x. agreed x.state) is ∙ close_agreed b line;
       recorded = λ process. ap (λ x. has_recorded_in x.state.snapshot process) is ∙ closed_recorded b.state.snapshot line process;

@@ -75,7 +75,7 @@ module _ (b new : BookValue) (number : ℕ) (n : NodeContents) (asked : is_asked
   added act = record {
     did = one_act (world_of b) (world_of new) (Record number) act;
     grew = subst (Grew [] b) (sym is)
-        (record { start = refl; entries_are = sym (append-nil b.state.entries); numbers = sym (append-nil b.numbers); base = refl; runs = refl; ready = refl; broken = refl; room = refl; history = sym (append-nil b.history); generation = refl; floor = refl });
+        (record { start = refl; entries_are = sym (append-nil b.state.entries); numbers = sym (append-nil b.numbers); base = refl; runs = refl; ready = refl; broken = refl; room = refl; history = sym (append-nil b.history); generation = refl; floor = refl; form = refl });
     own = tt;
     nodes = nodes ∙ sym (set_back (agreed b.state) number n.live N.there);
     recorded = λ other apart. ap (λ x. has_recorded_in x.state.snapshot other) is ∙ count_others b.state.snapshot number other _ apart;

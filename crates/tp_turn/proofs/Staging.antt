@@ -78,7 +78,7 @@ module _ (b new : BookValue) (number count : ℕ) (tokens : List (ℕ × Token))
   run_added = record {
     did = act;
     grew = either (λ acts x. Grew (entries_in acts) w x) (grew_none w)
-        (record { start = refl; entries_are = refl; numbers = refl; base = refl; runs = refl; ready = refl; broken = refl; room = refl; history = refl; generation = refl; floor = refl });
+        (record { start = refl; entries_are = refl; numbers = refl; base = refl; runs = refl; ready = refl; broken = refl; room = refl; history = refl; generation = refl; floor = refl; form = refl });
     own = either (λ acts x. AllByRecursion (λ e. process b.state.start.wires (length b.state.start.nodes) e ≡ number) (entries_in acts)) tt (run_own b.state.start number count, tt);
     nodes = nodes;
     recorded = λ other apart. recorded other;

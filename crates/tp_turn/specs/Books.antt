@@ -17,3 +17,4 @@ pub record Grew (entries : List Entry) (old new : BookValue) : Type 0 where
   pub history : new.history ≡ old.history ++ entries
   pub generation : new.generation ≡ old.generation
   pub floor : new.floor ≡ old.floor
+  pub form : new.form ≡ old.form

@@ -9,8 +9,8 @@ use Rattle.tp_law_device.proofs.checkpoints_switch.Goals as goal
 
 pub returns-clause-other : goal.returns-clause-other
 unfolding verdict
-returns-clause-other c = λ bytes o is closed generation base s groups now spells.
-    other_spelt t414 t414_ends bytes o is closed generation base s groups now (spelt_area t414 t414_ends o.head.topology (other_content o bytes) generation base s groups now spells)
+returns-clause-other c = λ bytes o is closed generation form base s groups now spells.
+    other_spelt t414 t414_ends bytes o is closed generation form base s groups now (spelt_area t414 t414_ends o.head.topology (other_content o bytes) generation form base s groups now spells)
 
 pub returns-clause-switches : goal.returns-clause-switches
 returns-clause-switches c = λ w cut nodes o pieces generation rests has S.

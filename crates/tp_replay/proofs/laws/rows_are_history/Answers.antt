@@ -3,4 +3,4 @@ use Rattle.tp_replay.proofs.History.{history_of}
 use Rattle.tp_replay.proofs.laws.rows_are_history.Goals as goal
 
 pub returns : goal.returns
-returns c = λ start base rows last e. history_of t414 start base last rows e
+returns c = λ form start base rows last e. history_of t414 form start base last rows e

@@ -1,7 +1,7 @@
 use Rattle.std.proofs.Common.{◌≡◌, ◌+◌, ◌++◌, length, map}
 use Rattle.std.specs.List.{range_with_len}
 use Rattle.tp_model.specs.Head.{port_wire}
-use Rattle.tp_layout.proofs.head.add_ports.Given as goal
+use Rattle.tp_layout.proofs.wires.add_ports.Given as goal
 
 abbrev pub invariant-loop-port : goal.invariant-loop-port
 invariant-loop-port l = record {

@@ -1,0 +1,32 @@
+//! The form of an area as a number, which stands behind the base of its cut.
+
+ghost use Rattle.std.specs.Prelude.{◌≡◌, ◌<◌};
+ghost use Rattle.tp_model.specs.declared.limits.TheConstants.{NUMBER_LIMIT};
+ghost use Rattle.tp_model.specs.CutImage.{base_number};
+ghost use Rattle.tp_model.specs.Opening.{form_at};
+
+use tp_model::Form;
+use tp_model::limits::{NUMBER_LIMIT, PLAIN_FORM, TURNS_FORM};
+
+/// The number that says a base and, behind it, the form of an area.
+pub(crate) fn base_number(form: Form, base: u64) -> u64
+    requires { base < NUMBER_LIMIT }
+    ensures { result ≡ base_number form base }
+{
+    let form = match form {
+        Form::Plain => PLAIN_FORM,
+        Form::Turns => TURNS_FORM,
+    };
+    base + NUMBER_LIMIT * form
+}
+
+/// The form that `number` says, if it is one that is read here.
+pub(crate) fn form_at(number: u64) -> Option<Form>
+    ensures { result ≡ form_at number }
+{
+    match number {
+        PLAIN_FORM => Some(Form::Plain),
+        TURNS_FORM => Some(Form::Turns),
+        _ => None,
+    }
+}

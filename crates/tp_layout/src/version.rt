@@ -1,0 +1,93 @@
+//! The versions of a head, and what each can say.
+
+ghost use Rattle.std.specs.Prelude.{◌≡◌, ◌≤◌, true, nat_le};
+ghost use Rattle.std.specs.List.{list_all};
+ghost use Rattle.tp_model.specs.Head.{head_length, head_nodes, head_pages, keeps_limits, version_byte, version_for, version_of};
+
+use tp_model::HeadVersion;
+use tp_model::limits::{
+    MAX_NODES, MAX_PAGES, NARROW_HEAD_BYTES, NARROW_HEAD_NODES, NARROW_HEAD_PAGES, NARROW_VERSION,
+    WIDE_HEAD_BYTES, WIDE_VERSION,
+};
+use tp_net::Topology;
+
+/// How many bytes a head of version `version` has. Behind it the areas begin.
+pub fn head_length(version: HeadVersion) -> usize
+    ensures value { result ≡ head_length version }
+    ensures bound { result ≤ WIDE_HEAD_BYTES }
+{
+    match version {
+        HeadVersion::Narrow => NARROW_HEAD_BYTES,
+        HeadVersion::Wide => WIDE_HEAD_BYTES,
+    }
+}
+
+/// The byte that says the version.
+pub(crate) fn version_byte(version: HeadVersion) -> u8
+    ensures { result ≡ version_byte version }
+{
+    match version {
+        HeadVersion::Narrow => NARROW_VERSION,
+        HeadVersion::Wide => WIDE_VERSION,
+    }
+}
+
+/// The version that `byte` says, if it is one that is read here.
+pub(crate) fn version_of(byte: u8) -> Option<HeadVersion>
+    ensures { result ≡ version_of byte }
+{
+    match byte {
+        NARROW_VERSION => Some(HeadVersion::Narrow),
+        WIDE_VERSION => Some(HeadVersion::Wide),
+        _ => None,
+    }
+}
+
+/// How many nodes a head has fields for.
+pub(crate) fn head_nodes(version: HeadVersion) -> usize
+    ensures value { result ≡ head_nodes version }
+    ensures bound { result ≤ MAX_NODES }
+{
+    match version {
+        HeadVersion::Narrow => NARROW_HEAD_NODES,
+        HeadVersion::Wide => MAX_NODES,
+    }
+}
+
+/// The most pages that a node may have in a head.
+fn head_pages(version: HeadVersion) -> usize
+    ensures { result ≡ head_pages version }
+{
+    match version {
+        HeadVersion::Narrow => NARROW_HEAD_PAGES,
+        HeadVersion::Wide => MAX_PAGES,
+    }
+}
+
+/// Whether nodes may have `pages` pages each in a head.
+fn are_few_pages(version: HeadVersion, pages: &[u16]) -> bool
+    ensures { result ≡ list_all (λ count. nat_le count (head_pages version)) pages.now }
+{
+    let most = head_pages(version);
+    pages.iter().all(|count| usize::from(*count) <= most)
+}
+
+/// Whether a head of version `version` can say `topology`.
+pub fn keeps_limits(version: HeadVersion, topology: &Topology) -> bool
+    ensures { result ≡ keeps_limits version topology.now }
+{
+    let pages = topology.pages();
+    pages.len() <= head_nodes(version) && are_few_pages(version, pages)
+}
+
+/// The version of the head that formatting writes: a narrow one where it can say `topology`.
+pub fn version_for(topology: &Topology) -> HeadVersion
+    ensures value { result ≡ version_for topology.now }
+    ensures limits { keeps_limits result topology.now ≡ true }
+{
+    if keeps_limits(HeadVersion::Narrow, topology) {
+        HeadVersion::Narrow
+    } else {
+        HeadVersion::Wide
+    }
+}
