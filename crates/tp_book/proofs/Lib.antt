@@ -5,6 +5,7 @@ pub mod Formed
 pub mod Ranged
 pub mod Journalled
 pub mod Ran
+pub mod Turned
 pub mod Took
 pub mod Fresh
 pub mod PortEnds
@@ -19,6 +20,7 @@ pub mod ShownOutputs
 pub mod Entered
 pub mod Stood
 pub mod Committed
+pub mod TurnEntered
 pub mod Hosted
 pub mod Tallied
 pub mod Remarked

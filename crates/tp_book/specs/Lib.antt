@@ -16,5 +16,6 @@ pub mod Receipts
 pub mod Acts
 pub mod Marked
 pub mod Trimmed
+pub mod Turning
 pub mod Dropped
 pub mod Copies

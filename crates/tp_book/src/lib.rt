@@ -29,6 +29,8 @@ mod state;
 mod tail;
 mod take;
 mod trim;
+mod turn;
+mod turns;
 
 pub use backlog::Copied;
 pub use begins::opened_books_begin;

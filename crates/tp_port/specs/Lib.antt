@@ -3,3 +3,4 @@ pub mod Ports
 pub mod Room
 pub mod Sends
 pub mod Counted
+pub mod FirstTwo

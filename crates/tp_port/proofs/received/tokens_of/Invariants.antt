@@ -2,7 +2,7 @@
 use Rattle.std.proofs.Common.{◌≡◌, ◌≤◌, ◌*◌, ◌++◌, length, drop}
 use Rattle.tp_model.specs.Turn.{by_link}
 use Rattle.tp_law_machine.specs.NodeOfBytes.{CarryBytes}
-use Rattle.tp_replay.proofs.received.tokens_of.Given as goal
+use Rattle.tp_port.proofs.received.tokens_of.Given as goal
 
 abbrev pub invariant-loop-link : goal.invariant-loop-link
 invariant-loop-link l = record {

@@ -4,8 +4,8 @@ use Rattle.tp_model.specs.declared.link.Received.TheVariants.{Nothing}
 use Rattle.tp_model.specs.Turn.{by_link, received}
 use Rattle.tp_law_machine.specs.NodeOfBytes.{CarriesByte}
 use Rattle.tp_law_network.proofs.Partial.{all_append}
-use Rattle.tp_replay.proofs.Stands.{links_from, received_few}
-use Rattle.tp_replay.proofs.received.tokens_of.Goals as goal
+use Rattle.tp_port.proofs.InFront.{links_from, received_few}
+use Rattle.tp_port.proofs.received.tokens_of.Goals as goal
 
 pub loop-link-preserved : goal.loop-link-preserved
 loop-link-preserved c =
