@@ -4,6 +4,7 @@ use std::alloc::Global;
 use std::test::Fail;
 use tp_area::format;
 use tp_disk::MemDisk;
+use tp_model::limits::WIDE_HEAD_BYTES;
 use tp_net::Topology;
 use tp_recover::{Opened, open};
 use tp_tests_fixtures::{AREA, GROUPS, ONE_NODE, SECOND, SIZE, letter, place};
@@ -56,6 +57,19 @@ pub(crate) fn turned_second(alloc: Global) -> Result<Vec<u8>, Fail> {
     place(&mut bytes, SECOND, &area);
     place(&mut bytes, SECOND.wrapping_add(1), &[2]);
     place(&mut bytes, GROUPS, &[0]);
+    Ok(bytes)
+}
+
+/// The device of the first turns with a wide head: the area begins 512 bytes later. Where link 0 of the node leads stands at 152.
+pub(crate) fn turned_behind_a_wide_head(alloc: Global) -> Result<Vec<u8>, Fail> {
+    let narrow = turned(alloc)?;
+    let (head, areas) = narrow.split_at(FIRST.min(narrow.len()));
+    let mut bytes = Vec::from_slice(alloc, head)?;
+    bytes.resize(WIDE_HEAD_BYTES, 0)?;
+    bytes.extend_from_slice(areas)?;
+    place(&mut bytes, 7, &[2]);
+    place(&mut bytes, 56, &[0]);
+    place(&mut bytes, 152, &[0, 0x80]);
     Ok(bytes)
 }
 

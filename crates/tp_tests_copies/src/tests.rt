@@ -1,12 +1,15 @@
 //! What copying a device answers, and what the copy then has.
 
 use crate::changing::RawChanging;
-use crate::devices::{BEHIND, FIRST, FURTHER, opened, opens, turned, turned_second};
+use crate::devices::{
+    BEHIND, FIRST, FURTHER, opened, opens, turned, turned_behind_a_wide_head, turned_second,
+};
 use std::alloc::Global;
 use std::test::Fail;
 use tp_copies::{CopyFault, copy_opened};
 use tp_disk::{Counted, MemDisk, PlannedFault};
-use tp_tests_fixtures::{GROUPS, SECOND, SIZE, place};
+use tp_model::limits::WIDE_HEAD_BYTES;
+use tp_tests_fixtures::{GROUPS, KEPT, SECOND, SIZE, place};
 
 /// What stands in a copy before it is made.
 const OLD: u8 = 0xA5;
@@ -25,12 +28,13 @@ fn blank(alloc: Global) -> Result<MemDisk, Fail> {
     Ok(MemDisk::of_bytes(Vec::from_elem(alloc, OLD, SIZE)?))
 }
 
-/// Whether a copy of the device opens to the same, has its bytes behind the gate up to the closed gate, and its head.
+/// Whether a copy of the device opens to the same, in an area of the same form, has its bytes behind the gate up to the closed gate, and
+/// its head.
 fn is_copied(alloc: Global, bytes: &[u8], start: usize, end: usize) -> Result<bool, Fail> {
     let before = opened(alloc, bytes)?;
     let mut source = MemDisk::of_bytes(Vec::from_slice(alloc, bytes)?);
-    let mut copy = blank(alloc)?;
-    let next = before.next();
+    let mut copy = MemDisk::of_bytes(Vec::from_elem(alloc, OLD, bytes.len())?);
+    let (next, form) = (before.next(), before.form());
     if copy_opened(alloc, &mut source, &mut copy, before) != Ok(Some(next)) {
         return Ok(false);
     }
@@ -39,6 +43,7 @@ fn is_copied(alloc: Global, bytes: &[u8], start: usize, end: usize) -> Result<bo
     Ok(
         again.next() == next
             && again.kept().len() == 4
+            && again.form() == form
             && left.get(..FIRST) == bytes.get(..FIRST)
             && left.get(start..end) == bytes.get(start..end)
             && left.get(end.wrapping_add(1)) == Some(&OLD)
@@ -53,6 +58,11 @@ fn the_open_area_is_copied(rt: HostRuntime) -> Result<(), Fail> {
     let second = turned_second(rt.alloc())?;
     let end = BEHIND.wrapping_add(SECOND).wrapping_sub(FIRST);
     assert!(rt; is_copied(rt.alloc(), &second, SECOND, end)?);
+    let kept = KEPT[1].bytes(rt.alloc())?;
+    assert!(rt; is_copied(rt.alloc(), &kept, FIRST, BEHIND)?);
+    let wide = turned_behind_a_wide_head(rt.alloc())?;
+    let end = BEHIND.wrapping_add(WIDE_HEAD_BYTES).wrapping_sub(FIRST);
+    assert!(rt; is_copied(rt.alloc(), &wide, WIDE_HEAD_BYTES, end)?);
     Ok(())
 }
 

@@ -1,6 +1,9 @@
 //! What tests begin with: images of nodes, and the device of a network of one node.
 #![tactic(auto)]
 
+mod kept;
+
+pub use kept::{KEPT, Kept};
 use std::alloc::{AllocError, Global};
 
 /// A network of one node of four pages, whose link 0 is wired to a port.

@@ -4,7 +4,7 @@ ghost use Rattle.std.specs.Prelude.{◌≡◌};
 ghost use Rattle.tp_shared.specs.Named.{Names};
 ghost use Rattle.tp_tests_begun.specs.Spelt.{IsSpelt};
 
-use crate::device::formatted;
+use crate::device::{formatted, without_turns};
 use crate::left::is_journal;
 use crate::marked::marked;
 use std::alloc::Global;
@@ -14,6 +14,7 @@ use std::test::Fail;
 use tp_book::{Book, NetParts, NetState, Refusal};
 use tp_disk::MemDisk;
 use tp_flush::Flusher;
+use tp_model::Form;
 use tp_recover::{Opened, open};
 use tp_shared::{Naming, NoGate, Seat, Shared};
 use tp_tests_begun::opening::{Opening, begin, opening_of};
@@ -112,13 +113,15 @@ fn goes_over<J: Naming, R: Wait>(
 }
 
 /// Whether the area of a device that opened is that of as many `switches`, and holds the book's journal: what stands in its cut, and each
-/// entry behind it.
+/// entry behind it. It has the book's form, and turns once areas were switched.
 fn is_behind(book: &Book, opened: &Opened, switches: u8) -> bool {
     let base = opened.base();
+    let has_form = opened.form() == book.form() && (switches == 0 || opened.form() == Form::Turns);
     opened.generation() == 1 + switches as u64
         && opened.second() == (switches % 2 == 1)
         && (base > 0) == (switches > 0)
         && base == book.base()
+        && has_form
         && opened.next().checked_sub(base) == Some(opened.kept().len() as u64)
         && is_journal(book, opened)
 }
@@ -214,6 +217,8 @@ fn a_checkpoint_switches_the_areas(rt: HostRuntime) -> Result<(), Fail> {
     for snapshots in 0..PARTS {
         assert!(rt; goes(&rt, alloc, formatted(alloc)?, snapshots)?);
         assert!(rt; goes(&rt, alloc, marked(alloc)?, snapshots)?);
+        let disk = without_turns(formatted(alloc)?);
+        assert!(rt; goes(&rt, alloc, disk, snapshots)?);
     }
     Ok(())
 }

@@ -11,6 +11,9 @@ const AREA: u64 = 131_072;
 
 const SIZE: usize = 262_656;
 
+/// Where the form of the first area stands.
+const FORM: usize = 531;
+
 /// How many nodes there are.
 pub(crate) const NODES: u8 = 16;
 
@@ -86,4 +89,11 @@ pub(crate) fn formatted(alloc: Global) -> Result<MemDisk, Fail> {
     let topology = Topology::read(alloc, TEXT)?;
     let disk = formatted_with(alloc, &topology, &images);
     disk
+}
+
+/// The same device as it was made before areas had forms: its first area has no turns.
+pub(crate) fn without_turns(disk: MemDisk) -> MemDisk {
+    let mut bytes = disk.crash();
+    place(&mut bytes, FORM, &[0, 0]);
+    MemDisk::of_bytes(bytes)
 }

@@ -63,7 +63,7 @@ const MESSAGES: &[(u32, u32, bool)] = &[
     (0x8000_0001, 0xFFFF_FFFF, false),
 ];
 
-/// Pages and length. A memory has whole pages, 4 to 256, as many as the head says.
+/// Pages and length. A memory has whole pages, 4 to 1,024, as many as the head says.
 const LENGTHS: &[([u8; 2], usize, bool)] = &[
     ([4, 0], 4268, true),
     ([4, 0], 4267, false),
@@ -74,7 +74,11 @@ const LENGTHS: &[([u8; 2], usize, bool)] = &[
     ([3, 0], 3244, false),
     ([5, 0], 5292, true),
     ([0, 1], 262_316, true),
-    ([1, 1], 263_340, false),
+    ([1, 1], 263_340, true),
+    ([255, 3], 1_047_724, true),
+    ([0, 4], 1_048_748, true),
+    ([0, 4], 1_048_747, false),
+    ([1, 4], 1_049_772, false),
 ];
 
 /// Whether an image that has changed is one still.

@@ -11,6 +11,7 @@ use std::test::Fail;
 use std::thread::Threads;
 use tp_gate::NoGate;
 use tp_model::OpenFault;
+use tp_model::OpenFault::Damaged;
 use tp_recover::{Opened, Unopened, open, open_parallel};
 use tp_tests_fixtures::{AREA, place};
 use tp_tests_parts::Meeting;
@@ -18,10 +19,11 @@ use tp_tests_parts::Meeting;
 /// How many workers open each device: one; two; more than there are nodes; and as many as there may be.
 const WORKERS: [u8; 4] = [1, 2, 16, 64];
 
-/// Bytes over places of a device; and the next number that it then has, or the place where it is damaged.
-struct Content<'a> {
-    pieces: &'a [(usize, &'a [u8])],
-    says: Result<u64, u64>,
+/// Bytes over places of a device; and the next number that it then has, or why it doesn't open.
+#[derive(Clone, Copy)]
+pub(crate) struct Content<'a> {
+    pub(crate) pieces: &'a [(usize, &'a [u8])],
+    pub(crate) says: Result<u64, OpenFault>,
 }
 
 /// The device of one node, whose group has four entries, of 16 bytes each from 13,049 on: a run of 3 steps, the letter, its
@@ -39,68 +41,68 @@ const ONE: &[Content<'static>] = &[
     // Another letter is named than the node sent.
     Content {
         pieces: &[(13_069, &[0x42])],
-        says: Err(13_065),
+        says: Err(Damaged(13_065)),
     },
     // The run is too short: the letter isn't sent yet.
     Content {
         pieces: &[(13_051, &[2])],
-        says: Err(13_065),
+        says: Err(Damaged(13_065)),
     },
     // There is no such step.
     Content {
         pieces: &[(13_051, &[4])],
-        says: Err(13_049),
+        says: Err(Damaged(13_049)),
     },
     // Another letter, and behind it what is no entry.
     Content {
         pieces: &[(13_069, &[0x42]), (13_097, &[9])],
-        says: Err(13_065),
+        says: Err(Damaged(13_065)),
     },
     // What is no entry, and behind it another letter.
     Content {
         pieces: &[(13_049, &[9]), (13_069, &[0x42])],
-        says: Err(13_049),
+        says: Err(Damaged(13_049)),
     },
     // What is no entry, behind entries that are all possible.
     Content {
         pieces: &[(13_097, &[9])],
-        says: Err(13_097),
+        says: Err(Damaged(13_097)),
     },
     // A number out of order, and another letter in front of it.
     Content {
         pieces: &[(13_105, &[4])],
-        says: Err(13_097),
+        says: Err(Damaged(13_097)),
     },
     Content {
         pieces: &[(13_105, &[4]), (13_069, &[0x42])],
-        says: Err(13_065),
+        says: Err(Damaged(13_065)),
     },
     // An open gate without a group behind it, and another letter in front of it.
     Content {
         pieces: &[(13_113, &[0xA5])],
-        says: Err(13_113),
+        says: Err(Damaged(13_113)),
     },
     Content {
         pieces: &[(13_113, &[0xA5]), (13_069, &[0x42])],
-        says: Err(13_065),
+        says: Err(Damaged(13_065)),
     },
     // Node 40, line 263 and port 1 aren't there.
     Content {
         pieces: &[(13_050, &[40])],
-        says: Err(13_049),
+        says: Err(Damaged(13_049)),
     },
     Content {
         pieces: &[(13_067, &[7, 1])],
-        says: Err(13_065),
+        says: Err(Damaged(13_065)),
     },
     Content {
         pieces: &[(13_097, &[3, 1, 0x78, 0])],
-        says: Err(13_097),
+        says: Err(Damaged(13_097)),
     },
     // The acknowledge of a byte that nobody sent.
     Content {
         pieces: &[(13_066, &[2, 4, 0, 0])],
-        says: Err(13_065),
+        says: Err(Damaged(13_065)),
     },
 ];
 
@@ -134,36 +136,36 @@ const TWO: &[Content<'static>] = &[
     // The second node takes another letter than the first one sent; and then so does the first.
     Content {
         pieces: &[(17_369, &[0x42])],
-        says: Err(17_365),
+        says: Err(Damaged(17_365)),
     },
     Content {
         pieces: &[(17_369, &[0x42]), (17_385, &[0x43])],
-        says: Err(17_365),
+        says: Err(Damaged(17_365)),
     },
     // The first node alone does.
     Content {
         pieces: &[(17_385, &[0x43])],
-        says: Err(17_381),
+        says: Err(Damaged(17_381)),
     },
     // It takes the second one's letter before that is sent.
     Content {
         pieces: &[(17_351, &[2])],
-        says: Err(17_381),
+        says: Err(Damaged(17_381)),
     },
     // The second node takes another letter than the first one sent, and what is no entry stands behind that.
     Content {
         pieces: &[(17_369, &[0x42]), (17_381, &[9])],
-        says: Err(17_365),
+        says: Err(Damaged(17_365)),
     },
     // The second node takes the letter twice.
     Content {
         pieces: &[(17_383, &[0])],
-        says: Err(17_381),
+        says: Err(Damaged(17_381)),
     },
     // No third node is there.
     Content {
         pieces: &[(17_334, &[2])],
-        says: Err(17_333),
+        says: Err(Damaged(17_333)),
     },
 ];
 
@@ -222,10 +224,10 @@ fn all_say_same<R: Threads + Sync>(rt: &R, alloc: Global, bytes: &[u8]) -> Resul
 }
 
 /// Whether a device says this.
-fn is_told(told: &Result<Opened, Unopened>, says: Result<u64, u64>) -> bool {
+fn is_told(told: &Result<Opened, Unopened>, says: Result<u64, OpenFault>) -> bool {
     match (told, says) {
         (Ok(opened), Ok(next)) => opened.next() == next,
-        (Err(Unopened::Fault(OpenFault::Damaged(at))), Err(place)) => *at == place,
+        (Err(Unopened::Fault(fault)), Err(wanted)) => *fault == wanted,
         _ => false,
     }
 }
@@ -235,26 +237,46 @@ fn tells<R: Threads + Sync>(
     rt: &R,
     alloc: Global,
     bytes: &[u8],
-    says: Result<u64, u64>,
+    says: Result<u64, OpenFault>,
 ) -> Result<bool, Fail> {
     let mut disk = disk_of(alloc, bytes)?;
     let told = open_parallel(alloc, &mut disk, 2, &NoGate, rt);
     Ok(is_told(&told, says))
 }
 
+/// Whether a device says this, opened in one thread and by any number of workers.
+pub(crate) fn is_said<R: Threads + Sync>(
+    rt: &R,
+    alloc: Global,
+    bytes: &[u8],
+    says: Result<u64, OpenFault>,
+) -> Result<bool, Fail> {
+    Ok(tells(rt, alloc, bytes, says)? && all_say_same(rt, alloc, bytes)?)
+}
+
+/// A device with pieces over its bytes.
+pub(crate) fn with_pieces(
+    alloc: Global,
+    device: &[u8],
+    pieces: &[(usize, &[u8])],
+) -> Result<Vec<u8>, AllocError> {
+    let mut bytes = Vec::from_slice(alloc, device)?;
+    for (at, piece) in pieces {
+        place(&mut bytes, *at, piece);
+    }
+    Ok(bytes)
+}
+
 /// Plays a table over a device.
-fn play<R: Threads + Sync + Abort>(
+pub(crate) fn play<R: Threads + Sync + Abort>(
     rt: &R,
     alloc: Global,
     device: &[u8],
     contents: &[Content<'_>],
 ) -> Result<(), Fail> {
     for (i, content) in contents.iter().enumerate() {
-        let mut bytes = Vec::from_slice(alloc, device)?;
-        for (at, piece) in content.pieces {
-            place(&mut bytes, *at, piece);
-        }
-        let told = tells(rt, alloc, &bytes, content.says)? && all_say_same(rt, alloc, &bytes)?;
+        let bytes = with_pieces(alloc, device, content.pieces)?;
+        let told = is_said(rt, alloc, &bytes, content.says)?;
         assert!(rt; told, "content {i}");
     }
     Ok(())

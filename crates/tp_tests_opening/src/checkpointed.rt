@@ -32,7 +32,7 @@ fn append_each(store: &mut Store<MemDisk>, entries: &[Entry]) -> Result<(), Stor
     Ok(())
 }
 
-/// Takes a step on a device, which was formatted with `first`.
+/// Takes a step on a device, which was `first` at first.
 fn take_step(
     alloc: Global,
     store: &mut Store<MemDisk>,
@@ -111,7 +111,7 @@ fn ends_of(
 }
 
 impl Known {
-    /// What is known of a story over the device with `first`, which was just formatted.
+    /// What is known of a story over the device with `first`, with which it begins.
     fn over(alloc: Global, first: &[u8], story: &Story<'_>) -> Result<Known, Fail> {
         let topology = Letter::new(alloc)?.topology;
         let pieces = Pieces::of(alloc, first, &story.last)?;
@@ -129,9 +129,12 @@ impl Known {
         })
     }
 
-    /// What is known of a story over a device that is formatted first.
+    /// What is known of a story.
     pub(crate) fn of(alloc: Global, story: &Story<'_>) -> Result<Known, Fail> {
-        let first = fresh(alloc, AREA)?;
+        let first = match story.first {
+            Some(kept) => kept.bytes(alloc)?,
+            None => fresh(alloc, AREA)?,
+        };
         let known = Known::over(alloc, &first, story);
         known
     }

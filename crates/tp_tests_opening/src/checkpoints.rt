@@ -1,8 +1,8 @@
 //! Checkpoints: what is done with a device before each, what is put, and what opening then says.
 
 use crate::copies::Cut;
-use tp_model::Entry;
-use tp_tests_fixtures::SECOND;
+use tp_model::{Entry, Form};
+use tp_tests_fixtures::{Kept, SECOND};
 
 /// What is done with a device before the checkpoint: a group, a group for each entry, or an earlier checkpoint.
 #[derive(Clone, Copy)]
@@ -13,8 +13,8 @@ pub(crate) enum Step<'a> {
 }
 
 /// What opening says: whether the second area is open, its generation, how many entries its cut holds and how many stand
-/// behind it, and the next number.
-pub(crate) type Look = (bool, u64, u64, usize, u64);
+/// behind it, the next number, and the area's form.
+pub(crate) type Look = (bool, u64, u64, usize, u64, Form);
 
 /// How many calls of the device opening makes, how many of a checkpoint close the other area, and where the closed gate
 /// behind its tail stands.
@@ -25,10 +25,12 @@ pub(crate) struct Calls {
     pub(crate) behind: usize,
 }
 
-/// The steps, and the checkpoint behind them, with its calls; what opening says before and after it; all entries in the order
-/// in which they were made, before and after; and bytes of the device after it.
+/// The device that it begins with, which is formatted where none was kept; the steps, and the checkpoint behind them, with its
+/// calls; what opening says before and after it; all entries in the order in which they were made, before and after; and bytes
+/// of the device after it.
 #[derive(Clone, Copy)]
 pub(crate) struct Story<'a> {
+    pub(crate) first: Option<Kept>,
     pub(crate) steps: &'a [Step<'a>],
     pub(crate) last: Cut<'a>,
     pub(crate) calls: Calls,

@@ -10,12 +10,12 @@ ghost use Rattle.tp_area.specs.Other.{OtherIsClosed};
 ghost use Rattle.tp_tests_opening.specs.TailOf.{AreTailOf};
 
 use crate::devices::{Held, replayed};
-use crate::possible::is_in_range;
 use std::alloc::{AllocError, Global};
 use std::test::Fail;
 use tp_area::{Store, StoreFault};
 use tp_book::Numbered;
 use tp_disk::Disk;
+use tp_entry::is_in_range;
 use tp_model::limits::{IMAGE_HEAD_BYTES, MAX_HELD, PAGE_BYTES};
 use tp_model::{Entry, Token, WireEnd};
 use tp_net::{Lines, Topology};

@@ -21,6 +21,12 @@ mod filled_areas;
 #[cfg(test)]
 mod format_faults;
 #[cfg(test)]
+mod forms;
+#[cfg(test)]
+mod heads;
+#[cfg(test)]
+mod kept;
+#[cfg(test)]
 mod opened_books;
 pub mod possible;
 #[cfg(test)]

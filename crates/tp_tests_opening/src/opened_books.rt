@@ -9,6 +9,7 @@ use std::alloc::Global;
 use std::test::Fail;
 use tp_book::{Book, NetState, Refusal};
 use tp_disk::MemDisk;
+use tp_model::Form;
 use tp_recover::open;
 use tp_tests_fixtures::{AREA, GROUPS, letter, place};
 use tp_tests_store::calls::{hand_in, is_shown};
@@ -49,8 +50,15 @@ pub(crate) fn state_of(alloc: Global, bytes: Vec<u8>) -> Result<NetState, Fail>
 pub(crate) fn book_of(alloc: Global, bytes: Vec<u8>) -> Result<Book, Fail>
     ensures { IfOk result (λ book. IsUsable book) }
 {
+    book_with(alloc, bytes, ROOM)
+}
+
+/// The same where groups may fill `room` bytes.
+pub(crate) fn book_with(alloc: Global, bytes: Vec<u8>, room: u64) -> Result<Book, Fail>
+    ensures { IfOk result (λ book. IsUsable book) }
+{
     let state = state_of(alloc, bytes)?;
-    let book = Book::open(alloc, &state, Some(ROOM))?;
+    let book = Book::open(alloc, &state, Some(room))?;
     if book.ports() == 0 {
         return Err(Fail::new("no port"));
     }
@@ -65,6 +73,7 @@ fn is_fresh(alloc: Global, state: &NetState) -> Result<bool, Fail> {
     Ok(
         is_image
             && (state.base, state.next, state.generation) == (0, 0, 1)
+            && state.form == Form::Turns
             && state.kept.is_empty()
             && state.area == Some(AREA)
             && state.open_area == 0,

@@ -6,7 +6,10 @@ use crate::copies::Cut;
 use crate::devices::LETTER;
 use std::alloc::{AllocError, Global};
 use std::test::Fail;
+use tp_model::Form::{Plain, Turns};
+use tp_model::Received::{JustAck, JustData, Nothing};
 use tp_model::{Entry, Token};
+use tp_tests_fixtures::KEPT;
 
 const GO: Entry = Entry::Run { node: 0, count: 5 };
 
@@ -39,6 +42,7 @@ pub(crate) fn after_a_group(alloc: Global) -> Result<Known, Fail> {
     let (letter, round) = (LETTER, [ROUND]);
     let made = joined(alloc, &letter, &round)?;
     let story = Story {
+        first: None,
         steps: &[Step::Group(&letter), Step::Group(&round)],
         last: Cut {
             entries: &letter,
@@ -50,7 +54,7 @@ pub(crate) fn after_a_group(alloc: Global) -> Result<Known, Fail> {
             clears: 1,
             behind: 12_553,
         },
-        looks: [(false, 1, 0, 5, 5), (true, 2, 4, 1, 5)],
+        looks: [(false, 1, 0, 5, 5, Turns), (true, 2, 4, 1, 5, Turns)],
         before: &made,
         after: &made,
         bytes: &[(512, 0xA5), (16_896, 0xA5)],
@@ -66,6 +70,7 @@ pub(crate) fn beyond_the_groups(alloc: Global) -> Result<Known, Fail> {
     let before = joined(alloc, &letter, &mixed)?;
     let after = joined(alloc, &before, &[TAKEN, GO, HANDED])?;
     let story = Story {
+        first: None,
         steps: &[Step::Group(&letter), Step::Group(&mixed)],
         last: Cut {
             entries: &cut,
@@ -77,7 +82,7 @@ pub(crate) fn beyond_the_groups(alloc: Global) -> Result<Known, Fail> {
             clears: 1,
             behind: 12_617,
         },
-        looks: [(false, 1, 0, 9, 9), (true, 2, 7, 5, 12)],
+        looks: [(false, 1, 0, 9, 9, Turns), (true, 2, 7, 5, 12, Turns)],
         before: &before,
         after: &after,
         bytes: &[(512, 0xA5), (16_896, 0xA5)],
@@ -93,6 +98,7 @@ pub(crate) fn over_old_groups(alloc: Global) -> Result<Known, Fail> {
     let cut = joined(alloc, &letter, &forty)?;
     let made = joined(alloc, &cut, &go)?;
     let story = Story {
+        first: None,
         steps: &[
             Step::Group(&letter),
             Step::Switch(Cut {
@@ -118,10 +124,102 @@ pub(crate) fn over_old_groups(alloc: Global) -> Result<Known, Fail> {
             clears: 3,
             behind: 12_553,
         },
-        looks: [(false, 3, 44, 1, 45), (true, 4, 44, 1, 45)],
+        looks: [(false, 3, 44, 1, 45, Turns), (true, 4, 44, 1, 45, Turns)],
         before: &made,
         after: &made,
         bytes: &[(29_417, 0xA5), (29_449, 0x00), (29_481, 0xA5)],
+    };
+    let known = Known::of(alloc, &story);
+    known
+}
+
+/// A device that was kept from before areas had forms, behind the node's first turns. A group more is appended, and stands outside
+/// the cut.
+pub(crate) fn behind_kept(alloc: Global) -> Result<Known, Fail> {
+    let round = [ROUND];
+    let story = Story {
+        first: Some(KEPT[1]),
+        steps: &[Step::Group(&round)],
+        last: Cut {
+            entries: &[],
+            token: None,
+            tail: &[(ROUND, 4)],
+        },
+        calls: Calls {
+            opening: 11,
+            clears: 1,
+            behind: 12_553,
+        },
+        looks: [(false, 1, 0, 5, 5, Plain), (true, 2, 4, 1, 5, Turns)],
+        before: &round,
+        after: &round,
+        bytes: &[(512, 0xA5), (531, 0), (16_896, 0xA5), (16_915, 2)],
+    };
+    let known = Known::of(alloc, &story);
+    known
+}
+
+/// The same of one that was kept while its first checkpoint wasn't done: that is made anew over what stands in the second area.
+pub(crate) fn behind_a_stop(alloc: Global) -> Result<Known, Fail> {
+    let round = [ROUND];
+    let story = Story {
+        first: Some(KEPT[3]),
+        steps: &[Step::Group(&round)],
+        last: Cut {
+            entries: &[],
+            token: None,
+            tail: &[(ROUND, 5)],
+        },
+        calls: Calls {
+            opening: 12,
+            clears: 1,
+            behind: 12_553,
+        },
+        looks: [(false, 1, 0, 6, 6, Plain), (true, 2, 5, 1, 6, Turns)],
+        before: &round,
+        after: &round,
+        bytes: &[(512, 0xA5), (531, 0), (16_896, 0xA5), (16_915, 2)],
+    };
+    let known = Known::of(alloc, &story);
+    known
+}
+
+/// What the node takes and the steps that it then makes are one entry, in the first area and outside the cut: when the next number is 8
+/// the node records, and then it takes the letter that is on its line in the cut.
+pub(crate) fn with_turns(alloc: Global) -> Result<Known, Fail> {
+    let letter = LETTER;
+    let acknowledged = Entry::Turn {
+        node: 0,
+        takes: [JustAck, Nothing, Nothing, Nothing],
+        count: 16,
+    };
+    let handed = Entry::Turn {
+        node: 0,
+        takes: [JustData(7), Nothing, Nothing, Nothing],
+        count: 5,
+    };
+    let mixed = MIXED;
+    let made = joined(alloc, letter.get(..2).unwrap_or(&[]), &[acknowledged])?;
+    let cut = joined(alloc, &made, &[HANDED, GO, GO])?;
+    let before = joined(alloc, &made, &mixed)?;
+    let after = joined(alloc, &before, &[handed, HANDED])?;
+    let story = Story {
+        first: None,
+        steps: &[Step::Group(&made), Step::Group(&mixed)],
+        last: Cut {
+            entries: &cut,
+            token: Some((4, DATA)),
+            tail: &[(HANDED, 4), (HANDED, 6), (handed, 8), (HANDED, 9)],
+        },
+        calls: Calls {
+            opening: 11,
+            clears: 1,
+            behind: 12_601,
+        },
+        looks: [(false, 1, 0, 8, 8, Turns), (true, 2, 6, 4, 10, Turns)],
+        before: &before,
+        after: &after,
+        bytes: &[(531, 2), (13_081, 5), (16_915, 2), (29_465, 5)],
     };
     let known = Known::of(alloc, &story);
     known

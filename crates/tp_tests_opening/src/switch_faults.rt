@@ -5,7 +5,9 @@ use crate::checkpoints::Look;
 use crate::copies::switch;
 use crate::devices::{Held, disk_of, holds};
 use crate::faults::{Case, ENDINGS, Torn};
-use crate::stories::{after_a_group, beyond_the_groups, over_old_groups};
+use crate::stories::{
+    after_a_group, behind_a_stop, behind_kept, beyond_the_groups, over_old_groups, with_turns,
+};
 use std::alloc::{AllocError, Global};
 use std::process::Abort;
 use std::test::Fail;
@@ -43,7 +45,7 @@ impl Known {
 }
 
 /// What opening says of a device with `bytes`.
-fn look_at(alloc: Global, bytes: &[u8]) -> Result<Look, Fail> {
+pub(crate) fn look_at(alloc: Global, bytes: &[u8]) -> Result<Look, Fail> {
     let mut disk = disk_of(alloc, bytes)?;
     let opened = open(alloc, &mut disk)?;
     Ok((
@@ -52,6 +54,7 @@ fn look_at(alloc: Global, bytes: &[u8]) -> Result<Look, Fail> {
         opened.base(),
         opened.kept().len(),
         opened.next(),
+        opened.form(),
     ))
 }
 
@@ -142,5 +145,20 @@ fn a_tail_reaches_the_next_number(rt: HostRuntime) -> Result<(), Fail> {
 #[test]
 fn old_groups_are_not_read(rt: HostRuntime) -> Result<(), Fail> {
     let known = over_old_groups(rt.alloc())?;
+    play(&rt, &known)
+}
+
+/// The device was made before areas had forms. What a checkpoint leaves has turns.
+#[test]
+fn a_checkpoint_changes_the_form(rt: HostRuntime) -> Result<(), Fail> {
+    let known = behind_kept(rt.alloc())?;
+    play(&rt, &known)?;
+    let known = behind_a_stop(rt.alloc())?;
+    play(&rt, &known)
+}
+
+#[test]
+fn turns_are_outside_a_cut(rt: HostRuntime) -> Result<(), Fail> {
+    let known = with_turns(rt.alloc())?;
     play(&rt, &known)
 }

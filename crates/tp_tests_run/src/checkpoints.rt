@@ -1,6 +1,6 @@
 //! Runs with checkpoints.
 
-use crate::devices::{LETTER, ONE, PASSES, RING, formatted, letter};
+use crate::devices::{LETTER, ONE, PASSES, RING, WIDE_RING, formatted, letter};
 use crate::players::{FOUR, Look, left, play, play_and_look, play_twice};
 use std::alloc::Global;
 use std::process::Abort;
@@ -8,7 +8,9 @@ use std::sync::Wait;
 use std::test::Fail;
 use std::thread::Threads;
 use tp_disk::MemDisk;
+use tp_model::Form;
 use tp_run::{Job, RunFault};
+use tp_tests_fixtures::KEPT;
 
 /// Two hundred turns of a worker. Each twentieth entry since the kept cut begins a snapshot.
 const OFTEN: Job = Job {
@@ -17,8 +19,13 @@ const OFTEN: Job = Job {
     ..FOUR
 };
 
-/// How many workers make how many turns. With more workers than nodes and ports, turns are used up by those that find no process.
-const TEAMS: &[(u8, u32)] = &[(1, 2000), (2, 2000), (16, 100_000)];
+/// In which ring how many workers make how many turns. With more workers than nodes and ports, turns are used up by those that find no process.
+const TEAMS: &[(&[u8], u8, u32)] = &[
+    (RING, 1, 2000),
+    (RING, 2, 2000),
+    (RING, 16, 100_000),
+    (WIDE_RING, 2, 4000),
+];
 
 /// The number that a run reached, where it is above the one before.
 fn further(before: Option<u64>, done: Result<u64, RunFault>) -> Option<u64> {
@@ -44,7 +51,7 @@ fn reach<R: Threads + Wait + Abort + Sync>(
     (disk, next)
 }
 
-/// Whether the number that was reached is the next one, and above 210, and the areas were switched four times.
+/// Whether the number that was reached is the next one, and above 210, and the areas were switched four times and have turns.
 fn is_reached<R: Threads + Wait + Abort + Sync>(
     rt: &R,
     alloc: Global,
@@ -54,7 +61,8 @@ fn is_reached<R: Threads + Wait + Abort + Sync>(
     let (disk, next) = reach(rt, alloc, disk, out);
     let (_, opened) = left(alloc, disk)?;
     let is_reached = next == Some(opened.next()) && opened.next() > 210;
-    Ok([is_reached, opened.base() > 0 && opened.generation() > 4])
+    let is_switched = opened.base() > 0 && opened.generation() > 4;
+    Ok([is_reached, is_switched && opened.form() == Form::Turns])
 }
 
 /// The journal has room for 105 entries. With checkpoints a network that never ends goes on all the same, and its letter is printed
@@ -67,6 +75,25 @@ fn a_short_journal_never_stays_full(rt: HostRuntime) -> Result<(), Fail> {
     let told = is_reached(&rt, alloc, disk, &mut out)?;
     assert_eq!(rt; told, [true; 2]);
     assert!(rt; out.as_slice() == b"A".as_slice());
+    Ok(())
+}
+
+/// What runs of each kept device print: the letter, where it wasn't confirmed yet.
+const PRINTED: [&[u8]; 6] = [b"A", b"A", b"", b"", b"", b""];
+
+/// Devices that were kept from before areas had forms go on, and their checkpoints leave areas with turns.
+#[test]
+fn kept_devices_go_on(rt: HostRuntime) -> Result<(), Fail> {
+    let alloc = rt.alloc();
+    for (i, (kept, printed)) in KEPT.iter().zip(&PRINTED).enumerate() {
+        let disk = MemDisk::of_bytes(kept.bytes(alloc)?);
+        let mut out = Vec::new(alloc);
+        let told = is_reached(&rt, alloc, disk, &mut out)?;
+        assert!(rt;
+            told == [true; 2] && out.as_slice() == *printed,
+            "device {i}"
+        );
+    }
     Ok(())
 }
 
@@ -158,6 +185,7 @@ fn switched<R: Threads + Wait + Abort + Sync>(
 fn goes_on<R: Threads + Wait + Abort + Sync>(
     rt: &R,
     alloc: Global,
+    ring: &[u8],
     workers: u8,
     turns: u32,
 ) -> Result<[bool; 2], Fail> {
@@ -167,17 +195,17 @@ fn goes_on<R: Threads + Wait + Abort + Sync>(
         every: Some(20),
         ..FOUR
     };
-    let disk = formatted(alloc, RING, PASSES, 6, 1_048_576)?;
+    let disk = formatted(alloc, ring, PASSES, 6, 1_048_576)?;
     let (disk, first, is_switched) = switched(rt, alloc, disk, job, 1, 0)?;
     let (_, _, goes_on) = switched(rt, alloc, disk, job, first.generation, first.next)?;
     Ok([is_switched, goes_on])
 }
 
-/// Eight nodes in a ring, whose areas are switched while they run.
+/// Nodes in a ring, whose areas are switched while they run.
 #[test]
 fn a_ring_goes_on_over_its_checkpoints(rt: HostRuntime) -> Result<(), Fail> {
-    for (workers, turns) in TEAMS {
-        let told = goes_on(&rt, rt.alloc(), *workers, *turns)?;
+    for (ring, workers, turns) in TEAMS {
+        let told = goes_on(&rt, rt.alloc(), ring, *workers, *turns)?;
         assert_eq!(rt; told, [true; 2]);
     }
     Ok(())

@@ -4,6 +4,7 @@ use std::alloc::{AllocError, Global};
 use std::test::Fail;
 use tp_area::format;
 use tp_disk::MemDisk;
+use tp_model::limits::{NARROW_HEAD_BYTES, NARROW_HEAD_NODES, WIDE_HEAD_BYTES};
 use tp_net::Topology;
 
 /// One node, whose link 0 goes to a port.
@@ -12,6 +13,10 @@ pub(crate) const ONE: &[u8] = b"node a 4\nport h\nwire a.0 h\n";
 /// Eight nodes in a ring: link 0 of each goes to link 1 of the next. The port has no wire.
 pub(crate) const RING: &[u8] =
     b"node a 4\nnode b 4\nnode c 4\nnode d 4\nnode e 4\nnode f 4\nnode g 4\nnode i 4\nport h\nwire a.0 b.1\nwire b.0 c.1\nwire c.0 d.1\nwire d.0 e.1\nwire e.0 f.1\nwire f.0 g.1\nwire g.0 i.1\nwire i.0 a.1\n";
+
+/// Sixty-four nodes in such a ring: the device has a wide head.
+pub(crate) const WIDE_RING: &[u8] =
+    b"node n0 4\nnode n1 4\nnode n2 4\nnode n3 4\nnode n4 4\nnode n5 4\nnode n6 4\nnode n7 4\nnode n8 4\nnode n9 4\nnode n10 4\nnode n11 4\nnode n12 4\nnode n13 4\nnode n14 4\nnode n15 4\nnode n16 4\nnode n17 4\nnode n18 4\nnode n19 4\nnode n20 4\nnode n21 4\nnode n22 4\nnode n23 4\nnode n24 4\nnode n25 4\nnode n26 4\nnode n27 4\nnode n28 4\nnode n29 4\nnode n30 4\nnode n31 4\nnode n32 4\nnode n33 4\nnode n34 4\nnode n35 4\nnode n36 4\nnode n37 4\nnode n38 4\nnode n39 4\nnode n40 4\nnode n41 4\nnode n42 4\nnode n43 4\nnode n44 4\nnode n45 4\nnode n46 4\nnode n47 4\nnode n48 4\nnode n49 4\nnode n50 4\nnode n51 4\nnode n52 4\nnode n53 4\nnode n54 4\nnode n55 4\nnode n56 4\nnode n57 4\nnode n58 4\nnode n59 4\nnode n60 4\nnode n61 4\nnode n62 4\nnode n63 4\nport h\nwire n0.0 n1.1\nwire n1.0 n2.1\nwire n2.0 n3.1\nwire n3.0 n4.1\nwire n4.0 n5.1\nwire n5.0 n6.1\nwire n6.0 n7.1\nwire n7.0 n8.1\nwire n8.0 n9.1\nwire n9.0 n10.1\nwire n10.0 n11.1\nwire n11.0 n12.1\nwire n12.0 n13.1\nwire n13.0 n14.1\nwire n14.0 n15.1\nwire n15.0 n16.1\nwire n16.0 n17.1\nwire n17.0 n18.1\nwire n18.0 n19.1\nwire n19.0 n20.1\nwire n20.0 n21.1\nwire n21.0 n22.1\nwire n22.0 n23.1\nwire n23.0 n24.1\nwire n24.0 n25.1\nwire n25.0 n26.1\nwire n26.0 n27.1\nwire n27.0 n28.1\nwire n28.0 n29.1\nwire n29.0 n30.1\nwire n30.0 n31.1\nwire n31.0 n32.1\nwire n32.0 n33.1\nwire n33.0 n34.1\nwire n34.0 n35.1\nwire n35.0 n36.1\nwire n36.0 n37.1\nwire n37.0 n38.1\nwire n38.0 n39.1\nwire n39.0 n40.1\nwire n40.0 n41.1\nwire n41.0 n42.1\nwire n42.0 n43.1\nwire n43.0 n44.1\nwire n44.0 n45.1\nwire n45.0 n46.1\nwire n46.0 n47.1\nwire n47.0 n48.1\nwire n48.0 n49.1\nwire n49.0 n50.1\nwire n50.0 n51.1\nwire n51.0 n52.1\nwire n52.0 n53.1\nwire n53.0 n54.1\nwire n54.0 n55.1\nwire n55.0 n56.1\nwire n56.0 n57.1\nwire n57.0 n58.1\nwire n58.0 n59.1\nwire n59.0 n60.1\nwire n60.0 n61.1\nwire n61.0 n62.1\nwire n62.0 n63.1\nwire n63.0 n0.1\n";
 
 /// A process sends the letter A on link 0, and then goes round.
 pub(crate) const LETTER: &[u8] = &[
@@ -67,7 +72,12 @@ fn formatted_with(
     images: &[Vec<u8>],
     area: u32,
 ) -> Result<MemDisk, Fail> {
-    let mut disk = MemDisk::zeroed(alloc, 512 + 2 * area as usize)?;
+    let head = if topology.pages().len() <= NARROW_HEAD_NODES {
+        NARROW_HEAD_BYTES
+    } else {
+        WIDE_HEAD_BYTES
+    };
+    let mut disk = MemDisk::zeroed(alloc, head + 2 * area as usize)?;
     // A topology keeps its rules: its page counts say so, which `format` asks.
     let _rules = topology.pages();
     format(alloc, &mut disk, topology, images, u64::from(area))?;

@@ -9,15 +9,15 @@ use std::sync::Wait;
 use std::test::Fail;
 use tp_area::format;
 use tp_disk::MemDisk;
-use tp_model::{Entry, Token};
+use tp_model::{Entry, Form, Token};
 use tp_net::Topology;
 use tp_recover::{Unopened, open};
 use tp_replay::FlatNetwork;
 use tp_tests_begun::opening::opening_of;
 use tp_tests_begun::plain::{is_network, replayed};
-use tp_tests_fixtures::{AREA, ONE_NODE, SIZE, letter};
+use tp_tests_fixtures::{AREA, KEPT, ONE_NODE, SIZE, letter};
 
-/// The script, over a device that was just formatted.
+/// The script, over a device without entries.
 const SCRIPT: &[Step<'static>] = &[
     Step::Offer(0, b"ab"),
     Step::Turns(4),
@@ -90,6 +90,11 @@ fn fresh(alloc: Global) -> Result<Vec<u8>, Fail> {
     let topology = Topology::read(alloc, ONE_NODE)?;
     let disk = formatted(alloc, &topology, &images)?;
     Ok(disk.crash())
+}
+
+/// That device, and the one that was formatted for this network before areas had forms, and kept.
+fn devices(alloc: Global) -> Result<[Vec<u8>; 2], Fail> {
+    Ok([fresh(alloc)?, KEPT[0].bytes(alloc)?])
 }
 
 /// What a run leaves: the bytes, how many calls were made, how far it came, and what was told.
@@ -279,8 +284,8 @@ struct Script {
 }
 
 impl Script {
-    fn new<R: Wait>(rt: &R, alloc: Global) -> Result<Script, Fail> {
-        let first = fresh(alloc)?;
+    /// The script over a device.
+    fn over<R: Wait>(rt: &R, alloc: Global, first: Vec<u8>) -> Result<Script, Fail> {
         let mut ends = [0u64; 5];
         for (end, count) in ends.iter_mut().zip(ENDS) {
             let steps = SCRIPT.get(..count).unwrap_or(SCRIPT);
@@ -347,7 +352,8 @@ fn is_last(alloc: Global, bytes: &[u8]) -> Result<bool, Fail> {
             && opened.generation() == 3
             && opened.base() == 9
             && opened.kept().len() == 1
-            && opened.next() == 10,
+            && opened.next() == 10
+            && opened.form() == Form::Turns,
     )
 }
 
@@ -387,15 +393,23 @@ fn is_journal(entries: &[Entry]) -> bool {
     entries == journal.as_slice()
 }
 
+/// Whether it is what the script journals over a device, which then is what the script leaves.
+fn is_journalled<R: Wait>(rt: &R, alloc: Global, first: &[u8]) -> Result<bool, Fail> {
+    let left = run(rt, alloc, first, None, SCRIPT, untold(alloc))?;
+    Ok(
+        left.done == Done::All
+            && left.told.mark == 10
+            && is_journal(&left.told.journal)
+            && recovered(alloc, first, &left)? == Some(10)
+            && is_last(alloc, &left.bytes)?,
+    )
+}
+
 #[test]
 fn a_script_journals_what_it_does(rt: HostRuntime) -> Result<(), Fail> {
-    let alloc = rt.alloc();
-    let first = fresh(alloc)?;
-    let left = run(&rt, alloc, &first, None, SCRIPT, untold(alloc))?;
-    assert!(rt; left.done == Done::All && left.told.mark == 10);
-    assert!(rt; is_journal(&left.told.journal));
-    assert!(rt; recovered(alloc, &first, &left)? == Some(10));
-    assert!(rt; is_last(alloc, &left.bytes)?);
+    for first in devices(rt.alloc())? {
+        assert!(rt; is_journalled(&rt, rt.alloc(), &first)?);
+    }
     Ok(())
 }
 
@@ -409,7 +423,7 @@ fn is_unopened(alloc: Global, bytes: &[u8], call: u64, tear: Tear) -> Result<boo
 #[test]
 fn an_opening_whose_device_fails_changes_nothing(rt: HostRuntime) -> Result<(), Fail> {
     let alloc = rt.alloc();
-    let script = Script::new(&rt, alloc)?;
+    let script = Script::over(&rt, alloc, fresh(alloc)?)?;
     let left = run(&rt, alloc, &script.first, None, SCRIPT, untold(alloc))?;
     for call in 0..script.from {
         for tear in EACH {
@@ -423,30 +437,45 @@ fn an_opening_whose_device_fails_changes_nothing(rt: HostRuntime) -> Result<(), 
 /// What a folder has in which all is tried.
 const ALL: &str = "each-stop";
 
+/// Ends the script over a device at each of its calls, in each way. Answers how often it was ended and how many calls the checkpoints behind
+/// them had, or the call at which something wasn't as it ought to be.
+fn end_each<R: Wait>(
+    rt: &R,
+    alloc: Global,
+    first: Vec<u8>,
+    tears: &[Tear],
+) -> Result<Result<(u64, u64), u64>, Fail> {
+    let script = Script::over(rt, alloc, first)?;
+    let mut behind = 0u64;
+    for call in script.from..script.to {
+        let Some(count) = script.end_at(rt, alloc, call, tears)? else {
+            return Ok(Err(call));
+        };
+        behind = behind.saturating_add(count);
+    }
+    let calls = script.to.saturating_sub(script.from);
+    Ok(Ok((calls.saturating_mul(tears.len() as u64), behind)))
+}
+
 #[test]
 fn a_script_that_ends_at_each_call(rt: HostRuntime) -> Result<(), Fail> {
     let alloc = rt.alloc();
-    let script = Script::new(&rt, alloc)?;
     let tears = if fs::read(&rt, ALL).is_ok() {
         EACH
     } else {
         SOME
     };
-    let mut behind = 0u64;
-    for call in script.from..script.to {
-        let Some(count) = script.end_at(&rt, alloc, call, tears)? else {
-            panic!(rt; "call {call}")
-        };
-        behind = behind.saturating_add(count);
-    }
-    let ended = script
-        .to
-        .saturating_sub(script.from)
-        .saturating_mul(tears.len() as u64);
     let mut out = rt.stdout();
-    let _ = write!(
-        &mut out,
-        "{ended} ended, {behind} checkpoints behind them\n"
-    );
+    for first in devices(alloc)? {
+        match end_each(&rt, alloc, first, tears)? {
+            Ok((ended, behind)) => {
+                let _ = write!(
+                    &mut out,
+                    "{ended} ended, {behind} checkpoints behind them\n"
+                );
+            }
+            Err(call) => panic!(rt; "call {call}"),
+        }
+    }
     Ok(())
 }

@@ -94,11 +94,11 @@ const UNDER_WAY_LEFT: Device = Device {
     base: 1,
     next: 2,
     bytes: &[
-        // The gate, the generation, the length of the cut, the base.
+        // The gate, the generation, the length of the cut, the base, and that the area has turns.
         (
             20_992,
             &[
-                0xA5, 2, 0, 0, 0, 0, 0, 0, 0, 0x98, 0x41, 0, 0, 1, 0, 0, 0, 0, 0, 0, 0,
+                0xA5, 2, 0, 0, 0, 0, 0, 0, 0, 0x98, 0x41, 0, 0, 1, 0, 0, 0, 0, 0, 2, 0,
             ],
         ),
         // The first node's output waits; the other's input holds nothing.
@@ -175,7 +175,7 @@ const LATE_LEFT: Device = Device {
         (
             20_992,
             &[
-                0xA5, 2, 0, 0, 0, 0, 0, 0, 0, 0x98, 0x41, 0, 0, 7, 0, 0, 0, 0, 0, 0, 0,
+                0xA5, 2, 0, 0, 0, 0, 0, 0, 0, 0x98, 0x41, 0, 0, 7, 0, 0, 0, 0, 0, 2, 0,
             ],
         ),
         // What both had counted as they recorded; the first holds the port's byte.
@@ -241,7 +241,7 @@ const THIRD_LEFT: Device = Device {
         (
             512,
             &[
-                0xA5, 3, 0, 0, 0, 0, 0, 0, 0, 0xDC, 0x30, 0, 0, 41, 0, 0, 0, 0, 0, 0, 0,
+                0xA5, 3, 0, 0, 0, 0, 0, 0, 0, 0xDC, 0x30, 0, 0, 41, 0, 0, 0, 0, 0, 2, 0,
             ],
         ),
         (1221, &[41, 0, 0, 0]),
@@ -253,7 +253,7 @@ const THIRD_LEFT: Device = Device {
         (
             16_896,
             &[
-                0xA5, 4, 0, 0, 0, 0, 0, 0, 0, 0xDC, 0x30, 0, 0, 42, 0, 0, 0, 0, 0, 0, 0,
+                0xA5, 4, 0, 0, 0, 0, 0, 0, 0, 0xDC, 0x30, 0, 0, 42, 0, 0, 0, 0, 0, 2, 0,
             ],
         ),
         (17_605, &[42, 0, 0, 0]),
@@ -315,7 +315,7 @@ const SWITCHED_LEFT: Device = Device {
         (
             16_897,
             &[
-                2, 0, 0, 0, 0, 0, 0, 0, 0xDC, 0x30, 0, 0, 4, 0, 0, 0, 0, 0, 0, 0,
+                2, 0, 0, 0, 0, 0, 0, 0, 0xDC, 0x30, 0, 0, 4, 0, 0, 0, 0, 0, 2, 0,
             ],
         ),
         (29_417, &[0xA5, 0, 1, 0, 0, 0, 0, 0, 4]),

@@ -12,6 +12,7 @@ use Rattle.tp_model.specs.declared.limits.TheConstants.{MAX_HELD}
 use Rattle.tp_model.specs.Node.{t414}
 use Rattle.tp_model.specs.Network.{Port}
 use Rattle.tp_model.specs.Numbers.{AreNumbered}
+use Rattle.tp_model.specs.EntryBytes.{AreOf}
 use Rattle.tp_model.specs.declared.entry.Entry.{Entry}
 use Rattle.tp_model.specs.Order.{after}
 use Rattle.tp_model.specs.Markers.{plain}
@@ -67,6 +68,7 @@ lone_opened s is cut kept base next generation pending outputs = record {
   lines = ap (λ net. length net.lines) is ∙ sym (ap (λ net. length net.wires) is);
   unmarked = ap (λ net. map plain net.lines) is ∙ sym (ap (λ net. net.lines) is);
   ranged = subst (λ given. AreInRange (map (λ (e : Entry × ℕ). e.0) given)) (sym kept) tt;
+  of_form = subst (AreOf s.form) (sym kept) tt;
   numbered = subst (λ ns. AreNumbered 0 s.base (map (λ (e : Entry × ℕ). e.1) ns)) (sym kept) tt;
   next = omega (arith, base, next, s.kept.ok.0, ap length kept);
   few = omega (arith, next);

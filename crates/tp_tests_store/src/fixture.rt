@@ -8,6 +8,7 @@ ghost use Rattle.tp_tests_store.specs.Lone.{lone_network, IsUsable};
 
 use std::alloc::{AllocError, Global};
 use tp_book::{Book, CutNetwork, NetParts, NetState};
+use tp_model::Form;
 use tp_port::PortParts;
 
 /// Its parts: the outputs are the letters "hi".
@@ -44,6 +45,7 @@ fn state(alloc: Global) -> Result<NetState, AllocError>
         cut: CutNetwork::of_parts(&net),
         net,
         base: 2,
+        form: Form::Turns,
         kept: Vec::new(alloc),
         next: 2,
         generation: 1,

@@ -18,8 +18,9 @@ struct Row {
     wired: &'static [(usize, WireEnd)],
 }
 
+/// Sixty-four nodes, whose pages rise from 4 to 66 and then are 1,024, and eight ports.
 const ALL: &str =
-    "node a 4\nnode b 5\nnode c 6\nnode d 7\nnode e 8\nnode f 9\nnode g 10\nnode h 11\nnode i 12\nnode j 13\nnode k 14\nnode l 15\nnode m 16\nnode n 17\nnode o 18\nnode p 256\nport q\nport r\nport s\nport t\nport u\nport v\nport w\nport x\nwire p.3 x\nwire q o.0\n";
+    "node n0 4\nnode n1 5\nnode n2 6\nnode n3 7\nnode n4 8\nnode n5 9\nnode n6 10\nnode n7 11\nnode n8 12\nnode n9 13\nnode n10 14\nnode n11 15\nnode n12 16\nnode n13 17\nnode n14 18\nnode n15 19\nnode n16 20\nnode n17 21\nnode n18 22\nnode n19 23\nnode n20 24\nnode n21 25\nnode n22 26\nnode n23 27\nnode n24 28\nnode n25 29\nnode n26 30\nnode n27 31\nnode n28 32\nnode n29 33\nnode n30 34\nnode n31 35\nnode n32 36\nnode n33 37\nnode n34 38\nnode n35 39\nnode n36 40\nnode n37 41\nnode n38 42\nnode n39 43\nnode n40 44\nnode n41 45\nnode n42 46\nnode n43 47\nnode n44 48\nnode n45 49\nnode n46 50\nnode n47 51\nnode n48 52\nnode n49 53\nnode n50 54\nnode n51 55\nnode n52 56\nnode n53 57\nnode n54 58\nnode n55 59\nnode n56 60\nnode n57 61\nnode n58 62\nnode n59 63\nnode n60 64\nnode n61 65\nnode n62 66\nnode n63 1024\nport p0\nport p1\nport p2\nport p3\nport p4\nport p5\nport p6\nport p7\nwire n63.3 p7\nwire p0 n62.0\n";
 
 const SMALL: &[Row] = &[
     Row {
@@ -76,15 +77,23 @@ const SMALL: &[Row] = &[
 const FULL: &[Row] = &[Row {
     text: ALL,
     names: &[
-        "a", "b", "c", "d", "e", "f", "g", "h", "i", "j", "k", "l", "m", "n", "o", "p",
+        "n0", "n1", "n2", "n3", "n4", "n5", "n6", "n7", "n8", "n9", "n10", "n11", "n12", "n13",
+        "n14", "n15", "n16", "n17", "n18", "n19", "n20", "n21", "n22", "n23", "n24", "n25", "n26",
+        "n27", "n28", "n29", "n30", "n31", "n32", "n33", "n34", "n35", "n36", "n37", "n38", "n39",
+        "n40", "n41", "n42", "n43", "n44", "n45", "n46", "n47", "n48", "n49", "n50", "n51", "n52",
+        "n53", "n54", "n55", "n56", "n57", "n58", "n59", "n60", "n61", "n62", "n63",
     ],
-    pages: &[4, 5, 6, 7, 8, 9, 10, 11, 12, 13, 14, 15, 16, 17, 18, 256],
+    pages: &[
+        4, 5, 6, 7, 8, 9, 10, 11, 12, 13, 14, 15, 16, 17, 18, 19, 20, 21, 22, 23, 24, 25, 26, 27,
+        28, 29, 30, 31, 32, 33, 34, 35, 36, 37, 38, 39, 40, 41, 42, 43, 44, 45, 46, 47, 48, 49, 50,
+        51, 52, 53, 54, 55, 56, 57, 58, 59, 60, 61, 62, 63, 64, 65, 66, 1024,
+    ],
     ports: 8,
     wired: &[
-        (56, Port(0)),
-        (63, Port(7)),
-        (64, Link(14, 0)),
-        (71, Link(15, 3)),
+        (248, Port(0)),
+        (255, Port(7)),
+        (256, Link(62, 0)),
+        (263, Link(63, 3)),
     ],
 }];
 

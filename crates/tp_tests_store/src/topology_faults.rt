@@ -1,6 +1,7 @@
 //! Texts that say no topology, each with its fault.
 
 use std::alloc::{AllocError, Global};
+use std::fmt;
 use std::process::Abort;
 use std::test::Fail;
 use tp_model::NetFault;
@@ -12,7 +13,7 @@ const SMALL: &str = "node a 4\nport h\n";
 
 /// As many nodes as there may be, and as many ports.
 const NODES: &str =
-    "node a 4\nnode b 4\nnode c 4\nnode d 4\nnode e 4\nnode f 4\nnode g 4\nnode h 4\nnode i 4\nnode j 4\nnode k 4\nnode l 4\nnode m 4\nnode n 4\nnode o 4\nnode p 4\n";
+    "node n0 4\nnode n1 4\nnode n2 4\nnode n3 4\nnode n4 4\nnode n5 4\nnode n6 4\nnode n7 4\nnode n8 4\nnode n9 4\nnode n10 4\nnode n11 4\nnode n12 4\nnode n13 4\nnode n14 4\nnode n15 4\nnode n16 4\nnode n17 4\nnode n18 4\nnode n19 4\nnode n20 4\nnode n21 4\nnode n22 4\nnode n23 4\nnode n24 4\nnode n25 4\nnode n26 4\nnode n27 4\nnode n28 4\nnode n29 4\nnode n30 4\nnode n31 4\nnode n32 4\nnode n33 4\nnode n34 4\nnode n35 4\nnode n36 4\nnode n37 4\nnode n38 4\nnode n39 4\nnode n40 4\nnode n41 4\nnode n42 4\nnode n43 4\nnode n44 4\nnode n45 4\nnode n46 4\nnode n47 4\nnode n48 4\nnode n49 4\nnode n50 4\nnode n51 4\nnode n52 4\nnode n53 4\nnode n54 4\nnode n55 4\nnode n56 4\nnode n57 4\nnode n58 4\nnode n59 4\nnode n60 4\nnode n61 4\nnode n62 4\nnode n63 4\n";
 
 const PORTS: &str = "port a\nport b\nport c\nport d\nport e\nport f\nport g\nport h\n";
 
@@ -30,7 +31,7 @@ const NOTHING_TO_RUN: &[Row] = &[
 
 const NODE_LINES: &[Row] = &[
     ("", "node a 3\n", Syntax(1)),
-    ("", "node a 257\n", Syntax(1)),
+    ("", "node a 1025\n", Syntax(1)),
     ("", "node a 0\n", Syntax(1)),
     ("", "node a 04\n", Syntax(1)),
     ("", "node a +4\n", Syntax(1)),
@@ -134,9 +135,9 @@ const TAKEN_ENDS: &[Row] = &[
 ];
 
 const TOO_MANY: &[Row] = &[
-    (NODES, "node q 4\n", TooMany),
-    (NODES, "node q 3\n", Syntax(17)),
-    (NODES, "node a 4\n", Syntax(17)),
+    (NODES, "node n64 4\n", TooMany),
+    (NODES, "node n64 3\n", Syntax(65)),
+    (NODES, "node n0 4\n", Syntax(65)),
     (PORTS, "port i\n", TooMany),
     (PORTS, "port a\n", Syntax(9)),
     (PORTS, "port I\n", Syntax(9)),
@@ -195,6 +196,59 @@ fn names_and_wires_are_refused(rt: HostRuntime) -> Result<(), Fail> {
     check(&rt, TAKEN_ENDS)?;
     check(&rt, TOO_MANY)?;
     check(&rt, FIRST_OF_SEVERAL)
+}
+
+/// How many nodes a text has, each of four pages but the last, and the pages of that; how many ports; and the text's fault, if it has one.
+type Limit = (usize, u16, usize, Option<NetFault>);
+
+const LIMITS: &[Limit] = &[
+    (1, 4, 1, None),
+    (16, 256, 8, None),
+    (17, 257, 8, None),
+    (63, 1_023, 7, None),
+    (64, 1_024, 8, None),
+    (65, 4, 1, Some(TooMany)),
+    (65, 1_024, 9, Some(TooMany)),
+    (65, 1_025, 1, Some(Syntax(65))),
+    (64, 3, 1, Some(Syntax(64))),
+    (64, 1_025, 1, Some(Syntax(64))),
+    (1, 1_025, 8, Some(Syntax(1))),
+    (1, 4, 9, Some(TooMany)),
+];
+
+/// Adds lines of nodes, each of four pages but the last.
+fn add_nodes(text: &mut String, count: usize, last: u16) -> Result<(), fmt::Error> {
+    for node in 0..count {
+        let pages = if node + 1 < count { 4 } else { last };
+        write!(text, "node n{node} {pages}\n")?;
+    }
+    Ok(())
+}
+
+/// Adds lines of ports.
+fn add_ports(text: &mut String, count: usize) -> Result<(), fmt::Error> {
+    for port in 0..count {
+        write!(text, "port p{port}\n")?;
+    }
+    Ok(())
+}
+
+/// The fault of such a text, if it has one.
+fn fault_of(alloc: Global, row: &Limit) -> Result<Option<NetFault>, fmt::Error> {
+    let (nodes, last, ports, _) = *row;
+    let mut text = String::new(alloc);
+    add_nodes(&mut text, nodes, last)?;
+    add_ports(&mut text, ports)?;
+    Ok(Topology::read(alloc, text.as_bytes()).err())
+}
+
+#[test]
+fn counts_are_within_their_limits(rt: HostRuntime) -> Result<(), Fail> {
+    for (i, row) in LIMITS.iter().enumerate() {
+        let fault = fault_of(rt.alloc(), row)?;
+        assert!(rt; fault == row.3, "row {i}");
+    }
+    Ok(())
 }
 
 #[test]

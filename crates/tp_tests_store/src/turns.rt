@@ -3,8 +3,9 @@
 ghost use Rattle.tp_model.specs.EntryBytes.{IsSpelt};
 
 use crate::entries::is_spelt;
-use tp_entry::{BadEntry, Numbered, get, get_row, number_of};
+use tp_entry::{BadEntry, get, get_row, number_of};
 use tp_model::Entry;
+use tp_model::Form::{Plain, Turns};
 use tp_model::Received::{AckThenData, DataThenAck, JustAck, JustData, Nothing};
 
 #[test]
@@ -83,21 +84,37 @@ const NO_TURNS: &[[u8; 16]] = &[
 fn other_bytes_are_no_turn(rt: HostRuntime) {
     for (i, bytes) in NO_TURNS.iter().enumerate() {
         assert!(rt;
-            get(bytes) == Err(BadEntry) && get_row(bytes) == Err(BadEntry),
+            get(bytes) == Err(BadEntry)
+                && get_row(Plain, bytes) == Err(BadEntry)
+                && get_row(Turns, bytes) == Err(BadEntry),
             "row {i}"
         );
     }
 }
 
+/// An entry of each kind, and whether an area without turns may hold it.
+const KINDS: &[([u8; 16], bool)] = &[
+    ([1, 0, 3, 0, 0, 0, 0, 0, 7, 0, 0, 0, 0, 0, 0, 0], true),
+    ([2, 1, 0, 0, 0x41, 0, 0, 0, 1, 0, 0, 0, 0, 0, 0, 0], true),
+    ([3, 1, 0x5A, 0, 0, 0, 0, 0, 2, 1, 0, 0, 0, 0, 0, 0], true),
+    ([4, 1, 3, 0, 2, 1, 0, 0, 3, 0, 0, 0, 0, 0, 0, 0], true),
+    ([5, 0, 16, 0, 0, 0, 0, 0, 2, 0, 0, 0, 0, 0, 2, 0], false),
+    (
+        [5, 3, 0, 0, 0, 0x5A, 0, 0, 0x2C, 1, 0, 0, 0, 0, 8, 0],
+        false,
+    ),
+];
+
 #[test]
-fn an_area_of_form_1_has_no_turns(rt: HostRuntime) {
-    let turn = [5, 3, 0, 0, 0, 0x5A, 0, 0, 0x2C, 1, 0, 0, 0, 0, 8, 0];
-    let run = [1, 0, 3, 0, 0, 0, 0, 0, 7, 0, 0, 0, 0, 0, 0, 0];
-    let kept = Numbered {
-        entry: Entry::Run { node: 0, count: 3 },
-        number: 7,
-    };
-    assert!(rt; get(&turn).is_ok() && get_row(&turn) == Err(BadEntry) && get_row(&run) == Ok(kept));
+fn an_area_without_turns_has_all_other_kinds(rt: HostRuntime) {
+    for (i, (bytes, is_plain)) in KINDS.iter().enumerate() {
+        let read = get(bytes);
+        let plain = if *is_plain { read } else { Err(BadEntry) };
+        assert!(rt;
+            read.is_ok() && get_row(Turns, bytes) == read && get_row(Plain, bytes) == plain,
+            "row {i}"
+        );
+    }
 }
 
 #[test]

@@ -4,6 +4,7 @@ use std::alloc::{AllocError, Global};
 use std::test::Fail;
 use tp_area::format;
 use tp_disk::MemDisk;
+use tp_model::limits::NARROW_HEAD_BYTES;
 use tp_net::Topology;
 use tp_tests_fixtures::place;
 
@@ -87,7 +88,7 @@ fn formatted_with(
     images: &[Vec<u8>],
     area: u32,
 ) -> Result<Vec<u8>, Fail> {
-    let mut disk = MemDisk::zeroed(alloc, 512 + 2 * area as usize)?;
+    let mut disk = MemDisk::zeroed(alloc, NARROW_HEAD_BYTES + 2 * area as usize)?;
     // A topology keeps its rules: its page counts say so, which `format` asks.
     let _rules = topology.pages();
     let done = format(alloc, &mut disk, topology, images, u64::from(area));

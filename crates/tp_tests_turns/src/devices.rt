@@ -7,6 +7,7 @@ use std::test::Fail;
 use tp_area::format;
 use tp_disk::MemDisk;
 use tp_model::WireEnd;
+use tp_model::limits::NARROW_HEAD_BYTES;
 use tp_net::{MAX_LINES, Topology};
 
 /// The bytes of an area.
@@ -18,7 +19,7 @@ pub(crate) fn formatted(
     topology: &Topology,
     images: &[Vec<u8>],
 ) -> Result<MemDisk, Fail> {
-    let mut disk = MemDisk::zeroed(alloc, 512 + 2 * AREA as usize)?;
+    let mut disk = MemDisk::zeroed(alloc, NARROW_HEAD_BYTES + 2 * AREA as usize)?;
     // A topology keeps its rules: its page counts say so, which `format` asks.
     let _rules = topology.pages();
     format(alloc, &mut disk, topology, images, AREA)?;

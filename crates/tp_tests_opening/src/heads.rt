@@ -1,0 +1,415 @@
+//! Heads of both versions: which networks have which, and what is no head.
+
+use crate::apart::{Content, is_said, play, with_pieces};
+use crate::devices::Letter;
+use crate::opened_books::{book_with, grown};
+use std::alloc::{AllocError, Global};
+use std::fmt;
+use std::test::Fail;
+use std::thread::Threads;
+use tp_area::FormatFault;
+use tp_book::Refusal;
+use tp_disk::MemDisk;
+use tp_model::OpenFault;
+use tp_model::OpenFault::{BadVersion, Damaged, NoOpenArea, NotFormatted};
+use tp_model::limits::{IMAGE_HEAD_BYTES, NARROW_HEAD_BYTES, PAGE_BYTES, WIDE_HEAD_BYTES};
+use tp_net::Topology;
+use tp_recover::open;
+use tp_tests_fixtures::{idle, place};
+use tp_tests_store::calls::hand_in;
+
+/// How many nodes a network has, each of four pages but the last; the pages of that; its least area; and whether its head is a wide one,
+/// since a narrow one can't say it. It has one port, and no wire.
+type Row = (u16, u16, u64, bool);
+
+/// A node of four pages has 4,268 bytes, each line 4, a port 8,212. Beside them stand 22, and there is room for 96 a line and 32 more.
+const ROWS: &[Row] = &[
+    (1, 4, 13_034, false),
+    (1, 256, 271_082, false),
+    (1, 257, 272_106, true),
+    (1, 1_023, 1_056_490, true),
+    (1, 1_024, 1_057_514, true),
+    (15, 4, 78_386, false),
+    (16, 4, 83_054, false),
+    (16, 256, 341_102, false),
+    (17, 4, 87_722, true),
+    (17, 257, 346_794, true),
+    (63, 4, 302_450, true),
+    (64, 4, 307_118, true),
+];
+
+/// Adds a line for each node.
+fn add_nodes(text: &mut String, nodes: u16, last: u16) -> Result<(), fmt::Error> {
+    for node in 0..nodes {
+        let pages = if node + 1 < nodes { 4 } else { last };
+        write!(text, "node n{node} {pages}\n")?;
+    }
+    Ok(())
+}
+
+/// The image of a node of so many pages in which no process runs.
+fn image(alloc: Global, pages: u16) -> Result<Vec<u8>, AllocError> {
+    let mut image = idle(alloc)?;
+    image.resize(IMAGE_HEAD_BYTES + PAGE_BYTES * pages as usize, 0)?;
+    place(&mut image, 2, &pages.to_le_bytes());
+    Ok(image)
+}
+
+/// The network of a row.
+fn network(alloc: Global, row: &Row) -> Result<Letter, Fail> {
+    let (nodes, last, _, _) = *row;
+    let mut text = String::new(alloc);
+    add_nodes(&mut text, nodes, last)?;
+    text.push_str("port h\n")?;
+    let mut images = Vec::new(alloc);
+    for _ in 1..nodes {
+        images.push(idle(alloc)?)?;
+    }
+    images.push(image(alloc, last)?)?;
+    let topology = Topology::read(alloc, text.as_bytes())?;
+    Ok(Letter { topology, images })
+}
+
+/// Whether a device of so many bytes is refused for its areas.
+fn is_full(alloc: Global, letter: &Letter, size: usize, area: u64) -> Result<bool, AllocError> {
+    let mut disk = MemDisk::zeroed(alloc, size)?;
+    Ok(letter.format(alloc, &mut disk, area) == Err(FormatFault::AreaFull))
+}
+
+/// Whether it is, where the areas are smaller than the least by one byte, and where the device is.
+fn are_full(alloc: Global, letter: &Letter, head: usize, least: u64) -> Result<bool, AllocError> {
+    let size = head.saturating_add(2 * least.min(2_000_000) as usize);
+    Ok(
+        is_full(alloc, letter, size, least.saturating_sub(1))?
+            && is_full(alloc, letter, size.saturating_sub(1), least)?,
+    )
+}
+
+/// Whether a device has a head of this version, and behind it an open area with turns.
+fn is_of_version(device: &[u8], head: usize, version: u8) -> bool {
+    let area = device.get(head..).unwrap_or(&[]);
+    device.get(7) == Some(&version)
+        && area.starts_with(&[0xA5, 1, 0])
+        && area.get(19..21) == Some([2, 0].as_slice())
+}
+
+/// The device with a head of the other version. No link has a wire, so none says where one leads.
+fn other_head(alloc: Global, device: &[u8], is_wide: bool) -> Result<Vec<u8>, AllocError> {
+    let (narrow, rest) = device.split_at(NARROW_HEAD_BYTES.min(device.len()));
+    let mut other = Vec::from_slice(alloc, narrow)?;
+    if is_wide {
+        let behind = WIDE_HEAD_BYTES - NARROW_HEAD_BYTES;
+        other.extend_from_slice(rest.get(behind..).unwrap_or(&[]))?;
+        place(&mut other, 7, &[1]);
+    } else {
+        other.resize(WIDE_HEAD_BYTES, 0)?;
+        other.extend_from_slice(rest)?;
+        place(&mut other, 7, &[2]);
+    }
+    Ok(other)
+}
+
+/// What a device says with a head of the other version: a wide one says each network.
+const fn says_with_other(is_wide: bool) -> Result<u64, OpenFault> {
+    if is_wide { Err(Damaged(0)) } else { Ok(0) }
+}
+
+/// Whether a network is formatted with its head, and opens with it; and with one of the other version, where that can say it.
+fn has_its_head<R: Threads + Sync>(rt: &R, alloc: Global, row: &Row) -> Result<bool, Fail> {
+    let (_, _, least, is_wide) = *row;
+    let (head, version) = if is_wide {
+        (WIDE_HEAD_BYTES, 2)
+    } else {
+        (NARROW_HEAD_BYTES, 1)
+    };
+    let letter = network(alloc, row)?;
+    let device = letter.device_behind(alloc, head, least)?;
+    let other = other_head(alloc, &device, is_wide)?;
+    Ok(
+        is_of_version(&device, head, version)
+            && are_full(alloc, &letter, head, least)?
+            && is_said(rt, alloc, &device, Ok(0))?
+            && is_said(rt, alloc, &other, says_with_other(is_wide))?,
+    )
+}
+
+#[test]
+fn networks_have_their_heads(rt: HostRuntime) -> Result<(), Fail> {
+    for (i, row) in ROWS.iter().enumerate() {
+        assert!(rt; has_its_head(&rt, rt.alloc(), row)?, "row {i}");
+    }
+    Ok(())
+}
+
+/// Changes of the device of one node with a group of four entries, whose head is a narrow one.
+const NARROW: &[Content<'static>] = &[
+    Content {
+        pieces: &[(7, &[0])],
+        says: Err(BadVersion),
+    },
+    Content {
+        pieces: &[(7, &[3])],
+        says: Err(BadVersion),
+    },
+    Content {
+        pieces: &[(7, &[2])],
+        says: Err(Damaged(0)),
+    },
+    // Nodes, ports, and pages that there may not be.
+    Content {
+        pieces: &[(8, &[0])],
+        says: Err(Damaged(0)),
+    },
+    Content {
+        pieces: &[(8, &[17])],
+        says: Err(Damaged(0)),
+    },
+    Content {
+        pieces: &[(9, &[9])],
+        says: Err(Damaged(0)),
+    },
+    Content {
+        pieces: &[(24, &[1, 1])],
+        says: Err(Damaged(0)),
+    },
+    // The link leads to a port that isn't there, to a node that isn't, and nowhere.
+    Content {
+        pieces: &[(56, &[0x81])],
+        says: Err(Damaged(0)),
+    },
+    Content {
+        pieces: &[(56, &[5])],
+        says: Err(Damaged(0)),
+    },
+    Content {
+        pieces: &[(56, &[0]), (13_033, &[0])],
+        says: Ok(0),
+    },
+    // Bytes that are 00.
+    Content {
+        pieces: &[(10, &[1])],
+        says: Err(Damaged(0)),
+    },
+    Content {
+        pieces: &[(26, &[4])],
+        says: Err(Damaged(0)),
+    },
+    Content {
+        pieces: &[(120, &[1])],
+        says: Err(Damaged(0)),
+    },
+    Content {
+        pieces: &[(511, &[1])],
+        says: Err(Damaged(0)),
+    },
+];
+
+/// Seventeen nodes. The last is wired to the port and to the first.
+const SEVENTEEN: &[u8] =
+    b"node n0 4\nnode n1 4\nnode n2 4\nnode n3 4\nnode n4 4\nnode n5 4\nnode n6 4\nnode n7 4\nnode n8 4\nnode n9 4\nnode n10 4\nnode n11 4\nnode n12 4\nnode n13 4\nnode n14 4\nnode n15 4\nnode n16 4\nport h\nwire n16.0 h\nwire n16.3 n0.0\n";
+
+/// Their least area: 81,052 bytes of the cut image, 14 beside it, and 6,656 for groups.
+const LEAST: u64 = 87_722;
+
+/// Bytes of their device: the head; the first area's gate, generation, length, base and form; the gates of its first group and of the
+/// second area.
+const BYTES: &[(usize, &[u8])] = &[
+    (0, &[0x54, 0x50, 0x4E, 0x45, 0x54, 0, 0, 2, 17, 1, 0]),
+    (16, &[0xAA, 0x56, 1, 0, 0, 0, 0, 0, 4, 0, 4, 0]),
+    (54, &[4, 0, 4, 0, 0, 0]),
+    (150, &[0, 0, 0x44, 0, 0, 0]),
+    (278, &[0, 0, 0, 0x80, 0, 0, 0, 0, 1, 0, 0, 0]),
+    (
+        1_024,
+        &[
+            0xA5, 1, 0, 0, 0, 0, 0, 0, 0, 0x9C, 0x3C, 1, 0, 0, 0, 0, 0, 0, 0, 2, 0,
+        ],
+    ),
+    (82_089, &[0]),
+    (88_746, &[0]),
+];
+
+/// Changes of that device.
+const WIDE: &[Content<'static>] = &[
+    Content {
+        pieces: &[],
+        says: Ok(0),
+    },
+    Content {
+        pieces: &[(7, &[1])],
+        says: Err(Damaged(0)),
+    },
+    Content {
+        pieces: &[(7, &[3])],
+        says: Err(BadVersion),
+    },
+    Content {
+        pieces: &[(8, &[16])],
+        says: Err(Damaged(0)),
+    },
+    Content {
+        pieces: &[(8, &[65])],
+        says: Err(Damaged(0)),
+    },
+    Content {
+        pieces: &[(24, &[1, 4])],
+        says: Err(Damaged(0)),
+    },
+    // Where links lead: one way only; nowhere; to a link of no node; to a second port; to no port at all.
+    Content {
+        pieces: &[(152, &[0])],
+        says: Err(Damaged(0)),
+    },
+    Content {
+        pieces: &[(286, &[0])],
+        says: Err(Damaged(0)),
+    },
+    Content {
+        pieces: &[(152, &[0]), (286, &[0])],
+        says: Ok(0),
+    },
+    Content {
+        pieces: &[(153, &[1])],
+        says: Err(Damaged(0)),
+    },
+    Content {
+        pieces: &[(280, &[1])],
+        says: Err(Damaged(0)),
+    },
+    Content {
+        pieces: &[(281, &[0x81])],
+        says: Err(Damaged(0)),
+    },
+    // The first link is wired to itself.
+    Content {
+        pieces: &[(152, &[1]), (286, &[0])],
+        says: Ok(0),
+    },
+    // Bytes that are 00: behind the last node's pages, its ends, and the ends of all.
+    Content {
+        pieces: &[(58, &[4])],
+        says: Err(Damaged(0)),
+    },
+    Content {
+        pieces: &[(288, &[1])],
+        says: Err(Damaged(0)),
+    },
+    Content {
+        pieces: &[(664, &[1])],
+        says: Err(Damaged(0)),
+    },
+    Content {
+        pieces: &[(1_023, &[1])],
+        says: Err(Damaged(0)),
+    },
+    // The area.
+    Content {
+        pieces: &[(1_024, &[0])],
+        says: Err(NoOpenArea),
+    },
+    Content {
+        pieces: &[(1_043, &[1])],
+        says: Err(Damaged(1_024)),
+    },
+    Content {
+        pieces: &[(1_043, &[3])],
+        says: Err(Damaged(1_024)),
+    },
+    Content {
+        pieces: &[(1_043, &[0, 2])],
+        says: Err(Damaged(1_024)),
+    },
+    Content {
+        pieces: &[(1_043, &[0])],
+        says: Ok(0),
+    },
+    Content {
+        pieces: &[(88_746, &[0xA5, 1])],
+        says: Err(Damaged(88_746)),
+    },
+    // A group of one entry: the first node runs for 3 steps.
+    Content {
+        pieces: &[(82_089, &[0xA5, 0, 1]), (82_105, &[1, 0, 3])],
+        says: Ok(1),
+    },
+    Content {
+        pieces: &[(82_089, &[0xA5, 0, 1]), (82_105, &[1, 0, 4])],
+        says: Err(Damaged(82_105)),
+    },
+    Content {
+        pieces: &[(82_089, &[0xA5, 0, 1]), (82_105, &[1, 17, 3])],
+        says: Err(Damaged(82_105)),
+    },
+    Content {
+        pieces: &[(82_089, &[0xA5, 0, 1]), (82_105, &[1, 16, 3])],
+        says: Ok(1),
+    },
+];
+
+/// How many bytes of it are left, and what it then says.
+const LENGTHS: &[(usize, Result<u64, OpenFault>)] = &[
+    (511, Err(NotFormatted)),
+    (512, Err(Damaged(0))),
+    (600, Err(Damaged(0))),
+    (1_023, Err(Damaged(0))),
+    (1_024, Err(Damaged(0))),
+    (176_467, Err(Damaged(0))),
+    (176_468, Ok(0)),
+];
+
+/// The device of seventeen nodes.
+fn seventeen(alloc: Global) -> Result<Vec<u8>, Fail> {
+    Letter::of(alloc, SEVENTEEN, 17)?.device_behind(alloc, WIDE_HEAD_BYTES, LEAST)
+}
+
+#[test]
+fn heads_are_changed(rt: HostRuntime) -> Result<(), Fail> {
+    let alloc = rt.alloc();
+    let narrow = grown(alloc)?;
+    play(&rt, alloc, &narrow, NARROW)?;
+    let wide = seventeen(alloc)?;
+    play(&rt, alloc, &wide, WIDE)
+}
+
+#[test]
+fn wide_heads_have_their_bytes(rt: HostRuntime) -> Result<(), Fail> {
+    let alloc = rt.alloc();
+    let device = seventeen(alloc)?;
+    for (at, bytes) in BYTES {
+        let there = device.get(*at..).unwrap_or(&[]);
+        assert!(rt; there.starts_with(bytes), "{at}");
+    }
+    for (len, says) in LENGTHS {
+        let short = device.get(..*len).unwrap_or(&[]);
+        assert!(rt; is_said(&rt, alloc, short, *says)?, "{len} bytes");
+    }
+    Ok(())
+}
+
+/// One entry that anyone may make has room in the least area, and no second one.
+#[test]
+fn the_least_area_has_room_for_one_entry(rt: HostRuntime) -> Result<(), Fail> {
+    let alloc = rt.alloc();
+    let bytes = seventeen(alloc)?;
+    let mut disk = MemDisk::of_bytes(Vec::from_slice(alloc, &bytes)?);
+    let room = open(alloc, &mut disk)?.journal_room();
+    let mut book = book_with(alloc, bytes, room)?;
+    let one = hand_in(&mut book, b"x") == Ok(1);
+    let other = hand_in(&mut book, b"x") == Err(Refusal::JournalFull);
+    assert!(rt; room == 6_656 && one && other);
+    Ok(())
+}
+
+/// The wide head of the network of one node, whose link leads to its port.
+const ONE_WIDE: &[(usize, &[u8])] = &[(7, &[2]), (56, &[0]), (152, &[0, 0x80])];
+
+/// A wide head says a narrow network, too: the device of one node opens with one as it does with its own.
+#[test]
+fn a_wide_head_of_a_small_network(rt: HostRuntime) -> Result<(), Fail> {
+    let alloc = rt.alloc();
+    let narrow = grown(alloc)?;
+    let moved = other_head(alloc, &narrow, false)?;
+    let wide = with_pieces(alloc, &moved, ONE_WIDE)?;
+    assert!(rt; is_said(&rt, alloc, &wide, Ok(4))?);
+    Ok(())
+}

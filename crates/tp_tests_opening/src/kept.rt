@@ -1,0 +1,76 @@
+//! Devices that were kept from before areas had forms: what they open to, and that a group more is appended.
+
+use crate::apart::is_said;
+use crate::devices::{LETTER, append, holds, replayed, store_of};
+use crate::switch_faults::look_at;
+use std::alloc::Global;
+use std::test::Fail;
+use std::thread::Threads;
+use tp_model::Entry;
+use tp_model::Form::Plain;
+use tp_tests_fixtures::{KEPT, Kept};
+
+/// What the entries up to the last of a kept device are behind the first turns.
+const BEHIND: [Entry; 3] = [
+    Entry::Confirm { port: 0, upto: 1 },
+    Entry::Run { node: 0, count: 16 },
+    Entry::Run { node: 0, count: 16 },
+];
+
+/// Whether a device holds what a plain replay of all entries before the number `next` gives, and `more` behind them.
+fn is_replayed(alloc: Global, bytes: &[u8], next: u64, more: &[Entry]) -> Result<bool, Fail> {
+    let (letter, behind) = (LETTER, BEHIND);
+    let count = next as usize;
+    let first = letter.get(..count.min(letter.len())).unwrap_or(&[]);
+    let rest = behind
+        .get(..count.saturating_sub(first.len()))
+        .unwrap_or(&[]);
+    let formatted = KEPT[0].bytes(alloc)?;
+    let wanted = replayed(alloc, &formatted, &[first, rest, more])?;
+    holds(alloc, bytes, &wanted)
+}
+
+/// Whether a kept device opens to what is written beside it, in an area without turns, and to a plain replay of its entries.
+fn opens<R: Threads + Sync>(rt: &R, alloc: Global, kept: &Kept) -> Result<bool, Fail> {
+    let bytes = kept.bytes(alloc)?;
+    let count = kept.next.saturating_sub(kept.base) as usize;
+    let look = (
+        kept.second,
+        kept.generation,
+        kept.base,
+        count,
+        kept.next,
+        Plain,
+    );
+    Ok(
+        look_at(alloc, &bytes)? == look
+            && is_said(rt, alloc, &bytes, Ok(kept.next))?
+            && is_replayed(alloc, &bytes, kept.next, &[])?,
+    )
+}
+
+/// Whether it does so with a group more, which is appended in the same area.
+fn goes_on(alloc: Global, kept: &Kept) -> Result<bool, Fail> {
+    let more = [Entry::HostIn {
+        port: 0,
+        byte: 0x78,
+    }];
+    let mut store = store_of(alloc, &kept.bytes(alloc)?)?;
+    let is_done = append(&mut store, &more).is_ok();
+    let bytes = store.into_disk().crash();
+    let look = look_at(alloc, &bytes)?;
+    Ok(
+        is_done
+            && (look.0, look.1, look.5) == (kept.second, kept.generation, Plain)
+            && is_replayed(alloc, &bytes, kept.next, &more)?,
+    )
+}
+
+#[test]
+fn kept_devices_open(rt: HostRuntime) -> Result<(), Fail> {
+    for (i, kept) in KEPT.iter().enumerate() {
+        let told = opens(&rt, rt.alloc(), kept)? && goes_on(rt.alloc(), kept)?;
+        assert!(rt; told, "device {i}");
+    }
+    Ok(())
+}
