@@ -117,8 +117,11 @@ fn topology_in(version: HeadVersion, bytes: &[u8]) -> Option<Topology>
     if count > head_nodes(version) || usize::from(ports) > MAX_PORTS {
         return None;
     }
-    let numbers: ArrayVec<u16, MAX_LINES> =
-        numbers_in(version, link_line(count, 0), &bytes[ends_place(version)..]);
+    let numbers: ArrayVec<u16, MAX_LINES> = numbers_in(
+        version,
+        link_line(count, 0),
+        &bytes[ends_place(version)..],
+    );
     if !are_numbers(version, numbers.as_slice()) {
         return None;
     }

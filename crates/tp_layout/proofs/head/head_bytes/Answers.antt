@@ -20,9 +20,13 @@ pub put_numbers-requires : goal.put_numbers-requires
 put_numbers-requires c =
     let t = c.args.topology.now in
     let numbers_are = c.as_slice.ensures.value ∙ c.end_numbers-numbers.ensures in
-    let room = numbers_room c.args.version t c.wires.result.now c.link_line.result c.as_slice.result.now c.requires.limits (omega (arith, c.link_line.ensures, ap length c.pages-pages.ensures.value)) numbers_are in
-    (omega arith, (omega (arith, c.pad-2.ensures.len, c.ends_place.ensures, room.0),
-    numbers_low c.args.version t c.wires.result.now c.link_line.result c.as_slice.result.now c.pages-pages.ensures.rules c.requires.limits c.wires.ensures.value numbers_are))
+    let room = numbers_room c.args.version t c.wires.result.now c.link_line.result c.as_slice.result.now c.requires.limits (omega (arith, c.link_line.ensures, ap length c.pages-pages.ensures.value)) numbers_are in (
+      omega arith,
+      (
+        omega (arith, c.pad-2.ensures.len, c.ends_place.ensures, room.0),
+        numbers_low c.args.version t c.wires.result.now c.link_line.result c.as_slice.result.now c.pages-pages.ensures.rules c.requires.limits c.wires.ensures.value numbers_are,
+      ),
+    )
 
 pub returns-clause-bytes : goal.returns-clause-bytes
 returns-clause-bytes c =
