@@ -34,7 +34,10 @@ fn checked_text(alloc: Global, topology: &Topology) -> Result<String, AllocError
     requires { is_topology topology.now ≡ true }
 {
     let (nodes, ports) = (topology.pages().len(), topology.port_count());
-    let (version, form) = (version_number(version_for(topology)), form_name(Form::Turns));
+    let (version, form) = (
+        version_number(version_for(topology)),
+        form_name(Form::Turns),
+    );
     let least = area_for(topology, 1);
     let mut text = String::new(alloc);
     write!(

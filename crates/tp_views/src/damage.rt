@@ -61,12 +61,7 @@ fn push_node<D: Disk>(
 }
 
 /// Says what is wrong with the head of a device of `size` bytes, whose layout this is by it.
-fn push_head(
-    text: &mut String,
-    size: u64,
-    layout: &Layout,
-    head: &[u8],
-) -> Result<(), AllocError> {
+fn push_head(text: &mut String, size: u64, layout: &Layout, head: &[u8]) -> Result<(), AllocError> {
     let TwoAreas { first, length } = layout.areas;
     if push_broken(text, layout.version, head)? {
         return write!(text, ": docs/FORMATS.md, section 4\n");

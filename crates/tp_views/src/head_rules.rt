@@ -170,15 +170,9 @@ impl Fields<'_> {
         )?;
         let (node, own) = (other / 4, other % 4);
         if is_link {
-            write!(
-                text,
-                "link {own} of node {node}, which doesn't lead back"
-            )?;
+            write!(text, "link {own} of node {node}, which doesn't lead back")?;
         } else if is_port {
-            write!(
-                text,
-                "port {port}, to which an earlier link leads"
-            )?;
+            write!(text, "port {port}, to which an earlier link leads")?;
         } else {
             write!(text, "no link or port that is there")?;
         }
