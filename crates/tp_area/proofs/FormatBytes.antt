@@ -9,7 +9,8 @@ use Rattle.std.proofs.lemmas.List.{take_at, drop-drop, length-replicate, replica
 use Rattle.std.proofs.Math.Seq.{take-append-add}
 use Rattle.std.proofs.lemmas.List.Sums.{sum_by-cons}
 use Rattle.tp_model.specs.declared.areas.TwoAreas.{TwoAreas}
-use Rattle.tp_model.specs.declared.limits.TheConstants.{GATE_OPEN, GATE_CLOSED, HEAD_BYTES}
+use Rattle.tp_model.specs.declared.form.Form.TheVariants.{Turns}
+use Rattle.tp_model.specs.declared.limits.TheConstants.{GATE_OPEN, GATE_CLOSED}
 use Rattle.tp_model.specs.Bytes.{u16_bytes, u32_bytes, u64_bytes, zeros}
 use Rattle.tp_model.specs.NodeState.{NodeState}
 use Rattle.tp_model.specs.Network.{◌>>=◌, Network}
@@ -18,9 +19,9 @@ use Rattle.tp_model.specs.Journal.{image_length, cut_length, is_roomy, room, res
 use Rattle.tp_model.specs.Disk.{Moment, SameOutside, Write, Sync, written}
 use Rattle.tp_model.specs.DiskHistory.{State, IsSynced, LeavesOnly}
 use Rattle.tp_model.specs.Device.{areas_end, fits}
-use Rattle.tp_model.specs.Head.{head_bytes}
+use Rattle.tp_model.specs.Head.{head_bytes, head_length, version_for}
 use Rattle.tp_model.specs.Image.{page_count, image, node_of, has_idle_links}
-use Rattle.tp_model.specs.CutImage.{line_bytes, port_bytes, cut_bytes, only_if}
+use Rattle.tp_model.specs.CutImage.{base_number, line_bytes, port_bytes, cut_bytes, only_if}
 use Rattle.tp_model.specs.Opening.{network_of}
 use Rattle.tp_model.specs.Spelling.{front_bytes}
 use Rattle.tp_model.specs.Format.{fresh_node, fresh_nodes, fresh_port, IsFormatted}
@@ -136,7 +137,7 @@ area_is t images nodes cut rest fresh is_cut is_rest =
     ∙ ap (λ xs. xs ++ ((lines ++ ports) ++ GATE_CLOSED ∷ [])) (sym same)
     ∙ sym (append_assoc (flat_map image nodes) (lines ++ ports) (GATE_CLOSED ∷ [])) in
     ap (λ n. (area_front n ++ concat images) ++ zeros rest) is_cut
-    ∙ ap (λ xs. GATE_OPEN ∷ (u64_bytes 1 ++ (u32_bytes (cut_length t) ++ (u64_bytes 0 ++ xs)))) tail
+    ∙ ap (λ xs. GATE_OPEN ∷ (u64_bytes 1 ++ (u32_bytes (cut_length t) ++ (u64_bytes (base_number Turns 0) ++ xs)))) tail
 
 length-area : (t : Topology) (images : List (List ℕ)) (nodes : List NodeState) (cut rest : ℕ) → fresh_nodes t.pages images ≡ Some nodes → cut ≡ cut_length t
     → rest ≡ 4 * line_count t + 8212 * t.ports + 1 → length (first_area t (start_with t nodes)) ≡ 14 + cut_length t
@@ -160,12 +161,12 @@ roomy size t areas h =
     let most = leb-true (reserve (line_count t) + entry_room) (room t areas.length) parts.1 in
     record { both = leb-true (areas_end areas) size parts.0; cut = omega arith }
 
-formatted_is : (t : Topology) (areas : TwoAreas) (s : Network NodeState) (old new : List ℕ) → areas.first ≡ HEAD_BYTES → length (head_bytes t areas) ≡ areas.first → areas_end areas ≤ length old
-    → length (first_area t s) ≤ areas.length → new ≡ written (with_areas (first_area t s) areas old) 0 (head_bytes t areas) → IsFormatted t areas s new
+formatted_is : (t : Topology) (areas : TwoAreas) (s : Network NodeState) (old new : List ℕ) → areas.first ≡ head_length (version_for t) → length (head_bytes (version_for t) t areas) ≡ areas.first → areas_end areas ≤ length old
+    → length (first_area t s) ≤ areas.length → new ≡ written (with_areas (first_area t s) areas old) 0 (head_bytes (version_for t) t areas) → IsFormatted t areas s new
 formatted_is t areas s old new begins size room most is =
-    let front = front_bytes t 1 0 s in
+    let front = front_bytes t 1 Turns 0 s in
     let whole = first_area t s in
-    let head = head_bytes t areas in
+    let head = head_bytes (version_for t) t areas in
     let start = areas.first in
     let behind_first = areas.first + areas.length in
     let one = written old start whole in
@@ -209,8 +210,8 @@ synced_after first head areas old new wrote =
 
 -- images that were accepted, areas that are large enough, and what was written
 pub formatted_by : {X : Type 0} (f : X → List ℕ) (t : Topology) (xs : List X) (pages head : List ℕ) (areas : TwoAreas) (size cut rest : ℕ) (old new : State)
-    → pages ≡ t.pages → Checks (fresh_nodes pages (map f xs)) (Ok tt) → fits size t areas ≡ true → areas.first ≡ HEAD_BYTES → length old.now.bytes ≡ size
-    → head ≡ head_bytes t areas → length head ≡ areas.first → cut ≡ cut_length t → rest ≡ 4 * line_count t + 8212 * t.ports + 1
+    → pages ≡ t.pages → Checks (fresh_nodes pages (map f xs)) (Ok tt) → fits size t areas ≡ true → areas.first ≡ head_length (version_for t) → length old.now.bytes ≡ size
+    → head ≡ head_bytes (version_for t) t areas → length head ≡ areas.first → cut ≡ cut_length t → rest ≡ 4 * line_count t + 8212 * t.ports + 1
     → Wrote ((area_front cut ++ flat_map f xs) ++ zeros rest) head areas old new → Formatted t (map f xs) areas old new
 formatted_by f t xs pages head areas size cut rest old new is_pages checked large begins whole is_head long is_cut is_rest wrote =
     let images = map f xs in
@@ -219,7 +220,7 @@ formatted_by f t xs pages head areas size cut rest old new is_pages checked larg
     let same : (area_front cut ++ flat_map f xs) ++ zeros rest ≡ first_area t start =
     ap (λ ys. (area_front cut ++ ys) ++ zeros rest) (sym (concat-map f xs)) ∙ area_is t images nodes.0 cut rest nodes.1 is_cut is_rest in
     let first : Wrote (first_area t start) head areas old new = subst (λ ys. Wrote ys head areas old new) same wrote in
-    let both : Wrote (first_area t start) (head_bytes t areas) areas old new = subst (λ ys. Wrote (first_area t start) ys areas old new) is_head first in
+    let both : Wrote (first_area t start) (head_bytes (version_for t) t areas) areas old new = subst (λ ys. Wrote (first_area t start) ys areas old new) is_head first in
     let fit = roomy size t areas large in
     let both_fit = fit.both in
     let room = fit.cut in
@@ -228,8 +229,8 @@ formatted_by f t xs pages head areas size cut rest old new is_pages checked larg
       start = start;
       is = ap (option_map (λ ns. start_with t ns)) nodes.1;
       wrote = both;
-      synced = synced_after (first_area t start) (head_bytes t areas) areas old new both;
-      formatted = λ left may. subst (IsFormatted t areas start) (sym (synced_stands new left (synced_after (first_area t start) (head_bytes t areas) areas old new both) may))
+      synced = synced_after (first_area t start) (head_bytes (version_for t) t areas) areas old new both;
+      formatted = λ left may. subst (IsFormatted t areas start) (sym (synced_stands new left (synced_after (first_area t start) (head_bytes (version_for t) t areas) areas old new both) may))
           (formatted_is t areas start old.now.bytes new.now.bytes begins (ap length (sym is_head) ∙ long) (omega arith) (omega arith) both.bytes);
     }
 

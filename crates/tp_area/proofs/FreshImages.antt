@@ -5,6 +5,7 @@ use Rattle.std.specs.List.{list_all}
 use Rattle.std.proofs.lemmas.Bool.{and_parts, leb-true, eqb-true, ne_eqb, eq-eqb, true≢false}
 use Rattle.std.proofs.lemmas.Option.{cond_some}
 use Rattle.std.proofs.lemmas.List.{drop_all, drop_more}
+use Rattle.tp_model.specs.declared.limits.TheConstants.{MIN_PAGES, MAX_PAGES}
 use Rattle.tp_model.specs.NodeState.{NodeState}
 use Rattle.tp_model.specs.Network.{◌>>=◌}
 use Rattle.tp_model.specs.EndBytes.{out_end_at, in_end_at, ends_at, is_idle_out, is_idle_in}
@@ -31,14 +32,14 @@ unfolding node_at is_node
 node_at_is bytes keeps =
     let memory = drop 172 bytes in
     let t = and_parts (is_memory memory) _ keeps in
-    let parts = and_parts (length memory == 1024 * page_count memory) (nat_le 4 (page_count memory) && nat_le (page_count memory) 256) t.0 in
-    let pages = and_parts (nat_le 4 (page_count memory)) (nat_le (page_count memory) 256) parts.1 in
+    let parts = and_parts (length memory == 1024 * page_count memory) (nat_le MIN_PAGES (page_count memory) && nat_le (page_count memory) MAX_PAGES) t.0 in
+    let pages = and_parts (nat_le MIN_PAGES (page_count memory)) (nat_le (page_count memory) MAX_PAGES) parts.1 in
     let whole : length memory ≡ 1024 * page_count memory = eqb-true (length memory) (1024 * page_count memory) parts.0 in
     record {
       outputs = refl;
       inputs = refl;
       memory = whole;
-      size = omega (arith, leb-true 4 (page_count memory) pages.0, whole, length-drop 172 bytes);
+      size = omega (arith, leb-true MIN_PAGES (page_count memory) pages.0, whole, length-drop 172 bytes);
     }
 
 pub image_is : (bytes : List ℕ) (n : NodeState) → node_of bytes ≡ Some n → IsImageOf bytes n

@@ -11,12 +11,11 @@ use Rattle.tp_model.specs.Bytes.{u8_at}
 use Rattle.tp_model.specs.NodeState.{NodeState}
 use Rattle.tp_model.specs.Node.{t414, t414_ends}
 use Rattle.tp_model.specs.Device.{area_start, areas_end, gate_of, content_of, is_open, generation_of}
-use Rattle.tp_model.specs.Head.{areas_of_length}
 use Rattle.tp_model.specs.Disk.{Moment, MayBe, Write, Sync, Read, SameOutside, IsWithin, written, done, within}
 use Rattle.tp_model.specs.DiskHistory.{State, Goes, Fails, IsSynced, LeavesOnly}
 use Rattle.tp_model.specs.StoreCalls.{all_done, Called, Broke, clear_calls, switch_calls}
 use Rattle.tp_model.specs.Areas.{Held, gate_closed}
-use Rattle.tp_model.specs.Opening.{Opened, held_of, area_in, chosen_area, choice, opening, verdict, base_of}
+use Rattle.tp_model.specs.Opening.{Opened, held_of, area_in, chosen_area, choice, opening, verdict, base_of, form_of}
 use Rattle.tp_model.specs.DeviceAreas.{device_areas, open_other_of, spare_of, other_of, if_newer, other_is_open, other_start, other_content}
 use Rattle.tp_law_runs.specs.Standing.{Rests}
 use Rattle.tp_law_runs.proofs.Device.{put_may, put_done}
@@ -27,7 +26,7 @@ use Rattle.tp_area.specs.declared.place.Place.{Place}
 use Rattle.tp_area.specs.Places.{cut_field, listed, place_in, place_at}
 use Rattle.tp_area.specs.Other.{other_gate, if_open, OtherIsClosed, Cleared, PutBehind, Switched}
 use Rattle.tp_area.specs.Crashes.{OpensTo, OpensToEither, RestsAs}
-use Rattle.tp_area.proofs.SameFront.{front_of_range, u64_same}
+use Rattle.tp_area.proofs.SameFront.{areas_same, front_of_range}
 use Rattle.tp_area.proofs.Behind.{head_ends}
 use Rattle.tp_area.proofs.Frames.{drop_written}
 use Rattle.tp_area.proofs.Placed.{content_at, found_at, head_long, is_placed, place_is}
@@ -95,12 +94,13 @@ place_stays place bytes new at count some said lies same shut =
     let gate = own_gate_same place.areas place.second at count bytes new some lies.from lies.upto same in
     let found : found_at place new ≡ found_at place bytes = ap (listed (area_start place.areas place.second + 1)) content in
     place_is place new (record {
-      areas = ap areas_of_length (u64_same 16 at bytes new (omega arith) (front_of_range at count bytes new same)) ∙ is.areas;
+      areas = areas_same at bytes new (omega arith) (front_of_range at count bytes new same) ∙ is.areas;
       room = subst (λ n. areas_end place.areas ≤ n) (sym same.same_length) is.room;
       second = chosen_alone place.areas place.second new (ap is_open gate ∙ own_open place.areas place.second bytes is.second) shut;
       closed = ap (λ l. l.is_closed) found ∙ is.closed;
       cut = subst (λ xs. 8 ≤ cut_field xs) (sym content) is.cut;
       generation = ap generation_of content ∙ is.generation;
+      form = ap form_of content ∙ is.form;
       end = ap (λ l. l.end) found ∙ is.end;
       next = ap (λ xs. base_of xs + length (found_at place new).rows) content ∙ ap (λ l. base_of (content_at place bytes) + length l.rows) found ∙ is.next;
     })

@@ -2,6 +2,7 @@
 use Rattle.std.specs.Prelude.{◌≡◌, ◌≤◌, ◌⊎◌, ℕ, ◌*◌, Bool, true, false, List, [], ◌∷◌, ◌++◌, Option, Some, None, Result, Ok, Err}
 use Rattle.std.specs.List.{AllByRecursion}
 use Rattle.tp_model.specs.declared.areas.TwoAreas.{TwoAreas}
+use Rattle.tp_model.specs.declared.form.Form.TheVariants.{Turns}
 use Rattle.tp_model.specs.declared.limits.TheConstants.{GATE_OPEN, GATE_CLOSED}
 use Rattle.tp_model.specs.Bytes.{u32_bytes, u64_bytes}
 use Rattle.tp_model.specs.NodeState.{NodeState}
@@ -12,7 +13,8 @@ use Rattle.tp_model.specs.Disk.{MayBe, Write, Sync, SameOutside, written}
 use Rattle.tp_model.specs.DiskHistory.{State, IsSynced}
 use Rattle.tp_model.specs.StoreCalls.{Called, put_calls}
 use Rattle.tp_model.specs.Areas.{gate_closed}
-use Rattle.tp_model.specs.Head.{head_bytes}
+use Rattle.tp_model.specs.CutImage.{base_number}
+use Rattle.tp_model.specs.Head.{head_bytes, version_for}
 use Rattle.tp_model.specs.Spelling.{front_bytes}
 use Rattle.tp_model.specs.Format.{start_of, IsFormatted}
 use Rattle.tp_area.specs.Puts.{ButFor}
@@ -29,13 +31,14 @@ Checks (Some x) (Err BadImage) = ⊥
 Checks o (Err AreaFull) = ⊥
 Checks o (Err DeviceFailed) = ⊥
 
--- what the first area begins with: its open gate, generation 1, the length of its cut, and that the cut holds no entry
+-- what the first area begins with: its open gate, generation 1, the length of its cut, and that the cut holds no entry and the area
+-- may hold turns
 unfoldable pub area_front : ℕ → List ℕ
-area_front cut = GATE_OPEN ∷ (u64_bytes 1 ++ (u32_bytes cut ++ u64_bytes 0))
+area_front cut = GATE_OPEN ∷ (u64_bytes 1 ++ (u32_bytes cut ++ u64_bytes (base_number Turns 0)))
 
 -- the first area as far as it is written: its gate, its fields, the cut of that network, and a closed gate
 abbrev pub first_area : Topology → Network NodeState → List ℕ
-first_area t s = GATE_OPEN ∷ (front_bytes t 1 0 s ++ GATE_CLOSED ∷ [])
+first_area t s = GATE_OPEN ∷ (front_bytes t 1 Turns 0 s ++ GATE_CLOSED ∷ [])
 
 -- a content with both areas in it, as far as they are written: this first area, and the second one's closed gate
 abbrev pub with_areas : List ℕ → TwoAreas → List ℕ → List ℕ
@@ -53,7 +56,7 @@ pub record Wrote (first head : List ℕ) (areas : TwoAreas) (old new : State) : 
 pub record Formatted (t : Topology) (images : List (List ℕ)) (areas : TwoAreas) (old new : State) : Type 0 where
   pub start : Network NodeState
   pub is : start_of t images ≡ Some start
-  pub wrote : Wrote (first_area t start) (head_bytes t areas) areas old new
+  pub wrote : Wrote (first_area t start) (head_bytes (version_for t) t areas) areas old new
   pub synced : IsSynced new
   pub formatted : (left : List ℕ) → MayBe new.now left → IsFormatted t areas start left
 

@@ -7,7 +7,7 @@ ghost use Rattle.tp_model.specs.Device.{areas_end, fits};
 ghost use Rattle.tp_model.specs.Disk.{SameOutside};
 ghost use Rattle.tp_model.specs.DiskHistory.{Counts, LeavesOnly};
 ghost use Rattle.tp_model.specs.Format.{start_of};
-ghost use Rattle.tp_model.specs.Head.{areas_of_length};
+ghost use Rattle.tp_model.specs.Head.{areas_of_length, version_for};
 ghost use Rattle.tp_model.specs.Journal.{cut_length, images_length};
 ghost use Rattle.tp_model.specs.Topology.{line_count};
 ghost use Rattle.tp_area.specs.Formatting.{Answers, Formatted, IsOldOrNew, Wrote, area_front, failed_calls, is_early, with_areas};
@@ -20,10 +20,10 @@ use std::alloc::Global;
 use tp_disk::{DeviceFailed, Disk, write_through};
 use tp_layout::{
     CutFront, FIELDS_BYTES, area_start, areas_of_length, cut_length, fits, head_bytes,
-    images_length, put_fields, records_length,
+    images_length, put_fields, records_length, version_for,
 };
-use tp_model::TwoAreas;
 use tp_model::limits::{GATE_CLOSED, GATE_OPEN};
+use tp_model::{Form, TwoAreas};
 use tp_net::Topology;
 
 /// Bytes of an area in front of its images.
@@ -52,7 +52,8 @@ fn lengths_of(topology: &Topology) -> Lengths
     }
 }
 
-/// Writes what the first area begins with: its gate, open; generation 1; its cut's length; and that the cut holds no entry.
+/// Writes what the first area begins with: its gate, open; generation 1; its cut's length; and that the cut holds no entry and the area
+/// may hold turns.
 #[tactic(auto, unfolding(crate::specs::Formatting::area_front))]
 fn put_front(cut: u32, out: &mut [u8])
     requires { FRONT_BYTES ≤ length out.old }
@@ -60,6 +61,7 @@ fn put_front(cut: u32, out: &mut [u8])
 {
     let front = CutFront {
         generation: 1,
+        form: Form::Turns,
         base: 0,
     };
     out[0] = GATE_OPEN;
@@ -118,8 +120,9 @@ fn write_all<D: Disk>(
     write_through(disk, 0, head)
 }
 
-/// Formats a device for the network of `images`, one a node, with areas of `area` bytes: the first area is open, with
-/// generation 1, the network and no entry; the second one is closed. Memory is taken for one node's memory at a time.
+/// Formats a device for the network of `images`, one a node, with areas of `area` bytes: the head is a narrow one where that can say
+/// `topology`, else a wide one; the first area is open, with generation 1 and with turns, the network and no entry; the second one is
+/// closed. Memory is taken for one node's memory at a time.
 pub fn format<D: Disk>(
     alloc: Global,
     disk: &mut D,
@@ -127,20 +130,21 @@ pub fn format<D: Disk>(
     images: &[Vec<u8>],
     area: u64,
 ) -> Result<(), FormatFault>
-    ensures answer { Answers (start_of topology.now (map (λ image. image.items) images.now)) (fits (D.size_of disk.old) topology.now (areas_of_length area)) result }
+    ensures answer { Answers (start_of topology.now (map (λ image. image.items) images.now)) (fits (D.size_of disk.old) topology.now (areas_of_length (version_for topology.now) area)) result }
     ensures early { is_early result ≡ true → disk.new ≡ disk.old }
     ensures failures { D.failures_of disk.new ≡ D.failures_of disk.old + failed_calls result }
     ensures size { D.size_of disk.new ≡ D.size_of disk.old }
-    ensures formatted { D.keeps → OnOk result (Formatted topology.now (map (λ image. image.items) images.now) (areas_of_length area) (D.state disk.old) (D.state disk.new)) }
-    ensures leaves { D.keeps → LeavesOnly (D.state disk.old) (D.state disk.new) (IsOldOrNew topology.now (map (λ image. image.items) images.now) (areas_of_length area) (D.state disk.old)) }
+    ensures formatted { D.keeps → OnOk result (Formatted topology.now (map (λ image. image.items) images.now) (areas_of_length (version_for topology.now) area) (D.state disk.old) (D.state disk.new)) }
+    ensures leaves { D.keeps → LeavesOnly (D.state disk.old) (D.state disk.new) (IsOldOrNew topology.now (map (λ image. image.items) images.now) (areas_of_length (version_for topology.now) area) (D.state disk.old)) }
 {
     check_images(alloc, topology.pages(), images)?;
     let lengths = lengths_of(topology);
-    let areas = areas_of_length(area);
+    let version = version_for(topology);
+    let areas = areas_of_length(version, area);
     if !fits(disk.size(), topology, areas) {
         return Err(FormatFault::AreaFull);
     }
-    let head = head_bytes(topology, areas);
+    let head = head_bytes(version, topology, areas);
     let Ok(()) = write_all(disk, head.as_slice(), areas, images, lengths) else {
         return Err(FormatFault::DeviceFailed);
     };

@@ -9,7 +9,7 @@ use Rattle.tp_model.specs.declared.limits.TheConstants.{GATE_CLOSED, GATE_OPEN}
 
 -- what of an opened device is copied
 abbrev pub kept_of : Opened → Kept
-kept_of o = record { areas = o.head.areas; second = o.second; generation = o.generation; end = o.end; next = next_of o }
+kept_of o = record { areas = o.head.areas; second = o.second; generation = o.generation; form = o.form; end = o.end; next = next_of o }
 
 -- bytes with a range of others over them, at the same place
 abbrev pub with_range : ℕ → ℕ → List ℕ → List ℕ → List ℕ

@@ -5,16 +5,17 @@ ghost use Rattle.tp_copies.specs.Copies.{kept_of};
 ghost use Rattle.tp_model.specs.Device.{area_start, areas_end};
 ghost use Rattle.tp_model.specs.declared.limits.TheConstants.{AREA_HEAD_BYTES};
 
-use tp_model::TwoAreas;
+use tp_model::{Form, TwoAreas};
 use tp_recover::Opened;
 
-/// What of an opened device is copied: where the areas are, whether the second one is open, its generation, where the closed gate behind its
-/// groups stands, and the number of the next entry.
+/// What of an opened device is copied: where the areas are, whether the second one is open, its generation and its form, where the closed
+/// gate behind its groups stands, and the number of the next entry.
 #[derive(Clone, Copy, Debug, PartialEq, Eq)]
 pub(crate) struct Kept {
     pub(crate) areas: TwoAreas,
     pub(crate) second: bool,
     pub(crate) generation: u64,
+    pub(crate) form: Form,
     pub(crate) end: u64,
     pub(crate) next: u64,
 }
@@ -29,6 +30,7 @@ pub(crate) fn kept_of(opened: &Opened) -> Kept
         areas: opened.head().areas(),
         second: opened.second(),
         generation: opened.generation(),
+        form: opened.form(),
         end: opened.end(),
         next: opened.next(),
     }

@@ -1,15 +1,16 @@
 -- What the calls of the store leave of the head and of the other area.
-use Rattle.std.proofs.Common.{◌≡◌, ◌⊎◌, inl, inr, ℕ, ◌+◌, ◌-◌, ◌*◌, ◌<◌, ◌≤◌, List, [], ◌∷◌, length, sym, ap, subst, ◌∙◌, Bool, true, false, Ok, arith}
+use Rattle.std.proofs.Common.{◌≡◌, ◌⊎◌, inl, inr, ℕ, ◌+◌, ◌-◌, ◌*◌, ◌<◌, ◌≤◌, List, [], ◌∷◌, length, sym, ap, subst, ◌∙◌, Bool, true, false, arith}
 use Rattle.std.specs.Prelude.{not}
 use Rattle.tp_model.specs.declared.areas.TwoAreas.{TwoAreas}
 use Rattle.tp_model.specs.Device.{area_start, areas_end, content_of}
-use Rattle.tp_model.specs.Head.{Head, head_of}
+use Rattle.tp_model.specs.Topology.{Topology}
 use Rattle.tp_model.specs.Disk.{Moment, SameOutside, written}
 use Rattle.tp_model.specs.DiskHistory.{State}
 use Rattle.tp_model.specs.StoreCalls.{Called, put_calls}
 use Rattle.tp_area.specs.declared.place.Place.{Place}
 use Rattle.tp_area.specs.Other.{other_gate}
 use Rattle.tp_area.specs.Tails.{content_beside}
+use Rattle.tp_flush.specs.Flushing.{HeadSays}
 use Rattle.tp_law_device.proofs.Contents.{content_same}
 use Rattle.tp_law_device.proofs.Fronts.{front_from}
 use Rattle.tp_law_device.proofs.Heads.{head_same}
@@ -17,9 +18,12 @@ use Rattle.tp_law_runs.proofs.Moments.{written_same_outside}
 use Rattle.tp_law_tail.proofs.Places.{content_put}
 
 -- the head stays where bytes behind it are written
-pub head_kept : (at n : ℕ) (old new : List ℕ) (head : Head) → SameOutside at n old new → head.areas.first ≤ at → head_of old ≡ Ok head → head_of new ≡ Ok head
-head_kept at n old new head same low =
-    head_same old new head same.same_length (front_from head.areas.first old new (sym same.same_length) (λ i front. sym (same.same i (inl (omega (arith, front, low))))))
+pub head_kept : (at n : ℕ) (old new : List ℕ) (t : Topology) (areas : TwoAreas) → SameOutside at n old new → areas.first ≤ at → HeadSays t areas old → HeadSays t areas new
+head_kept at n old new t areas same low says = record {
+  version = says.version;
+  is = head_same old new (record { version = says.version; topology = t; areas = areas }) same.same_length
+      (front_from areas.first old new (sym same.same_length) (λ i front. sym (same.same i (inl (omega (arith, front, low)))))) says.is;
+}
 
 -- the other area's content, where bytes beside it are written
 pub content_kept : (place : Place) (at n : ℕ) (s new : State) → SameOutside at n s.now.bytes new.now.bytes

@@ -17,7 +17,6 @@ use Rattle.tp_model.specs.Device.{area_start, areas_end, is_open}
 use Rattle.tp_model.specs.Disk.{Moment, SameOutside}
 use Rattle.tp_model.specs.DiskHistory.{State}
 use Rattle.tp_model.specs.StoreCalls.{Called, clear_calls, put_calls}
-use Rattle.tp_model.specs.Head.{Head, head_of}
 use Rattle.tp_model.specs.Opening.{Opened, verdict}
 use Rattle.tp_model.specs.Journal.{room}
 use Rattle.tp_model.specs.Topology.{Topology}
@@ -34,24 +33,20 @@ use Rattle.tp_law_device.proofs.Opens.{reads_of}
 use Rattle.tp_law_network.proofs.Partial.{bind_some}
 use Rattle.tp_law_runs.proofs.Moments.{written_same_outside}
 use Rattle.tp_law_tail.specs.CutSpelt.{CutSpelt}
-use Rattle.tp_flush.specs.Flushing.{IsOfDevice}
+use Rattle.tp_flush.specs.Flushing.{HeadSays, IsOfDevice}
 use Rattle.tp_flush.proofs.Appends.{Answered, after_group}
 use Rattle.tp_flush.proofs.Beside.{areas_fit, head_first, head_kept, put_same}
 use Rattle.tp_flush.proofs.Closed.{closed_when, group_outside}
 use Rattle.tp_flush.proofs.Looks.{copied, learned, raised}
 use Rattle.tp_flush.proofs.Puts.{Answered as PutAnswered, after_put}
 
--- what the head says
-abbrev pub says : Topology → Place → Head
-says t place = record { topology = t; areas = place.areas }
-
 -- over a world of the same kept cut, in the same areas
 pub same_device : (keeps : Type 0) (most : Option ℕ) (w v : World NodeState) (s new : State) (place to : Place) (broken broke : Bool) (t : Topology) → v.base ≡ w.base → v.net.start ≡ w.net.start → to.areas ≡ place.areas
-    → (keeps → broke ≡ false → head_of new.now.bytes ≡ Ok (says t place)) → IsOfDevice keeps most w s place broken t → IsOfDevice keeps most v new to broke t
+    → (keeps → broke ≡ false → HeadSays t place.areas new.now.bytes) → IsOfDevice keeps most w s place broken t → IsOfDevice keeps most v new to broke t
 same_device keeps most w v s new place to broken broke t base start areas head D = record {
   spelt = subst (λ (n : ℕ). CutSpelt t n v.net.start) (sym base) (subst (λ (net : Network NodeState). CutSpelt t w.base net) (sym start) D.spelt);
   bound = D.bound ∙ ap (λ (a : TwoAreas). Some (room t a.length)) (sym areas);
-  head = λ k unbroken. head k unbroken ∙ ap (λ a. Ok (record { topology = t; areas = a })) (sym areas);
+  head = λ k unbroken. subst (λ (a : TwoAreas). HeadSays t a new.now.bytes) (sym areas) (head k unbroken);
 }
 
 -- ## The opening
@@ -64,7 +59,10 @@ first_device keeps most w s place broken t o topology areas base start spelt bou
       subst (λ (u : Topology). CutSpelt u w.base w.net.start) (sym topology) (subst (λ (n : ℕ). CutSpelt o.head.topology n w.net.start) (sym base)
       (subst (λ (net : Network NodeState). CutSpelt o.head.topology o.base net) (sym start) spelt));
   bound = bound ∙ (λ i. Some (room (sym topology i) (sym areas i).length));
-  head = λ k unbroken. (reads_of t414 t414_ends s.now.bytes o (reads k)).head ∙ (λ i. Ok (record { topology = sym topology i; areas = sym areas i }));
+  head = λ k unbroken. record {
+    version = o.head.version;
+    is = (reads_of t414 t414_ends s.now.bytes o (reads k)).head ∙ (λ i. Ok (record { version = o.head.version; topology = sym topology i; areas = sym areas i }));
+  };
 }
 
 -- ## A look at the book
@@ -106,7 +104,7 @@ pub append_device : (keeps : Type 0) (most : Option ℕ) (w : World NodeState) (
 append_device keeps most w s new place to t es (Ok x) broke filled failures_old failures_new D A can fits low whole did =
     same_device keeps most w (after_group broke to.next w new.now) s new place to false broke t (group_base broke to.next w new.now) (group_start broke to.next w new.now) (ap (λ (q : Place). q.areas) A.done.0)
     (λ k unbroken.
-    head_kept place.end (1 + length (body_of place.next es)) s.now.bytes new.now.bytes (says t place) (group_outside place s new es can fits low (whole k) (did k).called)
+    head_kept place.end (1 + length (body_of place.next es)) s.now.bytes new.now.bytes t place.areas (group_outside place s new es can fits low (whole k) (did k).called)
     (omega (arith, low, head_first place.areas place.second)) (D.head k refl)) D
 append_device keeps most w s new place to t es (Err e) broke filled failures_old failures_new D A can fits low whole did =
     same_device keeps most w (after_group broke to.next w new.now) s new place to false broke t (group_base broke to.next w new.now) (group_start broke to.next w new.now) (ap (λ (q : Place). q.areas) A.failed.1)
@@ -123,27 +121,27 @@ put_start true w disk = refl
 put_start false w disk = refl
 
 pub put_device : (keeps : Type 0) (most : Option ℕ) (w : World NodeState) (s new : State) (place to : Place) (t : Topology) (r : Result Unit StoreFault) (broke : Bool) (failures_old failures_new : ℕ)
-    → IsOfDevice keeps most w s place false t → PutAnswered r broke failures_old failures_new → to ≡ place → (keeps → OnOk r (head_of new.now.bytes ≡ Ok (says t place)))
+    → IsOfDevice keeps most w s place false t → PutAnswered r broke failures_old failures_new → to ≡ place → (keeps → OnOk r (HeadSays t place.areas new.now.bytes))
     → IsOfDevice keeps most (after_put broke w new.now) new to broke t
 put_device keeps most w s new place to t r broke failures_old failures_new D A same head =
     same_device keeps most w (after_put broke w new.now) s new place to false broke t (put_base broke w new.now) (put_start broke w new.now) (ap (λ (q : Place). q.areas) same)
-    (λ k unbroken. closed_when r broke failures_old failures_new A (head_of new.now.bytes ≡ Ok (says t place)) (head k) unbroken) D
+    (λ k unbroken. closed_when r broke failures_old failures_new A (HeadSays t place.areas new.now.bytes) (head k) unbroken) D
 
 -- the head, behind a piece
 pub piece_head : (place : Place) (at : ℕ) (bytes : List ℕ) (s new : State) (t : Topology) → areas_end place.areas ≤ length s.now.bytes → at + length bytes < place.areas.length
-    → Called (put_calls ((other_gate place + 1 + at, bytes) ∷ [])) s new → head_of s.now.bytes ≡ Ok (says t place) → head_of new.now.bytes ≡ Ok (says t place)
+    → Called (put_calls ((other_gate place + 1 + at, bytes) ∷ [])) s new → HeadSays t place.areas s.now.bytes → HeadSays t place.areas new.now.bytes
 piece_head place at bytes s new t whole small called is =
-    head_kept (other_gate place + 1 + at) (length bytes) s.now.bytes new.now.bytes (says t place) (put_same place at bytes s new whole small called) (omega (arith, head_first place.areas (not place.second))) is
+    head_kept (other_gate place + 1 + at) (length bytes) s.now.bytes new.now.bytes t place.areas (put_same place at bytes s new whole small called) (omega (arith, head_first place.areas (not place.second))) is
 
 -- and behind the other area's gate, which was closed, or was closed before
 pub clear_head : (place : Place) (s new : State) (t : Topology) → areas_end place.areas ≤ length s.now.bytes → 1 ≤ place.areas.length
-    → Called (clear_calls (if_open (other_gate place) s.now.bytes)) s new → head_of s.now.bytes ≡ Ok (says t place) → head_of new.now.bytes ≡ Ok (says t place)
+    → Called (clear_calls (if_open (other_gate place) s.now.bytes)) s new → HeadSays t place.areas s.now.bytes → HeadSays t place.areas new.now.bytes
 clear_head place s new t whole some called is = go (is_open (u8_at s.now.bytes (other_gate place))) called
   where
-    go : (found : Bool) → Called (clear_calls (if found then Some (other_gate place) else None)) s new → head_of new.now.bytes ≡ Ok (says t place)
-    go false did = ap (λ (m : Moment). head_of m.bytes) did.now ∙ is
+    go : (found : Bool) → Called (clear_calls (if found then Some (other_gate place) else None)) s new → HeadSays t place.areas new.now.bytes
+    go false did = subst (λ (m : Moment). HeadSays t place.areas m.bytes) (sym did.now) is
     go true did =
         let room = areas_fit place.areas (length s.now.bytes) (not place.second) whole in
-        head_kept (other_gate place) 1 s.now.bytes new.now.bytes (says t place)
+        head_kept (other_gate place) 1 s.now.bytes new.now.bytes t place.areas
         (subst (SameOutside (other_gate place) 1 s.now.bytes) (sym (ap (λ (m : Moment). m.bytes) did.now)) (written_same_outside s.now.bytes (other_gate place) gate_closed (omega (arith, room, some))))
         (head_first place.areas (not place.second)) is

@@ -21,4 +21,5 @@ mod Trimming
 mod SwitchingCalls
 mod SwitchingEnds
 mod Rooms
+mod Forms
 pub mod Follows

@@ -35,13 +35,14 @@ ports_are s o now cut leads =
     ap (λ (n : Network NodeState). length n.ports) now ∙ (after_shape t414 has_four_links o.cut o.now (map (λ e. e.0) o.kept) leads).ports ∙ cut.count
 
 -- the parts of the book of a state that was opened
-pub stands : (s : NetState) (o : Opened) (room : Option ℕ) (parts : PartsValue) (raiser : RaiserValue) → now_of s ≡ o.now → s.base ≡ o.base → s.next ≡ next_of o
+pub stands : (s : NetState) (o : Opened) (room : Option ℕ) (parts : PartsValue) (raiser : RaiserValue) → now_of s ≡ o.now → s.base ≡ o.base → (opened_book s room).form ≡ o.form → s.next ≡ next_of o
     → s.kept.items ≡ o.kept → IsCut t414_ends o.head.topology o.base o.cut → after t414 o.cut (map (λ e. e.0) o.kept) ≡ Some o.now
     → world_of (opened_book s room) ≡ book_of o → parts.book ≡ opened_book s room → parts.first ≡ next_number (opened_book s room)
     → raiser ≡ record { mark = parts.mark; at = s.next } → StandsFor o parts raiser
-stands s o room parts raiser now base next kept cut leads world book first raised = record {
+stands s o room parts raiser now base form next kept cut leads world book first raised = record {
   book = ap world_of book ∙ world;
   base = ap (λ (b : BookValue). b.base) book ∙ base;
+  form = ap (λ (b : BookValue). b.form) book ∙ form;
   first = first ∙ next_is s o room base kept;
   ports = ap (λ (b : BookValue). length b.state.ports) book ∙ ports_are s o now cut leads;
   raised = raised ∙ ap (λ n. record { mark = parts.mark; at = n }) next;

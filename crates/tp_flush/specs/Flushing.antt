@@ -1,9 +1,12 @@
 -- What contracts see of the flusher, what it keeps, and what it did.
 use Rattle.std.specs.Prelude.{◌≡◌, ◌<◌, ◌≤◌, ℕ, ◌+◌, Bool, true, false, if◌then◌else◌, List, length, get_or, Option, Some, Ok}
 use Rattle.std.specs.List.{AllByRecursion}
+use Rattle.tp_model.specs.declared.areas.TwoAreas.{TwoAreas}
 use Rattle.tp_model.specs.declared.entry.Entry.{Entry}
+use Rattle.tp_model.specs.declared.form.Form.{Form}
+use Rattle.tp_model.specs.declared.head.HeadVersion.{HeadVersion}
 use Rattle.tp_model.specs.declared.limits.TheConstants.{NUMBER_LIMIT}
-use Rattle.tp_model.specs.EntryBytes.{IsSpelt}
+use Rattle.tp_model.specs.EntryBytes.{IsSpelt, is_of}
 use Rattle.tp_model.specs.NodeState.{NodeState}
 use Rattle.tp_model.specs.Node.{t414}
 use Rattle.tp_model.specs.Network.{Network}
@@ -61,12 +64,21 @@ pub record Copies (keeps : Type 0) (net : MarkedNetwork NodeState) (state : Stat
   pub closed : keeps → broken ≡ false → progress.cleared ≡ true → OtherIsClosed place state
   pub images : keeps → broken ≡ false → (i : ℕ) → i < length t.pages → is_out progress i ≡ true → IsPartOut t net (content_beside place state) i (get_or t.pages i 0)
 
+-- The device's head, of whatever version, says the topology, and where the areas are.
+pub record HeadSays (t : Topology) (areas : TwoAreas) (bytes : List ℕ) : Type 0 where
+  pub version : HeadVersion
+  pub is : head_of bytes ≡ Ok (record { version = version; topology = t; areas = areas })
+
 -- What it keeps for the switch to the other area: the kept cut has an image on a device of its topology; the book is bound to the
 -- room of its areas; and the device's head says the topology, and where the areas are.
 pub record IsOfDevice (keeps : Type 0) (most : Option ℕ) (w : World NodeState) (state : State) (place : Place) (broken : Bool) (t : Topology) : Type 0 where
   pub spelt : CutSpelt t w.base w.net.start
   pub bound : most ≡ Some (room t place.areas.length)
-  pub head : keeps → broken ≡ false → head_of state.now.bytes ≡ Ok (record { topology = t; areas = place.areas })
+  pub head : keeps → broken ≡ false → HeadSays t place.areas state.now.bytes
+
+-- What it keeps for the groups: an area of the one form may hold each entry that one of the other may.
+abbrev pub HoldsAllOf : Form → Form → Type 0
+HoldsAllOf area book = (e : Entry) → is_of book e ≡ true → is_of area e ≡ true
 
 -- Each moment of the device since is that of a world on the way of one run.
 abbrev pub Walked : Flushing → Flushing → Type 0

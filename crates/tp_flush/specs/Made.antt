@@ -10,6 +10,7 @@ use Rattle.tp_shared.specs.Parted.{PartsValue}
 pub record StandsFor (o : Opened) (parts : PartsValue) (raiser : RaiserValue) : Type 0 where
   pub book : world_of parts.book ≡ book_of o
   pub base : parts.book.base ≡ o.base
+  pub form : parts.book.form ≡ o.form
   pub first : parts.first ≡ next_of o
   pub ports : length parts.book.state.ports ≡ o.head.topology.ports
   pub raised : raiser ≡ record { mark = parts.mark; at = next_of o }

@@ -48,13 +48,13 @@ pub struct Flusher<J: Naming, D: Disk> {
 impl<J: Naming, D: Disk> Model for Flusher<J, D> {
     ghost use Rattle.std.specs.Prelude.{◌≡◌, ◌≤◌};
     ghost use Rattle.tp_shared.specs.Told.{IsFirst};
-    ghost use Rattle.tp_flush.specs.Flushing.{Copies, Flushing, IsOfDevice, Keeps};
+    ghost use Rattle.tp_flush.specs.Flushing.{Copies, Flushing, HoldsAllOf, IsOfDevice, Keeps};
 
     ghost Value = { Flushing };
 
     ghost view = { λ f. record { world = f.parts.whole.known.world; state = D.state f.parts.store.disk; size = D.size_of f.parts.store.disk; failures = D.failures_of f.parts.store.disk; opened = f.parts.whole.known.opened; place = f.parts.store.place; topology = f.parts.topology; progress = f.parts.progress } };
 
-    ghost invariant = { λ f. (f.parts.key.name ≡ J.flusher) × (f.parts.raiser.mark ≡ J.mark) × IsFirst f.parts.key.value f.parts.whole.known.world × Keeps D.keeps J.formatted J.before f.parts.whole.known (D.state f.parts.store.disk) f.parts.store.place f.parts.store.broken f.parts.raiser.at × Copies D.keeps f.parts.whole.known.world.net (D.state f.parts.store.disk) f.parts.store.place f.parts.store.broken f.parts.topology f.parts.progress × IsOfDevice D.keeps J.room f.parts.whole.known.world (D.state f.parts.store.disk) f.parts.store.place f.parts.store.broken f.parts.topology × (J.first ≤ f.parts.whole.known.world.stored) × (f.parts.key.value.numbered_from ≤ f.parts.whole.known.world.stored) };
+    ghost invariant = { λ f. (f.parts.key.name ≡ J.flusher) × (f.parts.raiser.mark ≡ J.mark) × IsFirst f.parts.key.value f.parts.whole.known.world × Keeps D.keeps J.formatted J.before f.parts.whole.known (D.state f.parts.store.disk) f.parts.store.place f.parts.store.broken f.parts.raiser.at × Copies D.keeps f.parts.whole.known.world.net (D.state f.parts.store.disk) f.parts.store.place f.parts.store.broken f.parts.topology f.parts.progress × IsOfDevice D.keeps J.room f.parts.whole.known.world (D.state f.parts.store.disk) f.parts.store.place f.parts.store.broken f.parts.topology × (J.first ≤ f.parts.whole.known.world.stored) × (f.parts.key.value.numbered_from ≤ f.parts.whole.known.world.stored) × HoldsAllOf f.parts.store.place.form f.parts.key.value.form };
 }
 
 impl<J: Naming, D: Disk> Flusher<J, D> {
@@ -70,6 +70,7 @@ impl<J: Naming, D: Disk> Flusher<J, D> {
         requires name { key.name ≡ J.flusher }
         requires told { IsFirst key.value (reopened J.before (D.state store.disk).now.bytes (held_of opened.now) opened.now.now) }
         requires numbered { key.value.numbered_from ≡ J.first }
+        requires form { key.value.form ≡ store.place.form }
         requires unbroken { store.broken ≡ false }
         requires next { store.place.next ≡ next_of opened.now }
         requires raiser { raiser ≡ record { mark = J.mark; at = next_of opened.now } }
@@ -100,6 +101,7 @@ impl<J: Naming, D: Disk> Flusher<J, D> {
         requires name { key.name ≡ J.flusher }
         requires told { IsFirst key.value (reopened J.before (D.state store.disk).now.bytes (held_of opened.value) opened.value.now) }
         requires numbered { key.value.numbered_from ≡ J.first }
+        requires form { key.value.form ≡ store.place.form }
         requires unbroken { store.broken ≡ false }
         requires next { store.place.next ≡ next_of opened.value }
         requires raiser { raiser ≡ record { mark = J.mark; at = next_of opened.value } }

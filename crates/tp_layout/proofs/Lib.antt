@@ -1,8 +1,10 @@
+pub mod Ends
 pub mod HeadBytes
 pub mod Heads
-pub mod Numbers
+pub mod Pages
 pub mod Parts
 pub mod PortBytes
 pub mod Ports
 pub mod Records
 pub mod SameBytes
+pub mod TwoBytes

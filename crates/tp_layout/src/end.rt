@@ -34,7 +34,10 @@ fn end_number(version: HeadVersion, end: Option<WireEnd>) -> u16
 }
 
 /// The numbers that stand for the other ends of wires.
-pub(crate) fn end_numbers(version: HeadVersion, ends: &[Option<WireEnd>]) -> ArrayVec<u16, MAX_LINES>
+pub(crate) fn end_numbers(
+    version: HeadVersion,
+    ends: &[Option<WireEnd>],
+) -> ArrayVec<u16, MAX_LINES>
     requires few { length ends.now ≤ MAX_LINES }
     requires low { (i : ℕ) → i < length ends.now → end_number version (get_or ends.now i None) < first_port version + MAX_PORTS }
     ensures { result.items ≡ map (end_number version) ends.now }

@@ -117,8 +117,11 @@ fn topology_in(version: HeadVersion, bytes: &[u8]) -> Option<Topology>
     if count > head_nodes(version) || usize::from(ports) > MAX_PORTS {
         return None;
     }
-    let numbers: ArrayVec<u16, MAX_LINES> =
-        numbers_in(version, link_line(count, 0), &bytes[ends_place(version)..]);
+    let numbers: ArrayVec<u16, MAX_LINES> = numbers_in(
+        version,
+        link_line(count, 0),
+        &bytes[ends_place(version)..],
+    );
     if !are_numbers(version, numbers.as_slice()) {
         return None;
     }
@@ -142,6 +145,21 @@ fn spells(version: HeadVersion, bytes: &[u8], topology: &Topology, areas: TwoAre
     bytes == head.as_slice()
 }
 
+/// Whether `bytes` are those of the head of version `version` for `topology`, and a device of `len` bytes has room for what it says.
+fn is_whole(
+    version: HeadVersion,
+    len: u64,
+    bytes: &[u8],
+    topology: &Topology,
+    areas: TwoAreas,
+) -> bool
+    requires starts { areas.first ≡ head_length version }
+    requires limits { keeps_limits version topology.now ≡ true }
+    ensures { result ≡ (bytes_eq bytes.now (head_bytes version topology.now areas) && fits len topology.now areas) }
+{
+    spells(version, bytes, topology, areas) && fits(len, topology, areas)
+}
+
 /// The head of version `version` that `bytes` are, if they are one and a device of `len` bytes has room for what it says.
 fn fields_in(version: HeadVersion, bytes: &[u8], len: u64) -> Option<Head>
     requires { length bytes.now ≡ head_length version }
@@ -150,7 +168,7 @@ fn fields_in(version: HeadVersion, bytes: &[u8], len: u64) -> Option<Head>
 {
     let topology = topology_in(version, bytes)?;
     let areas = areas_of_length(version, u64_at(bytes, AREA_PLACE));
-    if spells(version, bytes, &topology, areas) && fits(len, &topology, areas) {
+    if is_whole(version, len, bytes, &topology, areas) {
         Some(Head {
             version,
             topology,

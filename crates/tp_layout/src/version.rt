@@ -3,6 +3,7 @@
 ghost use Rattle.std.specs.Prelude.{◌≡◌, ◌≤◌, true, nat_le};
 ghost use Rattle.std.specs.List.{list_all};
 ghost use Rattle.tp_model.specs.Head.{head_length, head_nodes, head_pages, keeps_limits, version_byte, version_for, version_of};
+ghost use Rattle.tp_model.specs.Topology.{is_topology};
 
 use tp_model::HeadVersion;
 use tp_model::limits::{
@@ -74,7 +75,8 @@ fn are_few_pages(version: HeadVersion, pages: &[u16]) -> bool
 
 /// Whether a head of version `version` can say `topology`.
 pub fn keeps_limits(version: HeadVersion, topology: &Topology) -> bool
-    ensures { result ≡ keeps_limits version topology.now }
+    ensures value { result ≡ keeps_limits version topology.now }
+    ensures rules { is_topology topology.now ≡ true }
 {
     let pages = topology.pages();
     pages.len() <= head_nodes(version) && are_few_pages(version, pages)

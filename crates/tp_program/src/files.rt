@@ -1,6 +1,8 @@
 //! The commands on files.
 
 ghost use Rattle.std.specs.Prelude.{◌≡◌, ◌≤◌, true, IfErr, IfSome};
+ghost use Rattle.tp_model.specs.Device.{areas_end};
+ghost use Rattle.tp_model.specs.Head.{areas_of_length};
 ghost use Rattle.tp_model.specs.Topology.{is_topology};
 ghost use Rattle.tp_words.specs.Args.{IsRun};
 ghost use Rattle.tp_words.specs.declared.args.TheConstants.{MAX_AREA};
@@ -17,7 +19,8 @@ use std::sync::Wait;
 use std::thread::Threads;
 use std::{fs, io};
 use tp_disk::{Counted, NewDisk, NotedFile, RawFile};
-use tp_layout::{area_start, areas_of_length};
+use tp_layout::{head_length, version_for};
+use tp_model::HeadVersion;
 use tp_net::{Named, Topology};
 use tp_stream_files::is_one_file;
 use tp_views::{
@@ -133,15 +136,24 @@ fn making_refusal(error: &io::Error) -> Refusal {
     }
 }
 
-/// A device that has room for the head and two areas, in a file that is made for it, or in one that is there.
+/// How many bytes a device has, with a head of a version and two areas of `area` bytes.
+fn device_length(version: HeadVersion, area: u64) -> u64
+    requires { area ≤ MAX_AREA }
+    ensures { result ≡ areas_end (areas_of_length version area) }
+{
+    head_length(version) as u64 + 2 * area
+}
+
+/// A device that has room for the head of its topology and two areas, in a file that is made for it, or in one that is there.
 fn new_disk<R: Files<File = F>, F: FileExt + OpenFile + Drop>(
     rt: &R,
     new: &NewDevice,
+    topology: &Topology,
 ) -> io::Result<NewDisk<F>>
     requires { new.now.area ≤ MAX_AREA }
 {
-    let areas = areas_of_length(new.area);
-    let (path, size) = (new.device.as_str(), area_start(areas, true) + areas.length);
+    let size = device_length(version_for(topology), new.area);
+    let path = new.device.as_str();
     if new.only_new {
         NewDisk::create_new(rt, path, size)
     } else {
@@ -182,7 +194,7 @@ fn format_network<
     if !new.only_new && !is_device_file(rt, new.device.as_str()) {
         return refuse(err, Refusal::DeviceFailed);
     }
-    match new_disk(rt, new) {
+    match new_disk(rt, new, topology) {
         Ok(mut disk) => {
             let status = format_on(rt.alloc(), &mut disk, topology, images, new.area, out, err);
             *system = disk.into_raw().into_failure();

@@ -5,7 +5,7 @@ ghost use Rattle.std.specs.Io.KnownBytes.{Appends};
 ghost use Rattle.tp_model.specs.Device.{fits};
 ghost use Rattle.tp_model.specs.DiskHistory.{LeavesOnly};
 ghost use Rattle.tp_model.specs.Format.{start_of};
-ghost use Rattle.tp_model.specs.Head.{areas_of_length};
+ghost use Rattle.tp_model.specs.Head.{areas_of_length, version_for};
 ghost use Rattle.tp_model.specs.Topology.{is_topology};
 ghost use Rattle.tp_area.specs.Formatting.{Formatted, IsOldOrNew};
 ghost use Rattle.tp_views.specs.Front.{AppendsFront};
@@ -28,13 +28,13 @@ fn make<D: Disk, O: Write>(
     out: &mut O,
 ) -> Result<(), Refusal>
     requires valid { is_topology topology.now ≡ true }
-    ensures formatted { D.keeps → OnOk result (Formatted topology.now (map (λ image. image.items) images.now) (areas_of_length area) (D.state disk.old) (D.state disk.new)) }
-    ensures fits { OnOk result (fits (D.size_of disk.old) topology.now (areas_of_length area) ≡ true) }
+    ensures formatted { D.keeps → OnOk result (Formatted topology.now (map (λ image. image.items) images.now) (areas_of_length (version_for topology.now) area) (D.state disk.old) (D.state disk.new)) }
+    ensures fits { OnOk result (fits (D.size_of disk.old) topology.now (areas_of_length (version_for topology.now) area) ≡ true) }
     ensures printed { OnOk result (Appends (O.contents out.old) (O.contents out.new) formatted_text) }
     ensures refused { start_of topology.now (map (λ image. image.items) images.now) ≡ None → (IsErr result) × (disk.new ≡ disk.old) × (O.contents out.new ≡ O.contents out.old) }
-    ensures small { fits (D.size_of disk.old) topology.now (areas_of_length area) ≡ false → (IsErr result) × (disk.new ≡ disk.old) × (O.contents out.new ≡ O.contents out.old) }
+    ensures small { fits (D.size_of disk.old) topology.now (areas_of_length (version_for topology.now) area) ≡ false → (IsErr result) × (disk.new ≡ disk.old) × (O.contents out.new ≡ O.contents out.old) }
     ensures front { AppendsFront (O.contents out.old) (O.contents out.new) formatted_text }
-    ensures leaves { D.keeps → LeavesOnly (D.state disk.old) (D.state disk.new) (IsOldOrNew topology.now (map (λ image. image.items) images.now) (areas_of_length area) (D.state disk.old)) }
+    ensures leaves { D.keeps → LeavesOnly (D.state disk.old) (D.state disk.new) (IsOldOrNew topology.now (map (λ image. image.items) images.now) (areas_of_length (version_for topology.now) area) (D.state disk.old)) }
 {
     format(alloc, disk, topology, images, area)?;
     put(out, b"formatted\n")
@@ -54,13 +54,13 @@ pub fn format_on<D: Disk, O: Write, E: Write>(
 ) -> u8
     requires valid { is_topology topology.now ≡ true }
     ensures status { result ≤ 1 }
-    ensures formatted { D.keeps → result ≡ 0 → Formatted topology.now (map (λ image. image.items) images.now) (areas_of_length area) (D.state disk.old) (D.state disk.new) }
-    ensures fits { result ≡ 0 → fits (D.size_of disk.old) topology.now (areas_of_length area) ≡ true }
+    ensures formatted { D.keeps → result ≡ 0 → Formatted topology.now (map (λ image. image.items) images.now) (areas_of_length (version_for topology.now) area) (D.state disk.old) (D.state disk.new) }
+    ensures fits { result ≡ 0 → fits (D.size_of disk.old) topology.now (areas_of_length (version_for topology.now) area) ≡ true }
     ensures printed { result ≡ 0 → Appends (O.contents out.old) (O.contents out.new) formatted_text }
     ensures refused { start_of topology.now (map (λ image. image.items) images.now) ≡ None → (result ≡ 1) × (disk.new ≡ disk.old) × (O.contents out.new ≡ O.contents out.old) }
-    ensures small { fits (D.size_of disk.old) topology.now (areas_of_length area) ≡ false → (result ≡ 1) × (disk.new ≡ disk.old) × (O.contents out.new ≡ O.contents out.old) }
+    ensures small { fits (D.size_of disk.old) topology.now (areas_of_length (version_for topology.now) area) ≡ false → (result ≡ 1) × (disk.new ≡ disk.old) × (O.contents out.new ≡ O.contents out.old) }
     ensures front { AppendsFront (O.contents out.old) (O.contents out.new) formatted_text }
-    ensures leaves { D.keeps → LeavesOnly (D.state disk.old) (D.state disk.new) (IsOldOrNew topology.now (map (λ image. image.items) images.now) (areas_of_length area) (D.state disk.old)) }
+    ensures leaves { D.keeps → LeavesOnly (D.state disk.old) (D.state disk.new) (IsOldOrNew topology.now (map (λ image. image.items) images.now) (areas_of_length (version_for topology.now) area) (D.state disk.old)) }
 {
     match make(alloc, disk, topology, images, area, out) {
         Ok(()) => 0,

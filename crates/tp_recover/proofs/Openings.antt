@@ -1,6 +1,7 @@
 -- Opening a device, one part after the other.
 use Rattle.std.proofs.Common.{◌≡◌, ℕ, ◌+◌, Bool, List, refl, sym, ap, subst, ◌∙◌}
 use Rattle.std.specs.Prelude.{Result, Ok, Err}
+use Rattle.tp_model.specs.declared.form.Form.{Form}
 use Rattle.tp_model.specs.declared.opening.OpenFault.{OpenFault}
 use Rattle.tp_model.specs.Device.{area_start, content_of}
 use Rattle.tp_model.specs.Disk.{Moment}
@@ -23,8 +24,8 @@ use Rattle.tp_recover.proofs.Passing.{passed}
 
 -- ## In front of the groups
 
-front_there : (content : List ℕ) (front : CutFront) (given : Result (Unit {0}) OpenFault) → (given >>= (λ good. found (cut_front content))) ≡ Ok front → front.base ≡ base_of content
-front_there content front (Ok good) is = ap (λ r. told r) (sym is)
+front_there : (content : List ℕ) (front : CutFront) (given : Result Form OpenFault) → (given >>= (λ form. found (cut_front content form))) ≡ Ok front → front.base ≡ base_of content
+front_there content front (Ok form) is = ap (λ r. told r) (sym is)
   where
     told : Result CutFront OpenFault → ℕ
     told (Ok f) = f.base
@@ -49,14 +50,14 @@ pub area_in-read : (head : Head) (second : Bool) (content : List ℕ) → area_i
 unfolding area_in
 area_in-read head second content = go (front_in head.topology (area_start head.areas second) content) (cut_in t414_ends head.topology (area_start head.areas second + 1) content)
   where
-    go : (front : Result (Unit {0}) OpenFault) (cut : Result (Network NodeState) OpenFault)
-        → (front >>= (λ good. cut >>= (λ s. after_rows t414 (replay_from s (base_of content)) (groups_of head second content).rows
-        >>= (λ last. closed_in (groups_of head second content) >>= (λ shut. Ok (opened_with head second (read_as (cut_front content) s) (last, (groups_of head second content).end)))))))
-        ≡ (((front >>= (λ good. found (cut_front content))) >>= (λ f. cut >>= (λ s. Ok (read_as f s)))) >>= opened_after head second content)
+    go : (front : Result Form OpenFault) (cut : Result (Network NodeState) OpenFault)
+        → (front >>= (λ form. cut >>= (λ s. after_rows t414 (replay_from form s (base_of content)) (groups_of head second content).rows
+        >>= (λ last. closed_in (groups_of head second content) >>= (λ shut. Ok (opened_with head second (read_as (cut_front content form) s) (last, (groups_of head second content).end)))))))
+        ≡ (((front >>= (λ form. found (cut_front content form))) >>= (λ f. cut >>= (λ s. Ok (read_as f s)))) >>= opened_after head second content)
     go (Err fault) cut = refl
-    go (Ok good) (Err fault) = refl
-    go (Ok good) (Ok s) =
-        rows_then head second (read_as (cut_front content) s) (groups_of head second content).end (after_rows t414 (replay_from s (base_of content)) (groups_of head second content).rows)
+    go (Ok form) (Err fault) = refl
+    go (Ok form) (Ok s) =
+        rows_then head second (read_as (cut_front content form) s) (groups_of head second content).end (after_rows t414 (replay_from form s (base_of content)) (groups_of head second content).rows)
         (closed_in (groups_of head second content))
 
 -- the content of an area at another moment

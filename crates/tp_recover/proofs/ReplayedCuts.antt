@@ -6,13 +6,14 @@ use Rattle.std.specs.Option.{option_map}
 use Rattle.std.proofs.lemmas.Bool.{and_parts, ltb-true}
 use Rattle.std.proofs.lemmas.Option.{slice_get-map, slice_get-get_or}
 use Rattle.tp_model.specs.declared.entry.Entry.{Entry}
+use Rattle.tp_model.specs.declared.form.Form.{Form}
 use Rattle.tp_model.specs.declared.limits.TheConstants.{NUMBER_LIMIT}
 use Rattle.tp_model.specs.NodeState.{NodeState}
 use Rattle.tp_model.specs.Image.{node_of}
 use Rattle.tp_model.specs.Node.{t414, t414_ends}
 use Rattle.tp_model.specs.Network.{Network, on_line}
 use Rattle.tp_model.specs.Entries.{next}
-use Rattle.tp_model.specs.EntryBytes.{is_in_range}
+use Rattle.tp_model.specs.EntryBytes.{AreOf, is_in_range}
 use Rattle.tp_model.specs.Markers.{markers, plain}
 use Rattle.tp_model.specs.Numbers.{AreNumbered}
 use Rattle.tp_model.specs.Order.{after}
@@ -52,8 +53,8 @@ pub record IsReplayed (r : Replay NodeState) : Type 0 where
   pub few : r.next < NUMBER_LIMIT
   pub ranged : AllByRecursion (λ (e : Entry × ℕ). is_in_range e.0 ≡ true) r.kept
 
-replayed_first : (t : Topology) (base : ℕ) (s : Network NodeState) → is_topology t ≡ true → IsCut t414_ends t base s → AllByRecursion IsNodeOfBytes s.nodes → IsReplayed (replay_from s base)
-replayed_first t base s topology C bytes = record {
+replayed_first : (form : Form) (t : Topology) (base : ℕ) (s : Network NodeState) → is_topology t ≡ true → IsCut t414_ends t base s → AllByRecursion IsNodeOfBytes s.nodes → IsReplayed (replay_from form s base)
+replayed_first form t base s topology C bytes = record {
   flat = cut_flat t base s topology C bytes;
   unmarked = lines_unmarked t.wires s.lines C.lines;
   counted = cut_counted t414_ends t base s C;
@@ -79,11 +80,11 @@ replayed_entry r entry now R one number step =
 
 replayed_row : (r v : Replay NodeState) (row : List ℕ) → IsReplayed r → after_row t414 r row ≡ Some v → IsReplayed v
 replayed_row r v row R is =
-    let found = entry_found t414 r v (row_entry row) is in
+    let found = entry_found t414 r v (row_entry r.form row) is in
     let entry = found.0 in
     let tested = cond_some (is_number r entry.1) (option_map (with_entry r entry) (next t414 r.now entry.0)) v found.2 in
     let stepped = map_some (with_entry r entry) (next t414 r.now entry.0) v tested.1 in
-    subst IsReplayed stepped.2 (replayed_entry r entry stepped.0 R (entry_ranged row entry found.1) tested.0 stepped.1)
+    subst IsReplayed stepped.2 (replayed_entry r entry stepped.0 R (entry_ranged r.form row entry found.1) tested.0 stepped.1)
 
 replayed_rows : (r v : Replay NodeState) (rows : List (ℕ × List ℕ)) → IsReplayed r → after_rows t414 r rows ≡ Ok v → IsReplayed v
 unfolding after_rows
@@ -98,9 +99,9 @@ ranged_entries [] all = tt
 ranged_entries (e ∷ es) all = (all.0, ranged_entries es all.1)
 
 -- What is replayed from a cut is flat, without Markers and counted; each port holds what it has room for, and a number is left.
-pub replayed_holds : (t : Topology) (base : ℕ) (s : Network NodeState) (rows : List (ℕ × List ℕ)) (r : Replay NodeState) → is_topology t ≡ true → IsCut t414_ends t base s
-    → AllByRecursion IsNodeOfBytes s.nodes → after_rows t414 (replay_from s base) rows ≡ Ok r → IsReplayed r
-replayed_holds t base s rows r topology C bytes is = replayed_rows (replay_from s base) r rows (replayed_first t base s topology C bytes) is
+pub replayed_holds : (form : Form) (t : Topology) (base : ℕ) (s : Network NodeState) (rows : List (ℕ × List ℕ)) (r : Replay NodeState) → is_topology t ≡ true → IsCut t414_ends t base s
+    → AllByRecursion IsNodeOfBytes s.nodes → after_rows t414 (replay_from form s base) rows ≡ Ok r → IsReplayed r
+replayed_holds form t base s rows r topology C bytes is = replayed_rows (replay_from form s base) r rows (replayed_first form t base s topology C bytes) is
 
 -- ## A state that opening leaves
 
@@ -110,12 +111,12 @@ parts_held parts held k d below =
     held k (port_of (get_or parts k d)) (slice_get-map port_of parts k ∙ ap (option_map port_of) (slice_get-get_or parts k d below))
 
 -- A state of the parts is what opening leaves: the cut, the network that the replay led to, and the entries with their numbers.
-pub replayed_opened : (t : Topology) (base : ℕ) (s : Network NodeState) (rows : List (ℕ × List ℕ)) (r : Replay NodeState) (o : NetState) → is_topology t ≡ true → IsCut t414_ends t base s
-    → AllByRecursion IsNodeOfBytes s.nodes → after_rows t414 (replay_from s base) rows ≡ Ok r → cut_of o ≡ s → now_of o ≡ r.now → o.kept.items ≡ r.kept → o.base ≡ base → o.next ≡ r.next
+pub replayed_opened : (form : Form) (t : Topology) (base : ℕ) (s : Network NodeState) (rows : List (ℕ × List ℕ)) (r : Replay NodeState) (o : NetState) → is_topology t ≡ true → IsCut t414_ends t base s
+    → AllByRecursion IsNodeOfBytes s.nodes → after_rows t414 (replay_from form s base) rows ≡ Ok r → cut_of o ≡ s → now_of o ≡ r.now → o.kept.items ≡ r.kept → o.base ≡ base → o.form ≡ form → o.next ≡ r.next
     → o.generation < NUMBER_LIMIT → map (λ image. node_of image.items) o.net.images.items ≡ map (λ node. Some node) (now_of o).nodes → IsOpened o
-replayed_opened t base s rows r o topology C bytes is cut now kept base_is next_is age images =
-    let R = replayed_holds t base s rows r topology C bytes is in
-    let history : IsHistory t414 s base r = history_of t414 s base r rows is in
+replayed_opened form t base s rows r o topology C bytes is cut now kept base_is form_is next_is age images =
+    let R = replayed_holds form t base s rows r topology C bytes is in
+    let history : IsHistory t414 form s base r = history_of t414 form s base r rows is in
     let entries : map (λ (e : Entry × ℕ). e.0) o.kept.items ≡ map (λ (e : Entry × ℕ). e.0) r.kept = ap (map (λ (e : Entry × ℕ). e.0)) kept in
     let numbers : map (λ (e : Entry × ℕ). e.1) o.kept.items ≡ map (λ (e : Entry × ℕ). e.1) r.kept = ap (map (λ (e : Entry × ℕ). e.1)) kept in
     let flat : IsFlat (now_of o) = subst IsFlat (sym now) R.flat in
@@ -131,6 +132,7 @@ replayed_opened t base s rows r o topology C bytes is cut now kept base_is next_
       few = omega (arith, next_is, R.few);
       age = age;
       ranged = subst AreInRange (sym entries) (ranged_entries r.kept R.ranged);
+      of_form = subst (AreOf o.form) (sym kept) (subst (λ f. AreOf f r.kept) (sym form_is) history.of_form);
       counted = subst (λ x. AreCounted o.next x.ports) (sym now) (subst (λ n. AreCounted n r.now.ports) (sym next_is) R.counted);
       pending = λ k d below. let part = parts_held o.net.ports.items held k d below in omega (arith, part.pending, (get_or o.net.ports.items k d).pending.ok.0);
       outputs = λ k d below. let part = parts_held o.net.ports.items held k d below in omega (arith, part.outputs, (get_or o.net.ports.items k d).outputs.ok.0);

@@ -16,6 +16,7 @@ opened_of o = record {
   head = o.head;
   second = o.second;
   generation = o.generation;
+  form = o.form;
   base = o.base;
   cut = o.cut.network;
   kept = o.replay.kept;
@@ -30,6 +31,6 @@ pub record IsInside (o : Inside) : Type 0 where
   pub cut : IsCut t414_ends o.head.topology o.base o.cut.network
   pub nodes : AllByRecursion IsNodeOfBytes o.cut.network.nodes
   pub age : o.generation < NUMBER_LIMIT
-  pub leads : LeadsTo (replay_from o.cut.network o.base) o.replay
+  pub leads : LeadsTo (replay_from o.form o.cut.network o.base) o.replay
   pub behind : area_start o.head.areas o.second + AREA_HEAD_BYTES ≤ o.end
   pub inside : o.end < area_start o.head.areas o.second + o.head.areas.length

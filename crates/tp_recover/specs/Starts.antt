@@ -38,7 +38,7 @@ read_in head second content = do
 
 -- Nothing is replayed so far, the cut is one of that head's topology, whose nodes were read of bytes, and the generation is one.
 pub record IsStart (head : Head) (start : Start) : Type 0 where
-  pub replay : start.replay ≡ replay_from start.cut.network start.front.base
+  pub replay : start.replay ≡ replay_from start.front.form start.cut.network start.front.base
   pub cut : IsCut t414_ends head.topology start.front.base start.cut.network
   pub nodes : AllByRecursion IsNodeOfBytes start.cut.network.nodes
   pub age : start.front.generation < NUMBER_LIMIT
@@ -54,6 +54,7 @@ opened_with head second read found = record {
   head = head;
   second = second;
   generation = read.front.generation;
+  form = read.front.form;
   base = read.front.base;
   cut = read.cut;
   kept = found.0.kept;
@@ -64,4 +65,4 @@ opened_with head second read found = record {
 -- the same, with the groups read
 abbrev pub opened_after : Head → Bool → List ℕ → Read → Result Opened OpenFault
 opened_after head second content read =
-    after_groups (replay_from read.cut read.front.base) (groups_of head second content) >>= (λ found. Ok (opened_with head second read found))
+    after_groups (replay_from read.front.form read.cut read.front.base) (groups_of head second content) >>= (λ found. Ok (opened_with head second read found))

@@ -1,19 +1,53 @@
 //! The head of a device.
 
-ghost use Rattle.std.specs.Prelude.{◌≡◌, ◌+◌, ◌*◌, ◌≤◌, ◌<◌, ◌^◌, IfOk};
+ghost use Rattle.std.specs.Prelude.{◌≡◌, ◌+◌, ◌*◌, ◌≤◌, ◌<◌, ◌^◌, length, take, true, Ok, IfOk};
+ghost use Rattle.tp_layout.specs.Heads.{head_in, version_in};
 ghost use Rattle.tp_model.specs.Device.{areas_end};
-ghost use Rattle.tp_model.specs.Head.{head_of};
+ghost use Rattle.tp_model.specs.Head.{head_length, head_of};
 ghost use Rattle.tp_model.specs.DiskHistory.{Counts};
+ghost use Rattle.tp_model.specs.declared.head.HeadVersion.TheVariants.{Wide};
 ghost use Rattle.tp_recover.specs.Reading.{has_read, Answers, IsKept, LeavesNothingNew, TakesNone};
 
 use crate::device::read_array;
 use crate::unopened::Unopened;
 use tp_disk::Disk;
-use tp_layout::{Head, head_in};
-use tp_model::OpenFault;
-use tp_model::limits::HEAD_BYTES;
+use tp_layout::{Head, head_in, head_version};
+use tp_model::limits::{NARROW_HEAD_BYTES, WIDE_HEAD_BYTES};
+use tp_model::{HeadVersion, OpenFault};
 
-/// Reads the head of a device.
+/// Decodes a head of version `version` of a device of `len` bytes.
+fn decoded(version: HeadVersion, bytes: &[u8], len: u64) -> Result<Head, Unopened>
+    requires { length bytes.now ≡ head_length version }
+    ensures takes_none { TakesNone result }
+    ensures read { has_read result ≡ true }
+    ensures inside { IfOk result (λ head. areas_end head.areas ≤ len) }
+    ensures is { Answers (λ head. head) (head_in version len bytes.now) result }
+{
+    match head_in(version, bytes, len) {
+        Ok(head) => Ok(head),
+        Err(fault) => Err(Unopened::Fault(fault)),
+    }
+}
+
+/// Reads the head of a device of `len` bytes, whose first bytes say that it is a wide one.
+fn read_wide<D: Disk>(disk: &mut D, len: u64) -> Result<Head, Unopened>
+    requires size { D.size_of disk.old ≡ len }
+    requires some { NARROW_HEAD_BYTES ≤ len }
+    ensures takes_none { TakesNone result }
+    ensures counts { Counts (has_read result) (D.size_of disk.old) (D.size_of disk.new) (D.failures_of disk.old) (D.failures_of disk.new) }
+    ensures kept { D.keeps → IsKept result (D.state disk.old).now (D.state disk.new).now }
+    ensures leaves { D.keeps → LeavesNothingNew (D.state disk.old) (D.state disk.new) }
+    ensures inside { IfOk result (λ head. areas_end head.areas ≤ len) }
+    ensures is { D.keeps → version_in (take NARROW_HEAD_BYTES (D.state disk.old).now.bytes) ≡ Ok Wide → Answers (λ head. head) (head_of (D.state disk.old).now.bytes) result }
+{
+    if len < WIDE_HEAD_BYTES as u64 {
+        return Err(Unopened::Fault(OpenFault::Damaged(0)));
+    }
+    let bytes: [u8; WIDE_HEAD_BYTES] = read_array(disk, 0)?;
+    decoded(HeadVersion::Wide, &bytes, len)
+}
+
+/// Reads the head of a device: as many bytes as a narrow one has, and where those say that it is a wide one, that whole.
 pub fn read_head<D: Disk>(disk: &mut D) -> Result<Head, Unopened>
     ensures takes_none { TakesNone result }
     ensures counts { Counts (has_read result) (D.size_of disk.old) (D.size_of disk.new) (D.failures_of disk.old) (D.failures_of disk.new) }
@@ -24,12 +58,13 @@ pub fn read_head<D: Disk>(disk: &mut D) -> Result<Head, Unopened>
     ensures is { D.keeps → Answers (λ head. head) (head_of (D.state disk.old).now.bytes) result }
 {
     let len = disk.size();
-    if len < HEAD_BYTES as u64 {
+    if len < NARROW_HEAD_BYTES as u64 {
         return Err(Unopened::Fault(OpenFault::NotFormatted));
     }
-    let bytes: [u8; HEAD_BYTES] = read_array(disk, 0)?;
-    match head_in(&bytes, len) {
-        Ok(head) => Ok(head),
+    let bytes: [u8; NARROW_HEAD_BYTES] = read_array(disk, 0)?;
+    match head_version(&bytes) {
+        Ok(HeadVersion::Narrow) => decoded(HeadVersion::Narrow, &bytes, len),
+        Ok(HeadVersion::Wide) => read_wide(disk, len),
         Err(fault) => Err(Unopened::Fault(fault)),
     }
 }

@@ -46,6 +46,7 @@ fn open_apart<D: Disk, R: Threads + Sync, G: Gate + Sync>(
         head,
         second,
         generation: front.generation,
+        form: front.form,
         base: front.base,
         cut,
         replay,

@@ -77,6 +77,6 @@ pub(crate) fn read_start<D: Disk>(
         return Err(Unopened::Memory);
     };
     let cut = cut_of(&network);
-    let replay = Replay::start(alloc, network, front.base);
+    let replay = Replay::start(alloc, front.form, network, front.base);
     Ok(Start { front, cut, replay })
 }

@@ -26,6 +26,7 @@ impl Opened {
         ensures cut { IfOk result (λ state. cut_of state ≡ self.cut) }
         ensures now { IfOk result (λ state. now_of state ≡ self.now) }
         ensures base { IfOk result (λ state. state.base ≡ self.base) }
+        ensures form { IfOk result (λ state. state.form ≡ self.form) }
         ensures kept { IfOk result (λ state. state.kept.items ≡ self.kept) }
         ensures next { IfOk result (λ state. state.next ≡ next_of self) }
         ensures generation { IfOk result (λ state. state.generation ≡ self.generation) }
@@ -40,6 +41,7 @@ impl Opened {
             cut: self.cut,
             net,
             base: self.base,
+            form: self.form,
             kept,
             next,
             generation: self.generation,

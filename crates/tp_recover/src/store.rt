@@ -27,6 +27,7 @@ impl Opened {
             areas: self.head().areas(),
             second: self.second(),
             generation: self.generation(),
+            form: self.form(),
             end: self.end(),
             next: self.next(),
         }

@@ -39,6 +39,13 @@ pub(crate) fn read_taken<D: Disk>(
     ensures is { D.keeps → Answers taken_of (taken_in head.now second (content_of head.now.areas second (D.state disk.old).now.bytes)) result }
 {
     let start = read_start(alloc, disk, head, second)?;
-    let (rows, end) = read_rows(alloc, disk, head, second, start.front.base)?;
+    let (rows, end) = read_rows(
+        alloc,
+        disk,
+        head,
+        second,
+        start.front.form,
+        start.front.base,
+    )?;
     Ok(Taken { start, rows, end })
 }

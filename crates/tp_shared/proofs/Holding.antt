@@ -54,6 +54,7 @@ grown_like One Other b new like G = record {
   ready = G.ready;
   room = G.room;
   floor = G.floor;
+  form = G.form;
 }
 
 pub acted_like : (One Other : List Entry → Type 0) (number : ℕ) (a : Agreement) (b new : BookValue) → ((es : List Entry) → One es → Other es) → NodeActed One number a b new → NodeActed Other number a b new
@@ -76,6 +77,7 @@ module _ (Are : List Entry → Type 0) (number : ℕ) (acts : List Act) (b mid :
     ready = A.grew.ready;
     room = A.grew.room;
     floor = A.grew.floor;
+    form = A.grew.form;
   }
 
   -- no run is reserved
@@ -104,6 +106,7 @@ module _ (Are : List Entry → Type 0) (number : ℕ) (acts : List Act) (b mid :
       ready = A.grew.ready;
       room = A.grew.room;
       floor = A.grew.floor;
+      form = A.grew.form;
     };
     nodes = A.nodes;
     runs = ap (λ runs. set runs number true) A.grew.runs;
@@ -182,6 +185,7 @@ acted_run b new number count n A = record {
     ready = A.grew.ready;
     room = A.grew.room;
     floor = A.grew.floor;
+    form = A.grew.form;
   };
   nodes = A.nodes;
   runs = A.grew.runs;

@@ -55,6 +55,7 @@ hosted_input b new port bytes is same act = record {
     ready = ap (λ x. x.ready) is;
     room = ap (λ x. x.room) is;
     floor = ap (λ x. x.floor) is;
+    form = ap (λ x. x.form) is;
   };
   nodes = same;
   runs = ap (λ x. x.runs) is;
@@ -84,6 +85,7 @@ hosted_confirm b new port upto is same act = go (nat_le upto (port_in b port).ou
         ready = ap (λ x. x.ready) e;
         room = ap (λ x. x.room) e;
         floor = ap (λ x. x.floor) e;
+        form = ap (λ x. x.form) e;
       };
       nodes = same;
       runs = ap (λ x. x.runs) e;
@@ -104,6 +106,7 @@ hosted_confirm b new port upto is same act = go (nat_le upto (port_in b port).ou
         ready = ap (λ x. x.ready) e;
         room = ap (λ x. x.room) e;
         floor = ap (λ x. x.floor) e;
+        form = ap (λ x. x.form) e;
       };
       nodes = same;
       runs = ap (λ x. x.runs) e;
@@ -128,6 +131,7 @@ hosted_by Are acts b new A none are = record {
     ready = A.grew.ready;
     room = A.grew.room;
     floor = A.grew.floor;
+    form = A.grew.form;
   };
   nodes = A.nodes;
   runs = A.grew.runs;
@@ -184,6 +188,7 @@ begun_grown b new is act = record {
   ready = ap (λ x. x.ready) is;
   room = ap (λ x. x.room) is;
   floor = ap (λ x. x.floor) is;
+  form = ap (λ x. x.form) is;
 }
 
 -- ## The store breaks
@@ -203,6 +208,7 @@ hosted_broken b new is = record {
     ready = ap (λ x. x.ready) is;
     room = ap (λ x. x.room) is;
     floor = ap (λ x. x.floor) is;
+    form = ap (λ x. x.form) is;
   };
   nodes = ap (λ x. agreed x.state) is;
   runs = ap (λ x. x.runs) is;

@@ -24,6 +24,7 @@ pub record Grown (Are : List Entry → Type 0) (old new : BookValue) : Type 0 wh
   pub ready : new.ready ≡ old.ready
   pub room : new.room ≡ old.room
   pub floor : new.floor ≡ old.floor
+  pub form : new.form ≡ old.form
 
 -- Acts of a node were done, and it and whether a run of it is reserved are then so. The others are as they were: whether they have
 -- recorded, and their frozen images.

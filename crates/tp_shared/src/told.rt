@@ -5,6 +5,7 @@ ghost use Rattle.std.specs.Borrow.{ftrue};
 ghost use Rattle.tp_model.specs.NodeState.{NodeState};
 ghost use Rattle.tp_model.specs.Snapshot.{MarkedNetwork};
 ghost use Rattle.tp_model.specs.declared.entry.Entry.{Entry};
+ghost use Rattle.tp_model.specs.declared.form.Form.{Form};
 
 use crate::locked::Locked;
 use crate::naming::Naming;
@@ -13,7 +14,8 @@ use std::marker::Model;
 use tp_token::Key;
 
 /// A network with its book, how many entries the kept cut holds, and the journal; whether its cut is whole and no node's pages are
-/// kept any more; and from which position on the entries have their positions as numbers. It has no bytes: contracts alone see it.
+/// kept any more; from which position on the entries have their positions as numbers; and the book's form. It has no bytes: contracts
+/// alone see it.
 #[derive(Drop)]
 pub struct Told {
     pub ghost net: { MarkedNetwork NodeState },
@@ -21,6 +23,7 @@ pub struct Told {
     pub ghost journal: { List Entry },
     pub ghost thawed: { Bool },
     pub ghost numbered_from: { ℕ },
+    pub ghost form: { Form },
 }
 
 impl Model for Told {

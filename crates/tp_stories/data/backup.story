@@ -124,7 +124,7 @@ keep device
 tpnet backup device copy
 tpnet backup device copy --explain 2>err
 starts err tpnet: Damaged 0\n
-has err wires, break a rule
+has err byte 10 is 01 and must be 00
 stay
 bring kept/one.dev device
 set device 512 00

@@ -45,15 +45,15 @@ set device 10 01
 tpnet recover device
 tpnet recover device --explain 2>err
 starts err tpnet: Damaged 0\n
-has err wires, break a rule
+has err byte 10 is 01 and must be 00
 tpnet show device
 tpnet show device --explain 2>err
 starts err tpnet: Damaged 0\n
-has err wires, break a rule
+has err byte 10 is 01 and must be 00
 tpnet journal device
 tpnet journal device --explain 2>err
 starts err tpnet: Damaged 0\n
-has err wires, break a rule
+has err byte 10 is 01 and must be 00
 copy grown device
 set device 20 01
 tpnet recover device
@@ -418,3 +418,189 @@ has err It is a folder
 tpnet show /dev/null --explain 2>err
 starts err tpnet: ReadFailed\n
 has err it is no regular file
+
+story heads
+# Which field of a head breaks its rule, by the version, and a form that isn't known.
+text net.txt node a 4\nport h\nwire a.0 h\n
+image a.img
+tpnet format device net.txt . 16384
+copy device fresh
+copy fresh device
+set device 7 03
+tpnet recover device --explain 2>err
+starts err tpnet: BadVersion\n
+has err byte 7, the version, is 3, and this program reads 1 and 2
+copy fresh device
+set device 8 00
+tpnet recover device --explain 2>err
+starts err tpnet: Damaged 0\n
+has err byte 8, the nodes, is 0 and must be 1 to 16: docs/FORMATS.md, section 4
+copy fresh device
+set device 8 11
+tpnet recover device --explain 2>err
+starts err tpnet: Damaged 0\n
+has err byte 8, the nodes, is 17 and must be 1 to 16
+copy fresh device
+set device 9 09
+tpnet recover device --explain 2>err
+starts err tpnet: Damaged 0\n
+has err byte 9, the ports, is 9 and must be 1 to 8
+copy fresh device
+set device 15 01
+tpnet recover device --explain 2>err
+starts err tpnet: Damaged 0\n
+has err byte 15 is 01 and must be 00
+copy fresh device
+set device 24 03
+tpnet recover device --explain 2>err
+starts err tpnet: Damaged 0\n
+has err the pages of node 0, at 24, are 3 and must be 4 to 256
+copy fresh device
+set device 24 01 01
+tpnet recover device --explain 2>err
+starts err tpnet: Damaged 0\n
+has err the pages of node 0, at 24, are 257 and must be 4 to 256
+copy fresh device
+set device 26 04
+tpnet recover device --explain 2>err
+starts err tpnet: Damaged 0\n
+has err the pages of node 1, at 26, are 4, and there are 1 nodes
+copy fresh device
+set device 57 01
+tpnet recover device --explain 2>err
+starts err tpnet: Damaged 0\n
+has err where link 1 of node 0 leads, at 57, is 1: link 0 of node 0, which doesn't lead back
+copy fresh device
+set device 57 80
+tpnet recover device --explain 2>err
+starts err tpnet: Damaged 0\n
+has err where link 1 of node 0 leads, at 57, is 80: port 0, to which an earlier link leads
+copy fresh device
+set device 57 81
+tpnet recover device --explain 2>err
+starts err tpnet: Damaged 0\n
+has err where link 1 of node 0 leads, at 57, is 81: no link or port that is there
+copy fresh device
+set device 60 01
+tpnet recover device --explain 2>err
+starts err tpnet: Damaged 0\n
+has err byte 60 is 01 and must be 00
+copy fresh device
+set device 511 01
+tpnet recover device --explain 2>err
+starts err tpnet: Damaged 0\n
+has err byte 511 is 01 and must be 00
+copy fresh device
+set device 16 E9 32
+tpnet recover device --explain 2>err
+starts err tpnet: Damaged 0\n
+has err its areas of 13033 bytes are too small for its nodes and ports
+copy fresh device
+cut device 33279
+tpnet recover device --explain 2>err
+starts err tpnet: Damaged 0\n
+has err the device has 33279 bytes, and its head says areas of 16384, for which it needs 33280
+copy fresh device
+set device 531 01
+tpnet recover device --explain 2>err
+starts err tpnet: Damaged 512\n
+has err offset 512 is in the front of an area: gate, generation, the cut's length, its base and the form, from 512 on
+has err the form, at 531, is 1, and this program reads 0 and 2
+copy fresh device
+set device 521 DD
+tpnet recover device --explain 2>err
+starts err tpnet: Damaged 512\n
+has err a field breaks its rule
+# A wide head.
+text net.txt node n0 4\nnode n1 4\nnode n2 4\nnode n3 4\nnode n4 4\nnode n5 4\nnode n6 4\nnode n7 4\nnode n8 4\nnode n9 4\nnode n10 4\nnode n11 4\nnode n12 4\nnode n13 4\nnode n14 4\nnode n15 4\nnode n16 4\nport h\nwire n16.0 h\nwire n16.3 n0.0\n
+image n0.img
+image n1.img
+image n2.img
+image n3.img
+image n4.img
+image n5.img
+image n6.img
+image n7.img
+image n8.img
+image n9.img
+image n10.img
+image n11.img
+image n12.img
+image n13.img
+image n14.img
+image n15.img
+image n16.img
+tpnet format device net.txt . 100000
+copy device wide
+copy wide device
+set device 8 41
+tpnet recover device --explain 2>err
+starts err tpnet: Damaged 0\n
+has err the head of the device, its first 1024 bytes
+has err byte 8, the nodes, is 65 and must be 1 to 64
+copy wide device
+set device 56 01 04
+tpnet recover device --explain 2>err
+starts err tpnet: Damaged 0\n
+has err the pages of node 16, at 56, are 1025 and must be 4 to 1024
+copy wide device
+set device 58 04
+tpnet recover device --explain 2>err
+starts err tpnet: Damaged 0\n
+has err the pages of node 17, at 58, are 4, and there are 17 nodes
+copy wide device
+set device 154 44
+tpnet recover device --explain 2>err
+starts err tpnet: Damaged 0\n
+has err where link 1 of node 0 leads, at 154, is 44: link 3 of node 16, which doesn't lead back
+copy wide device
+set device 280 01
+tpnet recover device --explain 2>err
+starts err tpnet: Damaged 0\n
+has err where link 0 of node 16 leads, at 280, is 8001: no link or port that is there
+copy wide device
+set device 282 00 80
+tpnet recover device --explain 2>err
+starts err tpnet: Damaged 0\n
+has err where link 1 of node 16 leads, at 282, is 8000: port 0, to which an earlier link leads
+copy wide device
+set device 288 01
+tpnet recover device --explain 2>err
+starts err tpnet: Damaged 0\n
+has err byte 288 is 01 and must be 00
+copy wide device
+set device 1023 01
+tpnet recover device --explain 2>err
+starts err tpnet: Damaged 0\n
+has err byte 1023 is 01 and must be 00
+copy wide device
+cut device 1023
+tpnet recover device --explain 2>err
+starts err tpnet: Damaged 0\n
+has err it has 1023 bytes, fewer than the 1024 of a head
+copy wide device
+cut device 201023
+tpnet recover device --explain 2>err
+starts err tpnet: Damaged 0\n
+has err the device has 201023 bytes, and its head says areas of 100000, for which it needs 201024
+copy wide device
+set device 1024 00
+tpnet recover device --explain 2>err
+starts err tpnet: NoOpenArea\n
+has err the gate at 1024 is 00, and an open one is A5
+has err the gate at 101024 is 00
+copy wide device
+set device 1043 01
+tpnet recover device --explain 2>err
+starts err tpnet: Damaged 1024\n
+has err the form, at 1043, is 1
+copy wide device
+set device 69333 02
+tpnet recover device --explain 2>err
+starts err tpnet: Damaged 69333\n
+has err offset 69333 is in the image of node 16, of 4 pages, from 69333 on
+copy wide device
+set device 73601 03
+tpnet recover device --explain 2>err
+starts err tpnet: Damaged 73601\n
+has err offset 73601 is in the record of line 0, which link 0 of node 0 sends, from 73601 on

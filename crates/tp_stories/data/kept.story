@@ -1,4 +1,4 @@
-# Devices that were kept as bytes: of this form, made by the program of November 2026. What they open to stays so; see kept/README.md.
+# Devices that were kept as bytes: of narrow heads and areas without turns, made by the program of November 2026. What they open to stays so; see kept/README.md.
 
 story one
 # One node, whose letter was printed and confirmed.

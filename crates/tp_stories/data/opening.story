@@ -250,3 +250,163 @@ tpnet recover device
 copy grown device
 set device 17383 00
 tpnet recover device
+
+story heads
+# A narrow head keeps its limits: here one of 17 nodes, and one with a node of 257 pages, for which its area has room. Another version.
+text net.txt node a 256\nport h\nwire a.0 h\n
+image a.img
+cut a.img 262316
+set a.img 2 00 01
+tpnet format device net.txt . 400000
+copy device fresh
+copy fresh device
+set device 8 11
+tpnet recover device
+copy fresh device
+set device 24 01 01
+tpnet recover device
+copy fresh device
+set device 7 02
+tpnet recover device
+copy fresh device
+set device 7 03
+tpnet recover device
+copy fresh device
+set device 7 00
+tpnet recover device
+# A wide head has 1,024 bytes, and its own limits: 64 nodes of up to 1,024 pages.
+text net.txt node n0 4\nnode n1 4\nnode n2 4\nnode n3 4\nnode n4 4\nnode n5 4\nnode n6 4\nnode n7 4\nnode n8 4\nnode n9 4\nnode n10 4\nnode n11 4\nnode n12 4\nnode n13 4\nnode n14 4\nnode n15 4\nnode n16 4\nport h\nwire n16.0 h\nwire n16.3 n0.0\n
+image n0.img
+image n1.img
+image n2.img
+image n3.img
+image n4.img
+image n5.img
+image n6.img
+image n7.img
+image n8.img
+image n9.img
+image n10.img
+image n11.img
+image n12.img
+image n13.img
+image n14.img
+image n15.img
+image n16.img
+tpnet format device net.txt . 100000
+copy device wide
+copy wide device
+set device 7 01
+tpnet recover device
+copy wide device
+set device 8 41
+tpnet recover device
+copy wide device
+set device 24 01 04
+tpnet recover device
+# Link 1 of node 0 leads to a link that doesn't lead back; link 0 to one that isn't there, nor is port 1, nor port 256; the byte behind the ends.
+copy wide device
+set device 154 01
+tpnet recover device
+copy wide device
+set device 153 01
+tpnet recover device
+copy wide device
+set device 280 01
+tpnet recover device
+copy wide device
+set device 281 81
+tpnet recover device
+copy wide device
+set device 664 01
+tpnet recover device
+copy wide device
+set device 1023 01
+tpnet recover device
+copy wide device
+cut device 511
+tpnet recover device
+copy wide device
+cut device 512
+tpnet recover device
+copy wide device
+cut device 1023
+tpnet recover device
+copy wide device
+cut device 1024
+tpnet recover device
+copy wide device
+cut device 201023
+tpnet recover device
+copy wide device
+set device 1024 00
+tpnet recover device
+copy wide device
+set device 101024 A5 01 00 00 00 00 00 00 00
+tpnet recover device
+copy wide device
+set device 1033 9D
+tpnet recover device
+copy wide device
+set device 1045 02
+tpnet recover device
+
+story forms
+# An area with turns, one without, and forms that aren't known.
+text net.txt node a 4\nport h\nwire a.0 h\n
+image a.img
+tpnet format device net.txt . 16384
+copy device fresh
+tpnet status device
+set device 531 00
+tpnet recover device
+tpnet status device
+copy fresh device
+set device 531 01
+tpnet recover device
+copy fresh device
+set device 531 03
+tpnet recover device
+copy fresh device
+set device 532 01
+tpnet recover device
+copy fresh device
+set device 532 02
+tpnet recover device
+# The letter, and then its acknowledge and a run of 16 steps as one turn. It is printed, and the node goes on.
+copy fresh device
+set device 13033 A5 00 03 00 00 00 00 00 00 00 00 00 00 00 00 00
+set device 13049 01 00 03 00 00 00 00 00 00 00 00 00 00 00 00 00
+set device 13065 02 01 00 00 41 00 00 00 01 00 00 00 00 00 00 00
+set device 13081 05 00 10 00 00 00 00 00 02 00 00 00 00 00 02 00
+set device 13097 00
+copy device turned
+tpnet recover device
+tpnet recover device --workers 2
+tpnet journal device
+tpnet show device
+tpnet run device --turns 2 --workers 1 --quantum 16
+# A turn of another token than is in front, of none, and one in an area without turns.
+copy turned device
+set device 13095 01
+tpnet recover device
+copy turned device
+set device 13095 00
+tpnet recover device
+copy turned device
+set device 531 00
+tpnet recover device
+tpnet recover device --workers 2
+# Without it the area opens, and a checkpoint gives the other area the form with turns; with it a checkpoint holds what it led to.
+set device 13035 02
+set device 13081 00
+tpnet recover device
+tpnet status device
+tpnet compact device
+tpnet status device
+show device 531 2
+show device 16909 8
+copy turned device
+tpnet compact device
+tpnet recover device
+show device 16909 8

@@ -6,6 +6,8 @@ use Rattle.tp_layout.specs.Capacity.{capacity, journal_of}
 use Rattle.tp_model.specs.NodeState.{NodeState}
 use Rattle.tp_model.specs.Network.{Port}
 use Rattle.tp_model.specs.Opening.{Opened, next_of}
+use Rattle.tp_model.specs.declared.form.Form.{Form}
+use Rattle.tp_model.specs.declared.form.Form.TheVariants.{Plain, Turns}
 use Rattle.tp_model.specs.declared.processor.Fault.{Fault}
 use Rattle.tp_model.specs.declared.processor.Fault.TheVariants.{BadAddress, UnknownOp, LongPrefix, LinkBusy}
 use Rattle.tp_node.specs.Standing.{standing}
@@ -69,10 +71,16 @@ yes_or_no is_so = if is_so then codes "yes" else codes "no"
 abbrev pub percent : ℕ → ℕ → ℕ
 percent entries room = if room == 0 then 0 else entries * 100 / room
 
--- whether a process holds the device, which checkpoint it has, and the number of the next entry
-abbrev pub front_part : Bool → ℕ → ℕ → Option Since → List ℕ
-front_part held generation next since =
-    codes "running " ++ (yes_or_no held ++ (codes " generation " ++ (decimal generation ++ (codes " next " ++ count_part next since))))
+-- the name of an area's form
+abbrev pub form_name : Form → List ℕ
+form_name Plain = codes "plain"
+form_name Turns = codes "turns"
+
+-- whether a process holds the device, which checkpoint it has, the form of its area, and the number of the next entry
+abbrev pub front_part : Bool → ℕ → Form → ℕ → Option Since → List ℕ
+front_part held generation form next since =
+    codes "running " ++ (yes_or_no held ++ (codes " generation " ++ (decimal generation
+    ++ (codes " form " ++ (form_name form ++ (codes " next " ++ count_part next since))))))
 
 -- how many entries the journal has, and how many it has room for
 abbrev pub journal_part : ℕ → ℕ → List ℕ
@@ -129,6 +137,6 @@ room_of o = capacity (journal_of o.head.topology o.head.areas.length)
 -- The line of a device that opened, where a process held it or none did, at a time in milliseconds, behind what a look before saw.
 abbrev pub status_line : Bool → ℕ → Option Seen → Opened → List ℕ
 status_line held at before o =
-    front_part held o.generation (next_of o) (next_before at before)
+    front_part held o.generation o.form (next_of o) (next_before at before)
     ++ (journal_part (length o.kept) (room_of o)
     ++ (port_parts 0 at before o.now.ports ++ (halted_or_none (halted_parts 0 o.now.nodes) ++ 10 ∷ [])))

@@ -4,13 +4,15 @@ ghost use Rattle.std.specs.Prelude.{◌≡◌, ◌≤◌, ◌<◌, ◌^◌, true
 ghost use Rattle.tp_model.specs.Topology.{is_topology};
 
 use crate::commands::{put, refuse};
+use crate::formats::{form_name, version_number};
 use crate::refusal::Refusal;
 use std::alloc::{AllocError, Global};
 use std::fmt::Write as Push;
 use std::io::Write;
 use tp_area::{FormatFault, format};
 use tp_disk::MemDisk;
-use tp_layout::area_for;
+use tp_layout::{area_for, version_for};
+use tp_model::Form;
 use tp_net::Topology;
 
 /// Whether a device may be formatted with the images: it is tried on one that has no bytes.
@@ -32,11 +34,15 @@ fn checked_text(alloc: Global, topology: &Topology) -> Result<String, AllocError
     requires { is_topology topology.now ≡ true }
 {
     let (nodes, ports) = (topology.pages().len(), topology.port_count());
+    let (version, form) = (
+        version_number(version_for(topology)),
+        form_name(Form::Turns),
+    );
     let least = area_for(topology, 1);
     let mut text = String::new(alloc);
     write!(
         &mut text,
-        "nodes {nodes} ports {ports}\nleast area {least}\n"
+        "nodes {nodes} ports {ports} version {version} form {form}\nleast area {least}\n"
     )?;
     for entries in JOURNALS {
         let area = area_for(topology, u64::from(entries));

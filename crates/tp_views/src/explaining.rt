@@ -14,7 +14,7 @@ use std::os::unix::fs::FileExt;
 use tp_disk::{Counted, NotedFile, RawFile};
 use tp_layout::{JournalRoom, area_for};
 use tp_model::NetFault;
-use tp_model::limits::MAX_HELD;
+use tp_model::limits::{MAX_HELD, MAX_NODES, MAX_PAGES, MAX_PORTS, MIN_PAGES};
 use tp_net::{Named, Topology};
 use tp_recover::{Opened, Unopened};
 use tp_words::{Asked, NewDevice, Run};
@@ -79,6 +79,38 @@ fn nth_line(text: &[u8], number: usize) -> &[u8] {
     }
 }
 
+/// The number of the line of a text that says `fault`; 0 where it is none of a line.
+fn faulty_line(alloc: Global, text: &[u8], fault: NetFault) -> usize {
+    match fault {
+        NetFault::Syntax(line) => line as usize,
+        NetFault::Memory => 0,
+        NetFault::TwoWires | NetFault::UnknownNode | NetFault::TooMany => {
+            line_of_fault(alloc, text, fault)
+        }
+    }
+}
+
+/// Appends which rule a topology breaks.
+fn push_reason(text: &mut String, fault: NetFault) -> Result<(), AllocError> {
+    match fault {
+        NetFault::Syntax(0) => write!(text, "a node or a port is missing"),
+        NetFault::Syntax(_) => write!(
+            text,
+            "it has to be `node NAME PAGES`, `port NAME` or `wire END END`: a NAME is new and has 1 to 16 of a to z, 0 to 9 and -, a letter first; PAGES are {MIN_PAGES} to {MAX_PAGES}, without leading zeros; an END is a port's name, or a node's with .0 to .3 behind it, and one of the two is a node's; words are parted by spaces, and no space is before the first or behind the last"
+        ),
+        NetFault::TwoWires => write!(
+            text,
+            "one of its ends has a wire already, or both are the same"
+        ),
+        NetFault::UnknownNode => write!(text, "one of its ends is named by no line above"),
+        NetFault::TooMany => write!(
+            text,
+            "a network has at most {MAX_NODES} nodes and {MAX_PORTS} ports"
+        ),
+        NetFault::Memory => write!(text, "memory is wanting"),
+    }
+}
+
 /// Says where and why a text says no topology.
 fn push_topology(
     alloc: Global,
@@ -87,35 +119,18 @@ fn push_topology(
     bytes: &[u8],
     fault: NetFault,
 ) -> Result<(), AllocError> {
-    let (number, reason) = match fault {
-        NetFault::Syntax(0) => (0, "a node or a port is missing"),
-        NetFault::Syntax(line) => (
-            line as usize,
-            "it has to be `node NAME PAGES`, `port NAME` or `wire END END`: a NAME is new and has 1 to 16 of a to z, 0 to 9 and -, a letter first; PAGES are 4 to 256, without leading zeros; an END is a port's name, or a node's with .0 to .3 behind it, and one of the two is a node's; words are parted by spaces, and no space is before the first or behind the last",
-        ),
-        NetFault::TwoWires => (
-            line_of_fault(alloc, bytes, fault),
-            "one of its ends has a wire already, or both are the same",
-        ),
-        NetFault::UnknownNode => (
-            line_of_fault(alloc, bytes, fault),
-            "one of its ends is named by no line above",
-        ),
-        NetFault::TooMany => (
-            line_of_fault(alloc, bytes, fault),
-            "a network has at most 16 nodes and 8 ports",
-        ),
-        NetFault::Memory => (0, "memory is wanting"),
-    };
+    let number = faulty_line(alloc, bytes, fault);
     let line = match str::from_utf8(nth_line(bytes, number)) {
         Ok(line) => line,
         Err(_) => "(no text: is this file the topology? --help has the order of the words)",
     };
     if number == 0 {
-        write!(text, "  {path}: {reason}\n")
+        write!(text, "  {path}: ")?;
     } else {
-        write!(text, "  {path}, line {number}: {line}\n  {reason}\n")
+        write!(text, "  {path}, line {number}: {line}\n  ")?;
     }
+    push_reason(text, fault)?;
+    write!(text, "\n")
 }
 
 /// Says which rule an image breaks, where it breaks one.

@@ -24,7 +24,7 @@ fn push_length(text: &mut String, image: &[u8], wanted: Option<u16>) -> Result<b
     if length < IMAGE_HEAD_BYTES {
         write!(
             text,
-            "it has {length} bytes, fewer than the 172 of an image's head"
+            "it has {length} bytes, fewer than the {IMAGE_HEAD_BYTES} of an image's head"
         )?;
         return Ok(true);
     }
@@ -32,14 +32,14 @@ fn push_length(text: &mut String, image: &[u8], wanted: Option<u16>) -> Result<b
     if version != IMAGE_VERSION {
         write!(
             text,
-            "byte 0 of its head, the version, must be 1 and is {version}"
+            "byte 0 of its head, the version, must be {IMAGE_VERSION} and is {version}"
         )?;
         return Ok(true);
     }
     if usize::from(pages) < MIN_PAGES || usize::from(pages) > MAX_PAGES {
         write!(
             text,
-            "bytes 2 and 3 of its head, the pages, must be 4 to 256 and are {pages}"
+            "bytes 2 and 3 of its head, the pages, must be {MIN_PAGES} to {MAX_PAGES} and are {pages}"
         )?;
         return Ok(true);
     }
@@ -81,7 +81,7 @@ fn push_byte(text: &mut String, image: &[u8]) -> Result<bool, AllocError> {
     if usize::from(slice) > SLICE {
         write!(
             text,
-            "bytes 42 and 43 of its head, the slice count, are {slice} and must be at most 1024"
+            "bytes 42 and 43 of its head, the slice count, are {slice} and must be at most {SLICE}"
         )?;
         return Ok(true);
     }

@@ -8,6 +8,8 @@ mod damage;
 mod device_file;
 mod entries;
 mod explaining;
+mod formats;
+mod head_rules;
 mod image_rules;
 mod looking;
 mod opening;

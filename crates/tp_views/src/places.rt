@@ -1,15 +1,18 @@
 //! What stands at a place of a device, in words.
 
+use crate::head_rules::{half_at, most_nodes, number_at, pages_at};
+use crate::registers::byte_in;
 use std::alloc::AllocError;
 use std::fmt::Write;
-use tp_layout::head_places::{AREA_PLACE, NODES_PLACE, PAGES_PLACE, PORTS_PLACE};
+use tp_layout::head_places::{AREA_PLACE, NODES_PLACE, PORTS_PLACE};
 use tp_layout::{FIELDS_BYTES, areas_of_length, image_length};
-use tp_model::TwoAreas;
-use tp_model::limits::{HEAD_BYTES, LINE_BYTES, MAX_NODES, MAX_PORTS, PORT_BYTES};
+use tp_model::limits::{LINE_BYTES, MAX_NODES, MAX_PORTS, PORT_BYTES};
+use tp_model::{HeadVersion, TwoAreas};
 
 /// What a device's head says of where its records stand.
 #[derive(Clone, Copy)]
 pub(crate) struct Layout {
+    pub(crate) version: HeadVersion,
     pub(crate) areas: TwoAreas,
     nodes: u64,
     ports: u64,
@@ -34,21 +37,17 @@ pub(crate) struct Place {
     pub(crate) start: u64,
 }
 
-/// The layout that a head says.
-pub(crate) fn layout_of(head: &[u8; HEAD_BYTES]) -> Layout {
+/// The layout that a head of a version says.
+pub(crate) fn layout_of(version: HeadVersion, head: &[u8]) -> Layout {
     let mut pages = [0u16; MAX_NODES];
     for (node, count) in pages.iter_mut().enumerate() {
-        *count = u16::from_le_bytes([
-            head[PAGES_PLACE + 2 * node],
-            head[PAGES_PLACE + 2 * node + 1],
-        ]);
+        *count = half_at(head, pages_at(node));
     }
-    let mut length = [0u8; 8];
-    length.copy_from_slice(&head[AREA_PLACE..AREA_PLACE + 8]);
     Layout {
-        areas: areas_of_length(u64::from_le_bytes(length)),
-        nodes: u64::from(head[NODES_PLACE]).min(MAX_NODES as u64),
-        ports: u64::from(head[PORTS_PLACE]).min(MAX_PORTS as u64),
+        version,
+        areas: areas_of_length(version, number_at(head, AREA_PLACE)),
+        nodes: u64::from(byte_in(head, NODES_PLACE)).min(most_nodes(version) as u64),
+        ports: u64::from(byte_in(head, PORTS_PLACE)).min(MAX_PORTS as u64),
         pages,
     }
 }
@@ -130,10 +129,13 @@ impl Layout {
     pub(crate) fn push_record(&self, text: &mut String, record: Record) -> Result<(), AllocError> {
         let links = self.nodes.saturating_mul(4);
         match record {
-            Record::Head => write!(text, "the head of the device, its first 512 bytes"),
+            Record::Head => {
+                let length = self.areas.first;
+                write!(text, "the head of the device, its first {length} bytes")
+            }
             Record::Front => write!(
                 text,
-                "the front of an area: gate, generation, the cut's length and its base"
+                "the front of an area: gate, generation, the cut's length, its base and the form"
             ),
             Record::Image { node, pages } => write!(
                 text,

@@ -4,10 +4,11 @@ ghost use Rattle.std.specs.Prelude.{◌≡◌, ◌++◌, ◌∷◌, ◌<◌, ◌
 ghost use Rattle.tp_views.specs.Status.{IsSeen, accepted, accepted_before, accepted_part, address, count_part, fault_name, front_part, growth_part, halted_or_none, halted_part, halted_parts, journal_part, millis_since, next_before, out_before, out_part, percent, port_before, port_part, port_parts, port_seen, put_out, room_of, status_line, yes_or_no};
 ghost use Rattle.tp_node.specs.Standing.{standing};
 
+use crate::formats::form_name;
 use std::alloc::{AllocError, Global};
 use std::fmt::Write;
 use tp_layout::JournalRoom;
-use tp_model::Fault;
+use tp_model::{Fault, Form};
 use tp_node::{Node, Standing};
 use tp_port::HostPort;
 use tp_recover::Opened;
@@ -182,18 +183,22 @@ fn percent(entries: usize, room: u64) -> u128
     }
 }
 
-/// Appends whether a process holds the device, which checkpoint it has, and the number of the next entry.
+/// Appends whether a process holds the device, which checkpoint it has, the form of its area, and the number of the next entry.
 fn push_front(
     text: &mut String,
     held: bool,
     generation: u64,
+    form: Form,
     next: u64,
     since: Option<Since>,
 ) -> Result<(), AllocError>
-    ensures { OnOk result (string_bytes text.new ≡ string_bytes text.old ++ front_part held generation next since) }
+    ensures { OnOk result (string_bytes text.new ≡ string_bytes text.old ++ front_part held generation form next since) }
 {
-    let running = yes_or_no(held);
-    write!(text, "running {running} generation {generation} next ")?;
+    let (running, form) = (yes_or_no(held), form_name(form));
+    write!(
+        text,
+        "running {running} generation {generation} form {form} next "
+    )?;
     push_count(text, next as u128, since)
 }
 
@@ -338,9 +343,10 @@ pub(crate) fn status_text(
     ensures { IfOk result (λ text. string_bytes text ≡ status_line held at before.now opened.now) }
 {
     let now = opened.network();
-    let (generation, next) = (opened.generation(), opened.next());
+    let (generation, form, next) = (opened.generation(), opened.form(), opened.next());
     let mut text = String::new(alloc);
-    push_front(&mut text, held, generation, next, next_before(at, before))?;
+    let since = next_before(at, before);
+    push_front(&mut text, held, generation, form, next, since)?;
     push_journal(&mut text, opened.kept().len(), room_of(opened))?;
     push_ports(&mut text, at, before, now.ports())?;
     push_halts(alloc, &mut text, now.nodes())?;

@@ -7,13 +7,16 @@ pub const TRY_REFUSALS: &str = "Refusals (status 1):
   DeviceFailed  standard output can't be written
   Memory        there is no memory left: take an image with fewer pages";
 
-/// What `tpnet check` refuses.
-pub const CHECK_REFUSALS: &str = "Refusals (status 1):
+/// What the lines of `tpnet check` mean, and what it refuses.
+pub const CHECK_REFUSALS: &str =
+    "It says which version of the head format would write, 1 for at most 16 nodes of at most 256 pages each, and else 2, and the form
+of its areas; then the least AREA, and AREAs with room for so many entries between two checkpoints.
+Refusals (status 1):
   ReadFailed    TOPOLOGY or an image can't be read: look at its path and its rights
   Syntax L      line L of TOPOLOGY is malformed; at 0 a node or a port is missing
   TwoWires      a link or port has two wires, or a wire leads from a link to itself
   UnknownNode   a wire names what no line above declares
-  TooMany       there are more than 16 nodes or 8 ports
+  TooMany       there are more than 64 nodes or 8 ports
   BadImage      an image is none, has other pages than its node, or a link of it is at work
   DeviceFailed  standard output can't be written
   Memory        there is no memory left";
@@ -28,7 +31,7 @@ Refusals (status 1); all but DeviceFailed leave a file that is there as it was:
   Syntax L      line L of TOPOLOGY is malformed; at 0 a node or a port is missing
   TwoWires      a link or port has two wires, or a wire leads from a link to itself
   UnknownNode   a wire names what no line above declares
-  TooMany       there are more than 16 nodes or 8 ports
+  TooMany       there are more than 64 nodes or 8 ports
   DeviceExists  with --new: DEVICE is there already
   DeviceFailed  DEVICE can't be made or written, or standard output can't: look at rights and room; once DEVICE is
                 opened it is emptied, so what was there may be gone: --new or a new path keeps an old device
@@ -54,6 +57,7 @@ Refusals (status 1); nothing is written to DEVICE:
 pub const STATUS_REFUSALS: &str = "The line:
   running yes     another tpnet runs, formats or compacts DEVICE (no: none does)
   generation G    the checkpoint that counts; one more each time
+  form F          turns, or plain: its journal holds no turns, as another program wrote it; the next checkpoint changes that
   next M          the number of the next journal entry
   entries E of R  the journal has E entries since that checkpoint, and room for R: how much of it that is, in percent
   port P          and of each port: how many bytes it has accepted, and how many of these are pending, as no node has

@@ -88,7 +88,7 @@ fn format_command<'a>(alloc: Global) -> Result<Command<'a>, AllocError> {
     .arg(word(
         alloc,
         "DEVICE",
-        "the file that is made, with 512 + 2 AREA bytes",
+        "the file that is made, with 512 + 2 AREA bytes, or 1024 + 2 AREA for more than 16 nodes, or more than 256 pages in one",
     ))?
     .arg(word(
         alloc,

@@ -12,6 +12,7 @@ use Rattle.std.proofs.lemmas.Bool.{true≢false}
 use Rattle.tp_flush.proofs.Closed.{none_out}
 use Rattle.tp_flush.proofs.Begins.{begun, begun_is, first_keeps}
 use Rattle.tp_flush.proofs.Devices.{first_device}
+use Rattle.tp_flush.proofs.Forms.{holds_same}
 use Rattle.tp_flush.proofs.flusher.Flusher.over.Goals as goal
 
 pub invariant_of-result : goal.invariant_of-result
@@ -37,6 +38,7 @@ invariant_of-result g c =
           (ap (λ (n : MarkedNetwork NodeState). n.start) c.requires.told.net) (record { cut = c.requires.cut; bytes = c.requires.bytes }) c.requires.bound c.requires.read),
       subst (λ (k : Known). g.J.Naming.first ≤ k.world.stored) (sym c.of-whole.ensures) (omega (arith, c.requires.first, c.requires.next)),
       subst (λ (k : Known). key.numbered_from ≤ k.world.stored) (sym c.of-whole.ensures) (omega (arith, c.requires.numbered, c.requires.first, c.requires.next)),
+      holds_same place.form key.form c.requires.form,
     )
 
 pub returns-clause-world : goal.returns-clause-world

@@ -17,16 +17,16 @@ use Rattle.tp_area.specs.Tails.{content_beside}
 use Rattle.tp_flush.specs.Copying.{IsPartOut}
 use Rattle.tp_flush.specs.Progress.{is_out}
 use Rattle.tp_flush.specs.Known.{Began, Known}
-use Rattle.tp_flush.specs.Flushing.{Copies, Flushing, Goes, IsOfDevice, Keeps}
+use Rattle.tp_flush.specs.Flushing.{Copies, Flushing, Goes, HeadSays, IsOfDevice, Keeps}
 use Rattle.tp_flush.specs.Ends.{Tried}
 use Rattle.tp_flush.proofs.Appends.{opens, rests_unbroken}
 use Rattle.tp_flush.proofs.Closed.{piece_images, piece_room, put_copies}
-use Rattle.tp_model.specs.Head.{head_of}
-use Rattle.tp_flush.proofs.Devices.{piece_head, put_device, says}
+use Rattle.tp_flush.proofs.Devices.{piece_head, put_device}
 use Rattle.tp_flush.proofs.Beside.{put_content}
 use Rattle.tp_area.specs.declared.place.Place.{Place}
 use Rattle.tp_model.specs.Disk.{written}
 use Rattle.tp_flush.proofs.Puts.{if_answered, piece_inside, Answered, after_put, on_ok, on_ok_same, piece_fits, piece_walks, put_answered, put_keeps, put_known, put_net, put_stored, put_tried, told_put}
+use Rattle.tp_flush.proofs.Forms.{holds_at}
 use Rattle.tp_flush.proofs.flusher.Flusher.put.Given as given
 use Rattle.tp_flush.proofs.flusher.Flusher.put.Goals as goal
 
@@ -100,11 +100,12 @@ invariant_of-self g c =
       subst (λ (k : Known). IsOfDevice g.D.Disk.keeps g.J.Naming.room k.world new a.new.self.place a.new.self.broken p.topology) (sym c.of-parts.ensures)
           (put_device g.D.Disk.keeps g.J.Naming.room p.whole.known.world s new p.store.place a.new.self.place p.topology a.result a.new.self.broken (g.D.Disk.failures_of p.store.disk) (g.D.Disk.failures_of a.new.self.disk)
           (subst (λ broken. IsOfDevice g.D.Disk.keeps g.J.Naming.room p.whole.known.world s p.store.place broken p.topology) (unbroken g c) c.self.invariant.5) (answered g c) a.ensures.place
-          (λ k. on_ok a.result (PutBehind p.store.place (piece_place p.topology c.args.node c.args.piece) c.args.bytes.now s new) (head_of new.now.bytes ≡ Ok (says p.topology p.store.place))
+          (λ k. on_ok a.result (PutBehind p.store.place (piece_place p.topology c.args.node c.args.piece) c.args.bytes.now s new) (HeadSays p.topology p.store.place.areas new.now.bytes)
           (λ P. piece_head p.store.place (piece_place p.topology c.args.node c.args.piece) c.args.bytes.now s new p.topology (omega (arith, p.store.whole, g.met.D.Disk.whole k p.store.disk)) (omega (arith, inside g c, c.requires.whole)) P.called
           (c.self.invariant.5.head k (unbroken g c))) (a.ensures.put k))),
       subst (λ (k : Known). g.J.Naming.first ≤ k.world.stored) (sym c.of-parts.ensures) (omega (arith, put_stored a.new.self.broken p.whole.known.world new.now, c.self.invariant.6)),
       subst (λ (k : Known). p.key.value.numbered_from ≤ k.world.stored) (sym c.of-parts.ensures) (omega (arith, put_stored a.new.self.broken p.whole.known.world new.now, c.self.invariant.7)),
+      holds_at p.store.place a.new.self.place p.key.value.form (ap (λ (q : Place). q.form) a.ensures.place) c.self.invariant.8,
     )
 
 abbrev behind : (g : given.Over) (c : goal.After-answer_of g) → Flushing

@@ -25,4 +25,5 @@ invariant_of-self g c =
       c.self.invariant.5,
       c.self.invariant.6,
       c.self.invariant.7,
+      c.self.invariant.8,
     )

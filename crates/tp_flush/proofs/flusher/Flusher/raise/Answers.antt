@@ -41,6 +41,7 @@ invariant_of-self g c =
           (raise_device g.D.Disk.keeps g.J.Naming.room p.whole.known.world (g.D.Disk.state p.store.disk) p.store.place p.store.broken p.topology c.self.invariant.5),
       subst (λ (k : Known). g.J.Naming.first ≤ k.world.stored) (sym c.of-parts.ensures) c.self.invariant.6,
       subst (λ (k : Known). p.key.value.numbered_from ≤ k.world.stored) (sym c.of-parts.ensures) c.self.invariant.7,
+      c.self.invariant.8,
     )
 
 pub returns-clause-mark : goal.returns-clause-mark

@@ -9,6 +9,7 @@ use Rattle.tp_flush.proofs.Closed.{frozen_told, look_copies}
 use Rattle.tp_flush.proofs.Devices.{look_device}
 use Rattle.tp_flush.proofs.Goings.{goes_looked, went_looked}
 use Rattle.tp_flush.proofs.Kept.{learn_keeps, learned_looked}
+use Rattle.tp_flush.proofs.Forms.{holds_since}
 use Rattle.tp_flush.proofs.flusher.Flusher.read_head.Given as given
 use Rattle.tp_flush.proofs.flusher.Flusher.read_head.Goals as goal
 
@@ -28,6 +29,7 @@ invariant_of-self g c =
           (look_device g.D.Disk.keeps g.J.Naming.room p.whole.known.world p.key.value now s p.store.place p.store.broken p.topology c.self.invariant.2 c.frozen_head-found.ensures.since c.self.invariant.5),
       subst (λ (k : Known). g.J.Naming.first ≤ k.world.stored) (sym c.of-parts.ensures) c.self.invariant.6,
       subst (λ (k : Known). now.numbered_from ≤ k.world.stored) (sym c.of-parts.ensures) (omega (arith, c.frozen_head-found.ensures.since.numbered, c.self.invariant.7)),
+      holds_since p.store.place.form p.key.value now c.frozen_head-found.ensures.since c.self.invariant.8,
     )
 
 abbrev flushing : (g : given.Over) (c : goal.After-parts-2-1 g) → Known → Flushing
