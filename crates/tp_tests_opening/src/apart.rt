@@ -254,6 +254,16 @@ pub(crate) fn is_said<R: Threads + Sync>(
     Ok(tells(rt, alloc, bytes, says)? && all_say_same(rt, alloc, bytes)?)
 }
 
+/// Whether a device says this, opened in one thread and by two workers.
+pub(crate) fn is_said_by_two<R: Threads + Sync>(
+    rt: &R,
+    alloc: Global,
+    bytes: &[u8],
+    says: Result<u64, OpenFault>,
+) -> Result<bool, Fail> {
+    Ok(tells(rt, alloc, bytes, says)? && say_same(rt, alloc, bytes, 2)?)
+}
+
 /// A device with pieces over its bytes.
 pub(crate) fn with_pieces(
     alloc: Global,

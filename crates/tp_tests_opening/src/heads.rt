@@ -1,6 +1,6 @@
 //! Heads of both versions: which networks have which, and what is no head.
 
-use crate::apart::{Content, is_said, play, with_pieces};
+use crate::apart::{Content, is_said, is_said_by_two, play, with_pieces};
 use crate::devices::Letter;
 use crate::opened_books::{book_with, grown};
 use std::alloc::{AllocError, Global};

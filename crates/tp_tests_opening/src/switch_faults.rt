@@ -152,7 +152,11 @@ fn old_groups_are_not_read(rt: HostRuntime) -> Result<(), Fail> {
 #[test]
 fn a_checkpoint_changes_the_form(rt: HostRuntime) -> Result<(), Fail> {
     let known = behind_kept(rt.alloc())?;
-    play(&rt, &known)?;
+    play(&rt, &known)
+}
+
+#[test]
+fn a_checkpoint_that_stopped_is_made_anew(rt: HostRuntime) -> Result<(), Fail> {
     let known = behind_a_stop(rt.alloc())?;
     play(&rt, &known)
 }
