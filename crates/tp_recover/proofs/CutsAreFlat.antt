@@ -1,8 +1,9 @@
 -- A network that a cut image can hold can be replayed from.
-use Rattle.std.proofs.Common.{◌≡◌, ℕ, ◌+◌, ◌<◌, ◌≤◌, inl, inr, true, List, [], ◌∷◌, length, take, drop, ◌∙◌, arith, length-drop, length-take, Ok}
+use Rattle.std.proofs.Common.{◌≡◌, ℕ, ◌+◌, ◌<◌, ◌≤◌, inl, inr, true, List, [], ◌∷◌, length, take, drop, ◌∙◌, arith, length-drop, length-take, Ok, Some}
 use Rattle.std.specs.Prelude.{◌==◌, ◌&&◌, nat_le}
 use Rattle.std.specs.List.{AllByRecursion}
 use Rattle.std.proofs.lemmas.Bool.{and_parts, leb-true, cases_lt}
+use Rattle.tp_model.specs.declared.form.Form.{Form}
 use Rattle.tp_model.specs.declared.limits.TheConstants.{MAX_HELD, NUMBER_LIMIT, IMAGE_HEAD_BYTES}
 use Rattle.tp_model.specs.NodeState.{NodeState}
 use Rattle.tp_model.specs.Node.{t414_ends}
@@ -13,7 +14,7 @@ use Rattle.tp_model.specs.Topology.{Topology, node_count, is_topology}
 use Rattle.tp_model.specs.Journal.{image_length}
 use Rattle.tp_model.specs.CutImage.{is_port_of, node_with, or_damaged, nodes_in}
 use Rattle.tp_model.specs.Spelling.{IsCut}
-use Rattle.tp_model.specs.Opening.{base_of, has_front, nodes_place, cut_in}
+use Rattle.tp_model.specs.Opening.{base_of, has_front, nodes_place, cut_in, form_of}
 use Rattle.tp_law_machine.specs.NodeOfBytes.{IsNodeOfBytes}
 use Rattle.tp_law_machine.proofs.Numbers.{AreBytes}
 use Rattle.tp_law_machine.proofs.Partial.{all_at}
@@ -97,11 +98,11 @@ read_long E t at content s some is =
     omega (arith, images_long (at + nodes_place) t.pages (drop nodes_place content) first.0 some first.1, length-drop nodes_place content)
 
 -- The network that is read as a cut, where the fields in front of it are right.
-pub read_is_cut : (E : Ends NodeState) (t : Topology) (at : ℕ) (content : List ℕ) (s : Network NodeState) → is_topology t ≡ true → AreBytes content
-    → has_front t content ≡ true → cut_in E t at content ≡ Ok s → IsCut E t (base_of content) s
-read_is_cut E t at content s topology bytes front is =
+pub read_is_cut : (E : Ends NodeState) (t : Topology) (at : ℕ) (content : List ℕ) (form : Form) (s : Network NodeState) → is_topology t ≡ true → AreBytes content
+    → form_of content ≡ Some form → has_front t content ≡ true → cut_in E t at content ≡ Ok s → IsCut E t (base_of content) s
+read_is_cut E t at content form s topology bytes form_is front is =
     let shape = has_shape t topology in
-    (cut_read E t at content s shape.lines bytes (read_long E t at content s shape.some_nodes is) front is).cut
+    (cut_read E t at content form s shape.lines bytes (read_long E t at content s shape.some_nodes is) form_is front is).cut
 
 -- It can be replayed from, and each of its ports has counted no more than its entries.
 pub record CanReplay (base : ℕ) (s : Network NodeState) : Type 0 where
@@ -109,8 +110,8 @@ pub record CanReplay (base : ℕ) (s : Network NodeState) : Type 0 where
   pub counted : AreCounted base s.ports
   pub few : base < NUMBER_LIMIT
 
-pub read_can_replay : (t : Topology) (at : ℕ) (content : List ℕ) (s : Network NodeState) → is_topology t ≡ true → AreBytes content
-    → has_front t content ≡ true → cut_in t414_ends t at content ≡ Ok s → CanReplay (base_of content) s
-read_can_replay t at content s topology bytes front is =
-    let C = read_is_cut t414_ends t at content s topology bytes front is in
+pub read_can_replay : (t : Topology) (at : ℕ) (content : List ℕ) (form : Form) (s : Network NodeState) → is_topology t ≡ true → AreBytes content
+    → form_of content ≡ Some form → has_front t content ≡ true → cut_in t414_ends t at content ≡ Ok s → CanReplay (base_of content) s
+read_can_replay t at content form s topology bytes form_is front is =
+    let C = read_is_cut t414_ends t at content form s topology bytes form_is front is in
     record { flat = cut_flat t (base_of content) s topology C (read_of_bytes t414_ends t at content s bytes is); counted = cut_counted t414_ends t (base_of content) s C; few = C.base_fits }

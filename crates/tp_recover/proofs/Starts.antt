@@ -1,12 +1,19 @@
 -- What was read of an area before its groups can be replayed from.
-use Rattle.std.proofs.Common.{◌≡◌, ℕ, zero, suc, ◌<◌, ◌≤◌, List, [], ◌∷◌, length, map, get_or, ap, subst, ◌∙◌, arith, true, Option, Some, None, slice_get}
-use Rattle.std.specs.Prelude.{All, ◌&&◌, Vec, vec_len}
+use Rattle.std.proofs.Common.{◌≡◌, ℕ, zero, suc, ◌<◌, ◌≤◌, List, [], ◌∷◌, length, map, get_or, sym, ap, subst, ◌∙◌, arith, true, Option, Some, None, slice_get}
+use Rattle.std.specs.Prelude.{All, Bool, ◌+◌, ◌&&◌, Result, Ok, Err, Vec, vec_len}
 use Rattle.std.specs.declared.alloc.Global.{Global}
 use Rattle.std.proofs.lemmas.Bool.{and_parts, false≢true}
 use Rattle.tp_model.specs.declared.link.Token.{Token}
 use Rattle.tp_model.specs.declared.link.Token.TheVariants.{Data, Ack, Marker}
 use Rattle.tp_model.specs.declared.limits.TheConstants.{MAX_HELD}
 use Rattle.tp_model.specs.declared.wire.WireEnd.{WireEnd}
+use Rattle.tp_model.specs.Topology.{Topology}
+use Rattle.tp_model.specs.Results.{◌>>=◌}
+use Rattle.tp_model.specs.Device.{area_start, content_of}
+use Rattle.tp_model.specs.Disk.{Moment}
+use Rattle.tp_model.specs.Head.{Head}
+use Rattle.tp_model.specs.Node.{t414_ends}
+use Rattle.tp_model.specs.Opening.{base_of, cut_in, front_in}
 use Rattle.tp_model.specs.CutImage.{is_line_of}
 use Rattle.tp_model.specs.Spelling.{has_record, are_lines}
 use Rattle.tp_port.specs.declared.parts.PortParts.{PortParts}
@@ -15,10 +22,18 @@ use Rattle.tp_port.specs.Ports.{PortValue, opened_port}
 use Rattle.tp_node.specs.NodeContents.{NodeContents}
 use Rattle.tp_replay.specs.Flat.{network_of}
 use Rattle.tp_port.proofs.OpenedPorts.{opened_ports}
+use Rattle.tp_layout.specs.declared.front.CutFront.{CutFront}
+use Rattle.tp_layout.specs.Fronts.{cut_front, front_given}
+use Rattle.tp_law_device.proofs.Faults.{bind_ok}
 use Rattle.tp_recover.specs.declared.cut.Cut.{Cut}
+use Rattle.tp_recover.specs.declared.start.Start.{Start}
+use Rattle.tp_recover.specs.declared.unopened.Unopened.{Unopened}
 use Rattle.tp_recover.specs.Cuts.{cut_network}
 use Rattle.tp_recover.specs.Nodes.{AreThawed}
+use Rattle.tp_recover.specs.Reading.{Answers}
+use Rattle.tp_recover.specs.Starts.{read_as, read_in, read_of}
 use Rattle.tp_recover.proofs.HeldPorts.{EachPort, IsHeld}
+use Rattle.tp_recover.proofs.Passing.{passed}
 use Rattle.tp_recover.proofs.ReplayedCuts.{parts_held}
 
 -- ## Room
@@ -69,3 +84,30 @@ pub network_again : (cut : Cut) (wires these : List (Option WireEnd)) (lines : L
 network_again cut wires these lines ports w l p =
     let q : map (λ (v : PortValue). v.port) ports ≡ map port_of cut.ports.items = ap (map (λ (v : PortValue). v.port)) p ∙ opened_ports cut.ports.items in
     λ i. record { wires = w i; nodes = map (λ node. node.live) cut.nodes.items; ports = q i; lines = l i }
+
+-- ## A cut that can't be read
+
+-- the fields that are given have the base of the content
+given_base : (t : Topology) (at : ℕ) (content : List ℕ) (front : CutFront) → front_given t at content ≡ Ok front → front.base ≡ base_of content
+given_base t at content front is =
+    let found = bind_ok (front_in t at content) (λ form. Ok (cut_front content form)) front is in
+    let same : cut_front content found.0 ≡ front = let last = found.2 in cc in
+    ap (λ (f : CutFront). f.base) (sym same)
+
+-- Why a cut isn't read, behind fields that are, is why nothing is.
+pub cut_unread : (head : Head) (second : Bool) (now old : Moment) (front : CutFront) (error : Unopened) (answer : Result Start Unopened) → now ≡ old
+    → front_given head.topology (area_start head.areas second) (content_of head.areas second old.bytes) ≡ Ok front
+    → (front.base ≡ base_of (content_of head.areas second now.bytes)
+        → Answers (cut_network head.topology.wires) (cut_in t414_ends head.topology (area_start head.areas second + 1) (content_of head.areas second now.bytes)) (Err error))
+    → answer ≡ Err error → Answers read_of (read_in head second (content_of head.areas second old.bytes)) answer
+cut_unread head second now old front error answer same given read told =
+    let content = content_of head.areas second old.bytes in
+    let cut = cut_in t414_ends head.topology (area_start head.areas second + 1) content in
+    let unread : Answers (cut_network head.topology.wires) cut (Err error) =
+    subst
+    (λ (m : Moment).
+    front.base ≡ base_of (content_of head.areas second m.bytes)
+        → Answers (cut_network head.topology.wires) (cut_in t414_ends head.topology (area_start head.areas second + 1) (content_of head.areas second m.bytes)) (Err error))
+    same read (given_base head.topology (area_start head.areas second) content front given) in
+    subst (λ front_is. Answers read_of (front_is >>= (λ front. cut >>= (λ cut. Ok (read_as front cut)))) answer) (sym given)
+    (passed (cut_network head.topology.wires) read_of cut (λ cut. Ok (read_as front cut)) error answer unread told)

@@ -1,4 +1,4 @@
-use Rattle.std.proofs.Common.{◌∙◌, ap, sym, subst}
+use Rattle.std.proofs.Common.{rules, ◌≡◌, ◌∙◌, ap, sym, subst, Err}
 use Rattle.tp_model.specs.Network.{Network}
 use Rattle.tp_model.specs.Node.{t414_ends}
 use Rattle.tp_model.specs.NodeState.{NodeState}
@@ -6,7 +6,7 @@ use Rattle.tp_port.specs.Counted.{AreCounted}
 use Rattle.tp_replay.specs.Flat.{IsFlat}
 use Rattle.tp_recover.specs.Cuts.{cut_network}
 use Rattle.tp_recover.proofs.CutsAreFlat.{cut_flat, cut_counted, cut_held}
-use Rattle.tp_recover.proofs.Starts.{lines_few, pending_few, outputs_few}
+use Rattle.tp_recover.proofs.Starts.{cut_unread, lines_few, pending_few, outputs_few}
 use Rattle.tp_recover.proofs.Leaving.{then_leaves}
 use Rattle.tp_recover.proofs.start.read_start.Goals as goal
 
@@ -43,3 +43,8 @@ returns-in_default-clause-leaves g c k = then_leaves _ _ _ (c.read_front.ensures
 
 pub returns-clause-leaves : goal.returns-clause-leaves
 returns-clause-leaves g c k = then_leaves _ _ _ (c.read_front.ensures.leaves k) (c.read_cut.ensures.leaves k)
+
+pub returns-in_err-cut-clause-is : goal.returns-in_err-cut-clause-is
+returns-in_err-cut-clause-is g c k =
+    let told : c.from_residual-in_err-cut.result ≡ Err c.in_err-cut.field-0.0 = search rules in
+    cut_unread c.args.head.now c.args.second _ _ c.in_ok-front.front c.in_err-cut.field-0.0 c.from_residual-in_err-cut.result (c.in_ok-front.ensures.kept k) (c.in_ok-front.ensures.is k) (c.in_err-cut.ensures.is k) told
