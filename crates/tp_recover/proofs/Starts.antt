@@ -98,7 +98,7 @@ given_base t at content front is =
 pub cut_unread : (head : Head) (second : Bool) (now old : Moment) (front : CutFront) (error : Unopened) (answer : Result Start Unopened) → now ≡ old
     → front_given head.topology (area_start head.areas second) (content_of head.areas second old.bytes) ≡ Ok front
     → (front.base ≡ base_of (content_of head.areas second now.bytes)
-        → Answers (cut_network head.topology.wires) (cut_in t414_ends head.topology (area_start head.areas second + 1) (content_of head.areas second now.bytes)) (Err error))
+    → Answers (cut_network head.topology.wires) (cut_in t414_ends head.topology (area_start head.areas second + 1) (content_of head.areas second now.bytes)) (Err error))
     → answer ≡ Err error → Answers read_of (read_in head second (content_of head.areas second old.bytes)) answer
 cut_unread head second now old front error answer same given read told =
     let content = content_of head.areas second old.bytes in
@@ -107,7 +107,7 @@ cut_unread head second now old front error answer same given read told =
     subst
     (λ (m : Moment).
     front.base ≡ base_of (content_of head.areas second m.bytes)
-        → Answers (cut_network head.topology.wires) (cut_in t414_ends head.topology (area_start head.areas second + 1) (content_of head.areas second m.bytes)) (Err error))
+    → Answers (cut_network head.topology.wires) (cut_in t414_ends head.topology (area_start head.areas second + 1) (content_of head.areas second m.bytes)) (Err error))
     same read (given_base head.topology (area_start head.areas second) content front given) in
     subst (λ front_is. Answers read_of (front_is >>= (λ front. cut >>= (λ cut. Ok (read_as front cut)))) answer) (sym given)
     (passed (cut_network head.topology.wires) read_of cut (λ cut. Ok (read_as front cut)) error answer unread told)

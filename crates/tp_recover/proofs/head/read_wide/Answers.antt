@@ -7,14 +7,14 @@ use Rattle.tp_recover.proofs.Leaving.{none_leaves}
 use Rattle.tp_recover.proofs.Passing.{found_is, still_counts, still_kept}
 use Rattle.tp_recover.proofs.head.read_wide.Goals as goal
 
-pub returns-then-clause-is : goal.returns-then-clause-is
-returns-then-clause-is g c k said =
+pub returns-then-len-clause-is : goal.returns-then-len-clause-is
+returns-then-len-clause-is g c k said =
     let xs = (g.D.Disk.state c.args.disk.now).now.bytes in
     let whole = g.met.D.Disk.whole k c.args.disk.now in
     head_of-cut_off Wide xs _ (omega (arith, whole, c.requires.size, c.requires.some)) refl said (omega (arith, whole, c.requires.size))
 
-pub returns-then-clause-leaves : goal.returns-then-clause-leaves
-returns-then-clause-leaves g c k = none_leaves (g.D.Disk.state c.args.disk.now)
+pub returns-then-len-clause-leaves : goal.returns-then-len-clause-leaves
+returns-then-len-clause-leaves g c k = none_leaves (g.D.Disk.state c.args.disk.now)
 
 pub returns-clause-counts : goal.returns-clause-counts
 returns-clause-counts g c = still_counts c.decoded.result _ _ _ _ c.decoded.ensures.read c.in_ok-bytes.ensures.counts
