@@ -1,4 +1,4 @@
-# Devices that were kept as bytes: of narrow heads and areas without turns, made by the program of November 2026. What they open to stays so; see kept/README.md.
+# Devices that were kept as bytes, made by programs of November 2026. What they open to stays so; see kept/README.md.
 
 story one
 # One node, whose letter was printed and confirmed.
@@ -51,3 +51,27 @@ tpnet run device --turns 17 --workers 1 --quantum 16 --every 4294967295
 tpnet compact device
 tpnet run device --turns 17 --workers 1 --quantum 16 --every 4294967295
 tpnet show device
+
+story wide
+# Seventeen nodes in the least area, with a wide head and areas with turns; there is one entry. The file lacks the second area, as above.
+bring kept/wide.dev device
+length device
+cut device 176468
+tpnet recover device
+tpnet show device
+tpnet journal device
+tpnet compact device
+tpnet run device --turns 18 --workers 1 --quantum 16 --every 4294967295
+tpnet journal device
+
+story turned
+# One node behind a checkpoint, with a turn and a run in the journal.
+bring kept/turned.dev device
+length device
+tpnet recover device
+tpnet show device
+tpnet journal device
+tpnet status device
+# Two rounds more make two runs: the node takes nothing, and sends nothing.
+tpnet run device --turns 4 --workers 1 --quantum 16
+tpnet compact device
