@@ -58,11 +58,11 @@ ends_inside : (areas : TwoAreas) (second : Bool) (end size long : ℕ) → end +
 ends_inside areas false end size long high whole = omega (arith, high, whole)
 ends_inside areas true end size long high whole = omega (arith, high, whole)
 
-module _ (place : Place) (s new : State) (es : List Entry) (can : CanBeAppended place.next es) (fits : has_room place (length es) ≡ true)
+module _ (place : Place) (s new : State) (es : List Entry) (can : CanBeAppended place.form place.next es) (fits : has_room place (length es) ≡ true)
     (low : area_start place.areas place.second + AREA_HEAD_BYTES ≤ place.end) (whole : areas_end place.areas ≤ length s.now.bytes)
     (called : Called (group_calls place.end (body_of place.next es)) s new) where
   size : length (body_of place.next es) ≡ group_length (length es)
-  size = length-body place.next es can
+  size = length-body place.form place.next es can
 
   high : place.end + group_length (length es) < area_start place.areas place.second + place.areas.length
   high = ltb-true (place.end + group_length (length es)) (area_start place.areas place.second + place.areas.length) fits
@@ -99,7 +99,7 @@ module _ (place : Place) (s new : State) (es : List Entry) (can : CanBeAppended 
 
 -- what the flusher keeps for a snapshot's copy, behind a group that was appended or failed
 pub append_copies : (keeps : Type 0) (net : MarkedNetwork NodeState) (s new : State) (place to : Place) (t : Topology) (p : Progress) (es : List Entry) (r : Result Unit StoreFault) (broke : Bool) (filled : Option Place) (failures_old failures_new : ℕ)
-    → Copies keeps net s place false t p → Answered r es place to broke filled failures_old failures_new → CanBeAppended place.next es → has_room place (length es) ≡ true
+    → Copies keeps net s place false t p → Answered r es place to broke filled failures_old failures_new → CanBeAppended place.form place.next es → has_room place (length es) ≡ true
     → area_start place.areas place.second + AREA_HEAD_BYTES ≤ place.end → (keeps → areas_end place.areas ≤ length s.now.bytes) → (keeps → OnOk r (Appended es place s new))
     → Copies keeps net new to broke t p
 append_copies keeps net s new place to t p es (Ok x) broke filled failures_old failures_new C A can fits low whole did = record {

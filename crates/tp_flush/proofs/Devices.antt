@@ -98,7 +98,7 @@ group_start true next w disk = refl
 group_start false next w disk = refl
 
 pub append_device : (keeps : Type 0) (most : Option ℕ) (w : World NodeState) (s new : State) (place to : Place) (t : Topology) (es : List Entry) (r : Result Unit StoreFault) (broke : Bool) (filled : Option Place) (failures_old failures_new : ℕ)
-    → IsOfDevice keeps most w s place false t → Answered r es place to broke filled failures_old failures_new → CanBeAppended place.next es → has_room place (length es) ≡ true
+    → IsOfDevice keeps most w s place false t → Answered r es place to broke filled failures_old failures_new → CanBeAppended place.form place.next es → has_room place (length es) ≡ true
     → area_start place.areas place.second + AREA_HEAD_BYTES ≤ place.end → (keeps → areas_end place.areas ≤ length s.now.bytes) → (keeps → OnOk r (Appended es place s new))
     → IsOfDevice keeps most (after_group broke to.next w new.now) new to broke t
 append_device keeps most w s new place to t es (Ok x) broke filled failures_old failures_new D A can fits low whole did =
