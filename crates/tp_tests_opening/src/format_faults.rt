@@ -3,18 +3,62 @@
 use crate::devices::{
     CALLS_OF_FORMAT, Held, LETTER, Letter, append, disk_of, fresh, holds, what_is_held,
 };
+use crate::heads::{LEAST, SEVENTEEN, seventeen};
 use std::alloc::{AllocError, Global};
+use std::process::Abort;
 use std::test::Fail;
 use tp_disk::{MemDisk, PlannedFault};
 use tp_model::OpenFault;
 use tp_recover::{Unopened, open, open_store};
-use tp_tests_fixtures::{AREA, SECOND, SIZE, place};
+use tp_tests_fixtures::{AREA, ONE_NODE, SIZE, place};
 
-/// Bytes of the head up to the last one of the node's page count that isn't 00, and up to the end of the wire, behind which all
-/// are 00.
-const PAGES: usize = 25;
+/// What is formatted: its network, the bytes of its head, of its device and of an area; how many calls that makes; what the device says once
+/// all but the head is written and so few bytes of the head, which was zeros; and up to where it isn't zeros.
+struct Made {
+    text: &'static [u8],
+    nodes: usize,
+    head: usize,
+    size: usize,
+    area: u64,
+    calls: u64,
+    says: &'static [(usize, Result<u64, OpenFault>)],
+    whole: usize,
+}
 
-const WIRE: usize = 57;
+/// The first five bytes are a name, which two zeros and the version follow. From the low byte of the page count on it is a head, at first of a
+/// network whose wire isn't written.
+const ONE: Made = Made {
+    text: ONE_NODE,
+    nodes: 1,
+    head: 512,
+    size: SIZE,
+    area: AREA,
+    calls: CALLS_OF_FORMAT,
+    says: &[
+        (5, Err(OpenFault::NotFormatted)),
+        (8, Err(OpenFault::BadVersion)),
+        (25, Err(OpenFault::Damaged(0))),
+    ],
+    whole: 57,
+};
+
+/// From the last page count on it is a head, up to the first link, which is wired to the last one. Once both say so it is a head again.
+const WIDE: Made = Made {
+    text: SEVENTEEN,
+    nodes: 17,
+    head: 1_024,
+    size: 176_468,
+    area: LEAST,
+    calls: CALLS_OF_FORMAT + 16,
+    says: &[
+        (5, Err(OpenFault::NotFormatted)),
+        (8, Err(OpenFault::BadVersion)),
+        (57, Err(OpenFault::Damaged(0))),
+        (153, Ok(0)),
+        (287, Err(OpenFault::Damaged(0))),
+    ],
+    whole: 287,
+};
 
 /// The number of the next entry on a device that opens, or why it doesn't.
 fn opens_as(alloc: Global, bytes: &[u8]) -> Result<Result<u64, Unopened>, AllocError> {
@@ -26,10 +70,15 @@ fn opens_as(alloc: Global, bytes: &[u8]) -> Result<Result<u64, Unopened>, AllocE
 }
 
 /// What a format leaves whose call number `call` has a fault: whether it was done, and the bytes.
-fn formatted(alloc: Global, call: u64, fault: PlannedFault) -> Result<(bool, Vec<u8>), Fail> {
-    let letter = Letter::new(alloc)?;
-    let mut disk = MemDisk::zeroed(alloc, SIZE)?.with_fault(call, fault);
-    let done = letter.format(alloc, &mut disk, AREA).is_ok();
+fn formatted(
+    alloc: Global,
+    made: &Made,
+    call: u64,
+    fault: PlannedFault,
+) -> Result<(bool, Vec<u8>), Fail> {
+    let letter = Letter::of(alloc, made.text, made.nodes)?;
+    let mut disk = MemDisk::zeroed(alloc, made.size)?.with_fault(call, fault);
+    let done = letter.format(alloc, &mut disk, made.area).is_ok();
     Ok((done, disk.crash()))
 }
 
@@ -37,70 +86,109 @@ fn formatted(alloc: Global, call: u64, fault: PlannedFault) -> Result<(bool, Vec
 const NONE: Result<u64, Unopened> = Err(Unopened::Fault(OpenFault::NotFormatted));
 
 /// Whether a device isn't formatted, also where the front of each area is `byte`.
-fn says_none(alloc: Global, bytes: &mut [u8], byte: u8) -> Result<bool, Fail> {
+fn says_none(alloc: Global, made: &Made, bytes: &mut [u8], byte: u8) -> Result<bool, Fail> {
     let is_none = opens_as(alloc, bytes)? == NONE;
-    for at in [512, SECOND] {
+    let second = made.head.saturating_add(made.area.min(100_000) as usize);
+    for at in [made.head, second] {
         place(bytes, at, &[byte; 64]);
     }
     Ok(is_none && opens_as(alloc, bytes)? == NONE)
 }
 
 /// Whether a format that a fault stops isn't done, and the device isn't formatted, also where the front of each area is `byte`.
-fn is_none(alloc: Global, call: u64, fault: PlannedFault, byte: u8) -> Result<bool, Fail> {
-    let (done, mut bytes) = formatted(alloc, call, fault)?;
+fn is_none(
+    alloc: Global,
+    made: &Made,
+    call: u64,
+    fault: PlannedFault,
+    byte: u8,
+) -> Result<bool, Fail> {
+    let (done, mut bytes) = formatted(alloc, made, call, fault)?;
     let told = if done {
         Ok(false)
     } else {
-        says_none(alloc, &mut bytes, byte)
+        says_none(alloc, made, &mut bytes, byte)
     };
     told
+}
+
+/// Whether the device isn't formatted however a call ends, where what is torn is `byte`.
+fn is_none_however(alloc: Global, made: &Made, call: u64, byte: u8) -> Result<bool, Fail> {
+    let torn = Vec::from_elem(alloc, byte, 4268)?;
+    let within = is_none(alloc, made, call, PlannedFault::StopsWithin { torn }, byte)?;
+    let torn = Vec::from_elem(alloc, byte, 4268)?;
+    let fails = is_none(alloc, made, call, PlannedFault::Fails { torn }, byte)?;
+    let before = is_none(alloc, made, call, PlannedFault::StopsBefore, byte)?;
+    Ok(within && fails && before)
+}
+
+/// The same for what each byte may be.
+fn is_none_with_each(alloc: Global, made: &Made, call: u64) -> Result<bool, Fail> {
+    for byte in [0x00, 0xA5, 0xFF] {
+        if !is_none_however(alloc, made, call, byte)? {
+            return Ok(false);
+        }
+    }
+    Ok(true)
+}
+
+/// Plays a format whose calls in front of that of its head end in each way.
+fn play_calls<R: AllocGlobal + Abort>(rt: &R, made: &Made) -> Result<(), Fail> {
+    for call in 0..made.calls.saturating_sub(2) {
+        assert!(rt; is_none_with_each(rt.alloc(), made, call)?, "call {call}");
+    }
+    Ok(())
 }
 
 /// Whatever stands in the areas, the device isn't formatted before its head is written.
 #[test]
 fn a_format_that_stops_before_its_head(rt: HostRuntime) -> Result<(), Fail> {
-    let alloc = rt.alloc();
-    for call in 0..CALLS_OF_FORMAT.saturating_sub(2) {
-        for byte in [0x00, 0xA5, 0xFF] {
-            let torn = Vec::from_elem(alloc, byte, 4268)?;
-            let within = is_none(alloc, call, PlannedFault::StopsWithin { torn }, byte)?;
-            let torn = Vec::from_elem(alloc, byte, 4268)?;
-            let fails = is_none(alloc, call, PlannedFault::Fails { torn }, byte)?;
-            let before = is_none(alloc, call, PlannedFault::StopsBefore, byte)?;
-            assert!(rt; within && fails && before, "call {call}");
-        }
-    }
-    Ok(())
+    play_calls(&rt, &ONE)?;
+    play_calls(&rt, &WIDE)
 }
 
-/// What a device of zeros says once all but the head is written, and `written` bytes of the head: the first five are a name, which
-/// two zeros and the version follow. From the page count on it is a head, at first of a network whose wire isn't written.
-fn says(written: usize) -> Result<u64, Unopened> {
-    match written {
-        0..5 => Err(Unopened::Fault(OpenFault::NotFormatted)),
-        5..8 => Err(Unopened::Fault(OpenFault::BadVersion)),
-        8..PAGES => Err(Unopened::Fault(OpenFault::Damaged(0))),
-        _ => Ok(0),
+/// What a device of zeros says once all but the head is written, and `written` bytes of the head.
+fn says(made: &Made, written: usize) -> Result<u64, Unopened> {
+    for (below, answer) in made.says {
+        if written < *below {
+            return match answer {
+                Ok(next) => Ok(*next),
+                Err(fault) => Err(Unopened::Fault(*fault)),
+            };
+        }
     }
+    Ok(0)
 }
 
 /// Whether a format that stops once `count` bytes of its head are written isn't done, and the device says what they do.
-fn says_so(alloc: Global, whole: &[u8], count: usize) -> Result<bool, Fail> {
+fn says_so(alloc: Global, made: &Made, whole: &[u8], count: usize) -> Result<bool, Fail> {
     let torn = Vec::from_slice(alloc, whole.get(..count).unwrap_or(&[]))?;
-    let head = CALLS_OF_FORMAT.saturating_sub(2);
-    let (done, bytes) = formatted(alloc, head, PlannedFault::StopsWithin { torn })?;
+    let head = made.calls.saturating_sub(2);
+    let (done, bytes) = formatted(alloc, made, head, PlannedFault::StopsWithin { torn })?;
     let is_whole = bytes.as_slice() == whole;
-    Ok(!done && is_whole == (count >= WIRE) && opens_as(alloc, &bytes)? == says(count))
+    Ok(!done && is_whole == (count >= made.whole) && opens_as(alloc, &bytes)? == says(made, count))
 }
 
 /// The first count of bytes of the head that may be written, where the device doesn't say what they do.
-fn says_otherwise(alloc: Global, whole: &[u8]) -> Result<Option<usize>, Fail> {
-    for count in 0..100 {
-        if !says_so(alloc, whole, count)? {
+fn says_otherwise(alloc: Global, made: &Made, whole: &[u8]) -> Result<Option<usize>, Fail> {
+    for count in 0..made.whole.saturating_add(10) {
+        if !says_so(alloc, made, whole, count)? {
             return Ok(Some(count));
         }
     }
     Ok(None)
+}
+
+/// Whether the device isn't formatted where its head's write fails and leaves one byte.
+fn is_none_torn(alloc: Global, made: &Made) -> Result<bool, Fail> {
+    for byte in [0x00, 0xA5, 0xFF] {
+        let torn = Vec::from_elem(alloc, byte, made.head)?;
+        let head = made.calls.saturating_sub(2);
+        if !is_none(alloc, made, head, PlannedFault::Fails { torn }, byte)? {
+            return Ok(false);
+        }
+    }
+    Ok(true)
 }
 
 /// Where the run stops within the head's write, what of it is written says what the device is. Written whole, it is formatted;
@@ -108,18 +196,12 @@ fn says_otherwise(alloc: Global, whole: &[u8]) -> Result<Option<usize>, Fail> {
 #[test]
 fn a_format_that_stops_in_its_head(rt: HostRuntime) -> Result<(), Fail> {
     let alloc = rt.alloc();
-    for byte in [0x00, 0xA5, 0xFF] {
-        let torn = Vec::from_elem(alloc, byte, 512)?;
-        let told = is_none(
-            alloc,
-            CALLS_OF_FORMAT.saturating_sub(2),
-            PlannedFault::Fails { torn },
-            byte,
-        )?;
-        assert!(rt; told, "{byte}");
-    }
     let whole = fresh(alloc, AREA)?;
-    let otherwise = says_otherwise(alloc, &whole)?;
+    assert!(rt; is_none_torn(alloc, &ONE)? && is_none_torn(alloc, &WIDE)?);
+    let otherwise = says_otherwise(alloc, &ONE, &whole)?;
+    assert_eq!(rt; otherwise, None);
+    let whole = seventeen(alloc)?;
+    let otherwise = says_otherwise(alloc, &WIDE, &whole)?;
     assert_eq!(rt; otherwise, None);
     Ok(())
 }
@@ -139,7 +221,7 @@ fn are_none(alloc: Global, bytes: &mut [u8]) -> Result<bool, Fail> {
 /// torn to one byte.
 fn is_torn(alloc: Global, whole: &[u8], fault: PlannedFault) -> Result<bool, Fail> {
     let last = CALLS_OF_FORMAT.saturating_sub(1);
-    let (done, mut bytes) = formatted(alloc, last, fault)?;
+    let (done, mut bytes) = formatted(alloc, &ONE, last, fault)?;
     let told = if done || bytes.as_slice() != whole {
         Ok(false)
     } else {

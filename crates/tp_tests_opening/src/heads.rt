@@ -205,11 +205,11 @@ const NARROW: &[Content<'static>] = &[
 ];
 
 /// Seventeen nodes. The last is wired to the port and to the first.
-const SEVENTEEN: &[u8] =
+pub(crate) const SEVENTEEN: &[u8] =
     b"node n0 4\nnode n1 4\nnode n2 4\nnode n3 4\nnode n4 4\nnode n5 4\nnode n6 4\nnode n7 4\nnode n8 4\nnode n9 4\nnode n10 4\nnode n11 4\nnode n12 4\nnode n13 4\nnode n14 4\nnode n15 4\nnode n16 4\nport h\nwire n16.0 h\nwire n16.3 n0.0\n";
 
 /// Their least area: 81,052 bytes of the cut image, 14 beside it, and 6,656 for groups.
-const LEAST: u64 = 87_722;
+pub(crate) const LEAST: u64 = 87_722;
 
 /// Bytes of their device: the head; the first area's gate, generation, length, base and form; the gates of its first group and of the
 /// second area.
@@ -358,7 +358,7 @@ const LENGTHS: &[(usize, Result<u64, OpenFault>)] = &[
 ];
 
 /// The device of seventeen nodes.
-fn seventeen(alloc: Global) -> Result<Vec<u8>, Fail> {
+pub(crate) fn seventeen(alloc: Global) -> Result<Vec<u8>, Fail> {
     Letter::of(alloc, SEVENTEEN, 17)?.device_behind(alloc, WIDE_HEAD_BYTES, LEAST)
 }
 
