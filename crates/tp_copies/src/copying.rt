@@ -24,7 +24,7 @@ ghost use Rattle.tp_model.specs.declared.limits.TheConstants.{AREA_HEAD_BYTES};
 ghost use Rattle.tp_recover.specs.Reading.{LeavesNothingNew};
 
 use crate::fault::CopyFault;
-use crate::kept::{Kept, kept_of, lie_in};
+use crate::kept::{Kept, is_kept, kept_of, lie_in};
 use crate::pieces::{copy_range, put_bytes};
 use std::alloc::Global;
 use tp_disk::Disk;
@@ -86,7 +86,7 @@ fn opens_as<K: Disk>(alloc: Global, copy: &mut K, kept: Kept) -> Result<(), Copy
     ensures { K.keeps → OnOk result (OpensAs kept (K.state copy.old).now (K.state copy.new).now) }
 {
     match open(alloc, copy) {
-        Ok(opened) if kept_of(&opened) == kept => Ok(()),
+        Ok(opened) if is_kept(kept_of(&opened), kept) => Ok(()),
         Err(Unopened::Memory) => Err(CopyFault::Memory),
         _ => Err(CopyFault::DeviceFailed),
     }

@@ -10,7 +10,7 @@ use tp_recover::Opened;
 
 /// What of an opened device is copied: where the areas are, whether the second one is open, its generation and its form, where the closed
 /// gate behind its groups stands, and the number of the next entry.
-#[derive(Clone, Copy, Debug, PartialEq, Eq)]
+#[derive(Clone, Copy, Debug)]
 pub(crate) struct Kept {
     pub(crate) areas: TwoAreas,
     pub(crate) second: bool,
@@ -18,6 +18,28 @@ pub(crate) struct Kept {
     pub(crate) form: Form,
     pub(crate) end: u64,
     pub(crate) next: u64,
+}
+
+/// Whether two forms are one.
+fn is_form(one: Form, other: Form) -> bool
+    ensures { IsTrue result ↔ one ≡ other }
+{
+    match (one, other) {
+        (Form::Plain, Form::Plain) | (Form::Turns, Form::Turns) => true,
+        (Form::Plain, Form::Turns) | (Form::Turns, Form::Plain) => false,
+    }
+}
+
+/// Whether what is copied of two opened devices is equal.
+pub(crate) fn is_kept(one: Kept, other: Kept) -> bool
+    ensures { IsTrue result ↔ one ≡ other }
+{
+    one.areas == other.areas
+        && one.second == other.second
+        && one.generation == other.generation
+        && is_form(one.form, other.form)
+        && one.end == other.end
+        && one.next == other.next
 }
 
 /// What of an opened device is copied.
