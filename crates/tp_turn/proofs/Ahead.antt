@@ -58,13 +58,17 @@ module _ (b : BookValue) (all : Bool) (number : ℕ) (first second third fourth 
       → Answered (part 3 fourth) m3 s3 m4 s4 → Receives b all number takes m0 s4 m4
   receives m0 m1 m2 m3 m4 s0 s1 s2 s3 s4 none A B C D =
       let each = λ link. part link (get_or takes link Nothing) in
-      one_more each 3 m0 m3 m4 s3 D.answers s4
-      (one_more each 2 m0 m2 m3 s2 C.answers s3
-      (one_more each 1 m0 m1 m2 s1 B.answers s2
-      (one_more each 0 m0 m0 m1 s0 A.answers s1 (none_yet each m0 s0 none) A.did A.are)
-      B.did B.are)
-      C.did C.are)
-      D.did D.are
+      record {
+        four = refl;
+        did =
+            one_more each 3 m0 m3 m4 s3 D.answers s4
+            (one_more each 2 m0 m2 m3 s2 C.answers s3
+            (one_more each 1 m0 m1 m2 s1 B.answers s2
+            (one_more each 0 m0 m0 m1 s0 A.answers s1 (none_yet each m0 s0 none) A.did A.are)
+            B.did B.are)
+            C.did C.are)
+            D.did D.are;
+      }
 
 -- the node stays frozen as it was, or not frozen
 order_kept : (part : ℕ → NodeContents → List (ℕ × Token) → NodeContents → Type 0) → ((link : ℕ) (x : NodeContents) (answers : List (ℕ × Token)) (y : NodeContents) → part link x answers y → y.frozen ≡ x.frozen)
@@ -76,7 +80,7 @@ order_kept part each (suc count) s answers t D = each count D.between D.second t
 pub receives_kept : (b : BookValue) (all : Bool) (number : ℕ) (takes : List Received) (s : NodeContents) (answers : List (ℕ × Token)) (t : NodeContents) → Receives b all number takes s answers t → t.frozen ≡ s.frozen
 receives_kept b all number takes s answers t R =
     order_kept (λ link. ReceivesOf link (offered_on b all number link) (get_or takes link Nothing))
-    (λ link x answers y D. each_kept link (received (get_or takes link Nothing)) x answers y D.did) 4 s answers t R
+    (λ link x answers y D. each_kept link (received (get_or takes link Nothing)) x answers y D.did) 4 s answers t R.did
 
 -- ## What was received stands in front
 

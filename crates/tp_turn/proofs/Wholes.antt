@@ -1,9 +1,9 @@
 -- A whole turn in its stages.
 use Rattle.std.proofs.Common.{◌≡◌, ◌≢◌, ℕ, ◌+◌, ◌*◌, ◌<◌, ◌≤◌, Bool, true, false, cond, inl, inr, List, [], ◌∷◌, ◌++◌, refl, sym, ap, subst, ◌∙◌, arith, length, Option, Some, None, slice_get}
-use Rattle.std.specs.Prelude.{◌||◌, nat_lt, Result, Ok, Err}
+use Rattle.std.specs.Prelude.{Result, Ok, Err}
+use Rattle.std.proofs.lemmas.Bool.{cases_Bool, true≢false}
 use Rattle.tp_model.specs.declared.link.Token.{Token}
 use Rattle.tp_model.specs.declared.link.Received.{Received}
-use Rattle.tp_model.specs.Journal.{entry_room, reserve, is_past, has_no_numbers, is_full, is_full_for_cut}
 use Rattle.tp_model.specs.NodeState.{NodeState}
 use Rattle.tp_model.specs.NodeWrites.{node_ranges, kept_behind_steps}
 use Rattle.tp_model.specs.SharedPages.{LacksFrames}
@@ -15,10 +15,11 @@ use Rattle.tp_node.specs.RunEnd.{IsWhy}
 use Rattle.tp_snap.specs.Needs.{has_recorded_in}
 use Rattle.tp_book.specs.declared.refusal.Refusal.{Refusal}
 use Rattle.tp_book.specs.declared.refusal.Refusal.TheVariants.{JournalFull, StoreBroken, Memory}
-use Rattle.tp_book.specs.Book.{BookValue, agreed, next_number, reserved}
+use Rattle.tp_book.specs.Book.{BookValue, agreed}
 use Rattle.tp_book.specs.Calls.{with_run, without_run}
 use Rattle.tp_book.specs.Refusals.{else_if, is_journal_full, is_full_for_take, reserve_refusal, take_refusal, IsAnswer}
 use Rattle.tp_book.specs.Turning.{takes_refusal}
+use Rattle.tp_book.proofs.TakeRefused.{full_for_any}
 use Rattle.tp_turn.specs.declared.receiving.Taken.{Taken}
 use Rattle.tp_turn.specs.declared.stages.Turn.{Turn}
 use Rattle.tp_turn.specs.Turns.{Then}
@@ -31,32 +32,20 @@ use Rattle.tp_turn.proofs.Staging.{freed}
 
 -- ## Room
 
--- where there is room for a turn, there is room for what a recorded node takes
-past_less : (room : Option ℕ) (few many : ℕ) → few ≤ many → is_past room many ≡ false → is_past room few ≡ false
-past_less None few many less e = refl
-past_less (Some most) few many less e = omega (arith, less, e)
-
-room_for_takes : (room : Option ℕ) (lines entries runs next : ℕ) → is_full room lines entries runs next 1 ≡ false → is_full_for_cut room entries runs next ≡ false
-room_for_takes room lines entries runs next e = go (is_past room (entry_room * (entries + runs + 1) + reserve lines)) refl (has_no_numbers (next + runs + 1)) refl e
-  where
-    go : (past : Bool) → is_past room (entry_room * (entries + runs + 1) + reserve lines) ≡ past → (none : Bool) → has_no_numbers (next + runs + 1) ≡ none → (past || none) ≡ false
-        → (is_past room (entry_room * (entries + runs + 1)) || has_no_numbers (next + runs + 1)) ≡ false
-    go true past none last h = cc
-    go false past true last h = cc
-    go false past false last h =
-        let room_left = past_less room (entry_room * (entries + runs + 1)) (entry_room * (entries + runs + 1) + reserve lines) (omega arith) past in
-        cc
-
--- why a turn ends that finds no room, but for a full journal
+-- why a turn ends that finds no room, but for a full journal: where there is room for a turn, there is room for what a recorded node takes
 pub why_refused : (b : BookValue) (recorded : Bool) (e : Refusal) → e ≢ JournalFull → IsAnswer {A = Unit {0}} (reserve_refusal b) (Err e) → IsAnswer {A = Unit {0}} (turn_refusal b recorded) (Err e)
 why_refused b false e other h = h
 why_refused b true e other h = go b.broken h
   where
+    room : is_journal_full b 1 ≡ false → is_full_for_take b true ≡ false
+    room is = elim (cases_Bool (is_full_for_take b true)) [
+      | inl full ↦ absurd (true≢false (sym (full_for_any b true full) ∙ is))
+      | inr not ↦ not
+    ]
+
     full : (c : Bool) → is_journal_full b 1 ≡ c → IsAnswer {A = Unit {0}} (cond c (Some JournalFull) None) (Err e) → IsAnswer {A = Unit {0}} (cond (is_full_for_take b true) (Some JournalFull) None) (Err e)
     full true is h = absurd (other h)
-    full false is h =
-        subst (λ c. IsAnswer {A = Unit {0}} (cond c (Some JournalFull) None) (Err e))
-        (sym (room_for_takes b.room (length b.state.lines) (length b.state.entries) (reserved b) (next_number b) is)) h
+    full false is h = subst (λ c. IsAnswer {A = Unit {0}} (cond c (Some JournalFull) None) (Err e)) (sym (room is)) h
 
     go : (broken : Bool) → IsAnswer {A = Unit {0}} (else_if (else_if None broken StoreBroken) (is_journal_full b 1) JournalFull) (Err e)
         → IsAnswer {A = Unit {0}} (else_if (else_if None broken StoreBroken) (is_full_for_take b true) JournalFull) (Err e)

@@ -1,6 +1,6 @@
 -- What a node receives for a turn that is one entry: tokens that it takes while they stay in front of their lines. A part of the receiving
 -- is seen as the node before it, what it answers in order, and the node after it.
-use Rattle.std.specs.Prelude.{◌≡◌, ◌≤◌, ℕ, ◌+◌, ◌*◌, Bool, true, false, ◌||◌, if◌then◌else◌, List, [], ◌∷◌, ◌++◌, get_or, Option, Some, None, Result, Ok, Err}
+use Rattle.std.specs.Prelude.{◌≡◌, ◌≤◌, ℕ, ◌+◌, ◌*◌, Bool, true, false, ◌||◌, if◌then◌else◌, List, [], ◌∷◌, ◌++◌, get_or, length, Option, Some, None, Result, Ok, Err}
 use Rattle.tp_model.specs.declared.link.Token.{Token}
 use Rattle.tp_model.specs.declared.link.Received.{Received}
 use Rattle.tp_model.specs.declared.link.Received.TheVariants.{Nothing}
@@ -79,10 +79,10 @@ offered b all (Some line) = if all || needs_take b line then before (on_line b.s
 abbrev pub offered_on : BookValue → Bool → ℕ → ℕ → List Token
 offered_on b all number link = offered b all (back b.state.start (4 * number + link))
 
--- on links 0 to 3 in order the node receives what their lines have
-abbrev pub Receives : BookValue → Bool → ℕ → List Received → NodeContents → List (ℕ × Token) → NodeContents → Type 0
-Receives b all number takes =
-    InOrder (λ link. ReceivesOf link (offered_on b all number link) (get_or takes link Nothing)) 4
+-- On links 0 to 3 in order the node receives what their lines have.
+pub record Receives (b : BookValue) (all : Bool) (number : ℕ) (takes : List Received) (s : NodeContents) (answers : List (ℕ × Token)) (t : NodeContents) : Type 0 where
+  pub four : length takes ≡ 4
+  pub did : InOrder (λ link. ReceivesOf link (offered_on b all number link) (get_or takes link Nothing)) 4 s answers t
 
 -- ## A node that is ahead of its book
 
