@@ -5,7 +5,6 @@ use Rattle.std.specs.List.{AllByRecursion}
 use Rattle.std.proofs.lemmas.Bool.{lt-ltb}
 use Rattle.tp_model.specs.declared.entry.Entry.{Entry}
 use Rattle.tp_model.specs.declared.form.Form.{Form}
-use Rattle.tp_model.specs.declared.form.Form.TheVariants.{Turns}
 use Rattle.tp_model.specs.NodeState.{NodeState}
 use Rattle.tp_model.specs.Node.{t414, t414_ends}
 use Rattle.tp_model.specs.Network.{Machine, Network}
@@ -116,9 +115,10 @@ pub record ReadsCopy (w : World NodeState) (o : Opened) (pieces : List (ℕ × L
   pub opens : opening t414 t414_ends w.disk.bytes ≡ Ok o
   pub closed : other_is_open o w.disk.bytes ≡ false
   pub inside : AllByRecursion (λ piece. IsWithin (device_areas.spare w.disk.bytes) (piece.0, length piece.1)) pieces
+  pub form : Form
   pub groups : List (List (Entry × ℕ))
   pub now : Network NodeState
-  pub spelt : SpeltArea t414 t414_ends o.head.topology (other_content o (all_done (put_calls pieces) w.disk).bytes) generation Turns copy.base copy.network groups now
+  pub spelt : SpeltArea t414 t414_ends o.head.topology (other_content o (all_done (put_calls pieces) w.disk).bytes) generation form copy.base copy.network groups now
   pub entries : map (λ e. e.0) (entries_in groups) ≡ copy.entries
   pub later : o.generation < generation
 
@@ -128,9 +128,10 @@ spells_reads w o pieces copy generation S = record {
   opens = S.opens;
   closed = S.closed;
   inside = S.inside;
+  form = S.form;
   groups = S.groups;
   now = S.now;
-  spelt = spelt_area t414 t414_ends o.head.topology (other_content o (all_done (put_calls pieces) w.disk).bytes) generation Turns copy.base copy.network S.groups S.now S.spells;
+  spelt = spelt_area t414 t414_ends o.head.topology (other_content o (all_done (put_calls pieces) w.disk).bytes) generation S.form copy.base copy.network S.groups S.now S.spells;
   entries = S.entries;
   later = S.later;
 }
@@ -163,14 +164,14 @@ module _ (w : World NodeState) (cut : WholeCut) (nodes : List NodeState) (o : Op
   kept = puts_keep t414 t414_ends o w.disk (device_areas.spare w.disk.bytes) pieces (record { opens = S.opens; closed = S.closed; range = refl }) S.inside
 
   abbrev next : Opened
-  next = other_opened t414 t414_ends bytes o kept.opens kept.closed generation Turns copy.base copy.network S.groups S.now S.spelt S.later
+  next = other_opened t414 t414_ends bytes o kept.opens kept.closed generation S.form copy.base copy.network S.groups S.now S.spelt S.later
 
   holds : held_of next ≡ copy
   holds = let entries = S.entries in λ i. record { network = copy.network; entries = entries i; base = copy.base }
 
   other_is : device_areas.other bytes ≡ Some (other_start o, copy)
   other_is =
-      other_spelt t414 t414_ends bytes o kept.opens kept.closed generation Turns copy.base copy.network S.groups S.now S.spelt S.later
+      other_spelt t414 t414_ends bytes o kept.opens kept.closed generation S.form copy.base copy.network S.groups S.now S.spelt S.later
       ∙ (λ i. Some (other_start o, holds i))
 
   to_tail : (events : List (Event NodeState)) × Run t414 device_areas copied events tailed
@@ -198,7 +199,7 @@ module _ (w : World NodeState) (cut : WholeCut) (nodes : List NodeState) (o : Op
     base = refl;
     journal = refl;
     opened = next;
-    reads = other_opens t414 t414_ends bytes o kept.opens kept.closed generation Turns copy.base copy.network S.groups S.now S.spelt S.later;
+    reads = other_opens t414 t414_ends bytes o kept.opens kept.closed generation S.form copy.base copy.network S.groups S.now S.spelt S.later;
     holds = holds;
     second = refl;
     age = refl;

@@ -155,7 +155,7 @@ module _ (t : Topology) (areas : TwoAreas) (given : List (List ℕ)) (s : Networ
       none_copied net H empty cut nodes has ∙ (λ i. record { network = start i; entries = []; base = 0 }) in
       let S : ReadsCopy w o ((place, piece) ∷ []) (copy_of net 0 cut nodes) 2 =
       subst (λ (h : Held NodeState). ReadsCopy w o ((place, piece) ∷ []) h 2) (sym copy)
-      (record { opens = opens; closed = closed; inside = (inside, tt); groups = []; now = s; spelt = spelt; entries = refl; later = omega arith }) in
+      (record { opens = opens; closed = closed; inside = (inside, tt); form = Turns; groups = []; now = s; spelt = spelt; entries = refl; later = omega arith }) in
       record {
         events = map Acts acts;
         w = w;

@@ -1,5 +1,5 @@
 -- The form of an area: how the field of its base says it, and which entries are read of its rows.
-use Rattle.std.proofs.Common.{◌≡◌, ℕ, ◌/◌, ◌%◌, ◌^◌, ◌<◌, ◌≤◌, Bool, true, false, cond, List, [], ◌∷◌, refl, ap, ◌∙◌, arith, Some, None, Ok}
+use Rattle.std.proofs.Common.{◌≡◌, ℕ, ◌/◌, ◌%◌, ◌^◌, ◌<◌, Bool, true, false, cond, List, [], ◌∷◌, refl, ap, ◌∙◌, arith, Some, None, Ok}
 use Rattle.std.specs.Prelude.{◌==◌}
 use Rattle.std.specs.List.{list_all}
 use Rattle.std.proofs.lemmas.Bool.{and_parts, cond-true, eqb-true}
@@ -18,10 +18,6 @@ use Rattle.tp_law_bytes.proofs.EntryLaws.{entry_at-entry_bytes}
 use Rattle.tp_law_device.proofs.Faults.{or_damaged_ok, tested}
 
 -- ## The field of the base
-
-form_number_most : (form : Form) → form_number form ≤ TURNS_FORM
-form_number_most Plain = omega arith
-form_number_most Turns = omega arith
 
 pub base_number_below : (form : Form) (base : ℕ) → base < NUMBER_LIMIT → base_number form base < 2 ^ 64
 base_number_below Plain base low = omega (arith, low)

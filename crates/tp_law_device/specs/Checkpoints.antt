@@ -3,7 +3,7 @@ use Rattle.std.specs.Prelude.{◌≡◌, ◌<◌, ℕ, ◌+◌, false, not, List
 use Rattle.std.specs.List.{AllByRecursion}
 use Rattle.tp_model.specs.declared.entry.Entry.{Entry}
 use Rattle.tp_model.specs.declared.wire.WireEnd.TheVariants.{Link, Port as AtPort}
-use Rattle.tp_model.specs.declared.form.Form.TheVariants.{Turns}
+use Rattle.tp_model.specs.declared.form.Form.{Form}
 use Rattle.tp_model.specs.NodeState.{NodeState}
 use Rattle.tp_model.specs.Node.{t414, t414_ends}
 use Rattle.tp_model.specs.Network.{Network}
@@ -23,14 +23,15 @@ use Rattle.tp_model.specs.Runs.{World, Event, Run, HasCut, copy_of, fresh}
 use Rattle.tp_law_device.specs.FormattedWorld.{formatted_world}
 
 -- The world's device opens as `o`, whose other area is closed. The pieces lie behind that area's gate; once they are written,
--- the area spells the copy, with a higher generation.
+-- the area spells the copy, in some form and with a higher generation.
 pub record SpellsCopy (w : World NodeState) (o : Opened) (pieces : List (ℕ × List ℕ)) (copy : Held NodeState) (generation : ℕ) : Type 0 where
   pub opens : verdict w.disk.bytes ≡ Ok o
   pub closed : other_is_open o w.disk.bytes ≡ false
   pub inside : AllByRecursion (λ piece. IsWithin (device_areas.spare w.disk.bytes) (piece.0, length piece.1)) pieces
+  pub form : Form
   pub groups : List (List (Entry × ℕ))
   pub now : Network NodeState
-  pub spells : Spells t414 t414_ends o.head.topology (other_content o (all_done (put_calls pieces) w.disk).bytes) generation Turns copy.base copy.network groups now
+  pub spells : Spells t414 t414_ends o.head.topology (other_content o (all_done (put_calls pieces) w.disk).bytes) generation form copy.base copy.network groups now
   pub entries : map (λ e. e.0) (entries_in groups) ≡ copy.entries
   pub later : o.generation < generation
 

@@ -6,6 +6,7 @@ use Rattle.std.proofs.lemmas.Bool.{and_from, and_parts, lt-ltb}
 use Rattle.std.proofs.lemmas.List.{length-map}
 use Rattle.tp_model.specs.declared.entry.Entry.{Entry}
 use Rattle.tp_model.specs.declared.limits.TheConstants.{NUMBER_LIMIT}
+use Rattle.tp_model.specs.declared.form.Form.TheVariants.{Turns}
 use Rattle.tp_model.specs.NodeState.{NodeState}
 use Rattle.tp_model.specs.Node.{t414, t414_ends}
 use Rattle.tp_model.specs.Network.{Network}
@@ -169,16 +170,16 @@ put_closed bytes o content is closed long =
 
 pub put_opens : (bytes : List ℕ) (o : Opened) (copy : Held NodeState) (content : List ℕ) (groups : List (List (Entry × ℕ))) (now : Network NodeState)
     → opening t414 t414_ends bytes ≡ Ok o → other_is_open o bytes ≡ false → length content ≡ o.head.areas.length - 1
-    → Spells t414 t414_ends o.head.topology content (o.generation + 1) copy.base copy.network groups now → map (λ (e : Entry × ℕ). e.0) (entries_in groups) ≡ copy.entries → CanPut bytes o copy
+    → Spells t414 t414_ends o.head.topology content (o.generation + 1) Turns copy.base copy.network groups now → map (λ (e : Entry × ℕ). e.0) (entries_in groups) ≡ copy.entries → CanPut bytes o copy
 put_opens bytes o copy content groups now is closed long S entries =
     let left = with_other bytes o content in
     let stays = put_stays bytes o content is closed long in
     let shut = put_closed bytes o content is closed long in
-    let there : Spells t414 t414_ends o.head.topology (other_content o left) (o.generation + 1) copy.base copy.network groups now =
-    subst (λ xs. Spells t414 t414_ends o.head.topology xs (o.generation + 1) copy.base copy.network groups now) (sym (content_written bytes o content is long)) S in
+    let there : Spells t414 t414_ends o.head.topology (other_content o left) (o.generation + 1) Turns copy.base copy.network groups now =
+    subst (λ xs. Spells t414 t414_ends o.head.topology xs (o.generation + 1) Turns copy.base copy.network groups now) (sym (content_written bytes o content is long)) S in
     let same : held_then copy.base copy.network groups ≡ copy = λ i. record { network = copy.network; entries = entries i; base = copy.base } in
     let other : device_areas.other left ≡ Some (other_start o, copy) =
-    other_spelt left o (o.generation + 1) copy.base copy.network groups now stays shut (omega arith) there ∙ (λ i. Some (other_start o, same i)) in
+    other_spelt left o (o.generation + 1) Turns copy.base copy.network groups now stays shut (omega arith) there ∙ (λ i. Some (other_start o, same i)) in
     let reads : device_areas.verdict left ≡ Some (held_of o) = held_from (opening t414 t414_ends left) o (held_of o) stays refl in
     record {
       content = content;

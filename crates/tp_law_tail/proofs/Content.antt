@@ -6,6 +6,7 @@ use Rattle.std.proofs.lemmas.List.{length-replicate}
 use Rattle.tp_model.specs.declared.entry.Entry.{Entry}
 use Rattle.tp_model.specs.declared.limits.TheConstants.{GATE_CLOSED, NUMBER_LIMIT}
 use Rattle.tp_model.specs.Bytes.{zeros}
+use Rattle.tp_model.specs.declared.form.Form.TheVariants.{Turns}
 use Rattle.tp_model.specs.NodeState.{NodeState}
 use Rattle.tp_model.specs.Image.{IsNode}
 use Rattle.tp_model.specs.Node.{t414, t414_ends}
@@ -18,6 +19,7 @@ use Rattle.tp_model.specs.Journal.{entry_room, room, is_roomy}
 use Rattle.tp_model.specs.Spelling.{front_bytes, groups_bytes, entries_in, IsCut, Spells}
 use Rattle.tp_model.specs.Opening.{groups_place}
 use Rattle.tp_law_machine.proofs.Images.{node_of-image}
+use Rattle.tp_law_device.proofs.Forms.{are_of_turns}
 use Rattle.tp_law_device.proofs.Formattable.{length-front_bytes}
 use Rattle.tp_law_device.proofs.Wires.{has_shape}
 use Rattle.tp_law_device.proofs.SpeltCuts.{IsReadBack, ReadsBack}
@@ -44,16 +46,16 @@ cut_back E t base s C = record {
 pub record AreaSpelling (t : Topology) (area generation base : ℕ) (s : Network NodeState) (tail : List (Entry × ℕ)) (now : Network NodeState) : Type 0 where
   pub content : List ℕ
   pub long : length content ≡ area - 1
-  pub spells : Spells t414 t414_ends t content generation base s (in_groups tail) now
+  pub spells : Spells t414 t414_ends t content generation Turns base s (in_groups tail) now
 
 pub can_be_spelt : (t : Topology) (area generation base : ℕ) (s : Network NodeState) (tail : List (Entry × ℕ)) (now : Network NodeState) → is_topology t ≡ true → is_roomy t area ≡ true → generation < NUMBER_LIMIT
     → IsCut t414_ends t base s → AreSpelt tail → AreNumbered 0 base (map (λ (e : Entry × ℕ). e.1) tail) → base + length tail ≤ NUMBER_LIMIT - 1
     → after t414 s (map (λ (e : Entry × ℕ). e.0) tail) ≡ Some now → entry_room * length tail ≤ room t area → AreaSpelling t area generation base s tail now
 can_be_spelt t area generation base s tail now topology roomy young C spelt numbered last leads fits =
     let groups = in_groups tail in
-    let front = front_bytes t generation base s in
+    let front = front_bytes t generation Turns base s in
     let bytes = groups_bytes groups in
-    let size : length front ≡ groups_place t = length-front_bytes t414_ends t (has_shape t topology) generation base s (cut_back t414_ends t base s C) in
+    let size : length front ≡ groups_place t = length-front_bytes t414_ends t (has_shape t topology) generation Turns base s (cut_back t414_ends t base s C) in
     let few = parted_bytes (length tail) tail spelt in
     let wide = leb-true _ _ roomy in
     let rest = zeros (area - 2 - length front - length bytes) in
@@ -69,6 +71,7 @@ can_be_spelt t area generation base s tail now topology roomy young C spelt numb
         generation_fits = young;
         cut = C;
         each = parted_groups (length tail) tail spelt;
+        of_form = are_of_turns (entries_in groups);
         numbers = subst (λ es. AreNumbered 0 base (map (λ (e : Entry × ℕ). e.1) es)) (sym same) numbered;
         last = omega (arith, last, ap length same);
         leads = ap (λ es. after t414 s (map (λ (e : Entry × ℕ). e.0) es)) same ∙ leads;

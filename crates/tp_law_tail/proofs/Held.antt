@@ -1,23 +1,26 @@
 -- What the book of a run stands for has an image, at each moment.
 use Rattle.std.proofs.Common.{◌≡◌, ℕ, ◌+◌, ◌-◌, true, not, List, [], ◌∷◌, ◌++◌, length, map, sym, ap, subst, ◌∙◌, arith, length-append, drop, Some, Ok}
-use Rattle.std.specs.Prelude.{nat_lt, ◌<◌}
-use Rattle.std.specs.List.{AllByRecursion}
-use Rattle.std.proofs.lemmas.Bool.{and_parts, ltb-true}
+use Rattle.std.specs.Prelude.{nat_lt, nat_le, ◌<◌, ◌&&◌, ◌==◌}
+use Rattle.std.specs.List.{AllByRecursion, list_all}
+use Rattle.std.proofs.lemmas.Bool.{and_parts, eqb-true, ltb-true}
 use Rattle.std.proofs.lemmas.List.{length-map, map-append}
 use Rattle.tp_model.specs.declared.link.Token.TheVariants.{Data, Ack, Marker}
+use Rattle.tp_model.specs.declared.link.Received.{Received}
+use Rattle.tp_model.specs.declared.link.Received.TheVariants.{Nothing, JustData, JustAck, DataThenAck, AckThenData}
 use Rattle.tp_model.specs.declared.entry.Entry.{Entry}
 use Rattle.tp_model.specs.declared.entry.Entry.TheVariants.{Run as Ran, Take, HostIn, Confirm, Turn}
-use Rattle.tp_model.specs.declared.limits.TheConstants.{NUMBER_LIMIT, ENTRY_LINES, MAX_PORTS}
+use Rattle.tp_model.specs.declared.limits.TheConstants.{NUMBER_LIMIT, ENTRY_NODES, ENTRY_LINES, MAX_STEPS, MAX_PORTS}
 use Rattle.tp_model.specs.NodeState.{NodeState}
 use Rattle.tp_model.specs.Node.{t414, t414_ends}
 use Rattle.tp_model.specs.Network.{Network}
+use Rattle.tp_model.specs.Turn.{by_link}
 use Rattle.tp_model.specs.Entries.{process, next}
 use Rattle.tp_model.specs.Order.{after, post}
 use Rattle.tp_model.specs.Markers.{plain_network}
 use Rattle.tp_model.specs.Snapshot.{MarkedNetwork}
 use Rattle.tp_model.specs.WholeCut.{WholeCut, count_in, network_in}
 use Rattle.tp_model.specs.Acts.{Act, Begin, Record, Journal, Close, Trim, IsOpened}
-use Rattle.tp_model.specs.EntryBytes.{is_in_range, IsSpelt}
+use Rattle.tp_model.specs.EntryBytes.{is_received, is_in_range, IsSpelt}
 use Rattle.tp_model.specs.Areas.{Held}
 use Rattle.tp_model.specs.Topology.{Topology, is_topology}
 use Rattle.tp_model.specs.Device.{area_start, content_of}
@@ -40,7 +43,7 @@ use Rattle.tp_law_device.proofs.AreaReads.{area_parts}
 use Rattle.tp_law_device.proofs.ReadAreas.{opens_stand}
 use Rattle.tp_law_device.proofs.Opens.{reads_of, found_in}
 use Rattle.tp_law_device.proofs.ReadNodes.{read_of_bytes}
-use Rattle.tp_model.specs.KeptRun.{HasByte, ActKeeps, IsKept}
+use Rattle.tp_model.specs.KeptRun.{TakesByte, HasByte, ActKeeps, IsKept}
 use Rattle.tp_law_tail.specs.CutSpelt.{CutSpelt}
 use Rattle.tp_law_tail.proofs.Kept.{cut_keeps, keeps_after}
 use Rattle.tp_law_tail.proofs.Again.{cut_spelt}
@@ -61,6 +64,14 @@ held_by w = record { network = w.net.start; entries = w.net.entries; base = w.ba
 abbrev InRange : Entry → Type 0
 InRange e = is_in_range e ≡ true
 
+take_bytes : (takes : List Received) → list_all is_received takes ≡ true → AllByRecursion TakesByte takes
+take_bytes [] h = tt
+take_bytes (Nothing ∷ takes) h = (tt, take_bytes takes h)
+take_bytes (JustData byte ∷ takes) h = let both = and_parts (nat_lt byte 256) (list_all is_received takes) h in (ltb-true byte 256 both.0, take_bytes takes both.1)
+take_bytes (JustAck ∷ takes) h = (tt, take_bytes takes h)
+take_bytes (DataThenAck byte ∷ takes) h = let both = and_parts (nat_lt byte 256) (list_all is_received takes) h in (ltb-true byte 256 both.0, take_bytes takes both.1)
+take_bytes (AckThenData byte ∷ takes) h = let both = and_parts (nat_lt byte 256) (list_all is_received takes) h in (ltb-true byte 256 both.0, take_bytes takes both.1)
+
 -- what an entry that is spelt carries is a byte
 pub in_range_byte : (e : Entry) → is_in_range e ≡ true → HasByte e
 in_range_byte (Ran node count) h = tt
@@ -69,7 +80,11 @@ in_range_byte (Take line Ack) h = tt
 in_range_byte (Take line Marker) h = tt
 in_range_byte (HostIn port byte) h = ltb-true byte 256 (and_parts (nat_lt port MAX_PORTS) (nat_lt byte 256) h).1
 in_range_byte (Confirm port upto) h = tt
-in_range_byte (Turn node takes count) h = cc
+in_range_byte (Turn node takes count) h =
+    let a = and_parts (nat_lt node ENTRY_NODES && nat_le count MAX_STEPS) _ h in
+    let b = and_parts (length takes == 4) (nat_lt 0 (length (by_link 0 takes)) && list_all is_received takes) a.1 in
+    let c = and_parts (nat_lt 0 (length (by_link 0 takes))) (list_all is_received takes) b.1 in
+    (take_bytes takes c.1, eqb-true (length takes) 4 b.0)
 
 pub each_has_byte : (es : List Entry) → AllByRecursion (λ e. is_in_range e ≡ true) es → AllByRecursion HasByte es
 each_has_byte [] h = tt

@@ -1,5 +1,5 @@
 -- A network's nodes stay of bytes, and as long, whatever entries follow.
-use Rattle.std.proofs.Common.{◌≡◌, ℕ, zero, suc, ◌/◌, List, [], ◌∷◌, length, set, refl, sym, ap, subst, ◌∙◌, Option, Some, None, slice_get}
+use Rattle.std.proofs.Common.{◌≡◌, ℕ, zero, suc, ◌+◌, ◌/◌, List, [], ◌∷◌, ◌++◌, length, set, refl, sym, ap, subst, ◌∙◌, Option, Some, None, slice_get}
 use Rattle.std.specs.Prelude.{nat_lt, nat_le, ◌&&◌}
 use Rattle.std.specs.Option.{option_map}
 use Rattle.std.specs.List.{AllByRecursion}
@@ -7,6 +7,8 @@ use Rattle.tp_model.specs.declared.link.Token.{Token}
 use Rattle.tp_model.specs.declared.link.Token.TheVariants.{Data, Ack, Marker}
 use Rattle.tp_model.specs.declared.wire.WireEnd.{WireEnd}
 use Rattle.tp_model.specs.declared.wire.WireEnd.TheVariants.{Link, Port as AtPort}
+use Rattle.tp_model.specs.declared.link.Received.{Received}
+use Rattle.tp_model.specs.declared.link.Received.TheVariants.{Nothing, JustData, JustAck, DataThenAck, AckThenData}
 use Rattle.tp_model.specs.declared.entry.Entry.{Entry}
 use Rattle.tp_model.specs.declared.entry.Entry.TheVariants.{Run, Take, HostIn, Confirm, Turn}
 use Rattle.tp_model.specs.declared.limits.TheConstants.{MAX_STEPS, PAGE_BYTES}
@@ -14,13 +16,14 @@ use Rattle.tp_model.specs.NodeState.{NodeState}
 use Rattle.tp_model.specs.Node.{t414, took}
 use Rattle.tp_model.specs.Image.{page_count}
 use Rattle.tp_model.specs.Network.{steps, Port, Network, Own, OfNode, OfHost, own, put, receiver, has_wire, sent}
+use Rattle.tp_model.specs.Turn.{by_link, took_all}
 use Rattle.tp_model.specs.Entries.{process, of_node, of_port, receives, port_took, handed_in, confirmed, does, next}
-use Rattle.tp_model.specs.KeptRun.{HasByte}
+use Rattle.tp_model.specs.KeptRun.{TakesByte, HasByte}
 use Rattle.tp_law_machine.specs.NodeOfBytes.{CarriesByte, IsNodeOfBytes}
 use Rattle.tp_law_machine.proofs.Partial.{all_at, all_set}
 use Rattle.tp_law_machine.proofs.Nodes.{node_steps, node_took, length-node_steps, length-node_took}
-use Rattle.tp_law_network.proofs.Local.{step_of, own_node, own-lines, port_step}
-use Rattle.tp_law_network.proofs.Partial.{map_some, cond_some}
+use Rattle.tp_law_network.proofs.Local.{step_of, own_node, own-lines, port_step, turn_step}
+use Rattle.tp_law_network.proofs.Partial.{bind_some, map_some, cond_some}
 use Rattle.tp_law_device.proofs.SpeltCuts.{pages_of}
 
 -- what a take carries
@@ -29,12 +32,36 @@ carried line (Data byte) low = low
 carried line Ack low = tt
 carried line Marker low = tt
 
+-- and what a turn's tokens carry
+abbrev CarryBytes : List (ℕ × Token) → Type 0
+CarryBytes = AllByRecursion (λ m. CarriesByte m.1)
+
+carried_links : (k : ℕ) (takes : List Received) → AllByRecursion TakesByte takes → CarryBytes (by_link k takes)
+carried_links k [] low = tt
+carried_links k (Nothing ∷ takes) low = carried_links (k + 1) takes low.1
+carried_links k (JustData byte ∷ takes) low = (low.0, carried_links (k + 1) takes low.1)
+carried_links k (JustAck ∷ takes) low = (tt, carried_links (k + 1) takes low.1)
+carried_links k (DataThenAck byte ∷ takes) low = (low.0, (tt, carried_links (k + 1) takes low.1))
+carried_links k (AckThenData byte ∷ takes) low = (tt, (low.0, carried_links (k + 1) takes low.1))
+
 -- ## The node whose entry it is
 
 -- a node after another: it is of bytes, and as long
 record NodeStays (was now : NodeState) : Type 0 where
   bytes : IsNodeOfBytes now
   long : length now.memory ≡ length was.memory
+
+took_all_stays : (ms : List (ℕ × Token)) (n : NodeState) (r : NodeState × List (ℕ × Token)) → IsNodeOfBytes n → CarryBytes ms → took_all t414 ms n ≡ Some r → NodeStays n r.0
+unfolding took_all
+took_all_stays [] n r node low e =
+    let is : ◌≡◌ {A = NodeState × List (ℕ × Token)} (n, []) r = cc in
+    subst (λ x. NodeStays n x.0) is (record { bytes = node; long = refl })
+took_all_stays (m ∷ ms) n r node low e =
+    let F = bind_some (took n m.0 m.1) _ r e in
+    let R = bind_some (took_all t414 ms F.0.0) _ r F.2 in
+    let is : ◌≡◌ {A = NodeState × List (ℕ × Token)} (R.0.0, F.0.1 ++ R.0.1) r = cc in
+    let rest = took_all_stays ms F.0.0 R.0 (node_took n m.0 m.1 F.0 node low.0 F.1).0 low.1 R.1 in
+    subst (λ x. NodeStays n x.0) is (record { bytes = rest.bytes; long = rest.long ∙ length-node_took n m.0 m.1 F.0 node low.0 F.1 })
 
 abbrev StaysNode : Own NodeState → Own NodeState → Type 0
 StaysNode (OfNode was) (OfNode now) = NodeStays was now
@@ -79,7 +106,13 @@ does_stays s (HostIn p b) (OfHost ports) r node low e = host_stays (length s.nod
 does_stays s (HostIn p b) (OfNode n) r node low e = cc
 does_stays s (Confirm p upto) (OfHost ports) r node low e = host_stays (length s.nodes) p ports (confirmed upto) r e
 does_stays s (Confirm p upto) (OfNode n) r node low e = cc
-does_stays s (Turn i links k) was r node low e = absurd low
+does_stays s (Turn i links k) (OfNode n) r node low e =
+    let T = turn_step t414 s.wires (length s.nodes) i links k n r e in
+    let taken = took_all_stays (by_link 0 links) n T.taken_all (node n refl) (carried_links 0 links low.0) T.takes_all in
+    subst (λ y. OwnStays (OfNode n) y.0) T.is (record {
+      is = record { bytes = (node_steps k T.taken_all.0 T.run taken.bytes T.runs).0; long = length-node_steps k T.taken_all.0 T.run taken.bytes T.runs ∙ taken.long };
+    })
+does_stays s (Turn i links k) (OfHost ports) r node low e = cc
 
 -- ## The network
 

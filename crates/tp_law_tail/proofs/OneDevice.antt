@@ -3,6 +3,8 @@ use Rattle.std.proofs.Common.{◌≡◌, ℕ, ◌+◌, ◌-◌, true, false, Lis
 use Rattle.std.specs.Prelude.{nat_lt}
 use Rattle.std.specs.List.{list_all}
 use Rattle.std.proofs.lemmas.Bool.{and_parts, ltb-true}
+use Rattle.tp_model.specs.declared.form.Form.TheVariants.{Turns}
+use Rattle.tp_model.specs.declared.head.HeadVersion.TheVariants.{Narrow}
 use Rattle.tp_model.specs.declared.limits.TheConstants.{AREA_HEAD_BYTES}
 use Rattle.tp_model.specs.Step.{step_of}
 use Rattle.tp_model.specs.Node.{node_step, took, t414, t414_ends}
@@ -77,9 +79,10 @@ grouped_bytes = bytes_from grouped_device refl
 -- what it opens as
 abbrev pub grouped : Opened
 grouped = record {
-  head = record { topology = one_node; areas = one_areas };
+  head = record { version = Narrow; topology = one_node; areas = one_areas };
   second = false;
   generation = 1;
+  form = Turns;
   base = 0;
   cut = one_before;
   kept = numbered 0 inside;

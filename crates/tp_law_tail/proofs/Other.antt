@@ -2,6 +2,7 @@
 use Rattle.std.proofs.Common.{◌≡◌, ℕ, ◌+◌, ◌-◌, ◌<◌, ◌≤◌, false, not, List, length, map, sym, ◌∙◌, arith, Some, Ok}
 use Rattle.std.proofs.lemmas.Grind.{same_number_lists}
 use Rattle.tp_model.specs.declared.entry.Entry.{Entry}
+use Rattle.tp_model.specs.declared.form.Form.{Form}
 use Rattle.tp_model.specs.NodeState.{NodeState}
 use Rattle.tp_model.specs.Node.{t414, t414_ends}
 use Rattle.tp_model.specs.Network.{Network}
@@ -20,12 +21,12 @@ use Rattle.tp_law_device.proofs.Opens.{reads_of, layout}
 abbrev pub held_then : ℕ → Network NodeState → List (List (Entry × ℕ)) → Held NodeState
 held_then base s groups = record { network = s; entries = map (λ (e : Entry × ℕ). e.0) (entries_in groups); base = base }
 
-pub other_spelt : (bytes : List ℕ) (o : Opened) (generation base : ℕ) (s : Network NodeState) (groups : List (List (Entry × ℕ))) (now : Network NodeState)
+pub other_spelt : (bytes : List ℕ) (o : Opened) (generation : ℕ) (form : Form) (base : ℕ) (s : Network NodeState) (groups : List (List (Entry × ℕ))) (now : Network NodeState)
     → opening t414 t414_ends bytes ≡ Ok o → other_is_open o bytes ≡ false → o.generation < generation
-    → Spells t414 t414_ends o.head.topology (other_content o bytes) generation base s groups now
+    → Spells t414 t414_ends o.head.topology (other_content o bytes) generation form base s groups now
     → device_areas.other bytes ≡ Some (other_start o, held_then base s groups)
-other_spelt bytes o generation base s groups now is closed higher S =
-    spelt_other t414 t414_ends bytes o is closed generation base s groups now (spelt_area t414 t414_ends o.head.topology (other_content o bytes) generation base s groups now S) higher
+other_spelt bytes o generation form base s groups now is closed higher S =
+    spelt_other t414 t414_ends bytes o is closed generation form base s groups now (spelt_area t414 t414_ends o.head.topology (other_content o bytes) generation form base s groups now S) higher
 
 -- the other area's content, once it is written whole
 pub content_written : (bytes : List ℕ) (o : Opened) (content : List ℕ) → opening t414 t414_ends bytes ≡ Ok o → length content ≡ o.head.areas.length - 1

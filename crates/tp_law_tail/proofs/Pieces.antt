@@ -8,6 +8,7 @@ use Rattle.std.proofs.lemmas.List.{get_or_append_left, get_or-append_right}
 use Rattle.tp_model.specs.declared.entry.Entry.{Entry}
 use Rattle.tp_model.specs.declared.limits.TheConstants.{GATE_CLOSED, NUMBER_LIMIT}
 use Rattle.tp_model.specs.Bytes.{u32_bytes, u64_bytes}
+use Rattle.tp_model.specs.declared.form.Form.TheVariants.{Turns}
 use Rattle.tp_model.specs.NodeState.{NodeState}
 use Rattle.tp_model.specs.Node.{t414, t414_ends}
 use Rattle.tp_model.specs.Image.{image, page_count}
@@ -18,11 +19,12 @@ use Rattle.tp_model.specs.Disk.{written}
 use Rattle.tp_model.specs.EntryBytes.{IsSpelt}
 use Rattle.tp_model.specs.Topology.{Topology, is_topology}
 use Rattle.tp_model.specs.Journal.{image_length, images_length, cut_length}
-use Rattle.tp_model.specs.CutImage.{line_bytes, port_bytes, cut_bytes}
+use Rattle.tp_model.specs.CutImage.{base_number, line_bytes, port_bytes, cut_bytes}
 use Rattle.tp_model.specs.Spelling.{front_bytes, groups_bytes, entries_in, IsGroup, Spells}
 use Rattle.tp_model.specs.Opening.{nodes_place, lines_place, ports_place, groups_place}
 use Rattle.tp_law_runs.proofs.Moments.{get_or-written_outside, get_or-written_inside}
 use Rattle.tp_law_device.proofs.Contents.{drop_there}
+use Rattle.tp_law_device.proofs.Forms.{are_of_turns}
 use Rattle.tp_law_device.proofs.Wires.{has_shape}
 use Rattle.tp_law_device.proofs.SpeltCuts.{IsReadBack, image_size, length-images, length-lines, length-ports, pages_of}
 use Rattle.tp_model.specs.CopySpelt.{CopySpelt}
@@ -80,7 +82,7 @@ groups_are (group ∷ groups) sized spelt =
 
 pub pieces_spell : (t : Topology) (content : List ℕ) (generation : ℕ) (copy : Held NodeState) (tail : List (Entry × ℕ)) (groups : List (List (Entry × ℕ))) → is_topology t ≡ true → generation < NUMBER_LIMIT
     → (C : CopySpelt t copy tail) → entries_in groups ≡ tail → AllByRecursion IsSized groups → PiecesStand t content generation copy groups
-    → Spells t414 t414_ends t content generation copy.base copy.network groups C.now
+    → Spells t414 t414_ends t content generation Turns copy.base copy.network groups C.now
 unfolding front_bytes cut_bytes
 pieces_spell t content generation copy tail groups topology young C all sized P =
     let s = copy.network in
@@ -90,10 +92,10 @@ pieces_spell t content generation copy tail groups topology young C all sized P 
     let lines = flat_map line_bytes s.lines in
     let ports = flat_map port_bytes s.ports in
     let bytes = groups_bytes groups in
-    let base = u64_bytes copy.base in
+    let base = u64_bytes (base_number Turns copy.base) in
     let length_field = u32_bytes (cut_length t) in
     let age = u64_bytes generation in
-    let front = front_bytes t generation copy.base s in
+    let front = front_bytes t generation Turns copy.base s in
     let a : length images ≡ images_length t = length-images s.nodes B.nodes ∙ ap (sum_by image_length) B.pages in
     let b = length-lines t.wires s.lines B.lines in
     let c = length-ports copy.base s.ports B.ports in
@@ -115,6 +117,7 @@ pieces_spell t content generation copy tail groups topology young C all sized P 
       generation_fits = young;
       cut = C.cut;
       each = groups_are groups sized (subst (AllByRecursion (λ (e : Entry × ℕ). IsSpelt e.0 e.1)) (sym all) C.spelt);
+      of_form = are_of_turns (entries_in groups);
       numbers = subst (λ es. AreNumbered 0 copy.base (map (λ (e : Entry × ℕ). e.1) es)) (sym all) C.numbers;
       last = omega (arith, C.last, ap length all);
       leads = ap (λ es. after t414 s (map (λ (e : Entry × ℕ). e.0) es)) all ∙ ap (after t414 s) C.entries ∙ C.leads;

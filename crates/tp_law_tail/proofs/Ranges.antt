@@ -1,26 +1,30 @@
 -- An entry that is possible has a spelling, where what it carries are bytes.
-use Rattle.std.proofs.Common.{◌≡◌, ℕ, ◌+◌, ◌<◌, ◌≤◌, inl, inr, true, List, length, refl, sym, ap, ◌∙◌, arith, Option, Some, None, slice_get}
-use Rattle.std.specs.Prelude.{nat_lt, nat_le, ◌&&◌}
+use Rattle.std.proofs.Common.{◌≡◌, ℕ, ◌+◌, ◌<◌, ◌≤◌, inl, inr, true, List, [], ◌∷◌, length, refl, sym, ap, ◌∙◌, arith, Option, Some, None, slice_get}
+use Rattle.std.specs.Prelude.{nat_lt, nat_le, ◌&&◌, ◌==◌}
+use Rattle.std.specs.List.{AllByRecursion, list_all}
 use Rattle.std.specs.Option.{option_map}
-use Rattle.std.proofs.lemmas.Bool.{and_from, and_parts, lt-ltb, leb-true, cases_lt}
+use Rattle.std.proofs.lemmas.Bool.{and_from, and_parts, eq-eqb, lt-ltb, leb-true, cases_lt}
 use Rattle.std.proofs.lemmas.Option.{slice_get_within}
 use Rattle.std.proofs.lemmas.List.{get_or_past}
 use Rattle.tp_model.specs.declared.link.Token.{Token}
 use Rattle.tp_model.specs.declared.link.Token.TheVariants.{Data, Ack, Marker}
 use Rattle.tp_model.specs.declared.wire.WireEnd.{WireEnd}
 use Rattle.tp_model.specs.declared.wire.WireEnd.TheVariants.{Link, Port as AtPort}
+use Rattle.tp_model.specs.declared.link.Received.{Received as Taken}
+use Rattle.tp_model.specs.declared.link.Received.TheVariants.{Nothing, JustData, JustAck, DataThenAck, AckThenData}
 use Rattle.tp_model.specs.declared.entry.Entry.{Entry}
 use Rattle.tp_model.specs.declared.entry.Entry.TheVariants.{Run, Take, HostIn, Confirm, Turn}
 use Rattle.tp_model.specs.declared.limits.TheConstants.{MAX_NODES, MAX_STEPS, MAX_PORTS, NUMBER_LIMIT, ENTRY_NODES, ENTRY_LINES}
 use Rattle.tp_model.specs.NodeState.{NodeState}
 use Rattle.tp_model.specs.Node.{t414, took}
 use Rattle.tp_model.specs.Network.{steps, Port, Network, Own, OfNode, OfHost, own, receiver}
+use Rattle.tp_model.specs.Turn.{by_link}
 use Rattle.tp_model.specs.Entries.{process, of_node, of_port, receives, port_took, handed_in, confirmed, does, next}
-use Rattle.tp_model.specs.EntryBytes.{is_token, is_in_range}
+use Rattle.tp_model.specs.EntryBytes.{is_received, is_token, is_in_range}
 use Rattle.tp_law_machine.proofs.LinkLaws.{never_marks}
-use Rattle.tp_law_network.proofs.Local.{step_of, own_node, own_host, port_step}
+use Rattle.tp_law_network.proofs.Local.{turn_step, step_of, own_node, own_host, port_step}
 use Rattle.tp_law_network.proofs.Partial.{map_some, cond_some}
-use Rattle.tp_model.specs.KeptRun.{HasByte}
+use Rattle.tp_model.specs.KeptRun.{TakesByte, HasByte}
 use Rattle.tp_model.specs.Topology.{Topology}
 use Rattle.tp_law_tail.proofs.Kept.{CutKeeps}
 
@@ -75,6 +79,25 @@ run_range s i k (OfNode n) r few at e =
     and_from (nat_lt i ENTRY_NODES) (nat_le 1 k && nat_le k MAX_STEPS) (lt-ltb i ENTRY_NODES (omega (arith, few, (own_node s i n at).0))) (and_from (nat_le 1 k) (nat_le k MAX_STEPS) both.0 both.1)
 run_range s i k (OfHost ports) r few at e = cc
 
+taken_low : (takes : List Taken) → AllByRecursion TakesByte takes → list_all is_received takes ≡ true
+taken_low [] low = refl
+taken_low (Nothing ∷ takes) low = taken_low takes low.1
+taken_low (JustData byte ∷ takes) low = and_from (nat_lt byte 256) (list_all is_received takes) (lt-ltb byte 256 low.0) (taken_low takes low.1)
+taken_low (JustAck ∷ takes) low = taken_low takes low.1
+taken_low (DataThenAck byte ∷ takes) low = and_from (nat_lt byte 256) (list_all is_received takes) (lt-ltb byte 256 low.0) (taken_low takes low.1)
+taken_low (AckThenData byte ∷ takes) low = and_from (nat_lt byte 256) (list_all is_received takes) (lt-ltb byte 256 low.0) (taken_low takes low.1)
+
+turn_range : (s : Network NodeState) (i : ℕ) (takes : List Taken) (k : ℕ) (was : Own NodeState) (r : Own NodeState × List (ℕ × Token)) → length s.nodes ≤ MAX_NODES → HasByte (Turn i takes k) → own s i ≡ Some was
+    → does t414 s.wires (length s.nodes) (Turn i takes k) was ≡ Some r → is_in_range (Turn i takes k) ≡ true
+unfolding does
+turn_range s i takes k (OfNode n) r few byte at e =
+    let T = turn_step t414 s.wires (length s.nodes) i takes k n r e in
+    and_from (nat_lt i ENTRY_NODES && nat_le k MAX_STEPS) ((length takes == 4) && (nat_lt 0 (length (by_link 0 takes)) && list_all is_received takes))
+    (and_from (nat_lt i ENTRY_NODES) (nat_le k MAX_STEPS) (lt-ltb i ENTRY_NODES (omega (arith, few, (own_node s i n at).0))) T.few)
+    (and_from (length takes == 4) (nat_lt 0 (length (by_link 0 takes)) && list_all is_received takes) (eq-eqb (length takes) 4 byte.1)
+    (and_from (nat_lt 0 (length (by_link 0 takes))) (list_all is_received takes) T.some (taken_low takes byte.0)))
+turn_range s i takes k (OfHost ports) r few byte at e = cc
+
 -- the ports of a process that is the host
 port_there : (s : Network NodeState) (p : ℕ) (ports : List Port) (change : Port → Option (Port × List Token)) (r : Own NodeState × List (ℕ × Token)) → length s.ports ≤ 8 → s.ports ≡ ports
     → of_port (length s.nodes) p ports change ≡ Some r → nat_lt p MAX_PORTS ≡ true
@@ -105,4 +128,4 @@ in_range_next t s e u count K low byte h =
         and_from (nat_lt p MAX_PORTS) (nat_lt upto NUMBER_LIMIT) (port_there s p ports (confirmed upto) r K.few_ports same e)
         (lt-ltb upto NUMBER_LIMIT (omega (arith, leb-true upto (P.port.out_base + length P.port.outputs) both.1, one.confirmed_low, low)))
     go (Confirm p upto) (OfNode n) r byte at e = cc
-    go (Turn i links k) was r byte at e = absurd byte
+    go (Turn i links k) was r byte at e = turn_range s i links k was r K.few_nodes byte at e

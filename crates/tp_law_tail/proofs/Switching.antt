@@ -3,6 +3,7 @@ use Rattle.std.proofs.Common.{◌≡◌, ℕ, ◌+◌, ◌-◌, ◌<◌, ◌≤�
 use Rattle.std.proofs.lemmas.Bool.{cases_Bool}
 use Rattle.tp_model.specs.declared.entry.Entry.{Entry}
 use Rattle.tp_model.specs.declared.limits.TheConstants.{NUMBER_LIMIT, GATE_CLOSED}
+use Rattle.tp_model.specs.declared.form.Form.TheVariants.{Turns}
 use Rattle.tp_model.specs.NodeState.{NodeState}
 use Rattle.tp_model.specs.Node.{t414, t414_ends}
 use Rattle.tp_model.specs.Network.{Network}
@@ -62,15 +63,16 @@ closed_switches : (w : World NodeState) (o : Opened) (cut : WholeCut) (nodes : L
 closed_switches w o cut nodes rests is closed has P =
     let copy = copy_of w.net w.base cut nodes in
     let C = content_written w.disk.bytes o P.content is P.long in
-    let S = spelt_area t414 t414_ends o.head.topology P.content (o.generation + 1) copy.base copy.network P.groups P.now P.spells in
+    let S = spelt_area t414 t414_ends o.head.topology P.content (o.generation + 1) Turns copy.base copy.network P.groups P.now P.spells in
     let spare_is = spare_closed w.disk.bytes o is closed in
     checkpoint_switches w cut nodes o ((other_start o + 1, P.content) ∷ []) (o.generation + 1) rests has (record {
       opens = is;
       closed = closed;
       inside = (subst (λ range. IsWithin range (other_start o + 1, length P.content)) (sym spare_is) (le_refl (other_start o + 1), omega (arith, P.long)), tt);
+      form = Turns;
       groups = P.groups;
       now = P.now;
-      spelt = subst (λ content. SpeltArea t414 t414_ends o.head.topology content (o.generation + 1) copy.base copy.network P.groups P.now) (sym C) S;
+      spelt = subst (λ content. SpeltArea t414 t414_ends o.head.topology content (o.generation + 1) Turns copy.base copy.network P.groups P.now) (sym C) S;
       entries = P.entries;
       later = omega arith;
     })

@@ -1,6 +1,7 @@
 -- A copy can be put into the other area.
 use Rattle.std.specs.Prelude.{◌≡◌, ℕ, ◌+◌, ◌-◌, List, map, length, Some}
 use Rattle.tp_model.specs.declared.entry.Entry.{Entry}
+use Rattle.tp_model.specs.declared.form.Form.TheVariants.{Turns}
 use Rattle.tp_model.specs.NodeState.{NodeState}
 use Rattle.tp_model.specs.Node.{t414, t414_ends}
 use Rattle.tp_model.specs.Network.{Network}
@@ -14,14 +15,14 @@ use Rattle.tp_model.specs.DeviceAreas.{other_start, device_areas}
 abbrev pub with_other : List ℕ → Opened → List ℕ → List ℕ
 with_other bytes o content = written bytes (other_start o + 1) content
 
--- There is a content of the other area that spells the copy, of the next generation; once it is there the device still stands
+-- There is a content of the other area that spells the copy, of the next generation and with turns; once it is there the device still stands
 -- for what it did, and the other area is the copy, which is read once its gate is open.
 pub record CanPut (bytes : List ℕ) (o : Opened) (copy : Held NodeState) : Type 0 where
   pub content : List ℕ
   pub long : length content ≡ o.head.areas.length - 1
   pub groups : List (List (Entry × ℕ))
   pub now : Network NodeState
-  pub spells : Spells t414 t414_ends o.head.topology content (o.generation + 1) copy.base copy.network groups now
+  pub spells : Spells t414 t414_ends o.head.topology content (o.generation + 1) Turns copy.base copy.network groups now
   pub entries : map (λ e. e.0) (entries_in groups) ≡ copy.entries
   pub stays : device_areas.verdict (with_other bytes o content) ≡ Some (held_of o)
   pub other : device_areas.other (with_other bytes o content) ≡ Some (other_start o, copy)

@@ -1,6 +1,8 @@
 -- A run with a checkpoint, computed: entries in the cut and outside it, and an Ack on a line of the cut.
 use Rattle.std.specs.Prelude.{◌≡◌, ℕ, ◌-◌, false, List, [], ◌∷◌, ◌++◌, length, map, None, Ok}
 use Rattle.tp_model.specs.declared.areas.TwoAreas.{TwoAreas}
+use Rattle.tp_model.specs.declared.form.Form.TheVariants.{Turns}
+use Rattle.tp_model.specs.declared.head.HeadVersion.TheVariants.{Narrow}
 use Rattle.tp_model.specs.declared.link.Token.TheVariants.{Data, Ack}
 use Rattle.tp_model.specs.declared.entry.Entry.{Entry}
 use Rattle.tp_model.specs.declared.entry.Entry.TheVariants.{Run, Take}
@@ -24,14 +26,14 @@ use Rattle.tp_law_device.specs.FormattedWorld.{formatted_world, WasFormatted}
 
 -- areas of 16,384 bytes, and a device that was formatted for the network of one node in them
 abbrev pub one_areas : TwoAreas
-one_areas = areas_of_length 16384
+one_areas = areas_of_length Narrow 16384
 
 abbrev pub first_content : List ℕ
-first_content = front_bytes one_node 1 0 one_before
+first_content = front_bytes one_node 1 Turns 0 one_before
 
 abbrev pub one_device : List ℕ
 one_device =
-    head_bytes one_node one_areas
+    head_bytes Narrow one_node one_areas
     ++ (GATE_OPEN ∷ (first_content ++ (GATE_CLOSED ∷ (zeros (one_areas.length - 2 - length first_content) ++ (GATE_CLOSED ∷ zeros (one_areas.length - 1))))))
 
 -- The node sends a byte and the host takes it. A snapshot begins, the node records, and after that it takes the Ack and goes on.

@@ -22,6 +22,7 @@ use tp_model::limits::MAX_STEPS;
 use tp_model::{Received, Token, WireEnd};
 use tp_net::{line_of, link_line};
 use tp_node::{NoFrame, Node};
+use tp_port::tokens_of;
 
 /// What a node sent in a turn.
 #[derive(Drop)]
@@ -29,40 +30,6 @@ pub(crate) struct Sent {
     /// For the tokens that it took, and in its steps.
     pub(crate) for_tokens: ArrayVec<(u8, Token), 8>,
     pub(crate) in_steps: ArrayVec<(u8, Token), 8>,
-}
-
-/// Puts what is taken on a link behind `tokens`.
-fn put_received(tokens: &mut ArrayVec<(u8, Token), 8>, link: u8, one: Received)
-    requires { length tokens.old.items + 2 ≤ 8 }
-    ensures items { tokens.new.items ≡ tokens.old.items ++ map (λ token. (link, token)) (received one) }
-    ensures few { length tokens.new.items ≤ length tokens.old.items + 2 }
-{
-    match one {
-        Received::Nothing => {}
-        Received::JustData(byte) => tokens.push((link, Token::Data(byte))),
-        Received::JustAck => tokens.push((link, Token::Ack)),
-        Received::DataThenAck(byte) => {
-            tokens.push((link, Token::Data(byte)));
-            tokens.push((link, Token::Ack));
-        }
-        Received::AckThenData(byte) => {
-            tokens.push((link, Token::Ack));
-            tokens.push((link, Token::Data(byte)));
-        }
-    }
-}
-
-/// The tokens that a turn takes, links in order, each with its link.
-pub(crate) fn tokens_of(takes: &[Received; 4]) -> ArrayVec<(u8, Token), 8>
-    ensures items { result.items ≡ by_link 0 takes.now }
-    ensures few { length result.items ≤ 8 }
-{
-    let mut tokens = ArrayVec::new();
-    put_received(&mut tokens, 0, takes[0]);
-    put_received(&mut tokens, 1, takes[1]);
-    put_received(&mut tokens, 2, takes[2]);
-    put_received(&mut tokens, 3, takes[3]);
-    tokens
 }
 
 /// Whether an end of a wire is that link of that node.

@@ -182,20 +182,3 @@ module _ (wires : List (Option WireEnd)) (N i : ℕ) where
 
     pub stand_from : (links : List Received) (k : ℕ) → k < length links → all_stand k (drop k links) ≡ (link_stands wires N lines i k (received (get_or links k Nothing)) && all_stand (k + 1) (drop (k + 1) links))
     stand_from links k below = ap (all_stand k) (drop-cons links k Nothing below ∙ ap (λ n. get_or links k Nothing ∷ drop n links) (sym (add-one k)))
-
--- ## The tokens of all links
-
-pub links_from : (links : List Received) (k : ℕ) → k < length links → by_link k (drop k links) ≡ map (λ t. (k, t)) (received (get_or links k Nothing)) ++ by_link (k + 1) (drop (k + 1) links)
-links_from links k below = ap (by_link k) (drop-cons links k Nothing below ∙ ap (λ n. get_or links k Nothing ∷ drop n links) (sym (add-one k)))
-
--- on one link at most two
-received_length : (one : Received) → length (received one) ≤ 2
-received_length Nothing = omega arith
-received_length (JustData byte) = omega arith
-received_length JustAck = omega arith
-received_length (DataThenAck byte) = omega arith
-received_length (AckThenData byte) = omega arith
-
-pub received_few : (tokens : List (ℕ × Token)) (k : ℕ) (one : Received) (now : List (ℕ × Token)) → now ≡ tokens ++ map (λ t. (k, t)) (received one) → length tokens ≤ 2 * k → length now ≤ 2 * (k + 1)
-received_few tokens k one now is few =
-    omega (arith, few, received_length one, ap length is, length-append tokens (map (λ t. (k, t)) (received one)), length-map {B = ℕ × Token} (received one) (λ t. (k, t)))

@@ -10,55 +10,9 @@ ghost use Rattle.tp_replay.specs.Stands.{link_stands, starts_with};
 use crate::front::stands_in_front;
 use arrayvec::ArrayVec;
 use tp_model::{Received, Token, WireEnd};
-use tp_net::{Lines, line_of, link_line, receiver};
+use tp_net::{Lines, receiver};
 use tp_node::{NoFrame, Node};
-
-/// Appends the tokens that were received on `link`, in order.
-fn add_received(tokens: &mut ArrayVec<(u8, Token), 8>, link: u8, one: Received)
-    requires { length tokens.old.items ≤ 6 }
-    ensures tokens { tokens.new.items ≡ tokens.old.items ++ map (λ token. (link, token)) (received one) }
-    ensures bytes { CarryBytes (map (λ token. (link, token)) (received one)) }
-{
-    match one {
-        Received::Nothing => {}
-        Received::JustData(byte) => tokens.push((link, Token::Data(byte))),
-        Received::JustAck => tokens.push((link, Token::Ack)),
-        Received::DataThenAck(byte) => {
-            tokens.push((link, Token::Data(byte)));
-            tokens.push((link, Token::Ack));
-        }
-        Received::AckThenData(byte) => {
-            tokens.push((link, Token::Ack));
-            tokens.push((link, Token::Data(byte)));
-        }
-    }
-}
-
-/// The tokens that a turn takes, links in order, each with its link.
-pub(crate) fn tokens_of(takes: &[Received; 4]) -> ArrayVec<(u8, Token), 8>
-    ensures tokens { result.items ≡ by_link 0 takes.now }
-    ensures few { length result.items ≤ 8 }
-    ensures bytes { CarryBytes result.items }
-{
-    let mut tokens = ArrayVec::new();
-    for link in 0..4 {
-        add_received(&mut tokens, link as u8, takes[link]);
-    }
-    tokens
-}
-
-/// The line that comes in on a link of a node, with `nodes` nodes; line 0 where the link has no wire.
-fn incoming(wires: &[Option<WireEnd>], nodes: usize, node: usize, link: usize) -> usize
-    requires nodes { nodes ≤ 2 ^ 32 }
-    requires node { node < 2 ^ 32 }
-    requires link { link < 2 ^ 32 }
-    ensures { result ≡ incoming wires.now nodes node link }
-{
-    match receiver(wires, link_line(node, link)) {
-        Some(end) => line_of(nodes, end),
-        None => 0,
-    }
-}
+use tp_port::incoming;
 
 /// Whether an end is this link of this node.
 fn is_link(end: Option<WireEnd>, node: usize, link: usize) -> bool

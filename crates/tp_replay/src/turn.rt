@@ -11,12 +11,12 @@ ghost use Rattle.tp_replay.specs.Answers.{Applies, Leaves, TurnedUpTo};
 
 use crate::fault::NotPossible;
 use crate::network::FlatNetwork;
-use crate::received::{are_there, take_all, take_off, tokens_of};
+use crate::received::{are_there, take_all, take_off};
 use arrayvec::ArrayVec;
 use tp_model::Received;
 use tp_model::limits::MAX_STEPS;
 use tp_net::link_line;
-use tp_port::send_all;
+use tp_port::{send_all, tokens_of};
 
 impl FlatNetwork {
     /// Has `node` take what came in on its links, and then make `count` steps. Where it can't make them, it has taken the tokens and

@@ -30,7 +30,7 @@ returns-then-not-is_turn c =
     let below : c.in-Some.i < length n.nodes.items = omega (arith, c.len.ensures, n.nodes.ok.0, c.in-Some.ensures.1) in
     let node = node_there n.nodes.items c.in-Some.i below in
     let nodes : c.count-nodes.result ≡ length (nodes_held n).network.nodes = rw (← c.self.view_is) at c.count-nodes.ensures.value in
-    let may = rw (nodes, c.deref.ensures.0, c.tokens_of-tokens.ensures.items) at c.is_turn.ensures in
+    let may = rw (nodes, c.deref.ensures.0, c.tokens_of-tokens.ensures.tokens) at c.is_turn.ensures in
     rw (← c.self.view_is) (node_cannot n c.self.invariant (nodes_held n) (Turn c.args.node c.args.takes.now c.args.count) c.in-Some.i node.0 (record { first = refl; past = refl }) c.in-Some.ensures.0 node.1
     (turn_refused n.lanes.wires _ c.args.node c.args.count c.args.takes.now node.0.live (sym may ∙ c.if-not-is_turn.true)))
 
@@ -52,9 +52,9 @@ returns c =
     let below : i < length n.nodes.items = omega (arith, c.len.ensures, n.nodes.ok.0, c.in-Some.ensures.1) in
     let there = slice_get_read n.nodes.items (length n.nodes.items) i old refl below c.index_mut.ensures.value in
     let nodes : c.count-nodes.result ≡ N = rw (← c.self.view_is) at c.count-nodes.ensures.value in
-    let may = rw (nodes, c.deref.ensures.0, c.tokens_of-tokens.ensures.items) at c.is_turn.ensures in
+    let may = rw (nodes, c.deref.ensures.0, c.tokens_of-tokens.ensures.tokens) at c.is_turn.ensures in
     let tokens = c.in-Some-make_turn.sent.for_tokens.items ++ c.in-Some-make_turn.sent.in_steps.items in
-    let made : turned t414 (by_link 0 c.args.takes.now) c.args.count old.live ≡ Some (new.live, tokens) = rw (c.deref-2.ensures.0, c.tokens_of-tokens.ensures.items) at c.in-Some-make_turn.ensures.turns in
+    let made : turned t414 (by_link 0 c.args.takes.now) c.args.count old.live ≡ Some (new.live, tokens) = rw (c.deref-2.ensures.0, c.tokens_of-tokens.ensures.tokens) at c.in-Some-make_turn.ensures.turns in
     let did = turn_does n.lanes.wires N c.args.node c.args.count c.args.takes.now old.live new.live tokens (sym may ∙ c.if-not-is_turn.false) made in
     let first : c.link_line.result ≡ 4 * (n.before + i) = omega (arith, c.link_line.ensures, c.from.ensures, c.in-Some.ensures.0) in
     rw (← c.self.view_is) (node_did n c.self.invariant c.send_turn.new.self c.send_turn.ensures.same i old new there c.make_turn.ensures.live (Turn c.args.node c.args.takes.now c.args.count) c.send_turn.result tokens c.in-Some.ensures.0
@@ -79,8 +79,8 @@ returns-in_default-make_turn c =
     let below : i < length n.nodes.items = omega (arith, c.len.ensures, n.nodes.ok.0, c.in-Some.ensures.1) in
     let there = slice_get_read n.nodes.items (length n.nodes.items) i old refl below c.index_mut.ensures.value in
     let nodes : c.count-nodes.result ≡ N = rw (← c.self.view_is) at c.count-nodes.ensures.value in
-    let may = rw (nodes, c.deref.ensures.0, c.tokens_of-tokens.ensures.items) at c.is_turn.ensures in
-    let none : turned t414 (by_link 0 c.args.takes.now) c.args.count old.live ≡ None = rw (c.deref-2.ensures.0, c.tokens_of-tokens.ensures.items) at c.in_default-make_turn.ensures.turns in
+    let may = rw (nodes, c.deref.ensures.0, c.tokens_of-tokens.ensures.tokens) at c.is_turn.ensures in
+    let none : turned t414 (by_link 0 c.args.takes.now) c.args.count old.live ≡ None = rw (c.deref-2.ensures.0, c.tokens_of-tokens.ensures.tokens) at c.in_default-make_turn.ensures.turns in
     rw (← c.self.view_is) (node_cannot n c.self.invariant _ (Turn c.args.node c.args.takes.now c.args.count) i old
     (changed_processes n c.self.invariant n.lanes (record { wires = refl; count = refl }) i old new there c.make_turn.ensures.live) c.in-Some.ensures.0 there
     (turn_short n.lanes.wires N c.args.node c.args.count c.args.takes.now old.live (sym may ∙ c.if-not-is_turn.false) none))
