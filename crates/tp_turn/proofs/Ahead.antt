@@ -1,6 +1,7 @@
 -- A node that received is ahead of its book, and stays so whatever others do.
 use Rattle.std.proofs.Common.{◌≡◌, ◌≢◌, ℕ, zero, suc, ◌+◌, ◌*◌, ◌<◌, ◌≤◌, ◌⊎◌, inl, inr, Bool, true, false, cond, List, [], ◌∷◌, ◌++◌, length, map, get_or, refl, sym, ap, subst, ◌∙◌, arith, append_assoc, append-nil, Option, Some, None, slice_get}
 use Rattle.std.specs.Prelude.{◌||◌}
+use Rattle.std.proofs.lemmas.Bool.{cases_eq}
 use Rattle.std.specs.List.{AllByRecursion}
 use Rattle.std.specs.Option.{option_map}
 use Rattle.tp_model.specs.declared.limits.TheConstants.{MAX_STEPS}
@@ -76,6 +77,23 @@ order_kept : (part : ℕ → NodeContents → List (ℕ × Token) → NodeConten
 unfolding InOrder
 order_kept part each zero s answers t D = ap (λ (n : NodeContents). n.frozen) D.1
 order_kept part each (suc count) s answers t D = each count D.between D.second t D.other_did ∙ order_kept part each count s D.first D.between D.one_did
+
+-- what is done at one of the links, and that the node is then still frozen as it was, or not frozen
+pub record AtLink (part : NodeContents → List (ℕ × Token) → NodeContents → Type 0) (s : NodeContents) : Type 0 where
+  pub from : NodeContents
+  pub answers : List (ℕ × Token)
+  pub to : NodeContents
+  pub did : part from answers to
+  pub kept : to.frozen ≡ s.frozen
+
+pub order_part : (part : ℕ → NodeContents → List (ℕ × Token) → NodeContents → Type 0) → ((link : ℕ) (x : NodeContents) (answers : List (ℕ × Token)) (y : NodeContents) → part link x answers y → y.frozen ≡ x.frozen)
+    → (count : ℕ) (s : NodeContents) (answers : List (ℕ × Token)) (t : NodeContents) → InOrder part count s answers t → (link : ℕ) → link < count → AtLink (part link) s
+unfolding InOrder
+order_part part each zero s answers t D link below = absurd (omega (arith, below))
+order_part part each (suc count) s answers t D link below = elim (cases_eq link count) [
+  | inl same ↦ subst (λ k. AtLink (part k) s) (sym same) (record { from = D.between; answers = D.second; to = t; did = D.other_did; kept = each count D.between D.second t D.other_did ∙ order_kept part each count s D.first D.between D.one_did })
+  | inr other ↦ order_part part each count s D.first D.between D.one_did link (omega (arith, below, other))
+]
 
 pub receives_kept : (b : BookValue) (all : Bool) (number : ℕ) (takes : List Received) (s : NodeContents) (answers : List (ℕ × Token)) (t : NodeContents) → Receives b all number takes s answers t → t.frozen ≡ s.frozen
 receives_kept b all number takes s answers t R =

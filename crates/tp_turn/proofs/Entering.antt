@@ -34,7 +34,7 @@ use Rattle.tp_turn.proofs.Grown.{grew_none}
 use Rattle.tp_turn.proofs.Fronted.{collected_recorded, node_stays}
 
 -- what a turn's entry may be
-entries_either : (P : List Entry → Type 0) (number : ℕ) (takes : List Received) (count : ℕ) → P [] → P (Turn number takes count ∷ []) → ((k : ℕ) → P (Run number k ∷ [])) → P (turn_entries number takes count)
+pub entries_either : (P : List Entry → Type 0) (number : ℕ) (takes : List Received) (count : ℕ) → P [] → P (Turn number takes count ∷ []) → ((k : ℕ) → P (Run number k ∷ [])) → P (turn_entries number takes count)
 entries_either P number takes count none turn run = go (nat_lt 0 (length (by_link 0 takes)))
   where
     runs : (k : ℕ) → P (run_of number k)
