@@ -9,6 +9,7 @@ use Rattle.tp_model.specs.Network.{◌>>=◌}
 use Rattle.tp_model.specs.NodeWrites.{took_ranges}
 use Rattle.tp_model.specs.SharedPages.{LacksFrames}
 use Rattle.tp_model.specs.Turn.{received, took_all}
+use Rattle.tp_law_network.proofs.Partial.{bind_some}
 use Rattle.tp_node.specs.NodeContents.{NodeContents, kept_of}
 use Rattle.tp_turn.specs.Receiving.{Answered, TakesOne, TakesEach, ReceivesOf}
 
@@ -62,31 +63,43 @@ each_took link (token ∷ tokens) s answers t T =
     ∙ ap (λ o. o >>= λ rest. Some (rest.0, T.first ++ rest.1)) (each_took link tokens T.between T.second t T.other_did)
     ∙ ap (λ ms. Some (t.live, ms)) (sym T.are)
 
+-- the first token, and then the others
+took_first : (k : ℕ × Token) (ms : List (ℕ × Token)) (n : NodeState) (x y : NodeState × List (ℕ × Token)) → took n k.0 k.1 ≡ Some x → took_all t414 ms x.0 ≡ Some y → took_all t414 (k ∷ ms) n ≡ Some (y.0, x.1 ++ y.1)
+unfolding took_all
+took_first k ms n x y one rest =
+    ap (λ o. o >>= λ first. took_all t414 ms first.0 >>= λ more. Some (more.0, first.1 ++ more.1)) one ∙ ap (λ o. o >>= λ more. Some (more.0, x.1 ++ more.1)) rest
+
+record FirstTook (k : ℕ × Token) (ms : List (ℕ × Token)) (n m : NodeState) (answers : List (ℕ × Token)) : Type 0 where
+  one : NodeState × List (ℕ × Token)
+  rest : NodeState × List (ℕ × Token)
+  took : took n k.0 k.1 ≡ Some one
+  others : took_all t414 ms one.0 ≡ Some rest
+  last : rest.0 ≡ m
+  are : one.1 ++ rest.1 ≡ answers
+
+first_took : (k : ℕ × Token) (ms : List (ℕ × Token)) (n m : NodeState) (answers : List (ℕ × Token)) → took_all t414 (k ∷ ms) n ≡ Some (m, answers) → FirstTook k ms n m answers
+unfolding took_all
+first_took k ms n m answers h =
+    let F = bind_some (took n k.0 k.1) _ (m, answers) h in
+    let R = bind_some (took_all t414 ms F.0.0) _ (m, answers) F.2 in
+    let pair : ◌≡◌ {A = NodeState × List (ℕ × Token)} (R.0.0, F.0.1 ++ R.0.1) (m, answers) = cc in
+    record { one = F.0; rest = R.0; took = F.1; others = R.1; last = ap (λ (x : NodeState × List (ℕ × Token)). x.0) pair; are = ap (λ (x : NodeState × List (ℕ × Token)). x.1) pair }
+
+took_none : (n m : NodeState) (answers : List (ℕ × Token)) → took_all t414 [] n ≡ Some (m, answers) → (n ≡ m) × (answers ≡ [])
+unfolding took_all
+took_none n m answers h =
+    let pair : ◌≡◌ {A = NodeState × List (ℕ × Token)} (n, []) (m, answers) = cc in
+    (ap (λ (x : NodeState × List (ℕ × Token)). x.0) pair, sym (ap (λ (x : NodeState × List (ℕ × Token)). x.1) pair))
+
 -- behind other tokens
 pub took_more : (ms ns : List (ℕ × Token)) (n m p : NodeState) (first second : List (ℕ × Token)) → took_all t414 ms n ≡ Some (m, first) → took_all t414 ns m ≡ Some (p, second) → took_all t414 (ms ++ ns) n ≡ Some (p, first ++ second)
-unfolding took_all
 took_more [] ns n m p first second A B =
-    let pair : ◌≡◌ {A = NodeState × List (ℕ × Token)} (n, []) (m, first) = cc in
-    let same : n ≡ m = ap (λ (x : NodeState × List (ℕ × Token)). x.0) pair in
-    let none : [] ≡ first = ap (λ (x : NodeState × List (ℕ × Token)). x.1) pair in
-    ap (took_all t414 ns) same ∙ B ∙ ap (λ ks. Some (p, ks ++ second)) none
-took_more (k ∷ ms) ns n m p first second A B = go (took n k.0 k.1) refl A
-  where
-    go : (o : Option (NodeState × List (ℕ × Token))) → took n k.0 k.1 ≡ o → (o >>= λ one. took_all t414 ms one.0 >>= λ rest. Some (rest.0, one.1 ++ rest.1)) ≡ Some (m, first)
-        → (took n k.0 k.1 >>= λ one. took_all t414 (ms ++ ns) one.0 >>= λ rest. Some (rest.0, one.1 ++ rest.1)) ≡ Some (p, first ++ second)
-    go None is h = cc
-    go (Some x) is h = inner (took_all t414 ms x.0) refl h
-      where
-        inner : (o : Option (NodeState × List (ℕ × Token))) → took_all t414 ms x.0 ≡ o → (o >>= λ rest. Some (rest.0, x.1 ++ rest.1)) ≡ Some (m, first)
-            → (took n k.0 k.1 >>= λ one. took_all t414 (ms ++ ns) one.0 >>= λ rest. Some (rest.0, one.1 ++ rest.1)) ≡ Some (p, first ++ second)
-        inner None done h = cc
-        inner (Some y) done h =
-            let pair : ◌≡◌ {A = NodeState × List (ℕ × Token)} (y.0, x.1 ++ y.1) (m, first) = cc in
-            let last : y.0 ≡ m = ap (λ (z : NodeState × List (ℕ × Token)). z.0) pair in
-            let all : x.1 ++ y.1 ≡ first = ap (λ (z : NodeState × List (ℕ × Token)). z.1) pair in
-            ap (λ o. o >>= λ one. took_all t414 (ms ++ ns) one.0 >>= λ rest. Some (rest.0, one.1 ++ rest.1)) is
-            ∙ ap (λ o. o >>= λ rest. Some (rest.0, x.1 ++ rest.1)) (took_more ms ns x.0 y.0 p y.1 second done (ap (took_all t414 ns) last ∙ B))
-            ∙ ap (λ ks. Some (p, ks)) (sym (append_assoc x.1 y.1 second) ∙ ap (λ ks. ks ++ second) all)
+    let N = took_none n m first A in
+    ap (took_all t414 ns) N.0 ∙ B ∙ ap (λ ks. Some (p, ks ++ second)) (sym N.1)
+took_more (k ∷ ms) ns n m p first second A B =
+    let F = first_took k ms n m first A in
+    let rest = took_more ms ns F.one.0 F.rest.0 p F.rest.1 second F.others (ap (took_all t414 ns) F.last ∙ B) in
+    took_first k (ms ++ ns) n F.one (p, F.rest.1 ++ second) F.took rest ∙ ap (λ ks. Some (p, ks)) (sym (append_assoc F.one.1 F.rest.1 second) ∙ ap (λ ks. ks ++ second) F.are)
 
 -- it stays frozen as it was, or not frozen
 pub each_kept : (link : ℕ) (tokens : List Token) (s : NodeContents) (answers : List (ℕ × Token)) (t : NodeContents) → TakesEach link tokens s answers t → t.frozen ≡ s.frozen

@@ -41,24 +41,24 @@ pub placed_behind : (link : ℕ) (token : Token) (rest : List Token) (node : Nod
 placed_behind link token rest node x did P =
     let K = took_keeps node link token x did in
     let here : for_line link ((link, token) ∷ []) ≡ token ∷ [] = for_line-here link token [] in
-    let data : datas (for_line link ((link, token) ∷ [])) ≡ data_of token + 0 = ap datas here in
-    let ack : acks (for_line link ((link, token) ∷ [])) ≡ ack_of token + 0 = ap acks here in
+    let bytes : datas (for_line link ((link, token) ∷ [])) ≡ data_of token + 0 = ap datas here in
+    let answers : acks (for_line link ((link, token) ∷ [])) ≡ ack_of token + 0 = ap acks here in
     let free : data_of token + datas rest + bit (holds node link) ≤ 1 = P.free in
     let awaited : ack_of token + acks rest ≤ bit (waits node link) = P.awaited in
     let inn = K.inn link in
     let out = K.out link in
-    record { free = omega (arith, inn, data, free); awaited = omega (arith, out, ack, awaited) }
+    record { free = omega (arith, inn, bytes, free); awaited = omega (arith, out, answers, awaited) }
 
 -- and still for those on another link
 placed_beside : (j link : ℕ) (token : Token) (tokens : List Token) (node : NodeState) (x : NodeState × List (ℕ × Token)) → took node j token ≡ Some x → j ≢ link → HasPlace link tokens node → HasPlace link tokens x.0
 placed_beside j link token tokens node x did apart P =
     let K = took_keeps node j token x did in
     let none : for_line link ((j, token) ∷ []) ≡ [] = for_line-other j link token [] apart in
-    let data : datas (for_line link ((j, token) ∷ [])) ≡ 0 = ap datas none in
-    let ack : acks (for_line link ((j, token) ∷ [])) ≡ 0 = ap acks none in
+    let bytes : datas (for_line link ((j, token) ∷ [])) ≡ 0 = ap datas none in
+    let answers : acks (for_line link ((j, token) ∷ [])) ≡ 0 = ap acks none in
     let inn = K.inn link in
     let out = K.out link in
-    record { free = omega (arith, inn, data, P.free); awaited = omega (arith, out, ack, P.awaited) }
+    record { free = omega (arith, inn, bytes, P.free); awaited = omega (arith, out, answers, P.awaited) }
 
 -- so is there when tokens were taken on one
 pub placed_apart : (j link : ℕ) (tokens others : List Token) (s : NodeContents) (answers : List (ℕ × Token)) (t : NodeContents) → j ≢ link → TakesEach j tokens s answers t → HasPlace link others s.live → HasPlace link others t.live
