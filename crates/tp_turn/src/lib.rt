@@ -2,9 +2,9 @@
 //! came to its ports. A node's turn is an entry for each token that it takes and one for its run, or one entry in all.
 #![tactic(auto)]
 
-mod closing;
 mod front;
 mod left;
+mod markers;
 mod over;
 mod ports;
 mod receiving;

@@ -11,7 +11,7 @@ ghost use Rattle.tp_turn.specs.Moments.{IsNodeOf, Added, Done, moment};
 ghost use Rattle.tp_turn.specs.Receiving.{IsAheadBy};
 ghost use Rattle.tp_turn.specs.Whole.{EndsWhole, HasTurnedOn, OpensWhole, TurnsWhole};
 
-use crate::closing::answer_markers;
+use crate::markers::answer_markers;
 use crate::receiving::{Taken, receive};
 use crate::stages::{Stretch, Turn, run_node};
 use arrayvec::ArrayVec;
