@@ -30,6 +30,15 @@ each_more link token tokens a b c first second third A B = record {
   did = record { between = b; first = A.answers; second = B.answers; are = refl; one_did = A.did; other_did = B.did };
 }
 
+-- just one
+pub each_one : (link : ℕ) (token : Token) (a b : NodeContents) (first second : List (ℕ × Token)) → Answered (TakesOne link token) a first b second → Answered (TakesEach link (token ∷ [])) a first b second
+each_one link token a b first second A = each_more link token [] a b b first second second A (each_none link b second)
+
+-- two
+pub each_two : (link : ℕ) (token other : Token) (a b c : NodeContents) (first second third : List (ℕ × Token)) → Answered (TakesOne link token) a first b second → Answered (TakesOne link other) b second c third
+    → Answered (TakesEach link (token ∷ other ∷ [])) a first c third
+each_two link token other a b c first second third A B = each_more link token (other ∷ []) a b c first second third A (each_one link other b c second third B)
+
 -- ## A link
 
 -- all that stood there was received

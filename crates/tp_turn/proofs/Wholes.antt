@@ -10,6 +10,7 @@ use Rattle.tp_model.specs.SharedPages.{LacksFrames}
 use Rattle.tp_model.specs.Turn.{by_link}
 use Rattle.tp_model.specs.Acts.{Act}
 use Rattle.tp_law_cuts.specs.Reserved.{turn_acts}
+use Rattle.tp_law_machine.proofs.Partial.{slice_get-set_same}
 use Rattle.tp_node.specs.NodeContents.{NodeContents, kept_of}
 use Rattle.tp_node.specs.RunEnd.{IsWhy}
 use Rattle.tp_snap.specs.Needs.{has_recorded_in}
@@ -75,6 +76,26 @@ module _ (number : ℕ) (b : BookValue) (n : NodeContents) where
         added = added;
         did = inr (record { answer = refl; full = full; recorded = recorded; free = found; takes = takes; sent = sent; received = R; are = refl; added = added });
       }
+
+-- a journal that is full for a node that hasn't recorded
+pub full_unrecorded : (b : BookValue) (recorded : Bool) → recorded ≡ false → reserve_refusal b ≡ Some JournalFull → IsAnswer {A = Unit {0}} (turn_refusal b recorded) (Err JournalFull)
+full_unrecorded b recorded not full =
+    subst (λ r. IsAnswer {A = Unit {0}} (turn_refusal b r) (Err JournalFull)) (sym not) (subst (λ o. IsAnswer {A = Unit {0}} o (Err JournalFull)) (sym full) refl)
+
+-- and no room for what one takes that has
+pub full_recorded : (b : BookValue) (recorded : Bool) (e : Refusal) → recorded ≡ true → IsAnswer {A = Unit {0}} (takes_refusal b) (Err e) → IsAnswer {A = Unit {0}} (turn_refusal b recorded) (Err e)
+full_recorded b recorded e yes h = subst (λ r. IsAnswer {A = Unit {0}} (turn_refusal b r) (Err e)) (sym yes) h
+
+-- what is received doesn't hang on what is reserved
+pub receives_before : (b x : BookValue) (node : ℕ) (all : Bool) (number : ℕ) (takes : List Received) (s : NodeContents) (answers : List (ℕ × Token)) (t : NodeContents) → x ≡ with_run b node → Receives x all number takes s answers t
+    → Receives b all number takes s answers t
+receives_before b x node all number takes s answers t is R =
+    let same : Receives (with_run b node) all number takes s answers t = subst (λ y. Receives y all number takes s answers t) is R in
+    record { four = same.four; did = same.did }
+
+-- what is reserved is so
+pub is_reserved : (b x : BookValue) (number : ℕ) → x ≡ with_run b number → slice_get b.runs number ≡ Some false → slice_get x.runs number ≡ Some true
+is_reserved b x number is free = ap (λ y. slice_get y.runs number) is ∙ slice_get-set_same b.runs number true false free
 
 -- no other reason is there for a call that was made
 pub made_free : {A : Type 0} (o : Option Refusal) (x : A) → IsAnswer o (Ok x) → o ≡ None

@@ -55,12 +55,14 @@ fn take_needed(book: &mut Book, node: &mut Node, number: u8) -> Refusal
     if !book.recorded(number as usize) {
         return Refusal::JournalFull;
     }
-    if let Err(refusal) = book.reserve_takes(number) {
-        return refusal;
+    match book.reserve_takes(number) {
+        Ok(()) => {
+            let Taken { takes, sent } = receive(book, node, number, false);
+            commit(book, node, number, &takes, 0, sent.as_slice());
+            Refusal::JournalFull
+        }
+        Err(refusal) => refusal,
     }
-    let Taken { takes, sent } = receive(book, node, number, false);
-    commit(book, node, number, &takes, 0, sent.as_slice());
-    Refusal::JournalFull
 }
 
 /// Opens a node's whole turn: it records where it is asked to, the lines with a Marker in front are closed where it has recorded, a turn of
