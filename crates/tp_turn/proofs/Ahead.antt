@@ -58,7 +58,7 @@ module _ (b : BookValue) (all : Bool) (number : ℕ) (first second third fourth 
   pub receives : (m0 m1 m2 m3 m4 : NodeContents) (s0 s1 s2 s3 s4 : List (ℕ × Token)) → s0 ≡ [] → Answered (part 0 first) m0 s0 m1 s1 → Answered (part 1 second) m1 s1 m2 s2 → Answered (part 2 third) m2 s2 m3 s3
       → Answered (part 3 fourth) m3 s3 m4 s4 → Receives b all number takes m0 s4 m4
   receives m0 m1 m2 m3 m4 s0 s1 s2 s3 s4 none A B C D =
-      let each = λ link. part link (get_or takes link Nothing) in
+      let each : ℕ → NodeContents → List (ℕ × Token) → NodeContents → Type 0 = λ link. part link (get_or takes link Nothing) in
       record {
         four = refl;
         did =
@@ -164,10 +164,10 @@ module _ (b : BookValue) (K : Keeps b.state) (all : Bool) (number : ℕ) (below 
         is = N;
         received = are_received (world_of b).live number the_takes (
           stands_on b K all number 0 below (omega arith) first A.did.rest A.did.are,
-          stands_on b K all number 1 below (omega arith) second C.did.rest C.did.are,
-          stands_on b K all number 2 below (omega arith) third D.did.rest D.did.are,
-          stands_on b K all number 3 below (omega arith) fourth E.did.rest E.did.are,
-          tt,
+          (
+            stands_on b K all number 1 below (omega arith) second C.did.rest C.did.are,
+            (stands_on b K all number 2 below (omega arith) third D.did.rest D.did.are, (stands_on b K all number 3 below (omega arith) fourth E.did.rest E.did.are, tt)),
+          ),
         );
         took = made1 ∙ ap (λ ms. Some (m4.live, ms)) (answers_are s0 s1 s2 s3 s4 A.answers C.answers D.answers E.answers none A.are C.are D.are E.are);
         kept = each_kept 3 (received fourth) m3 E.answers m4 E.did.did ∙ each_kept 2 (received third) m2 D.answers m3 D.did.did ∙ each_kept 1 (received second) m1 C.answers m2 C.did.did ∙ each_kept 0 (received first) m0 A.answers m1 A.did.did;

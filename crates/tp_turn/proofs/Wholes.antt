@@ -84,7 +84,7 @@ full_unrecorded b recorded not full =
 
 -- and no room for what one takes that has
 pub full_recorded : (b : BookValue) (recorded : Bool) (e : Refusal) → recorded ≡ true → IsAnswer {A = Unit {0}} (takes_refusal b) (Err e) → IsAnswer {A = Unit {0}} (turn_refusal b recorded) (Err e)
-full_recorded b recorded e yes h = subst (λ r. IsAnswer {A = Unit {0}} (turn_refusal b r) (Err e)) (sym yes) h
+full_recorded b recorded e has h = subst (λ r. IsAnswer {A = Unit {0}} (turn_refusal b r) (Err e)) (sym has) h
 
 -- what is received doesn't hang on what is reserved
 pub receives_before : (b x : BookValue) (node : ℕ) (all : Bool) (number : ℕ) (takes : List Received) (s : NodeContents) (answers : List (ℕ × Token)) (t : NodeContents) → x ≡ with_run b node → Receives x all number takes s answers t
@@ -103,8 +103,8 @@ made_free None x h = refl
 made_free (Some e) x h = absurd h
 
 -- a full journal was the reason
-pub full_answer : {A : Type 0} (b : BookValue) → IsAnswer {A = A} (reserve_refusal b) (Err JournalFull) → reserve_refusal b ≡ Some JournalFull
-full_answer {A} b h = go (reserve_refusal b) h
+pub full_answer : (A : Type 0) (b : BookValue) → IsAnswer {A = A} (reserve_refusal b) (Err JournalFull) → reserve_refusal b ≡ Some JournalFull
+full_answer A b h = go (reserve_refusal b) h
   where
     go : (o : Option Refusal) → IsAnswer {A = A} o (Err JournalFull) → o ≡ Some JournalFull
     go None h = cc

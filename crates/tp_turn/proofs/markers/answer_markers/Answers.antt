@@ -17,7 +17,7 @@ loop-link-init c =
 
 pub loop-link-preserved : goal.loop-link-preserved
 loop-link-preserved c = record {
-  done = behind_more c.args.number (Records c.args.number) (λ k. ClosesFront c.args.number k) c.loop-link.link (moment c.args.book.now c.args.node.now) (moment c.loop-link.book c.loop-link.node)
-      (moment c.close_front.new.book c.loop-link.node) c.loop-link.invariant.done c.close_front.ensures.done;
+  done = behind_more c.args.number (Records c.args.number) (λ k. ClosesFront c.args.number k) c.loop-link.link (moment c.args.book.now c.args.node.now) (moment c.loop-link.book c.record_asked.new.node)
+      (moment c.close_front.new.book c.record_asked.new.node) c.loop-link.invariant.done c.close_front.ensures.done;
   is = c.close_front.ensures.is;
 }

@@ -48,7 +48,7 @@ returns-else-take_one-clause-did c =
 
 pub returns-then-take_one-2-clause-did : goal.returns-then-take_one-2-clause-did
 returns-then-take_one-2-clause-did c =
-    subst (λ one. Answered (ReceivesOf c.args.link (received one) JustAck) c.args.node.now c.args.sent.now.items c.take_one-in-JustAck.new.node c.take_one-in-JustAck.new.sent.items) (sym c.in-JustAck.is)
+    subst (λ one. Answered (ReceivesOf c.args.link (received one) one) c.args.node.now c.args.sent.now.items c.take_one-in-JustAck.new.node c.take_one-in-JustAck.new.sent.items) (sym c.in-JustAck.is)
     (of_all c.args.link JustAck c.args.node.now c.take_one-in-JustAck.new.node c.args.sent.now.items c.take_one-in-JustAck.new.sent.items (each_one c.args.link Ack c.args.node.now c.take_one-in-JustAck.new.node c.args.sent.now.items c.take_one-in-JustAck.new.sent.items c.if-take_one-2.ensures.did))
 
 pub returns-else-take_one-2-clause-did : goal.returns-else-take_one-2-clause-did
