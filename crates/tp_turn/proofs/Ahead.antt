@@ -1,5 +1,5 @@
 -- A node that received is ahead of its book, and stays so whatever others do.
-use Rattle.std.proofs.Common.{◌≡◌, ◌≢◌, ℕ, zero, suc, ◌+◌, ◌*◌, ◌<◌, ◌≤◌, ◌⊎◌, inl, inr, Bool, true, false, cond, List, [], ◌∷◌, ◌++◌, length, map, get_or, refl, sym, ap, subst, ◌∙◌, arith, append_assoc, append-nil, Option, Some, None, slice_get}
+use Rattle.std.proofs.Common.{◌≡◌, ◌≢◌, ℕ, zero, suc, ◌+◌, ◌*◌, ◌<◌, ◌≤◌, ◌⊎◌, inl, inr, Bool, true, false, cond, List, [], ◌∷◌, ◌++◌, length, map, get_or, refl, sym, ap, subst, ◌∙◌, arith, append_assoc, append-nil, Option, Some, None}
 use Rattle.std.specs.Prelude.{◌||◌}
 use Rattle.std.proofs.lemmas.Bool.{cases_eq}
 use Rattle.std.specs.List.{AllByRecursion}
@@ -9,10 +9,9 @@ use Rattle.tp_model.specs.declared.link.Token.{Token}
 use Rattle.tp_model.specs.declared.link.Token.TheVariants.{Data, Ack, Marker}
 use Rattle.tp_model.specs.declared.link.Received.{Received}
 use Rattle.tp_model.specs.declared.link.Received.TheVariants.{Nothing}
-use Rattle.tp_model.specs.declared.entry.Entry.{Entry}
 use Rattle.tp_model.specs.NodeState.{NodeState}
 use Rattle.tp_model.specs.Node.{t414}
-use Rattle.tp_model.specs.Network.{◌>>=◌, Network, back, line_of, on_line, receiver, steps}
+use Rattle.tp_model.specs.Network.{◌>>=◌, back, line_of, on_line, receiver, steps}
 use Rattle.tp_model.specs.Markers.{before}
 use Rattle.tp_model.specs.Turn.{by_link, received, took_all, turned}
 use Rattle.tp_model.specs.Acts.{Act, Begin, Record, Journal, Close, Trim, acted}
@@ -30,13 +29,13 @@ use Rattle.tp_book.proofs.Commit.{length-agreed}
 use Rattle.tp_turn.specs.Turns.{InOrder}
 use Rattle.tp_turn.specs.Moments.{IsNodeOf, Added, entries_in}
 use Rattle.tp_turn.specs.Hosted.{HostAdded}
-use Rattle.tp_turn.specs.Receiving.{Answered, IsAhead, Receives, ReceivesOf, TakesEach, offered, offered_on}
+use Rattle.tp_turn.specs.Receiving.{Answered, IsAhead, Receives, ReceivesOf, offered, offered_on}
 use Rattle.tp_turn.specs.Whole.{HasTurnedOn}
 use Rattle.tp_turn.proofs.Adding.{others_stay}
 use Rattle.tp_turn.proofs.Answering.{each_took, each_kept, took_more}
 use Rattle.tp_turn.proofs.Hosting.{nodes_stay}
 use Rattle.tp_turn.proofs.Possible.{comes_in}
-use Rattle.tp_turn.proofs.Standing.{AreStanding, StandsOn, are_received}
+use Rattle.tp_turn.proofs.Standing.{StandsOn, are_received}
 
 -- ## On four links
 
@@ -158,7 +157,7 @@ module _ (b : BookValue) (K : Keeps b.state) (all : Bool) (number : ℕ) (below 
       let made3 = took_more (map (λ token. (2, token)) (received third)) (by_link 3 (fourth ∷ [])) m2.live m3.live m4.live D.answers (E.answers ++ []) (each_took 2 (received third) m2 D.answers m3 D.did.did) made4 in
       let made2 = took_more (map (λ token. (1, token)) (received second)) (by_link 2 (third ∷ fourth ∷ [])) m1.live m2.live m4.live C.answers (D.answers ++ (E.answers ++ [])) (each_took 1 (received second) m1 C.answers m2 C.did.did) made3 in
       let made1 = took_more (map (λ token. (0, token)) (received first)) (by_link 1 (second ∷ third ∷ fourth ∷ [])) m0.live m1.live m4.live A.answers (C.answers ++ (D.answers ++ (E.answers ++ [])))
-          (each_took 0 (received first) m0 A.answers m1 A.did.did) made2 in
+      (each_took 0 (received first) m0 A.answers m1 A.did.did) made2 in
       record {
         before = m0;
         is = N;

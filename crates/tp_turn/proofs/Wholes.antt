@@ -1,32 +1,29 @@
 -- A whole turn in its stages.
-use Rattle.std.proofs.Common.{◌≡◌, ◌≢◌, ℕ, ◌+◌, ◌*◌, ◌<◌, ◌≤◌, Bool, true, false, cond, inl, inr, List, [], ◌∷◌, ◌++◌, refl, sym, ap, subst, ◌∙◌, arith, length, Option, Some, None, slice_get}
-use Rattle.std.specs.Prelude.{Result, Ok, Err}
+use Rattle.std.proofs.Common.{◌≡◌, ◌≢◌, ℕ, Bool, true, false, cond, inl, inr, List, [], refl, sym, ap, subst, ◌∙◌, length, Option, Some, None, slice_get}
+use Rattle.std.specs.Prelude.{Ok, Err}
 use Rattle.std.proofs.lemmas.Bool.{cases_Bool, true≢false}
 use Rattle.tp_model.specs.declared.link.Token.{Token}
 use Rattle.tp_model.specs.declared.link.Received.{Received}
-use Rattle.tp_model.specs.NodeState.{NodeState}
 use Rattle.tp_model.specs.NodeWrites.{node_ranges, kept_behind_steps}
 use Rattle.tp_model.specs.SharedPages.{LacksFrames}
 use Rattle.tp_model.specs.Turn.{by_link}
-use Rattle.tp_model.specs.Acts.{Act}
 use Rattle.tp_law_cuts.specs.Reserved.{turn_acts}
 use Rattle.tp_law_machine.proofs.Partial.{slice_get-set_same}
 use Rattle.tp_node.specs.NodeContents.{NodeContents, kept_of}
 use Rattle.tp_node.specs.RunEnd.{IsWhy}
 use Rattle.tp_snap.specs.Needs.{has_recorded_in}
 use Rattle.tp_book.specs.declared.refusal.Refusal.{Refusal}
-use Rattle.tp_book.specs.declared.refusal.Refusal.TheVariants.{JournalFull, StoreBroken, Memory}
+use Rattle.tp_book.specs.declared.refusal.Refusal.TheVariants.{JournalFull, StoreBroken}
 use Rattle.tp_book.specs.Book.{BookValue, agreed}
 use Rattle.tp_book.specs.Calls.{with_run, without_run}
-use Rattle.tp_book.specs.Refusals.{else_if, is_journal_full, is_full_for_take, reserve_refusal, take_refusal, IsAnswer}
+use Rattle.tp_book.specs.Refusals.{else_if, is_journal_full, is_full_for_take, reserve_refusal, IsAnswer}
 use Rattle.tp_book.specs.Turning.{takes_refusal}
 use Rattle.tp_book.proofs.TakeRefused.{full_for_any}
 use Rattle.tp_turn.specs.declared.receiving.Taken.{Taken}
 use Rattle.tp_turn.specs.declared.stages.Turn.{Turn}
-use Rattle.tp_turn.specs.Turns.{Then}
-use Rattle.tp_turn.specs.Moments.{Moment, moment, IsNodeOf, Added, Done}
+use Rattle.tp_turn.specs.Moments.{Moment, moment, Added, Done}
 use Rattle.tp_turn.specs.Receiving.{Receives}
-use Rattle.tp_turn.specs.Whole.{Closes, EndsWhole, IsOpenWhole, BreaksWhole, TurnsOnce, TurnsWhole, turn_refusal}
+use Rattle.tp_turn.specs.Whole.{Closes, EndsWhole, IsOpenWhole, TurnsOnce, TurnsWhole, turn_refusal}
 use Rattle.tp_turn.proofs.Adding.{added_none, then_more}
 use Rattle.tp_turn.proofs.Ahead.{receives_kept}
 use Rattle.tp_turn.proofs.Staging.{freed}

@@ -104,13 +104,7 @@ fn all_sent(answers: &[(u8, Token)], sent: &[(u8, Token)]) -> ArrayVec<(u8, Toke
 
 /// Journals what a node received and ran since its turn was opened: one entry, or none where it took nothing and made no step. The
 /// reservation ends. The book may have changed in between by what others do.
-pub fn commit_whole(
-    book: &mut Book,
-    node: &Node,
-    number: u8,
-    taken: Taken,
-    stretch: Stretch,
-) -> Ran
+pub fn commit_whole(book: &mut Book, node: &Node, number: u8, taken: Taken, stretch: Stretch) -> Ran
     requires reserved { slice_get book.old.runs number ≡ Some true }
     requires idle { book.old.ready ≡ None }
     requires form { book.old.form ≡ Turns }
@@ -122,14 +116,7 @@ pub fn commit_whole(
     let Taken { takes, sent } = taken;
     let Stretch { ran, sent: more } = stretch;
     let tokens = all_sent(sent.as_slice(), more.as_slice());
-    commit(
-        book,
-        node,
-        number,
-        &takes,
-        ran.count(),
-        tokens.as_slice(),
-    );
+    commit(book, node, number, &takes, ran.count(), tokens.as_slice());
     ran
 }
 

@@ -1,4 +1,4 @@
-use Rattle.std.proofs.Common.{length, sym, subst, arith}
+use Rattle.std.proofs.Common.{sym, subst, arith}
 use Rattle.std.proofs.lemmas.Option.{slice_get_within}
 use Rattle.tp_model.specs.Turn.{received}
 use Rattle.tp_book.specs.Book.{agreed}

@@ -1,4 +1,4 @@
-use Rattle.tp_turn.proofs.Entering.{held, turn_made, turn_added, turn_is}
+use Rattle.tp_turn.proofs.Entering.{turn_added, turn_is}
 use Rattle.tp_turn.proofs.whole.commit.Goals as goal
 
 pub returns-clause-added : goal.returns-clause-added
