@@ -1,5 +1,5 @@
 -- A node that received is ahead of its book, and stays so whatever others do.
-use Rattle.std.proofs.Common.{◌≡◌, ◌≢◌, ℕ, zero, suc, ◌+◌, ◌*◌, ◌<◌, ◌≤◌, ◌⊎◌, inl, inr, Bool, true, false, cond, List, [], ◌∷◌, ◌++◌, length, map, get_or, refl, sym, ap, subst, ◌∙◌, arith, append_assoc, append-nil, Option, Some, None, slice_get}
+use Rattle.std.proofs.Common.{◌≡◌, ◌≢◌, ℕ, zero, suc, ◌+◌, ◌*◌, ◌<◌, ◌≤◌, ◌⊎◌, inl, inr, Bool, true, false, cond, List, [], ◌∷◌, ◌++◌, length, map, get_or, refl, sym, ap, subst, ◌∙◌, arith, append_assoc, append-nil, Option, Some, None}
 use Rattle.std.specs.Prelude.{◌||◌}
 use Rattle.std.proofs.lemmas.Bool.{cases_eq}
 use Rattle.std.specs.List.{AllByRecursion}
@@ -9,10 +9,9 @@ use Rattle.tp_model.specs.declared.link.Token.{Token}
 use Rattle.tp_model.specs.declared.link.Token.TheVariants.{Data, Ack, Marker}
 use Rattle.tp_model.specs.declared.link.Received.{Received}
 use Rattle.tp_model.specs.declared.link.Received.TheVariants.{Nothing}
-use Rattle.tp_model.specs.declared.entry.Entry.{Entry}
 use Rattle.tp_model.specs.NodeState.{NodeState}
 use Rattle.tp_model.specs.Node.{t414}
-use Rattle.tp_model.specs.Network.{◌>>=◌, Network, back, line_of, on_line, receiver, steps}
+use Rattle.tp_model.specs.Network.{◌>>=◌, back, line_of, on_line, receiver, steps}
 use Rattle.tp_model.specs.Markers.{before}
 use Rattle.tp_model.specs.Turn.{by_link, received, took_all, turned}
 use Rattle.tp_model.specs.Acts.{Act, Begin, Record, Journal, Close, Trim, acted}
@@ -30,13 +29,13 @@ use Rattle.tp_book.proofs.Commit.{length-agreed}
 use Rattle.tp_turn.specs.Turns.{InOrder}
 use Rattle.tp_turn.specs.Moments.{IsNodeOf, Added, entries_in}
 use Rattle.tp_turn.specs.Hosted.{HostAdded}
-use Rattle.tp_turn.specs.Receiving.{Answered, IsAhead, Receives, ReceivesOf, TakesEach, offered, offered_on}
+use Rattle.tp_turn.specs.Receiving.{Answered, IsAhead, Receives, ReceivesOf, offered, offered_on}
 use Rattle.tp_turn.specs.Whole.{HasTurnedOn}
 use Rattle.tp_turn.proofs.Adding.{others_stay}
 use Rattle.tp_turn.proofs.Answering.{each_took, each_kept, took_more}
 use Rattle.tp_turn.proofs.Hosting.{nodes_stay}
 use Rattle.tp_turn.proofs.Possible.{comes_in}
-use Rattle.tp_turn.proofs.Standing.{AreStanding, StandsOn, are_received}
+use Rattle.tp_turn.proofs.Standing.{StandsOn, are_received}
 
 -- ## On four links
 
@@ -58,7 +57,7 @@ module _ (b : BookValue) (all : Bool) (number : ℕ) (first second third fourth 
   pub receives : (m0 m1 m2 m3 m4 : NodeContents) (s0 s1 s2 s3 s4 : List (ℕ × Token)) → s0 ≡ [] → Answered (part 0 first) m0 s0 m1 s1 → Answered (part 1 second) m1 s1 m2 s2 → Answered (part 2 third) m2 s2 m3 s3
       → Answered (part 3 fourth) m3 s3 m4 s4 → Receives b all number takes m0 s4 m4
   receives m0 m1 m2 m3 m4 s0 s1 s2 s3 s4 none A B C D =
-      let each = λ link. part link (get_or takes link Nothing) in
+      let each : ℕ → NodeContents → List (ℕ × Token) → NodeContents → Type 0 = λ link. part link (get_or takes link Nothing) in
       record {
         four = refl;
         did =
@@ -158,16 +157,16 @@ module _ (b : BookValue) (K : Keeps b.state) (all : Bool) (number : ℕ) (below 
       let made3 = took_more (map (λ token. (2, token)) (received third)) (by_link 3 (fourth ∷ [])) m2.live m3.live m4.live D.answers (E.answers ++ []) (each_took 2 (received third) m2 D.answers m3 D.did.did) made4 in
       let made2 = took_more (map (λ token. (1, token)) (received second)) (by_link 2 (third ∷ fourth ∷ [])) m1.live m2.live m4.live C.answers (D.answers ++ (E.answers ++ [])) (each_took 1 (received second) m1 C.answers m2 C.did.did) made3 in
       let made1 = took_more (map (λ token. (0, token)) (received first)) (by_link 1 (second ∷ third ∷ fourth ∷ [])) m0.live m1.live m4.live A.answers (C.answers ++ (D.answers ++ (E.answers ++ [])))
-          (each_took 0 (received first) m0 A.answers m1 A.did.did) made2 in
+      (each_took 0 (received first) m0 A.answers m1 A.did.did) made2 in
       record {
         before = m0;
         is = N;
         received = are_received (world_of b).live number the_takes (
           stands_on b K all number 0 below (omega arith) first A.did.rest A.did.are,
-          stands_on b K all number 1 below (omega arith) second C.did.rest C.did.are,
-          stands_on b K all number 2 below (omega arith) third D.did.rest D.did.are,
-          stands_on b K all number 3 below (omega arith) fourth E.did.rest E.did.are,
-          tt,
+          (
+            stands_on b K all number 1 below (omega arith) second C.did.rest C.did.are,
+            (stands_on b K all number 2 below (omega arith) third D.did.rest D.did.are, (stands_on b K all number 3 below (omega arith) fourth E.did.rest E.did.are, tt)),
+          ),
         );
         took = made1 ∙ ap (λ ms. Some (m4.live, ms)) (answers_are s0 s1 s2 s3 s4 A.answers C.answers D.answers E.answers none A.are C.are D.are E.are);
         kept = each_kept 3 (received fourth) m3 E.answers m4 E.did.did ∙ each_kept 2 (received third) m2 D.answers m3 D.did.did ∙ each_kept 1 (received second) m1 C.answers m2 C.did.did ∙ each_kept 0 (received first) m0 A.answers m1 A.did.did;

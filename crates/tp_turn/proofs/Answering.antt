@@ -1,8 +1,7 @@
 -- What a node receives on a link, by what it took.
-use Rattle.std.proofs.Common.{◌≡◌, ℕ, ◌+◌, List, [], ◌∷◌, ◌++◌, map, refl, sym, ap, subst, ◌∙◌, append_assoc, append-nil, Option, Some, None}
+use Rattle.std.proofs.Common.{◌≡◌, ℕ, List, [], ◌∷◌, ◌++◌, map, refl, sym, ap, subst, ◌∙◌, append_assoc, append-nil, Some}
 use Rattle.tp_model.specs.declared.link.Token.{Token}
 use Rattle.tp_model.specs.declared.link.Received.{Received}
-use Rattle.tp_model.specs.declared.link.Received.TheVariants.{Nothing}
 use Rattle.tp_model.specs.NodeState.{NodeState}
 use Rattle.tp_model.specs.Node.{t414, took}
 use Rattle.tp_model.specs.Network.{◌>>=◌}
@@ -29,6 +28,15 @@ each_more link token tokens a b c first second third A B = record {
   are = B.are ∙ ap (λ ms. ms ++ B.answers) A.are ∙ append_assoc first A.answers B.answers;
   did = record { between = b; first = A.answers; second = B.answers; are = refl; one_did = A.did; other_did = B.did };
 }
+
+-- just one
+pub each_one : (link : ℕ) (token : Token) (a b : NodeContents) (first second : List (ℕ × Token)) → Answered (TakesOne link token) a first b second → Answered (TakesEach link (token ∷ [])) a first b second
+each_one link token a b first second A = each_more link token [] a b b first second second A (each_none link b second)
+
+-- two
+pub each_two : (link : ℕ) (token other : Token) (a b c : NodeContents) (first second third : List (ℕ × Token)) → Answered (TakesOne link token) a first b second → Answered (TakesOne link other) b second c third
+    → Answered (TakesEach link (token ∷ other ∷ [])) a first c third
+each_two link token other a b c first second third A B = each_more link token (other ∷ []) a b c first second third A (each_one link other b c second third B)
 
 -- ## A link
 

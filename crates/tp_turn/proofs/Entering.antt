@@ -10,12 +10,11 @@ use Rattle.tp_model.specs.declared.entry.Entry.{Entry}
 use Rattle.tp_model.specs.declared.entry.Entry.TheVariants.{Run, Turn}
 use Rattle.tp_model.specs.declared.form.Form.TheVariants.{Turns}
 use Rattle.tp_model.specs.EntryBytes.{is_of}
-use Rattle.tp_model.specs.NodeState.{NodeState}
-use Rattle.tp_model.specs.Network.{Network, taken}
+use Rattle.tp_model.specs.Network.{taken}
 use Rattle.tp_model.specs.Node.{t414}
 use Rattle.tp_model.specs.Turn.{by_line, by_link, comes_in}
 use Rattle.tp_model.specs.Entries.{process}
-use Rattle.tp_model.specs.Acts.{Act, Journal, acted}
+use Rattle.tp_model.specs.Acts.{Journal, acted}
 use Rattle.tp_law_cuts.specs.Reserved.{turn_acts, turn_entries}
 use Rattle.tp_law_machine.proofs.Partial.{slice_get-set_same}
 use Rattle.tp_law_network.specs.Turns.{run_of}

@@ -1,5 +1,5 @@
 -- What a node does at Markers before it receives.
-use Rattle.std.proofs.Common.{◌≡◌, ℕ, ◌+◌, ◌*◌, true, false, cond, List, [], ◌∷◌, ◌++◌, refl, sym, ap, subst, ◌∙◌, add-one, append_assoc, Some, None}
+use Rattle.std.proofs.Common.{◌≡◌, ℕ, ◌+◌, ◌*◌, Bool, true, false, cond, List, [], ◌∷◌, ◌++◌, refl, sym, ap, subst, ◌∙◌, add-one, append_assoc, Option, Some, None}
 use Rattle.std.specs.Prelude.{◌&&◌}
 use Rattle.std.proofs.lemmas.Bool.{and_from}
 use Rattle.tp_model.specs.declared.link.Token.TheVariants.{Marker}
@@ -22,24 +22,39 @@ module _ (b : BookValue) (number link : ℕ) (n : NodeContents) (N : IsNodeOf b 
       let added = added_none number n.live b N.there in
       record { acts = []; added = added; did = record { are = sym none; added = added; node = refl } }
 
+  -- where the node hasn't recorded
+  pub front_unrecorded : has_recorded_in b.state.snapshot number ≡ false → Done number (ClosesFront number link) (moment b n) (moment b n)
+  front_unrecorded not = nothing_closed (none (back b.state.start (4 * number + link)))
+    where
+      either : (line : ℕ) (first : Bool) → cond (first && false) (Close line ∷ []) [] ≡ []
+      either line true = refl
+      either line false = refl
+
+      none : (o : Option ℕ) → close_acts b number o ≡ []
+      none None = refl
+      none (Some line) =
+          ap (λ recorded. cond (is_first (on_line b.state.lines line) Marker && recorded) (Close line ∷ []) []) not ∙ either line (is_first (on_line b.state.lines line) Marker)
+
   -- where no line comes in
   pub front_unwired : back b.state.start (4 * number + link) ≡ None → Done number (ClosesFront number link) (moment b n) (moment b n)
   front_unwired to = nothing_closed (ap (close_acts b number) to)
 
   module _ (line : ℕ) (to : back b.state.start (4 * number + link) ≡ Some line) where
-    -- where it isn't to be closed
-    pub front_open : (is_first (on_line b.state.lines line) Marker && has_recorded_in b.state.snapshot number) ≡ false → Done number (ClosesFront number link) (moment b n) (moment b n)
-    front_open shut = nothing_closed (ap (close_acts b number) to ∙ ap (λ c. cond c (Close line ∷ []) []) shut)
+    -- where no Marker is in front
+    pub front_open : is_first (on_line b.state.lines line) Marker ≡ false → Done number (ClosesFront number link) (moment b n) (moment b n)
+    front_open shut =
+        nothing_closed (ap (close_acts b number) to ∙ ap (λ first. cond (first && has_recorded_in b.state.snapshot number) (Close line ∷ []) []) shut)
 
-    -- where it is
-    pub front_closed : (new : BookValue) → new ≡ after_close b line → (is_first (on_line b.state.lines line) Marker && has_recorded_in b.state.snapshot number) ≡ true
+    -- where one is
+    pub front_closed : (new : BookValue) → new ≡ after_close b line → is_first (on_line b.state.lines line) Marker ≡ true → has_recorded_in b.state.snapshot number ≡ true
         → happens t414 (world_of b) (Close line) ≡ Some (world_of new) → Done number (ClosesFront number link) (moment b n) (moment new n)
-    front_closed new is ready act =
+    front_closed new is first recorded act =
         let added = closed_added b new line number n is N act in
+        let both = and_from (is_first (on_line b.state.lines line) Marker) (has_recorded_in b.state.snapshot number) first recorded in
         record {
           acts = Close line ∷ [];
           added = added;
-          did = record { are = sym (ap (close_acts b number) to ∙ ap (λ c. cond c (Close line ∷ []) []) ready); added = added; node = refl };
+          did = record { are = sym (ap (close_acts b number) to ∙ ap (λ c. cond c (Close line ∷ []) []) both); added = added; node = refl };
         }
 
 -- one part, parts in order behind it, and one more of these

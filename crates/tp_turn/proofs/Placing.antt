@@ -4,12 +4,14 @@ use Rattle.std.specs.Prelude.{◌||◌, IsSome}
 use Rattle.std.specs.Option.{option_map}
 use Rattle.tp_model.specs.declared.link.Token.{Token}
 use Rattle.tp_model.specs.declared.link.Token.TheVariants.{Data, Ack, Marker}
+use Rattle.tp_model.specs.declared.link.Received.{Received}
 use Rattle.tp_model.specs.Image.{IsNode}
 use Rattle.tp_model.specs.NodeState.{NodeState}
 use Rattle.tp_model.specs.Node.{took, waits, holds}
 use Rattle.tp_model.specs.Network.{back, for_line, line_of, on_line, receiver}
 use Rattle.tp_model.specs.Markers.{before, is_marker}
 use Rattle.tp_model.specs.Sound.{data_of, ack_of, datas, acks}
+use Rattle.tp_model.specs.Turn.{received}
 use Rattle.tp_model.specs.Word.{bit}
 use Rattle.tp_law_machine.proofs.Bits.{bit_small, bit_none, bit_some}
 use Rattle.tp_law_machine.proofs.LinkLaws.{took_keeps}
@@ -20,7 +22,7 @@ use Rattle.tp_book.specs.Book.{BookValue, agreed}
 use Rattle.tp_book.specs.Kept.{Keeps}
 use Rattle.tp_book.specs.Refusals.{needs_take}
 use Rattle.tp_book.proofs.Commit.{length-agreed}
-use Rattle.tp_turn.specs.Receiving.{HasPlace, TakesEach, offered, offered_on}
+use Rattle.tp_turn.specs.Receiving.{Answered, HasPlace, ReceivesOf, TakesEach, offered, offered_on}
 use Rattle.tp_turn.proofs.Possible.{comes_in, datas_front, acks_front}
 
 -- ## One token
@@ -66,6 +68,9 @@ unfolding TakesEach
 placed_apart j link [] others s answers t apart T P = subst (λ n. HasPlace link others n.live) (sym T.1) P
 placed_apart j link (token ∷ tokens) others s answers t apart T P =
     placed_apart j link tokens others T.between T.second t apart T.other_did (placed_beside j link token others s.live (T.between.live, T.first) T.one_did.took apart P)
+
+pub placed_next : (j link : ℕ) (there others : List Token) (one : Received) (a b : NodeContents) (first second : List (ℕ × Token)) → j ≢ link → Answered (ReceivesOf j there one) a first b second → HasPlace link others a.live → HasPlace link others b.live
+placed_next j link there others one a b first second apart D P = placed_apart j link (received one) others a D.answers b apart D.did.did P
 
 -- ## In front of a line
 

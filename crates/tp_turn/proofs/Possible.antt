@@ -1,14 +1,15 @@
 -- In a sound network a node can take what stands in front of a line that leads to it.
-use Rattle.std.proofs.Common.{◌≡◌, ℕ, ◌+◌, ◌*◌, ◌%◌, ◌<◌, ◌≤◌, false, List, [], ◌∷◌, length, refl, sym, ap, ◌∙◌, arith, Some, slice_get}
+use Rattle.std.proofs.Common.{◌≡◌, ℕ, ◌+◌, ◌*◌, ◌%◌, ◌<◌, ◌≤◌, false, List, [], ◌∷◌, length, map, refl, sym, ap, subst, ◌∙◌, arith, Some, slice_get}
 use Rattle.std.specs.Prelude.{IsSome}
 use Rattle.std.specs.Option.{option_map}
+use Rattle.std.proofs.lemmas.List.{length-map}
 use Rattle.tp_model.specs.Word.{bit}
 use Rattle.tp_model.specs.Image.{IsNode}
 use Rattle.tp_model.specs.NodeState.{NodeState}
 use Rattle.tp_model.specs.Node.{took, waits, holds, t414_ends}
-use Rattle.tp_model.specs.Network.{Network, OfNode, own, receiver, back, line_of, on_line}
+use Rattle.tp_model.specs.Network.{Network, OfNode, own, receiver, back, is_wired, line_of, on_line}
 use Rattle.tp_model.specs.Sound.{owner, datas, acks, end_waits, end_holds}
-use Rattle.tp_model.specs.Markers.{before, is_marker, plain_network}
+use Rattle.tp_model.specs.Markers.{before, is_marker, plain, plain_network}
 use Rattle.tp_model.specs.Halves.{BookState, live}
 use Rattle.tp_model.specs.declared.link.Token.{Token}
 use Rattle.tp_model.specs.declared.link.Token.TheVariants.{Data, Ack, Marker}
@@ -122,3 +123,9 @@ comes_to b K port line to =
         let inside = K.sound.wires.links line i k at in
         absurd (omega (arith, inside.0, inside.1, is))
     same (AtPort p) at is = let one : p ≡ port = omega (arith, is) in ap AtPort one
+
+-- a wired line is there
+pub line_within : (b : BookState NodeState) → Keeps b → (line : ℕ) (end : WireEnd) → receiver b.start.wires line ≡ Some end → line < length b.lines
+line_within b K line end goes =
+    let below : line < length (map plain b.lines) = K.sound.there line (ap is_wired goes) in
+    subst (λ n. line < n) (length-map {B = List Token} b.lines plain) below

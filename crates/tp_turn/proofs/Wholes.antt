@@ -1,31 +1,29 @@
 -- A whole turn in its stages.
-use Rattle.std.proofs.Common.{◌≡◌, ◌≢◌, ℕ, ◌+◌, ◌*◌, ◌<◌, ◌≤◌, Bool, true, false, cond, inl, inr, List, [], ◌∷◌, ◌++◌, refl, sym, ap, subst, ◌∙◌, arith, length, Option, Some, None, slice_get}
-use Rattle.std.specs.Prelude.{Result, Ok, Err}
+use Rattle.std.proofs.Common.{◌≡◌, ◌≢◌, ℕ, Bool, true, false, cond, inl, inr, List, [], refl, sym, ap, subst, ◌∙◌, length, Option, Some, None, slice_get}
+use Rattle.std.specs.Prelude.{Ok, Err}
 use Rattle.std.proofs.lemmas.Bool.{cases_Bool, true≢false}
 use Rattle.tp_model.specs.declared.link.Token.{Token}
 use Rattle.tp_model.specs.declared.link.Received.{Received}
-use Rattle.tp_model.specs.NodeState.{NodeState}
 use Rattle.tp_model.specs.NodeWrites.{node_ranges, kept_behind_steps}
 use Rattle.tp_model.specs.SharedPages.{LacksFrames}
 use Rattle.tp_model.specs.Turn.{by_link}
-use Rattle.tp_model.specs.Acts.{Act}
 use Rattle.tp_law_cuts.specs.Reserved.{turn_acts}
+use Rattle.tp_law_machine.proofs.Partial.{slice_get-set_same}
 use Rattle.tp_node.specs.NodeContents.{NodeContents, kept_of}
 use Rattle.tp_node.specs.RunEnd.{IsWhy}
 use Rattle.tp_snap.specs.Needs.{has_recorded_in}
 use Rattle.tp_book.specs.declared.refusal.Refusal.{Refusal}
-use Rattle.tp_book.specs.declared.refusal.Refusal.TheVariants.{JournalFull, StoreBroken, Memory}
+use Rattle.tp_book.specs.declared.refusal.Refusal.TheVariants.{JournalFull, StoreBroken}
 use Rattle.tp_book.specs.Book.{BookValue, agreed}
 use Rattle.tp_book.specs.Calls.{with_run, without_run}
-use Rattle.tp_book.specs.Refusals.{else_if, is_journal_full, is_full_for_take, reserve_refusal, take_refusal, IsAnswer}
+use Rattle.tp_book.specs.Refusals.{else_if, is_journal_full, is_full_for_take, reserve_refusal, IsAnswer}
 use Rattle.tp_book.specs.Turning.{takes_refusal}
 use Rattle.tp_book.proofs.TakeRefused.{full_for_any}
 use Rattle.tp_turn.specs.declared.receiving.Taken.{Taken}
 use Rattle.tp_turn.specs.declared.stages.Turn.{Turn}
-use Rattle.tp_turn.specs.Turns.{Then}
-use Rattle.tp_turn.specs.Moments.{Moment, moment, IsNodeOf, Added, Done}
+use Rattle.tp_turn.specs.Moments.{Moment, moment, Added, Done}
 use Rattle.tp_turn.specs.Receiving.{Receives}
-use Rattle.tp_turn.specs.Whole.{Closes, EndsWhole, IsOpenWhole, BreaksWhole, TurnsOnce, TurnsWhole, turn_refusal}
+use Rattle.tp_turn.specs.Whole.{Closes, EndsWhole, IsOpenWhole, TurnsOnce, TurnsWhole, turn_refusal}
 use Rattle.tp_turn.proofs.Adding.{added_none, then_more}
 use Rattle.tp_turn.proofs.Ahead.{receives_kept}
 use Rattle.tp_turn.proofs.Staging.{freed}
@@ -76,14 +74,34 @@ module _ (number : ℕ) (b : BookValue) (n : NodeContents) where
         did = inr (record { answer = refl; full = full; recorded = recorded; free = found; takes = takes; sent = sent; received = R; are = refl; added = added });
       }
 
+-- a journal that is full for a node that hasn't recorded
+pub full_unrecorded : (b : BookValue) (recorded : Bool) → recorded ≡ false → reserve_refusal b ≡ Some JournalFull → IsAnswer {A = Unit {0}} (turn_refusal b recorded) (Err JournalFull)
+full_unrecorded b recorded not full =
+    subst (λ r. IsAnswer {A = Unit {0}} (turn_refusal b r) (Err JournalFull)) (sym not) (subst (λ o. IsAnswer {A = Unit {0}} o (Err JournalFull)) (sym full) refl)
+
+-- and no room for what one takes that has
+pub full_recorded : (b : BookValue) (recorded : Bool) (e : Refusal) → recorded ≡ true → IsAnswer {A = Unit {0}} (takes_refusal b) (Err e) → IsAnswer {A = Unit {0}} (turn_refusal b recorded) (Err e)
+full_recorded b recorded e has h = subst (λ r. IsAnswer {A = Unit {0}} (turn_refusal b r) (Err e)) (sym has) h
+
+-- what is received doesn't hang on what is reserved
+pub receives_before : (b x : BookValue) (node : ℕ) (all : Bool) (number : ℕ) (takes : List Received) (s : NodeContents) (answers : List (ℕ × Token)) (t : NodeContents) → x ≡ with_run b node → Receives x all number takes s answers t
+    → Receives b all number takes s answers t
+receives_before b x node all number takes s answers t is R =
+    let same : Receives (with_run b node) all number takes s answers t = subst (λ y. Receives y all number takes s answers t) is R in
+    record { four = same.four; did = same.did }
+
+-- what is reserved is so
+pub is_reserved : (b x : BookValue) (number : ℕ) → x ≡ with_run b number → slice_get b.runs number ≡ Some false → slice_get x.runs number ≡ Some true
+is_reserved b x number is free = ap (λ y. slice_get y.runs number) is ∙ slice_get-set_same b.runs number true false free
+
 -- no other reason is there for a call that was made
 pub made_free : {A : Type 0} (o : Option Refusal) (x : A) → IsAnswer o (Ok x) → o ≡ None
 made_free None x h = refl
 made_free (Some e) x h = absurd h
 
 -- a full journal was the reason
-pub full_answer : {A : Type 0} (b : BookValue) → IsAnswer {A = A} (reserve_refusal b) (Err JournalFull) → reserve_refusal b ≡ Some JournalFull
-full_answer {A} b h = go (reserve_refusal b) h
+pub full_answer : (A : Type 0) (b : BookValue) → IsAnswer {A = A} (reserve_refusal b) (Err JournalFull) → reserve_refusal b ≡ Some JournalFull
+full_answer A b h = go (reserve_refusal b) h
   where
     go : (o : Option Refusal) → IsAnswer {A = A} o (Err JournalFull) → o ≡ Some JournalFull
     go None h = cc

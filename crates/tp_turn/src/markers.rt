@@ -19,11 +19,14 @@ fn close_front(book: &mut Book, node: &Node, number: u8, link: u8)
 {
     let _node = node;
     book.known();
+    if !book.recorded(number as usize) {
+        return;
+    }
     let Some(end) = book.receiver(4 * number as u16 + link as u16) else {
         return;
     };
     let line = line_of(book.nodes(), end) as u16;
-    if book.marker_ready(line) && book.recorded(number as usize) {
+    if book.marker_ready(line) {
         book.close_line(line);
     }
 }

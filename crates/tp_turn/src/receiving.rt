@@ -23,12 +23,7 @@ pub struct Taken {
 }
 
 /// Has a node take a token. What it answers goes behind `sent`. Answers whether it took it: memory may have no frame for it.
-fn take_one(
-    node: &mut Node,
-    link: u8,
-    token: Token,
-    sent: &mut ArrayVec<(u8, Token), 8>,
-) -> bool
+fn take_one(node: &mut Node, link: u8, token: Token, sent: &mut ArrayVec<(u8, Token), 8>) -> bool
     requires possible { IsSome (took node.old.live link token) }
     requires image { IsNodeOfBytes node.old.live }
     requires room { length sent.old.items < 8 }

@@ -55,12 +55,14 @@ fn take_needed(book: &mut Book, node: &mut Node, number: u8) -> Refusal
     if !book.recorded(number as usize) {
         return Refusal::JournalFull;
     }
-    if let Err(refusal) = book.reserve_takes(number) {
-        return refusal;
+    match book.reserve_takes(number) {
+        Ok(()) => {
+            let Taken { takes, sent } = receive(book, node, number, false);
+            commit(book, node, number, &takes, 0, sent.as_slice());
+            Refusal::JournalFull
+        }
+        Err(refusal) => refusal,
     }
-    let Taken { takes, sent } = receive(book, node, number, false);
-    commit(book, node, number, &takes, 0, sent.as_slice());
-    Refusal::JournalFull
 }
 
 /// Opens a node's whole turn: it records where it is asked to, the lines with a Marker in front are closed where it has recorded, a turn of
@@ -102,13 +104,7 @@ fn all_sent(answers: &[(u8, Token)], sent: &[(u8, Token)]) -> ArrayVec<(u8, Toke
 
 /// Journals what a node received and ran since its turn was opened: one entry, or none where it took nothing and made no step. The
 /// reservation ends. The book may have changed in between by what others do.
-pub fn commit_whole(
-    book: &mut Book,
-    node: &Node,
-    number: u8,
-    taken: Taken,
-    stretch: Stretch,
-) -> Ran
+pub fn commit_whole(book: &mut Book, node: &Node, number: u8, taken: Taken, stretch: Stretch) -> Ran
     requires reserved { slice_get book.old.runs number ≡ Some true }
     requires idle { book.old.ready ≡ None }
     requires form { book.old.form ≡ Turns }
@@ -120,14 +116,7 @@ pub fn commit_whole(
     let Taken { takes, sent } = taken;
     let Stretch { ran, sent: more } = stretch;
     let tokens = all_sent(sent.as_slice(), more.as_slice());
-    commit(
-        book,
-        node,
-        number,
-        &takes,
-        ran.count(),
-        tokens.as_slice(),
-    );
+    commit(book, node, number, &takes, ran.count(), tokens.as_slice());
     ran
 }
 
