@@ -4,7 +4,7 @@ ghost use Rattle.std.specs.Prelude.{◌≡◌};
 ghost use Rattle.tp_shared.specs.Named.{Names};
 ghost use Rattle.tp_tests_begun.specs.Spelt.{IsSpelt};
 
-use crate::device::{formatted, without_turns};
+use crate::device::{formatted, formatted_wide, without_turns};
 use crate::left::is_journal;
 use crate::marked::marked;
 use std::alloc::Global;
@@ -217,6 +217,7 @@ fn a_checkpoint_switches_the_areas(rt: HostRuntime) -> Result<(), Fail> {
     for snapshots in 0..PARTS {
         assert!(rt; goes(&rt, alloc, formatted(alloc)?, snapshots)?);
         assert!(rt; goes(&rt, alloc, marked(alloc)?, snapshots)?);
+        assert!(rt; goes(&rt, alloc, formatted_wide(alloc)?, snapshots)?);
         let disk = without_turns(formatted(alloc)?);
         assert!(rt; goes(&rt, alloc, disk, snapshots)?);
     }

@@ -1,4 +1,4 @@
-//! A device of sixteen nodes, in memory.
+//! A device of sixteen nodes, in memory, and one of seventeen.
 
 use std::alloc::{AllocError, Global};
 use std::test::Fail;
@@ -6,10 +6,10 @@ use tp_area::format;
 use tp_disk::MemDisk;
 use tp_net::Topology;
 
-/// Bytes of an area, and of the device.
+/// Bytes of an area, and of the device, which has room for a head of either version.
 const AREA: u64 = 131_072;
 
-const SIZE: usize = 262_656;
+const SIZE: usize = 263_168;
 
 /// Where the form of the first area stands.
 const FORM: usize = 531;
@@ -20,6 +20,10 @@ pub(crate) const NODES: u8 = 16;
 /// Sixteen nodes. Link 0 of the first goes to a port; no other link has a wire.
 const TEXT: &[u8] =
     b"node a 4\nnode b 4\nnode c 4\nnode d 4\nnode e 4\nnode f 4\nnode g 4\nnode i 4\nnode j 4\nnode k 4\nnode l 4\nnode m 4\nnode n 4\nnode o 4\nnode p 4\nnode q 4\nport h\nwire a.0 h\n";
+
+/// The same with a seventeenth one: the device has a wide head.
+const WIDE: &[u8] =
+    b"node a 4\nnode b 4\nnode c 4\nnode d 4\nnode e 4\nnode f 4\nnode g 4\nnode i 4\nnode j 4\nnode k 4\nnode l 4\nnode m 4\nnode n 4\nnode o 4\nnode p 4\nnode q 4\nnode r 4\nport h\nwire a.0 h\n";
 
 /// Bytes of a node's image: where they are, and which. Its process sends the letter A on link 0, waits for the acknowledge, and
 /// then goes round, where it counts in the first word of its workspace. That is in the second page.
@@ -58,11 +62,11 @@ fn image(alloc: Global) -> Result<Vec<u8>, AllocError> {
     Ok(image)
 }
 
-/// The first node sends a letter, and the others go round.
-fn images(alloc: Global) -> Result<Vec<Vec<u8>>, AllocError> {
+/// The images of `nodes` nodes: the first one sends a letter, and the others go round.
+fn images(alloc: Global, nodes: u8) -> Result<Vec<Vec<u8>>, AllocError> {
     let mut images = Vec::new(alloc);
     images.push(image(alloc)?)?;
-    for _ in 1..NODES {
+    for _ in 1..nodes {
         let mut round = image(alloc)?;
         place(&mut round, ROUND.0, ROUND.1);
         images.push(round)?;
@@ -83,12 +87,22 @@ pub(crate) fn formatted_with(
     Ok(disk)
 }
 
-/// The device, freshly formatted.
-pub(crate) fn formatted(alloc: Global) -> Result<MemDisk, Fail> {
-    let images = images(alloc)?;
-    let topology = Topology::read(alloc, TEXT)?;
+/// The device of a text with so many nodes, freshly formatted.
+fn formatted_as(alloc: Global, text: &[u8], nodes: u8) -> Result<MemDisk, Fail> {
+    let images = images(alloc, nodes)?;
+    let topology = Topology::read(alloc, text)?;
     let disk = formatted_with(alloc, &topology, &images);
     disk
+}
+
+/// The device, freshly formatted.
+pub(crate) fn formatted(alloc: Global) -> Result<MemDisk, Fail> {
+    formatted_as(alloc, TEXT, NODES)
+}
+
+/// The one with a wide head.
+pub(crate) fn formatted_wide(alloc: Global) -> Result<MemDisk, Fail> {
+    formatted_as(alloc, WIDE, NODES + 1)
 }
 
 /// The same device as it was made before areas had forms: its first area has no turns.

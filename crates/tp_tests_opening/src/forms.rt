@@ -152,12 +152,18 @@ fn an_area_has_a_form(rt: HostRuntime) -> Result<(), Fail> {
     play(&rt, alloc, &second, SECOND)
 }
 
-/// What makes of the four entries three, the last of which is a turn: the node takes the acknowledge and makes 16 steps.
-const A_TURN: &[(usize, &[u8])] = &[
-    (13_035, &[3]),
-    (13_081, &[5, 0, 16, 0, 0, 0, 0, 0, 2, 0, 0, 0, 0, 0, 2, 0]),
-    (13_097, &[0]),
-];
+/// A turn: the node takes the acknowledge and makes 16 steps.
+const TURN: &[u8] = &[5, 0, 16, 0, 0, 0, 0, 0, 2, 0, 0, 0, 0, 0, 2, 0];
+
+/// What makes of the four entries three, of which it is the last; what puts it in front of the run; and what puts one without steps there.
+const A_TURN: &[(usize, &[u8])] = &[(13_035, &[3]), (13_081, TURN), (13_097, &[0])];
+
+const A_TURN_AND_A_RUN: &[(usize, &[u8])] = &[(13_081, TURN)];
+
+const AN_IDLE_TURN_AND_A_RUN: &[(usize, &[u8])] = &[(
+    13_081,
+    &[5, 0, 0, 0, 0, 0, 0, 0, 2, 0, 0, 0, 0, 0, 2, 0],
+)];
 
 const NONE: Result<u64, OpenFault> = Err(Damaged(13_081));
 
@@ -247,10 +253,8 @@ fn a_turn_leads_where_its_entries_lead(rt: HostRuntime) -> Result<(), Fail> {
     let alloc = rt.alloc();
     let (letter, round) = (LETTER, [Entry::Run { node: 0, count: 16 }]);
     let turn = leads(alloc, A_TURN, 3, &[&letter])?;
-    let four = A_TURN.get(1..2).unwrap_or(&[]);
-    let run = leads(alloc, four, 4, &[&letter, &round])?;
-    let idle: &[(usize, &[u8])] = &[(13_081, &[5, 0, 0, 0, 0, 0, 0, 0, 2, 0, 0, 0, 0, 0, 2, 0])];
-    let steps = leads(alloc, idle, 4, &[&letter])?;
+    let run = leads(alloc, A_TURN_AND_A_RUN, 4, &[&letter, &round])?;
+    let steps = leads(alloc, AN_IDLE_TURN_AND_A_RUN, 4, &[&letter])?;
     assert!(rt; turn && run && steps);
     Ok(())
 }

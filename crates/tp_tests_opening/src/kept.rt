@@ -3,30 +3,35 @@
 use crate::apart::is_said;
 use crate::devices::{LETTER, append, holds, replayed, store_of};
 use crate::switch_faults::look_at;
-use std::alloc::Global;
+use std::alloc::{AllocError, Global};
 use std::test::Fail;
 use std::thread::Threads;
 use tp_model::Entry;
 use tp_model::Form::Plain;
 use tp_tests_fixtures::{KEPT, Kept};
 
-/// What the entries up to the last of a kept device are behind the first turns.
+/// What the entries of the last kept device are behind the first turns.
 const BEHIND: [Entry; 3] = [
     Entry::Confirm { port: 0, upto: 1 },
     Entry::Run { node: 0, count: 16 },
     Entry::Run { node: 0, count: 16 },
 ];
 
-/// Whether a device holds what a plain replay of all entries before the number `next` gives, and `more` behind them.
-fn is_replayed(alloc: Global, bytes: &[u8], next: u64, more: &[Entry]) -> Result<bool, Fail> {
+/// The entries of a kept device before the number `next`, and `more` behind them.
+fn entries_of(alloc: Global, next: u64, more: &[Entry]) -> Result<Vec<Entry>, AllocError> {
     let (letter, behind) = (LETTER, BEHIND);
-    let count = next as usize;
-    let first = letter.get(..count.min(letter.len())).unwrap_or(&[]);
-    let rest = behind
-        .get(..count.saturating_sub(first.len()))
-        .unwrap_or(&[]);
+    let mut all = Vec::from_slice(alloc, &letter)?;
+    all.extend_from_slice(&behind)?;
+    all.truncate(next as usize);
+    all.extend_from_slice(more)?;
+    Ok(all)
+}
+
+/// Whether a device holds what a plain replay of these entries gives.
+fn is_replayed(alloc: Global, bytes: &[u8], next: u64, more: &[Entry]) -> Result<bool, Fail> {
+    let entries = entries_of(alloc, next, more)?;
     let formatted = KEPT[0].bytes(alloc)?;
-    let wanted = replayed(alloc, &formatted, &[first, rest, more])?;
+    let wanted = replayed(alloc, &formatted, &[entries.as_slice()])?;
     holds(alloc, bytes, &wanted)
 }
 
