@@ -18,3 +18,5 @@ mod replayed;
 mod schedules;
 #[cfg(test)]
 mod two_nodes;
+#[cfg(test)]
+mod whole_turns;

@@ -9,10 +9,11 @@ use std::marker::Model;
 use std::test::Fail;
 use tp_book::{Book, Refusal};
 use tp_disk::MemDisk;
+use tp_model::Form;
 use tp_model::limits::MAX_STEPS;
 use tp_node::Node;
 use tp_recover::open;
-use tp_turn::{host_turn, node_turn, settle};
+use tp_turn::{host_turn, node_turn, settle, whole_turn};
 
 /// A network in memory. Each of its nodes is the one that the book's entries make of it.
 #[derive(Drop)]
@@ -62,6 +63,13 @@ impl Net {
         self.nodes.as_slice()
     }
 
+    /// Whether a Marker is in front of a line.
+    pub(crate) fn is_marked(&self, line: u16) -> bool {
+        self.book.known();
+        let there = usize::from(line) < 4 * self.book.nodes() + self.book.ports();
+        there && self.book.marker_ready(line)
+    }
+
     /// A node's turn, with how many tokens it took; none where there is no such node.
     pub(crate) fn node_turn(&mut self, number: u8, quantum: u16) -> Option<Result<u64, Refusal>> {
         let place = usize::from(number);
@@ -69,6 +77,19 @@ impl Net {
             return None;
         }
         match node_turn(&mut self.book, &mut self.nodes[place], number, quantum) {
+            Ok(turn) => Some(Ok(turn.takes)),
+            Err(refusal) => Some(Err(refusal)),
+        }
+    }
+
+    /// A node's turn that is one entry, with how many tokens it took; none where there is no such node, or the book holds no turns.
+    pub(crate) fn whole_turn(&mut self, number: u8, quantum: u16) -> Option<Result<u64, Refusal>> {
+        let place = usize::from(number);
+        let holds_turns = matches!(self.book.form(), Form::Turns);
+        if place >= self.nodes.len() || usize::from(quantum) > MAX_STEPS || !holds_turns {
+            return None;
+        }
+        match whole_turn(&mut self.book, &mut self.nodes[place], number, quantum) {
             Ok(turn) => Some(Ok(turn.takes)),
             Err(refusal) => Some(Err(refusal)),
         }

@@ -48,7 +48,7 @@ fn plays(net: &mut Net, turns: u8) -> bool {
 }
 
 /// Whether these are the entries, numbered from 0 on.
-fn are(entries: &[Numbered], wanted: &[Entry]) -> bool {
+pub(crate) fn are(entries: &[Numbered], wanted: &[Entry]) -> bool {
     if entries.len() != wanted.len() {
         return false;
     }

@@ -184,4 +184,4 @@ lone_starts image n s t bytes fresh is first node thawed =
     }
   where
     first_lone : (n : NodeState) → IsLoneBook (first_book (lone_network n) None)
-    first_lone n = record { alone = refl; idle = refl; ready = refl; runs = refl; whole = refl; nodes = refl; many = ap length (first_agreed (lone_network n)); ports = refl }
+    first_lone n = record { alone = refl; idle = refl; ready = refl; runs = refl; whole = refl; nodes = refl; many = ap length (first_agreed (lone_network n)); ports = refl; form = refl }

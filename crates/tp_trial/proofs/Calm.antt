@@ -79,6 +79,7 @@ goes es a b L G many idle leads = record {
     nodes = ap (λ (s : Network NodeState). length s.nodes) G.start ∙ L.nodes;
     many = many ∙ L.many;
     ports = (after_shape t414 has_four_links (network_now a) (network_now b) es leads).ports ∙ L.ports;
+    form = G.form ∙ L.form;
   };
   count = grew_next es a b G;
 }

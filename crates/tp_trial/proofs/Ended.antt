@@ -27,6 +27,7 @@ dropped_book a b L is same = record {
   nodes = ap (λ (x : BookValue). length x.state.start.nodes) is ∙ L.many;
   many = ap length same ∙ L.many;
   ports = ap (λ (x : BookValue). length x.state.ports) is ∙ L.ports;
+  form = ap (λ (x : BookValue). x.form) is ∙ L.form;
 }
 
 -- a node that isn't frozen is the one of a book that agrees on it

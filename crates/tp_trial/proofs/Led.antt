@@ -8,7 +8,7 @@ use Rattle.tp_model.specs.Network.{Network, back}
 use Rattle.tp_model.specs.Order.{after}
 use Rattle.tp_law_network.proofs.Reorder.{after_front}
 use Rattle.tp_turn.specs.Turns.{Then, InOrder}
-use Rattle.tp_trial.specs.Turns.{TookBack, TookIn, RanOn, IsTurnOf, AreTurns}
+use Rattle.tp_trial.specs.Turns.{TookBack, TookIn, IsTurnOf, AreTurns}
 
 took_in_leads : (o : Option ℕ) (s t : Network NodeState) (es : List Entry) → TookBack o s es t → after t414 s es ≡ Some t
 unfolding after
@@ -30,7 +30,7 @@ links_lead : (first n : ℕ) (s t : Network NodeState) (es : List Entry) → InO
 links_lead first n s t es D = order_leads (λ k. TookIn (first + k)) (λ k s t es D. took_in_leads (back s (first + k)) s t es D) n s t es D
 
 turn_leads : (quantum : ℕ) (of_node : Bool) (s t : Network NodeState) (es : List Entry) → IsTurnOf quantum of_node s es t → after t414 s es ≡ Some t
-turn_leads quantum true s t es D = then_leads (InOrder (λ k. TookIn (4 * 0 + k)) 4) (RanOn quantum 0) (λ s t es. links_lead (4 * 0) 4 s t es) (λ s t es R. R.leads) s t es D
+turn_leads quantum true s t es D = D.leads
 turn_leads quantum false s t es D = links_lead (4 * length s.nodes) (length s.ports) s t es D
 
 pub turns_lead : (quantum turns : ℕ) (s t : Network NodeState) (es : List Entry) → AreTurns quantum turns s es t → after t414 s es ≡ Some t

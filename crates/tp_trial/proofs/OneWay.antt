@@ -2,30 +2,36 @@
 use Rattle.std.proofs.Common.{◌≡◌, ℕ, zero, suc, ◌+◌, ◌*◌, ◌%◌, ◌<◌, ◌≤◌, Bool, true, false, cond, inl, inr, List, [], ◌∷◌, ◌++◌, length, map, drop, get_or, refl, sym, ap, subst, ◌∙◌, arith, Option, Some, None, slice_get, eq-eqb, ne_eqb}
 use Rattle.std.specs.Prelude.{◌==◌, ◌&&◌, nat_lt, nat_le}
 use Rattle.std.specs.Option.{option_map}
-use Rattle.std.proofs.lemmas.Bool.{cases_lt, cases_eq, cases_Bool, and_parts, ltb-true, leb-true, le-ltb}
+use Rattle.std.proofs.lemmas.Bool.{cases_lt, cases_eq, cases_Bool, leb-true, le-ltb, ltb-false}
+use Rattle.std.proofs.lemmas.List.{ext_get_or}
 use Rattle.tp_model.specs.declared.link.Token.{Token}
 use Rattle.tp_model.specs.declared.link.Token.TheVariants.{Data, Ack, Marker}
+use Rattle.tp_model.specs.declared.link.Received.{Received}
+use Rattle.tp_model.specs.declared.link.Received.TheVariants.{Nothing, JustData, JustAck, DataThenAck, AckThenData}
 use Rattle.tp_model.specs.declared.wire.WireEnd.{WireEnd}
 use Rattle.tp_model.specs.declared.wire.WireEnd.TheVariants.{Link, Port as AtPort}
 use Rattle.tp_model.specs.declared.entry.Entry.{Entry}
-use Rattle.tp_model.specs.declared.entry.Entry.TheVariants.{Run, Take}
+use Rattle.tp_model.specs.declared.entry.Entry.TheVariants.{Run, Take, Turn}
 use Rattle.tp_model.specs.declared.limits.TheConstants.{MAX_STEPS, MAX_HELD}
 use Rattle.tp_model.specs.NodeState.{NodeState}
 use Rattle.tp_model.specs.Node.{t414}
 use Rattle.tp_model.specs.Network.{◌>>=◌, Network, Port, Own, OfNode, OfHost, own, steps, back, receiver, on_line, is_first}
 use Rattle.tp_model.specs.Entries.{process, of_node, does, next, port_took}
 use Rattle.tp_model.specs.Order.{after}
+use Rattle.tp_model.specs.Turn.{by_link, received, took_all}
+use Rattle.tp_law_cuts.specs.Reserved.{turn_entries}
+use Rattle.tp_law_machine.proofs.LinkLaws.{has_four_links}
+use Rattle.tp_law_network.specs.Turns.{run_of}
+use Rattle.tp_port.specs.FirstTwo.{by_two}
 use Rattle.tp_law_network.proofs.Lines.{first_is}
-use Rattle.tp_law_network.proofs.Local.{step_of, own_node, next_from}
-use Rattle.tp_law_network.proofs.Partial.{map_some, cond_some, slice_get-set_same}
+use Rattle.tp_law_network.proofs.Local.{Step, step_of, own_node, step_own_same, turn_step}
+use Rattle.tp_law_network.proofs.Partial.{map_some, cond_some}
 use Rattle.tp_law_network.proofs.Reorder.{after_one, first_possible}
 use Rattle.tp_replay.proofs.Impossible.{take_behind, take_marker, port_takes_none, steps_fewer}
-use Rattle.tp_replay.proofs.Steps.{node_after, run_step}
 use Rattle.tp_turn.specs.declared.take.TheConstants.{TAKES}
 use Rattle.tp_trial.specs.Tried.{lone_network}
 use Rattle.tp_turn.specs.Turns.{Then, InOrder}
-use Rattle.tp_trial.specs.Turns.{IsLeft, port_there, TookAll, TookBack, TookIn, RanOn, IsTurnOf, AreTurns}
-use Rattle.tp_book.specs.Acts.{run_entries}
+use Rattle.tp_trial.specs.Turns.{IsLeft, port_there, TookAll, TookBack, TookIn, IsNodeTurn, IsTurnOf, AreTurns}
 use Rattle.tp_book.specs.Refusals.{takeable_of, is_full_for}
 use Rattle.tp_trial.specs.Output.{IsOutput}
 
@@ -124,60 +130,120 @@ back_one_way (Some line) s t u xs ys T U = took_one_way line s t u xs ys T U
 in_one_way : (out : ℕ) → OneWay (TookIn out)
 in_one_way out s t u xs ys T U = back_one_way (back s out) s t u xs ys T U
 
--- ## Runs
+-- ## A node's turn
 
--- a run, taken apart
-record RunStep (s t : Network NodeState) (i k : ℕ) : Type 0 where
+-- what was received is known by its tokens
+by_tokens : (one : Received) → by_two (slice_get (received one) 0) (slice_get (received one) 1) ≡ one
+by_tokens Nothing = refl
+by_tokens (JustData byte) = refl
+by_tokens JustAck = refl
+by_tokens (DataThenAck byte) = refl
+by_tokens (AckThenData byte) = refl
+
+same_received : (one other : Received) → received one ≡ received other → one ≡ other
+same_received one other same = sym (by_tokens one) ∙ ap (λ ts. by_two (slice_get ts 0) (slice_get ts 1)) same ∙ by_tokens other
+
+-- a turn, taken apart
+record TurnApart (s t : Network NodeState) (i : ℕ) (takes : List Received) (count : ℕ) : Type 0 where
   node : NodeState
   there : slice_get s.nodes i ≡ Some node
+  ahead : NodeState × List (ℕ × Token)
+  took : took_all t414 (by_link 0 takes) node ≡ Some ahead
   behind : NodeState × List (ℕ × Token)
-  ran : steps t414 k node ≡ Some behind
+  ran : steps t414 count ahead.0 ≡ Some behind
   stands : slice_get t.nodes i ≡ Some behind.0
 
-run_apart : (s : Network NodeState) (i k : ℕ) (t : Network NodeState) → next t414 s (Run i k) ≡ Some t → RunStep s t i k
-unfolding process does
-run_apart s i k t h = let S = step_of t414 s (Run i k) t h in go S.was S.own_was (S.now, S.sends) S.change
-  where
-    go : (was : Own NodeState) → own s i ≡ Some was → (r : Own NodeState × List (ℕ × Token)) → does t414 s.wires (length s.nodes) (Run i k) was ≡ Some r → RunStep s t i k
-    go (OfHost ports) o r e = cc
-    go (OfNode n) o r e =
-        let C = cond_some (nat_lt 0 k && nat_le k MAX_STEPS) (option_map (of_node i) (steps t414 k n)) r e in
-        let Q = map_some (of_node i) (steps t414 k n) r C.1 in
-        let both = and_parts (nat_lt 0 k) (nat_le k MAX_STEPS) C.0 in
-        let at = (own_node s i n o).1 in
-        let made = run_step s i k n Q.0.0 Q.0.1 at (ltb-true 0 k both.0) (leb-true k MAX_STEPS both.1) Q.1 in
-        let is : node_after s s.lines i Q.0.0 Q.0.1 ≡ t = let one = next_from t414 s (Run i k) (node_after s s.lines i Q.0.0 Q.0.1) made.step in cc (one, h) in
-        record { node = n; there = at; behind = Q.0; ran = Q.1; stands = ap (λ x. slice_get x.nodes i) (sym is) ∙ slice_get-set_same s.nodes i Q.0.0 n at }
+-- what the entry leaves of its node
+left_node : (s t : Network NodeState) (e : Entry) (i : ℕ) (S : Step t414 s e t) → process s.wires (length s.nodes) e ≡ i → (n : NodeState) (sent : List (ℕ × Token)) → of_node i (n, sent) ≡ (S.now, S.sends) → slice_get t.nodes i ≡ Some n
+left_node s t e i S mine n sent is =
+    let now : OfNode n ≡ S.now = ap (λ (r : Own NodeState × List (ℕ × Token)). r.0) is in
+    (own_node t i n (ap (own t) (sym mine) ∙ step_own_same t414 has_four_links s e t S ∙ ap Some (sym now))).1
 
--- the entry of a run of some steps
-run_leads : (s t : Network NodeState) (i k : ℕ) (xs : List Entry) → xs ≡ run_entries i k → after t414 s xs ≡ Some t → 0 < k → next t414 s (Run i k) ≡ Some t
-run_leads s t i k xs are leads some =
-    let is : xs ≡ Run i k ∷ [] = are ∙ ap (λ test. cond test [] (Run i k ∷ [])) (ne_eqb k 0 (λ none. omega (arith, some, none))) in
-    sym (after_one t414 s (Run i k)) ∙ ap (after t414 s) (sym is) ∙ leads
+no_tokens : (ms : List (ℕ × Token)) → nat_lt 0 (length ms) ≡ false → ms ≡ []
+no_tokens [] h = refl
+no_tokens (m ∷ ms) h = let none = ltb-false 0 (length (m ∷ ms)) h in absurd (omega (arith, none))
 
--- of two runs neither is shorter
-no_shorter : (quantum i : ℕ) (s t u : Network NodeState) (xs ys : List Entry) (R : RanOn quantum i s xs t) (Q : RanOn quantum i s ys u) → R.count < Q.count → ⊥
-unfolding steps after
-no_shorter quantum i s t u xs ys R Q less =
-    let B = run_apart s i Q.count u (run_leads s u i Q.count ys Q.are Q.leads (omega (arith, less))) in
-    let none = R.all (omega (arith, less, Q.few)) in
-    elim (cases_eq R.count 0) [
-      | inl empty ↦
-          let xs_are : xs ≡ [] = R.are ∙ ap (λ test. cond test [] (Run i R.count ∷ [])) (eq-eqb R.count 0 empty) in
-          let is : Some s ≡ Some t = ap (after t414 s) (sym xs_are) ∙ R.leads in
-          let same : s ≡ t = cc in
-          let node : R.now ≡ B.node = let at = ap (λ x. slice_get x.nodes i) same in cc (at, B.there, R.there) in
-          not_both (steps t414 Q.count B.node) B.behind (steps_fewer t414 0 Q.count B.node (B.node, []) refl (rw (← node) none) (omega (arith, less, empty))) B.ran
-      | inr some ↦
-          let A = run_apart s i R.count t (run_leads s t i R.count xs R.are R.leads (omega (arith, some))) in
-          let before : A.node ≡ B.node = cc (A.there, B.there) in
-          let now : A.behind.0 ≡ R.now = cc (A.stands, R.there) in
-          let ran : steps t414 R.count B.node ≡ Some A.behind = ap (steps t414 R.count) (sym before) ∙ A.ran in
-          not_both (steps t414 Q.count B.node) B.behind (steps_fewer t414 R.count Q.count B.node A.behind ran (rw now none) less) B.ran
-    ]
+module _ (s t : Network NodeState) (i : ℕ) (takes : List Received) where
+  run_apart : (k : ℕ) → by_link 0 takes ≡ [] → next t414 s (Run i k) ≡ Some t → TurnApart s t i takes k
+  unfolding process does took_all
+  run_apart k none h = let S = step_of t414 s (Run i k) t h in go S S.was S.own_was S.change
+    where
+      go : (S : Step t414 s (Run i k) t) (was : Own NodeState) → own s i ≡ Some was → does t414 s.wires (length s.nodes) (Run i k) was ≡ Some (S.now, S.sends) → TurnApart s t i takes k
+      go S (OfHost ports) o e = cc
+      go S (OfNode n) o e =
+          let C = cond_some (nat_lt 0 k && nat_le k MAX_STEPS) (option_map (of_node i) (steps t414 k n)) (S.now, S.sends) e in
+          let Q = map_some (of_node i) (steps t414 k n) (S.now, S.sends) C.1 in
+          record {
+            node = n;
+            there = (own_node s i n o).1;
+            ahead = (n, []);
+            took = ap (λ ms. took_all t414 ms n) none;
+            behind = Q.0;
+            ran = Q.1;
+            stands = left_node s t (Run i k) i S refl Q.0.0 Q.0.1 Q.2;
+          }
 
-run_one_way : (quantum i : ℕ) → OneWay (RanOn quantum i)
-run_one_way quantum i s t u xs ys R Q =
+  taking_apart : (k : ℕ) → next t414 s (Turn i takes k) ≡ Some t → TurnApart s t i takes k
+  unfolding process
+  taking_apart k h = let S = step_of t414 s (Turn i takes k) t h in go S S.was S.own_was S.change
+    where
+      go : (S : Step t414 s (Turn i takes k) t) (was : Own NodeState) → own s i ≡ Some was → does t414 s.wires (length s.nodes) (Turn i takes k) was ≡ Some (S.now, S.sends) → TurnApart s t i takes k
+      unfolding does
+      go S (OfHost ports) o e = cc
+      go S (OfNode n) o e =
+          let T = turn_step t414 s.wires (length s.nodes) i takes k n (S.now, S.sends) e in
+          record {
+            node = n;
+            there = (own_node s i n o).1;
+            ahead = T.taken_all;
+            took = T.takes_all;
+            behind = T.run;
+            ran = T.runs;
+            stands = left_node s t (Turn i takes k) i S refl T.run.0 (T.taken_all.1 ++ T.run.1) T.is;
+          }
+
+  rest_apart : by_link 0 takes ≡ [] → s ≡ t → (now : NodeState) → slice_get t.nodes i ≡ Some now → TurnApart s t i takes 0
+  unfolding took_all steps
+  rest_apart none same now there = record {
+    node = now;
+    there = ap (λ x. slice_get x.nodes i) same ∙ there;
+    ahead = (now, []);
+    took = ap (λ ms. took_all t414 ms now) none;
+    behind = (now, []);
+    ran = refl;
+    stands = there;
+  }
+
+  turn_apart : (count : ℕ) → after t414 s (turn_entries i takes count) ≡ Some t → (now : NodeState) → slice_get t.nodes i ≡ Some now → TurnApart s t i takes count
+  unfolding after
+  turn_apart count leads now there = go (nat_lt 0 (length (by_link 0 takes))) refl count leads
+    where
+      go : (some : Bool) → nat_lt 0 (length (by_link 0 takes)) ≡ some → (k : ℕ) → after t414 s (cond some (Turn i takes k ∷ []) (run_of i k)) ≡ Some t → TurnApart s t i takes k
+      go true some k h = taking_apart k (sym (after_one t414 s (Turn i takes k)) ∙ h)
+      go false none zero h = let same : s ≡ t = cc in rest_apart (no_tokens (by_link 0 takes) none) same now there
+      go false none (suc k) h = run_apart (suc k) (no_tokens (by_link 0 takes) none) (sym (after_one t414 s (Run i (suc k))) ∙ h)
+
+module _ (quantum i : ℕ) (s t u : Network NodeState) (xs ys : List Entry) (R : IsNodeTurn quantum i s xs t) (Q : IsNodeTurn quantum i s ys u) where
+  takes_same : R.takes ≡ Q.takes
+  takes_same = ext_get_or Nothing R.takes Q.takes (R.four ∙ sym Q.four) (λ link below.
+    let four : link < 4 = omega (arith, below, R.four) in
+    same_received (get_or R.takes link Nothing) (get_or Q.takes link Nothing) (R.whole link four ∙ sym (Q.whole link four)))
+
+  -- of two turns neither is shorter
+  no_shorter : R.count < Q.count → ⊥
+  no_shorter less =
+      let A = turn_apart s t i R.takes R.count (ap (after t414 s) (sym R.are) ∙ R.leads) R.now R.there in
+      let B = turn_apart s u i Q.takes Q.count (ap (after t414 s) (sym Q.are) ∙ Q.leads) Q.now Q.there in
+      let node : A.node ≡ B.node = cc (A.there, B.there) in
+      let took : took_all t414 (by_link 0 R.takes) A.node ≡ took_all t414 (by_link 0 Q.takes) B.node = ap (λ takes. took_all t414 (by_link 0 takes) A.node) takes_same ∙ ap (took_all t414 (by_link 0 Q.takes)) node in
+      let ahead : A.ahead ≡ B.ahead = let both : Some A.ahead ≡ Some B.ahead = sym A.took ∙ took ∙ B.took in cc in
+      let ran : steps t414 R.count B.ahead.0 ≡ Some A.behind = ap (λ (x : NodeState × List (ℕ × Token)). steps t414 R.count x.0) (sym ahead) ∙ A.ran in
+      let now : A.behind.0 ≡ R.now = cc (A.stands, R.there) in
+      let none = R.all (omega (arith, less, Q.few)) in
+      not_both (steps t414 Q.count B.ahead.0) B.behind (steps_fewer t414 R.count Q.count B.ahead.0 A.behind ran (rw now none) less) B.ran
+
+node_one_way : (quantum i : ℕ) → OneWay (IsNodeTurn quantum i)
+node_one_way quantum i s t u xs ys R Q =
     let count : R.count ≡ Q.count = elim (cases_lt R.count Q.count) [
       | inl less ↦ absurd (no_shorter quantum i s t u xs ys R Q less)
       | inr more ↦ elim (cases_eq R.count Q.count) [
@@ -185,7 +251,7 @@ run_one_way quantum i s t u xs ys R Q =
         | inr other ↦ absurd (no_shorter quantum i s u t ys xs Q R (omega (arith, more, other)))
       ]
     ] in
-    let same : xs ≡ ys = R.are ∙ ap (run_entries i) count ∙ sym Q.are in
+    let same : xs ≡ ys = R.are ∙ ap (λ takes. turn_entries i takes R.count) (takes_same quantum i s t u xs ys R Q) ∙ ap (turn_entries i Q.takes) count ∙ sym Q.are in
     (same, same_end s t u xs ys same R.leads Q.leads)
 
 -- ## Acts in order
@@ -202,8 +268,7 @@ order_one_way act each zero s t u xs ys D E = (D.0 ∙ sym E.0, D.1 ∙ sym E.1)
 order_one_way act each (suc n) s t u xs ys D E = then_one_way (InOrder act n) (act n) (order_one_way act each n) (each n) s t u xs ys D E
 
 turn_one_way : (quantum : ℕ) (of_node : Bool) → OneWay (IsTurnOf quantum of_node)
-turn_one_way quantum true s t u xs ys D E =
-    then_one_way (InOrder (λ k. TookIn (4 * 0 + k)) 4) (RanOn quantum 0) (order_one_way (λ k. TookIn (4 * 0 + k)) (λ k. in_one_way (4 * 0 + k)) 4) (run_one_way quantum 0) s t u xs ys D E
+turn_one_way quantum true s t u xs ys D E = node_one_way quantum 0 s t u xs ys D E
 turn_one_way quantum false s t u xs ys D E =
     order_one_way (λ p. TookIn (4 * length s.nodes + p)) (λ p. in_one_way (4 * length s.nodes + p)) (length s.ports) s t u xs ys D E
 

@@ -8,7 +8,7 @@ use Rattle.tp_book.specs.declared.refusal.Refusal.{Refusal}
 use Rattle.tp_book.specs.declared.refusal.Refusal.TheVariants.{Memory}
 use Rattle.tp_turn.specs.Hosted.{HostDone, HostTurns}
 use Rattle.tp_turn.specs.Moments.{Done, IsNodeOf, moment}
-use Rattle.tp_turn.specs.Stages.{TurnsAs}
+use Rattle.tp_turn.specs.Whole.{TurnsWhole}
 use Rattle.tp_turn.specs.declared.stages.Turn.{Turn}
 use Rattle.tp_turn.proofs.Hosting.{nodes_stay}
 use Rattle.tp_trial.specs.Lone.{IsLone, Went}
@@ -22,14 +22,14 @@ module _ (a : Lone) (L : IsLone a) (left : next_number a.book + TURN_ENTRIES + 1
   calm : IsCalm (moment a.book a.node)
   calm = record { book = L.book; thawed = L.thawed }
 
-  pub node_went : (quantum : ℕ) (turn : Turn) (book : BookValue) (node : NodeContents) → Done 0 (TurnsAs 0 quantum (Ok turn)) (moment a.book a.node) (moment book node) → IsNodeOf book 0 node
+  pub node_went : (quantum : ℕ) (turn : Turn) (book : BookValue) (node : NodeContents) → Done 0 (TurnsWhole 0 quantum (Ok turn)) (moment a.book a.node) (moment book node) → IsNodeOf book 0 node
       → Went (IsNodeTurn quantum 0) TURN_ENTRIES a (record { book = book; node = node })
   node_went quantum turn book node D is =
-      let T = node_turned quantum turn (moment a.book a.node) (moment book node) D.acts calm left D.did is.there in
+      let T = node_turned quantum turn (moment a.book a.node) (moment book node) D.acts calm D.did is.there in
       record { made = T.1; lone = record { book = T.0.book; node = is; thawed = T.0.thawed } }
 
-  pub node_wants : (quantum : ℕ) (e : Refusal) (book : BookValue) (node : NodeContents) → Done 0 (TurnsAs 0 quantum (Err e)) (moment a.book a.node) (moment book node) → e ≡ Memory
-  node_wants quantum e book node D = node_refused e (moment a.book a.node) (moment book node) D.acts calm left (D.added.grew.broken ∙ L.book.whole) D.did
+  pub node_wants : (quantum : ℕ) (e : Refusal) (book : BookValue) (node : NodeContents) → Done 0 (TurnsWhole 0 quantum (Err e)) (moment a.book a.node) (moment book node) → e ≡ Memory
+  node_wants quantum e book node D = node_refused quantum e (moment a.book a.node) (moment book node) D.acts calm left D.did
 
   pub host_went : (takes : ℕ) (book : BookValue) → HostDone (HostTurns (Ok takes)) a.book book → Went IsHostTurn TURN_ENTRIES a (record a { book = book })
   host_went takes book D =

@@ -1,6 +1,7 @@
 -- A node with the book of its network, and what turns do to them.
 use Rattle.std.specs.Prelude.{◌≡◌, ◌≤◌, ℕ, ◌+◌, false, List, [], ◌∷◌, length, Some, None, slice_get}
 use Rattle.tp_model.specs.declared.entry.Entry.{Entry}
+use Rattle.tp_model.specs.declared.form.Form.TheVariants.{Turns}
 use Rattle.tp_model.specs.NodeState.{NodeState}
 use Rattle.tp_model.specs.Network.{Network, Port}
 use Rattle.tp_node.specs.Standing.{standing}
@@ -22,7 +23,8 @@ value_of b = record { network = network_now b; entries = next_number b }
 abbrev pub lone_of : Lone → LoneValue
 lone_of t = value_of t.book
 
--- A book of one node and one port: it has no device, no snapshot runs, nothing is reserved or made ready, and its store isn't broken.
+-- A book of one node and one port: it has no device, so it may hold every entry; no snapshot runs, nothing is reserved or made ready, and
+-- its store isn't broken.
 pub record IsLoneBook (b : BookValue) : Type 0 where
   pub alone : b.room ≡ None
   pub idle : b.state.snapshot ≡ None
@@ -32,6 +34,7 @@ pub record IsLoneBook (b : BookValue) : Type 0 where
   pub nodes : length b.state.start.nodes ≡ 1
   pub many : length (agreed b.state) ≡ 1
   pub ports : length b.state.ports ≡ 1
+  pub form : b.form ≡ Turns
 
 -- The node is the one that the book's entries make of it, and it isn't frozen.
 pub record IsLone (t : Lone) : Type 0 where

@@ -3,6 +3,8 @@
 use Rattle.std.specs.Prelude.{◌≡◌, ◌<◌, ◌≤◌, ◌⊎◌, ℕ, ◌+◌, ◌*◌, ◌%◌, ◌==◌, Bool, true, false, List, [], map, length, get_or, Option, Some, None, slice_get}
 use Rattle.tp_model.specs.declared.link.Token.{Token}
 use Rattle.tp_model.specs.declared.link.Token.TheVariants.{Marker}
+use Rattle.tp_model.specs.declared.link.Received.{Received}
+use Rattle.tp_model.specs.declared.link.Received.TheVariants.{Nothing}
 use Rattle.tp_model.specs.declared.wire.WireEnd.{WireEnd}
 use Rattle.tp_model.specs.declared.wire.WireEnd.TheVariants.{Link, Port as AtPort}
 use Rattle.tp_model.specs.declared.entry.Entry.{Entry}
@@ -10,8 +12,10 @@ use Rattle.tp_model.specs.declared.entry.Entry.TheVariants.{Take}
 use Rattle.tp_model.specs.NodeState.{NodeState}
 use Rattle.tp_model.specs.Node.{node_step, t414}
 use Rattle.tp_model.specs.Network.{Network, Port, receiver, back, on_line}
+use Rattle.tp_model.specs.Markers.{before}
 use Rattle.tp_model.specs.Order.{after}
-use Rattle.tp_book.specs.Acts.{run_entries}
+use Rattle.tp_model.specs.Turn.{received}
+use Rattle.tp_law_cuts.specs.Reserved.{turn_entries}
 use Rattle.tp_book.specs.Refusals.{takeable_of, is_full_for}
 use Rattle.tp_turn.specs.Turns.{Then, InOrder}
 use Rattle.tp_turn.specs.declared.take.TheConstants.{TAKES}
@@ -54,23 +58,26 @@ TookBack (Some line) s entries t = TookAll line s entries t
 abbrev pub TookIn : ℕ → Network NodeState → List Entry → Network NodeState → Type 0
 TookIn out s entries t = TookBack (back s out) s entries t
 
--- ## Runs
+-- ## Turns
 
--- A node ran for `quantum` steps, or for fewer, after which it has no step.
-pub record RanOn (quantum node : ℕ) (s : Network NodeState) (entries : List Entry) (t : Network NodeState) : Type 0 where
+-- what stands on the line that comes back on a wire, in front of its first Marker; without a wire nothing
+abbrev pub standing_on : Network NodeState → Option ℕ → List Token
+standing_on s None = []
+standing_on s (Some line) = before (on_line s.lines line)
+
+-- A node's turn: it took all that stood on its lines, and ran for `quantum` steps, or for fewer, after which it has no step. That is one
+-- entry: a Run where nothing stood there; none without a step, either.
+pub record IsNodeTurn (quantum node : ℕ) (s : Network NodeState) (entries : List Entry) (t : Network NodeState) : Type 0 where
+  pub takes : List Received
+  pub four : length takes ≡ 4
+  pub whole : (link : ℕ) → link < 4 → received (get_or takes link Nothing) ≡ standing_on s (back s (4 * node + link))
   pub count : ℕ
   pub few : count ≤ quantum
-  pub are : entries ≡ run_entries node count
+  pub are : entries ≡ turn_entries node takes count
   pub leads : after t414 s entries ≡ Some t
   pub now : NodeState
   pub there : slice_get t.nodes node ≡ Some now
   pub all : count < quantum → node_step now ≡ None
-
--- ## Turns
-
--- a node's turn: takes on its links 0 to 3 in order, and then a run
-abbrev pub IsNodeTurn : ℕ → ℕ → Network NodeState → List Entry → Network NodeState → Type 0
-IsNodeTurn quantum node = Then (InOrder (λ k. TookIn (4 * node + k)) 4) (RanOn quantum node)
 
 -- the host's turn: takes at each of its ports in order
 abbrev pub IsHostTurn : Network NodeState → List Entry → Network NodeState → Type 0

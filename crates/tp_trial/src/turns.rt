@@ -10,7 +10,7 @@ use crate::image::TryFault;
 use crate::lone::Lone;
 use tp_book::Refusal;
 use tp_model::limits::{MAX_STEPS, NUMBER_LIMIT};
-use tp_turn::{TURN_ENTRIES, host_turn, node_turn};
+use tp_turn::{TURN_ENTRIES, host_turn, whole_turn};
 
 impl Lone {
     /// A turn of the node, as workers make it.
@@ -20,7 +20,7 @@ impl Lone {
         requires few { next_number self.old.book + TURN_ENTRIES + 1 < NUMBER_LIMIT }
         ensures { MatchResult result (λ done. Went (IsNodeTurn quantum 0) TURN_ENTRIES self.old self.new) (λ fault. fault ≡ Memory) }
     {
-        match node_turn(&mut self.book, &mut self.node, 0, quantum) {
+        match whole_turn(&mut self.book, &mut self.node, 0, quantum) {
             Ok(_turn) => Ok(()),
             Err(Refusal::Memory) => Err(TryFault::Memory),
             Err(_) => unreachable!(),

@@ -129,7 +129,7 @@ module _ (b new : BookValue) (line number : ℕ) (n : NodeContents) (is : new �
   closed_nodes : agreed new.state ≡ agreed b.state
   closed_nodes = ap (λ x. agreed x.state) is ∙ close_agreed b line
 
-  closed_added : happens t414 (world_of b) (Close line) ≡ Some (world_of new) → Added number n.live (Close line ∷ []) b new
+  pub closed_added : happens t414 (world_of b) (Close line) ≡ Some (world_of new) → Added number n.live (Close line ∷ []) b new
   closed_added act = record {
     did = one_act (world_of b) (world_of new) (Close line) act;
     grew = subst (Grew [] b) (sym is)

@@ -1,4 +1,11 @@
 pub mod Possible
+pub mod Placing
+pub mod Answering
+pub mod Standing
+pub mod Ahead
+pub mod Entering
+pub mod Marking
+pub mod Wholes
 pub mod Leads
 pub mod Grown
 pub mod Adding

@@ -1,14 +1,15 @@
 -- In a sound network a node can take what stands in front of a line that leads to it.
-use Rattle.std.proofs.Common.{◌≡◌, ℕ, ◌+◌, ◌*◌, ◌%◌, ◌<◌, ◌≤◌, false, List, ◌∷◌, length, refl, sym, ap, ◌∙◌, arith, Some, slice_get}
+use Rattle.std.proofs.Common.{◌≡◌, ℕ, ◌+◌, ◌*◌, ◌%◌, ◌<◌, ◌≤◌, false, List, [], ◌∷◌, length, map, refl, sym, ap, subst, ◌∙◌, arith, Some, slice_get}
 use Rattle.std.specs.Prelude.{IsSome}
 use Rattle.std.specs.Option.{option_map}
+use Rattle.std.proofs.lemmas.List.{length-map}
 use Rattle.tp_model.specs.Word.{bit}
 use Rattle.tp_model.specs.Image.{IsNode}
 use Rattle.tp_model.specs.NodeState.{NodeState}
 use Rattle.tp_model.specs.Node.{took, waits, holds, t414_ends}
-use Rattle.tp_model.specs.Network.{Network, OfNode, own, receiver, back, line_of, on_line}
+use Rattle.tp_model.specs.Network.{Network, OfNode, own, receiver, back, is_wired, line_of, on_line}
 use Rattle.tp_model.specs.Sound.{owner, datas, acks, end_waits, end_holds}
-use Rattle.tp_model.specs.Markers.{is_marker, plain_network}
+use Rattle.tp_model.specs.Markers.{before, is_marker, plain, plain_network}
 use Rattle.tp_model.specs.Halves.{BookState, live}
 use Rattle.tp_model.specs.declared.link.Token.{Token}
 use Rattle.tp_model.specs.declared.link.Token.TheVariants.{Data, Ack, Marker}
@@ -23,6 +24,19 @@ use Rattle.tp_law_network.proofs.Room.{on_line-plain, datas-plain, acks-plain}
 use Rattle.tp_law_network.proofs.Sound.{end_waits_is, end_holds_is}
 use Rattle.tp_book.specs.Book.{agreed}
 use Rattle.tp_book.specs.Kept.{Keeps}
+
+-- what stands in front of the first Marker is part of it
+datas_before : (ts : List Token) → datas (before ts) ≤ datas ts
+datas_before [] = omega arith
+datas_before (Data byte ∷ ts) = omega (arith, datas_before ts)
+datas_before (Ack ∷ ts) = omega (arith, datas_before ts)
+datas_before (Marker ∷ ts) = omega arith
+
+acks_before : (ts : List Token) → acks (before ts) ≤ acks ts
+acks_before [] = omega arith
+acks_before (Data byte ∷ ts) = omega (arith, acks_before ts)
+acks_before (Ack ∷ ts) = omega (arith, acks_before ts)
+acks_before (Marker ∷ ts) = omega arith
 
 module _ (b : BookState NodeState) (K : Keeps b) (line number link : ℕ) (node : NodeState) (goes : receiver b.start.wires line ≡ Some (Link number link)) (there : slice_get (agreed b) number ≡ Some node) where
   abbrev s : Network NodeState
@@ -68,6 +82,18 @@ module _ (b : BookState NodeState) (K : Keeps b) (line number link : ℕ) (node 
       takes_ack node link N inside.1 (sym waits_is ∙ bit_some (end_waits t414_ends s (4 * number + link)) some)
   can_take Marker rest N front plainly = cc
 
+  -- of what stands in front of the first Marker, there is at most one Data, and none beside one that the node holds; and an Ack only where
+  -- the node waits
+  pub datas_front : datas (before (on_line b.lines line)) + bit (holds node link) ≤ 1
+  datas_front =
+      let flight = K.sound.flight line (4 * number + link) comes_back in
+      omega (arith, flight, datas_here, ap bit holds_is, datas_before (on_line b.lines line), bit_small (end_waits t414_ends s line))
+
+  pub acks_front : acks (before (on_line b.lines line)) ≤ bit (waits node link)
+  acks_front =
+      let flight = K.sound.flight (4 * number + link) line (K.sound.wires.both_ways line (4 * number + link) comes_back) in
+      omega (arith, flight, acks_here, ap bit waits_is, acks_before (on_line b.lines line))
+
 -- the line that comes back to a link leads to it
 pub comes_in : (b : BookState NodeState) (K : Keeps b) (number link line : ℕ) → number < length (agreed b) → link < 4
     → option_map (line_of (length (agreed b))) (receiver b.start.wires (4 * number + link)) ≡ Some line → receiver b.start.wires line ≡ Some (Link number link)
@@ -97,3 +123,9 @@ comes_to b K port line to =
         let inside = K.sound.wires.links line i k at in
         absurd (omega (arith, inside.0, inside.1, is))
     same (AtPort p) at is = let one : p ≡ port = omega (arith, is) in ap AtPort one
+
+-- a wired line is there
+pub line_within : (b : BookState NodeState) → Keeps b → (line : ℕ) (end : WireEnd) → receiver b.start.wires line ≡ Some end → line < length b.lines
+line_within b K line end goes =
+    let below : line < length (map plain b.lines) = K.sound.there line (ap is_wired goes) in
+    subst (λ n. line < n) (length-map {B = List Token} b.lines plain) below

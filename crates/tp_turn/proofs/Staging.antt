@@ -98,7 +98,7 @@ set_twice [] i x y e = cc
 set_twice (z ∷ xs) zero x y e = let same : z ≡ x = cc in ap (λ w. w ∷ xs) (sym same)
 set_twice (z ∷ xs) (suc i) x y e = ap (λ ws. z ∷ ws) (set_twice xs i x y e)
 
-freed : (b : BookValue) (number : ℕ) → slice_get b.runs number ≡ Some false → without_run (with_run b number) number ≡ b
+pub freed : (b : BookValue) (number : ℕ) → slice_get b.runs number ≡ Some false → without_run (with_run b number) number ≡ b
 freed b number free = ap (λ runs. record b { runs = runs }) (set_twice b.runs number false true free)
 
 pub turn_done : (number takes quantum : ℕ) (ran : RunEnd) (s o t : Moment) → slice_get s.book.runs number ≡ Some false → IsOpen number takes s o → Added number t.node.live (run_acts number ran.count) (without_run o.book number) t.book

@@ -6,3 +6,5 @@ pub mod Settled
 pub mod Stages
 pub mod Hosted
 pub mod Over
+pub mod Receiving
+pub mod Whole

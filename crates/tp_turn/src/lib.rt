@@ -1,18 +1,23 @@
 //! Turns of a network, over a book and a node that are lent: a node records, takes what came in and runs; the host takes what
-//! came to its ports.
+//! came to its ports. A node's turn is an entry for each token that it takes and one for its run, or one entry in all.
 #![tactic(auto)]
 
 mod front;
 mod left;
+mod markers;
 mod over;
 mod ports;
+mod receiving;
 mod settling;
 mod stages;
 mod take;
+mod whole;
 
 pub use left::Left;
 pub use over::close_all;
 pub use ports::host_turn;
+pub use receiving::Taken;
 pub use settling::{record_asked, settle};
 pub use stages::{Stretch, Turn, commit_turn, node_turn, open_turn, run_node};
 pub use take::{TAKES, TURN_ENTRIES};
+pub use whole::{commit_whole, open_whole, whole_turn};

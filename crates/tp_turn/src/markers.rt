@@ -1,0 +1,45 @@
+//! Lines that are closed at the Markers in front of them.
+
+ghost use Rattle.std.specs.Prelude.{◌≡◌, ◌<◌};
+ghost use Rattle.tp_turn.specs.Moments.{IsNodeOf, Done, moment};
+ghost use Rattle.tp_turn.specs.Whole.{ClosesFront, Closes};
+
+use crate::settling::record_asked;
+use tp_book::Book;
+use tp_net::line_of;
+use tp_node::Node;
+
+/// Closes the line that comes in on a link, where a Marker stands in front of it and the node has recorded. What stands behind the
+/// Marker stays on the line.
+fn close_front(book: &mut Book, node: &Node, number: u8, link: u8)
+    requires link { link < 4 }
+    requires is { IsNodeOf book.old number node.now }
+    ensures done { Done number (ClosesFront number link) (moment book.old node.now) (moment book.new node.now) }
+    ensures is { IsNodeOf book.new number node.now }
+{
+    let _node = node;
+    book.known();
+    if !book.recorded(number as usize) {
+        return;
+    }
+    let Some(end) = book.receiver(4 * number as u16 + link as u16) else {
+        return;
+    };
+    let line = line_of(book.nodes(), end) as u16;
+    if book.marker_ready(line) {
+        book.close_line(line);
+    }
+}
+
+/// A node records where it is asked to. Then, on links 0 to 3 in order, the line that comes in is closed, where a Marker stands in front
+/// of it and the node has recorded. Nothing is taken, and nothing runs.
+pub(crate) fn answer_markers(book: &mut Book, node: &mut Node, number: u8)
+    requires is { IsNodeOf book.old number node.old }
+    ensures done { Done number (Closes number) (moment book.old node.old) (moment book.new node.new) }
+    ensures is { IsNodeOf book.new number node.new }
+{
+    record_asked(book, node, number);
+    for link in 0..4 {
+        close_front(book, node, number, link);
+    }
+}

@@ -1,0 +1,141 @@
+//! What a node receives for a turn that is one entry. The tokens stay on their lines until the entry is journalled.
+
+ghost use Rattle.std.specs.Prelude.{◌≡◌, ◌<◌, ◌≤◌, ◌+◌, IsSome, Some, length};
+ghost use Rattle.tp_law_machine.specs.NodeOfBytes.{IsNodeOfBytes};
+ghost use Rattle.tp_model.specs.Node.{took};
+ghost use Rattle.tp_model.specs.Turn.{received};
+ghost use Rattle.tp_book.specs.Book.{node_count};
+ghost use Rattle.tp_turn.specs.Moments.{IsNodeOf};
+ghost use Rattle.tp_turn.specs.Receiving.{Answered, HasPlace, IsAhead, Receives, ReceivesOf, TakesOrLacks, offered, offered_on};
+
+use arrayvec::ArrayVec;
+use tp_book::Book;
+use tp_law_machine::carries_byte;
+use tp_model::{Received, Token};
+use tp_net::line_of;
+use tp_node::Node;
+
+/// What a node received, by link, and what it answered, each token with its link.
+#[derive(Drop)]
+pub struct Taken {
+    pub takes: [Received; 4],
+    pub sent: ArrayVec<(u8, Token), 8>,
+}
+
+/// Has a node take a token. What it answers goes behind `sent`. Answers whether it took it: memory may have no frame for it.
+fn take_one(node: &mut Node, link: u8, token: Token, sent: &mut ArrayVec<(u8, Token), 8>) -> bool
+    requires possible { IsSome (took node.old.live link token) }
+    requires image { IsNodeOfBytes node.old.live }
+    requires room { length sent.old.items < 8 }
+    ensures did { TakesOrLacks link token result node.old sent.old.items node.new sent.new.items }
+    ensures image { IsNodeOfBytes node.new.live }
+    ensures few { length sent.new.items ≤ length sent.old.items + 1 }
+{
+    carries_byte(token);
+    match node.take(link, token) {
+        Ok(Some(answer)) => {
+            sent.push((link, answer));
+            true
+        }
+        Ok(None) => true,
+        Err(_) => false,
+    }
+}
+
+/// Has a node take what stands there for it on a link, in order. Answers what it took: all, or what is in front of a token for which memory
+/// has no frame.
+fn take_each(
+    node: &mut Node,
+    link: u8,
+    there: Received,
+    sent: &mut ArrayVec<(u8, Token), 8>,
+) -> Received
+    requires link { link < 4 }
+    requires place { HasPlace link (received there) node.old.live }
+    requires image { IsNodeOfBytes node.old.live }
+    requires room { length sent.old.items ≤ 6 }
+    ensures did { Answered (ReceivesOf link (received there) result) node.old sent.old.items node.new sent.new.items }
+    ensures image { IsNodeOfBytes node.new.live }
+    ensures few { length sent.new.items ≤ length sent.old.items + 2 }
+{
+    match there {
+        Received::Nothing => Received::Nothing,
+        Received::JustData(byte) => {
+            if take_one(node, link, Token::Data(byte), sent) {
+                there
+            } else {
+                Received::Nothing
+            }
+        }
+        Received::JustAck => {
+            if take_one(node, link, Token::Ack, sent) {
+                there
+            } else {
+                Received::Nothing
+            }
+        }
+        Received::DataThenAck(byte) => {
+            if !take_one(node, link, Token::Data(byte), sent) {
+                Received::Nothing
+            } else if !take_one(node, link, Token::Ack, sent) {
+                Received::JustData(byte)
+            } else {
+                there
+            }
+        }
+        Received::AckThenData(byte) => {
+            if !take_one(node, link, Token::Ack, sent) {
+                Received::Nothing
+            } else if !take_one(node, link, Token::Data(byte), sent) {
+                Received::JustAck
+            } else {
+                there
+            }
+        }
+    }
+}
+
+/// What a line has for its node in a turn: what stands in front of its first Marker. Where not `all` is received, nothing on lines from
+/// which no running snapshot needs what is taken.
+fn offered(book: &Book, line: u16, all: bool) -> Received
+    requires there { line < length book.now.state.lines }
+    ensures { received result ≡ offered book.now all (Some line) }
+{
+    if all || book.needs_take(line) {
+        book.waiting(line)
+    } else {
+        Received::Nothing
+    }
+}
+
+/// What a line has for the node that it leads to on a link; nothing where no line does.
+fn offered_on(book: &Book, number: u8, link: u8, all: bool) -> Received
+    requires number { number < node_count book.now }
+    requires link { link < 4 }
+    ensures { received result ≡ offered_on book.now all number link }
+{
+    book.known();
+    match book.receiver(4 * number as u16 + link as u16) {
+        Some(end) => offered(book, line_of(book.nodes(), end) as u16, all),
+        None => Received::Nothing,
+    }
+}
+
+/// A node receives on links 0 to 3 in order: it takes what stands in front of the line's first Marker, one token after the other, and leaves
+/// a link at a token for which memory has no frame. Where not `all` is received, only on lines from which a running snapshot needs what is
+/// taken. The book stays as it is, so the node is ahead of it.
+pub(crate) fn receive(book: &Book, node: &mut Node, number: u8, all: bool) -> Taken
+    requires is { IsNodeOf book.now number node.old }
+    ensures did { Receives book.now all number result.takes node.old result.sent.items node.new }
+    ensures ahead { IsAhead book.now number result.takes result.sent.items node.new }
+{
+    book.known();
+    let mut sent = ArrayVec::new();
+    let takes = [
+        take_each(node, 0, offered_on(book, number, 0, all), &mut sent),
+        take_each(node, 1, offered_on(book, number, 1, all), &mut sent),
+        take_each(node, 2, offered_on(book, number, 2, all), &mut sent),
+        take_each(node, 3, offered_on(book, number, 3, all), &mut sent),
+    ];
+    Taken { takes, sent }
+}

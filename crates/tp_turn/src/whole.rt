@@ -1,0 +1,145 @@
+//! A node's turn that is one entry, in its stages, so that the book may be let go while the node runs.
+
+ghost use Rattle.std.specs.Prelude.{◌≡◌, ◌++◌, ◌≤◌, ◌+◌, Some, None, true, false, length, slice_get};
+ghost use Rattle.tp_model.specs.declared.form.Form.TheVariants.{Turns};
+ghost use Rattle.tp_model.specs.declared.limits.TheConstants.{MAX_STEPS};
+ghost use Rattle.tp_law_cuts.specs.Reserved.{turn_acts};
+ghost use Rattle.tp_book.specs.Calls.{without_run};
+ghost use Rattle.tp_book.specs.Refusals.{reserve_refusal};
+ghost use Rattle.tp_book.specs.declared.refusal.Refusal.TheVariants.{JournalFull};
+ghost use Rattle.tp_turn.specs.Moments.{IsNodeOf, Added, Done, moment};
+ghost use Rattle.tp_turn.specs.Receiving.{IsAheadBy};
+ghost use Rattle.tp_turn.specs.Whole.{EndsWhole, HasTurnedOn, OpensWhole, TurnsWhole};
+
+use crate::markers::answer_markers;
+use crate::receiving::{Taken, receive};
+use crate::stages::{Stretch, Turn, run_node};
+use arrayvec::ArrayVec;
+use tp_book::{Book, Refusal};
+use tp_model::{Received, Token};
+use tp_node::{Node, Ran};
+use tp_port::tokens_of;
+
+/// Journals a turn for which room was reserved, and in which `node` took `takes`, made `count` steps and sent `tokens` for all of it.
+fn commit(
+    book: &mut Book,
+    node: &Node,
+    number: u8,
+    takes: &[Received; 4],
+    count: u16,
+    tokens: &[(u8, Token)],
+)
+    requires reserved { slice_get book.old.runs number ≡ Some true }
+    requires idle { book.old.ready ≡ None }
+    requires form { book.old.form ≡ Turns }
+    requires turned { HasTurnedOn book.old number takes.now count tokens.now node.now }
+    ensures added { Added number node.now.live (turn_acts number takes.now count) (without_run book.old number) book.new }
+    ensures is { IsNodeOf book.new number node.now }
+{
+    let _node = node;
+    book.known();
+    let _note = book.commit_turn(number, takes, count, tokens);
+}
+
+/// The journal is full for a turn. Where the node has recorded, it receives what the running snapshot needs, for which room is kept, and that
+/// is one entry of no steps; none where there is nothing. Answers why the turn ends.
+fn take_needed(book: &mut Book, node: &mut Node, number: u8) -> Refusal
+    requires free { slice_get book.old.runs number ≡ Some false }
+    requires idle { book.old.ready ≡ None }
+    requires form { book.old.form ≡ Turns }
+    requires full { reserve_refusal book.old ≡ Some JournalFull }
+    requires is { IsNodeOf book.old number node.old }
+    ensures done { Done number (EndsWhole number result) (moment book.old node.old) (moment book.new node.new) }
+    ensures is { IsNodeOf book.new number node.new }
+{
+    if !book.recorded(number as usize) {
+        return Refusal::JournalFull;
+    }
+    match book.reserve_takes(number) {
+        Ok(()) => {
+            let Taken { takes, sent } = receive(book, node, number, false);
+            commit(book, node, number, &takes, 0, sent.as_slice());
+            Refusal::JournalFull
+        }
+        Err(refusal) => refusal,
+    }
+}
+
+/// Opens a node's whole turn: it records where it is asked to, the lines with a Marker in front are closed where it has recorded, a turn of
+/// it is reserved, and it receives what stands in front of its lines. The tokens stay there until the commit. Answers what it received.
+///
+/// Errors: `StoreBroken` and `Memory` where no turn could be reserved, and nothing was received; `JournalFull` where the journal has no room
+/// for a turn: then a node that has recorded received what the running snapshot needs, and that was journalled. What was recorded and closed
+/// before stays, and nothing is reserved. No other comes.
+pub fn open_whole(book: &mut Book, node: &mut Node, number: u8) -> Result<Taken, Refusal>
+    requires free { slice_get book.old.runs number ≡ Some false }
+    requires idle { book.old.ready ≡ None }
+    requires form { book.old.form ≡ Turns }
+    requires is { IsNodeOf book.old number node.old }
+    ensures opens { OpensWhole number result (moment book.old node.old) (moment book.new node.new) }
+    ensures ahead { IsAheadBy result book.new number node.new }
+{
+    answer_markers(book, node, number);
+    match book.reserve_turn(number) {
+        Ok(()) => Ok(receive(book, node, number, true)),
+        Err(Refusal::JournalFull) => Err(take_needed(book, node, number)),
+        Err(refusal) => Err(refusal),
+    }
+}
+
+/// What a node answered to what it took, and then what it sent as it ran.
+fn all_sent(answers: &[(u8, Token)], sent: &[(u8, Token)]) -> ArrayVec<(u8, Token), 16>
+    requires { length answers.now + length sent.now ≤ 16 }
+    ensures { result.items ≡ answers.now ++ sent.now }
+{
+    let mut tokens = ArrayVec::new();
+    let (Ok(()), Ok(())) = (
+        tokens.try_extend_from_slice(answers),
+        tokens.try_extend_from_slice(sent),
+    ) else {
+        unreachable!()
+    };
+    tokens
+}
+
+/// Journals what a node received and ran since its turn was opened: one entry, or none where it took nothing and made no step. The
+/// reservation ends. The book may have changed in between by what others do.
+pub fn commit_whole(book: &mut Book, node: &Node, number: u8, taken: Taken, stretch: Stretch) -> Ran
+    requires reserved { slice_get book.old.runs number ≡ Some true }
+    requires idle { book.old.ready ≡ None }
+    requires form { book.old.form ≡ Turns }
+    requires turned { HasTurnedOn book.old number taken.takes stretch.ran.count (taken.sent.items ++ stretch.sent.items) node.now }
+    ensures ran { result ≡ stretch.ran }
+    ensures added { Added number node.now.live (turn_acts number taken.takes stretch.ran.count) (without_run book.old number) book.new }
+    ensures is { IsNodeOf book.new number node.now }
+{
+    let Taken { takes, sent } = taken;
+    let Stretch { ran, sent: more } = stretch;
+    let tokens = all_sent(sent.as_slice(), more.as_slice());
+    commit(book, node, number, &takes, ran.count(), tokens.as_slice());
+    ran
+}
+
+/// A node's whole turn: it is opened, the node runs for at most `quantum` steps, and what it took and ran is journalled as one entry.
+///
+/// Errors: those of `open_whole`. What was done before stays, and nothing ran.
+pub fn whole_turn(
+    book: &mut Book,
+    node: &mut Node,
+    number: u8,
+    quantum: u16,
+) -> Result<Turn, Refusal>
+    requires quantum { quantum ≤ MAX_STEPS }
+    requires free { slice_get book.old.runs number ≡ Some false }
+    requires idle { book.old.ready ≡ None }
+    requires form { book.old.form ≡ Turns }
+    requires is { IsNodeOf book.old number node.old }
+    ensures done { Done number (TurnsWhole number quantum result) (moment book.old node.old) (moment book.new node.new) }
+    ensures is { IsNodeOf book.new number node.new }
+{
+    let taken = open_whole(book, node, number)?;
+    let takes = tokens_of(&taken.takes).len() as u64;
+    let stretch = run_node(node, quantum);
+    let ran = commit_whole(book, node, number, taken, stretch);
+    Ok(Turn { takes, ran })
+}
