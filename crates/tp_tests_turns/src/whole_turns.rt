@@ -79,12 +79,7 @@ fn do_all(alloc: Global, net: &mut Net, steps: &[Step]) -> bool {
 fn a_nodes_turn_is_one_entry(rt: HostRuntime) -> Result<(), Fail> {
     let mut disk = letter_device(rt.alloc())?;
     let mut net = Net::of_device(rt.alloc(), &mut disk, 4)?;
-    let steps = [
-        Step::Node(0, 16),
-        Step::Host,
-        Step::Node(0, 16),
-        Step::Host,
-    ];
+    let steps = [Step::Node(0, 16), Step::Host, Step::Node(0, 16), Step::Host];
     let wanted = [
         Entry::Run { node: 0, count: 3 },
         Entry::Take {
@@ -249,7 +244,10 @@ fn full(alloc: Global, net: &mut Net) -> Option<[u64; 3]> {
 fn a_full_journal_has_room_for_what_a_snapshot_needs(rt: HostRuntime) -> Result<(), Fail> {
     let images = Vec::from_array(
         rt.alloc(),
-        [image(rt.alloc(), &[Task::Relay(0, 1)])?, letter(rt.alloc())?],
+        [
+            image(rt.alloc(), &[Task::Relay(0, 1)])?,
+            letter(rt.alloc())?,
+        ],
     )?;
     let mut disk = device(rt.alloc(), TWO, &images)?;
     let mut net = Net::of_device(rt.alloc(), &mut disk, 4)?;
@@ -261,7 +259,10 @@ fn a_full_journal_has_room_for_what_a_snapshot_needs(rt: HostRuntime) -> Result<
         takes: [Nothing, Nothing, Nothing, JustData(b'x')],
         count: 0,
     };
-    assert!(rt; before > 1000 && asked == before && behind == before + 1, "{numbers:?}");
+    assert!(rt;
+        before > 1000 && asked == before && behind == before + 1,
+        "{numbers:?}"
+    );
     assert_eq!(rt; last, Some(wanted));
     Ok(())
 }

@@ -184,11 +184,10 @@ module _ (s t : Network NodeState) (i : ℕ) (takes : List Received) where
           }
 
   taking_apart : (k : ℕ) → next t414 s (Turn i takes k) ≡ Some t → TurnApart s t i takes k
-  unfolding process
+  unfolding process does
   taking_apart k h = let S = step_of t414 s (Turn i takes k) t h in go S S.was S.own_was S.change
     where
       go : (S : Step t414 s (Turn i takes k) t) (was : Own NodeState) → own s i ≡ Some was → does t414 s.wires (length s.nodes) (Turn i takes k) was ≡ Some (S.now, S.sends) → TurnApart s t i takes k
-      unfolding does
       go S (OfHost ports) o e = cc
       go S (OfNode n) o e =
           let T = turn_step t414 s.wires (length s.nodes) i takes k n (S.now, S.sends) e in
@@ -226,8 +225,8 @@ module _ (s t : Network NodeState) (i : ℕ) (takes : List Received) where
 module _ (quantum i : ℕ) (s t u : Network NodeState) (xs ys : List Entry) (R : IsNodeTurn quantum i s xs t) (Q : IsNodeTurn quantum i s ys u) where
   takes_same : R.takes ≡ Q.takes
   takes_same = ext_get_or Nothing R.takes Q.takes (R.four ∙ sym Q.four) (λ link below.
-    let four : link < 4 = omega (arith, below, R.four) in
-    same_received (get_or R.takes link Nothing) (get_or Q.takes link Nothing) (R.whole link four ∙ sym (Q.whole link four)))
+      let four : link < 4 = omega (arith, below, R.four) in
+      same_received (get_or R.takes link Nothing) (get_or Q.takes link Nothing) (R.whole link four ∙ sym (Q.whole link four)))
 
   -- of two turns neither is shorter
   no_shorter : R.count < Q.count → ⊥
