@@ -10,7 +10,7 @@ returns-clause-parts c =
     let room = Some c.journal_room-room.result in
     let E = c.in_ok-state.ensures in
     let P = c.in_ok-parts.ensures in
-    stands s o room c.in_ok-parts.parts c.in_ok-mark.raiser E.now E.base E.next E.kept c.known.ensures.cut c.known.ensures.leads
+    stands s o room c.in_ok-parts.parts c.in_ok-mark.raiser E.now E.base E.form E.next E.kept c.known.ensures.cut c.known.ensures.leads
     (c.opened_books_begin.ensures.runs s room o E.opened E.cut (kept_is s o E.kept) E.now) (P.book ∙ c.in_ok-book.ensures) (P.roll.0 ∙ ap next_number c.in_ok-book.ensures)
     (c.in_ok-mark.ensures.raiser ∙ ap (λ m. record { mark = m; at = s.next }) (sym P.mark))
 
