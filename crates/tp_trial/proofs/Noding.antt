@@ -112,11 +112,11 @@ module _ (quantum : ℕ) (turn : Turn) (s t : Moment) (acts : List Act) (C : IsC
   receives_all : (link : ℕ) → link < 4 → received (get_or D.takes link Nothing) ≡ standing_on (network_now s.book) (back (network_now s.book) (4 * 0 + link))
   receives_all link four =
       let P = order_part (λ k. ReceivesOf k (offered_on s.book true 0 k) (get_or D.takes k Nothing)) (λ k x answers y R. each_kept k (received (get_or D.takes k Nothing)) x answers y R.did) 4 s.node D.sent D.ahead D.received.did link four in
-      sym (ended P.did.rest P.did.are (P.kept ∙ C.thawed) P.did.end) ∙ offered_all s.book C.book link
+      sym (ended P.to P.did.rest P.did.are (P.kept ∙ C.thawed) P.did.end) ∙ offered_all s.book C.book link
     where
-      ended : {n : NodeContents} (rest : List Token) → offered_on s.book true 0 link ≡ received (get_or D.takes link Nothing) ++ rest → n.frozen ≡ None → IsAtEnd link rest n → offered_on s.book true 0 link ≡ received (get_or D.takes link Nothing)
-      ended {n} [] are thawed end = are ∙ append-nil (received (get_or D.takes link Nothing))
-      ended {n} (token ∷ rest) are thawed end = absurd (never_lacks n _ thawed end)
+      ended : (n : NodeContents) (rest : List Token) → offered_on s.book true 0 link ≡ received (get_or D.takes link Nothing) ++ rest → n.frozen ≡ None → IsAtEnd link rest n → offered_on s.book true 0 link ≡ received (get_or D.takes link Nothing)
+      ended n [] are thawed end = are ∙ append-nil (received (get_or D.takes link Nothing))
+      ended n (token ∷ rest) are thawed end = absurd (never_lacks n _ thawed end)
 
   thawed : t.node.frozen ≡ None
   thawed = D.kept ∙ C.thawed
