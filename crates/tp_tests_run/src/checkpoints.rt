@@ -205,7 +205,7 @@ fn goes_on<R: Threads + Wait + Abort + Sync>(
 #[test]
 fn a_ring_goes_on_over_its_checkpoints(rt: HostRuntime) -> Result<(), Fail> {
     for (ring, workers, turns) in TEAMS {
-        let told = goes_on(&rt, rt.alloc(), ring, *workers, *turns)?;
+        let told = goes_on(&rt, rt.alloc(), *ring, *workers, *turns)?;
         assert_eq!(rt; told, [true; 2]);
     }
     Ok(())

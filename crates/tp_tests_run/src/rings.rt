@@ -41,7 +41,7 @@ fn goes_on<R: Threads + Wait + Abort + Sync>(
 #[test]
 fn workers_leave_a_device_that_opens(rt: HostRuntime) -> Result<(), Fail> {
     for (ring, workers, turns) in TEAMS {
-        let told = goes_on(&rt, rt.alloc(), ring, *workers, *turns)?;
+        let told = goes_on(&rt, rt.alloc(), *ring, *workers, *turns)?;
         assert!(rt; told, "{workers} workers");
     }
     Ok(())

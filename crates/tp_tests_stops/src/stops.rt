@@ -5,6 +5,7 @@ use crate::unkind::{Ending, Fault, RawUnkind, Torn};
 use std::alloc::{AllocError, Global};
 use std::fs;
 use std::io::Write;
+use std::process::Abort;
 use std::sync::Wait;
 use std::test::Fail;
 use tp_area::format;
@@ -92,9 +93,9 @@ fn fresh(alloc: Global) -> Result<Vec<u8>, Fail> {
     Ok(disk.crash())
 }
 
-/// That device, and the one that was formatted for this network before areas had forms, and kept.
-fn devices(alloc: Global) -> Result<[Vec<u8>; 2], Fail> {
-    Ok([fresh(alloc)?, KEPT[0].bytes(alloc)?])
+/// The one that was formatted for this network before areas had forms, and kept.
+fn kept(alloc: Global) -> Result<Vec<u8>, AllocError> {
+    KEPT[0].bytes(alloc)
 }
 
 /// What a run leaves: the bytes, how many calls were made, how far it came, and what was told.
@@ -407,9 +408,9 @@ fn is_journalled<R: Wait>(rt: &R, alloc: Global, first: &[u8]) -> Result<bool, F
 
 #[test]
 fn a_script_journals_what_it_does(rt: HostRuntime) -> Result<(), Fail> {
-    for first in devices(rt.alloc())? {
-        assert!(rt; is_journalled(&rt, rt.alloc(), &first)?);
-    }
+    let alloc = rt.alloc();
+    assert!(rt; is_journalled(&rt, alloc, &fresh(alloc)?)?);
+    assert!(rt; is_journalled(&rt, alloc, &kept(alloc)?)?);
     Ok(())
 }
 
@@ -457,6 +458,21 @@ fn end_each<R: Wait>(
     Ok(Ok((calls.saturating_mul(tears.len() as u64), behind)))
 }
 
+/// The same, and what it answers is written.
+fn tell_each<R: AllocGlobal + Wait + Abort, O: Write>(
+    rt: &R,
+    first: Vec<u8>,
+    tears: &[Tear],
+    out: &mut O,
+) -> Result<(), Fail> {
+    let found = end_each(rt, rt.alloc(), first, tears)?;
+    assert!(rt; found.is_ok(), "{found:?}");
+    if let Ok((ended, behind)) = found {
+        let _ = write!(out, "{ended} ended, {behind} checkpoints behind them\n");
+    }
+    Ok(())
+}
+
 #[test]
 fn a_script_that_ends_at_each_call(rt: HostRuntime) -> Result<(), Fail> {
     let alloc = rt.alloc();
@@ -466,16 +482,6 @@ fn a_script_that_ends_at_each_call(rt: HostRuntime) -> Result<(), Fail> {
         SOME
     };
     let mut out = rt.stdout();
-    for first in devices(alloc)? {
-        match end_each(&rt, alloc, first, tears)? {
-            Ok((ended, behind)) => {
-                let _ = write!(
-                    &mut out,
-                    "{ended} ended, {behind} checkpoints behind them\n"
-                );
-            }
-            Err(call) => panic!(rt; "call {call}"),
-        }
-    }
-    Ok(())
+    tell_each(&rt, fresh(alloc)?, tears, &mut out)?;
+    tell_each(&rt, kept(alloc)?, tears, &mut out)
 }
