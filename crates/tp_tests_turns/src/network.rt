@@ -1,7 +1,8 @@
 //! A whole network in memory, in one thread: its nodes, and its book.
 
-ghost use Rattle.std.specs.Prelude.{◌≡◌, IfOk, is_none, map};
+ghost use Rattle.std.specs.Prelude.{◌≡◌, IfOk, is_none, map, true};
 ghost use Rattle.std.specs.List.{list_all};
+ghost use Rattle.tp_model.specs.declared.form.Form.TheVariants.{Turns};
 ghost use Rattle.tp_tests_turns.specs.Nets.{seen, spelt};
 
 use std::alloc::Global;
@@ -41,6 +42,16 @@ fn nodes_of(alloc: Global, images: &[Vec<u8>], spare: usize) -> Result<Vec<Node>
         nodes.push(Node::from_image(alloc, &images[i], spare)?)?;
     }
     Ok(nodes)
+}
+
+/// Whether a book may hold turns.
+fn holds_turns(book: &Book) -> bool
+    ensures { result ≡ true → book.now.form ≡ Turns }
+{
+    match book.form() {
+        Form::Turns => true,
+        Form::Plain => false,
+    }
 }
 
 impl Net {
@@ -85,8 +96,10 @@ impl Net {
     /// A node's turn that is one entry, with how many tokens it took; none where there is no such node, or the book holds no turns.
     pub(crate) fn whole_turn(&mut self, number: u8, quantum: u16) -> Option<Result<u64, Refusal>> {
         let place = usize::from(number);
-        let holds_turns = matches!(self.book.form(), Form::Turns);
-        if place >= self.nodes.len() || usize::from(quantum) > MAX_STEPS || !holds_turns {
+        if place >= self.nodes.len() || usize::from(quantum) > MAX_STEPS {
+            return None;
+        }
+        if !holds_turns(&self.book) {
             return None;
         }
         match whole_turn(&mut self.book, &mut self.nodes[place], number, quantum) {
