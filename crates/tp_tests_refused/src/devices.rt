@@ -103,10 +103,16 @@ impl Given {
     }
 }
 
-/// The bytes of the device that was just formatted.
+/// Where the form of the first area stands, and that of one with turns.
+const FORM: usize = 531;
+
+const WITH_TURNS: &[u8] = &[2];
+
+/// The bytes of the device that was just formatted: its area is one with turns.
 fn formatted(alloc: Global) -> Result<Vec<u8>, AllocError> {
     let mut bytes = grown(alloc)?;
     place(&mut bytes, GROUPS, &[0; 49]);
+    place(&mut bytes, FORM, WITH_TURNS);
     Ok(bytes)
 }
 
