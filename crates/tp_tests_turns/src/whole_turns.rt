@@ -260,7 +260,7 @@ fn a_full_journal_has_room_for_what_a_snapshot_needs(rt: HostRuntime) -> Result<
         count: 0,
     };
     assert!(rt;
-        before > 1000 && asked == before && behind == before + 1,
+        before > 1000 && asked == before && Some(behind) == before.checked_add(1),
         "{numbers:?}"
     );
     assert_eq!(rt; last, Some(wanted));
