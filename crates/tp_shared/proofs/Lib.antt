@@ -10,7 +10,6 @@ pub mod Hosting
 pub mod Frozen
 pub mod Cuts
 pub mod Thawing
-pub mod Staying
 pub mod Resealing
 pub mod Copying
 pub mod Trims

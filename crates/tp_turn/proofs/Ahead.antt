@@ -212,7 +212,7 @@ pub received_stays : (a b : BookValue) (number : ℕ) (takes : List Received) (a
 received_stays a b number takes acts did others R = received_after t414 has_four_links number takes (world_of a) (world_of b) acts did others R
 
 -- so it does where the acts are those of one other process
-stays_with : (a b : BookValue) → Keeps a.state → (number other : ℕ) (takes : List Received) (acts : List Act) → acted t414 (world_of a) acts ≡ Some (world_of b) → other ≢ number
+pub stays_with : (a b : BookValue) → Keeps a.state → (number other : ℕ) (takes : List Received) (acts : List Act) → acted t414 (world_of a) acts ≡ Some (world_of b) → other ≢ number
     → AllByRecursion (λ e. process a.state.start.wires (length a.state.start.nodes) e ≡ other) (entries_in acts) → IsReceived (world_of a).live number takes → IsReceived (world_of b).live number takes
 stays_with a b K number other takes acts did apart own R =
     received_stays a b number takes acts did

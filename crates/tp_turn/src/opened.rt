@@ -47,14 +47,8 @@ pub fn open_in_form(book: &mut Book, node: &mut Node, number: u8) -> Result<Open
     ensures is { IsOpenedIn result book.new number node.new }
 {
     match book.form() {
-        Form::Plain => match open_turn(book, node, number) {
-            Ok(taken) => Ok(Opened::Apart(taken)),
-            Err(refusal) => Err(refusal),
-        },
-        Form::Turns => match open_whole(book, node, number) {
-            Ok(taken) => Ok(Opened::Whole(taken)),
-            Err(refusal) => Err(refusal),
-        },
+        Form::Plain => Ok(Opened::Apart(open_turn(book, node, number)?)),
+        Form::Turns => Ok(Opened::Whole(open_whole(book, node, number)?)),
     }
 }
 

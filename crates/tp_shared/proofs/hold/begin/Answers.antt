@@ -1,6 +1,6 @@
 use Rattle.tp_turn.specs.Moments.{moment}
 use Rattle.tp_shared.proofs.Holding.{acted_opens, opens_refused}
-use Rattle.tp_shared.proofs.Staying.{opens_stay}
+use Rattle.tp_turn.proofs.Staying.{opens_stay}
 use Rattle.tp_shared.proofs.hold.begin.Goals as goal
 
 pub returns-clause-acted : goal.returns-clause-acted
