@@ -152,7 +152,7 @@ sealed_still Are names seals b new S H i s e =
       kept = λ here there h t. was.kept here there h (ap (λ xs. get_or xs i None) (sym H.frozen) ∙ t);
       reserved = ap (λ rs. slice_get rs i) H.runs ∙ was.reserved;
       received = λ takes given.
-      others_wait b new i (length b.state.start.nodes) s.seal.value.state.node takes H.grown.acts H.grown.did was.node (λ same. omega (arith, same, below, many)) H.own H.grown.form (was.received takes given);
+          others_wait b new i (length b.state.start.nodes) s.seal.value.state.node takes H.grown.acts H.grown.did was.node (λ same. omega (arith, same, below, many)) H.own H.grown.form (was.received takes given);
       flag = was.flag;
     }
 
@@ -173,8 +173,8 @@ sealed_begun names seals b new S idle nodes runs form act i s e =
       kept = λ here there h t. let bad = sym none ∙ h in cc;
       reserved = ap (λ rs. slice_get rs i) runs ∙ was.reserved;
       received = λ takes given.
-      let W = was.received takes given in
-      waits_on b new i takes (Begin ∷ []) (one_act (world_of b) (world_of new) Begin act) (tt, tt) (form ∙ W.form) W;
+          let W = was.received takes given in
+          waits_on b new i takes (Begin ∷ []) (one_act (world_of b) (world_of new) Begin act) (tt, tt) (form ∙ W.form) W;
       flag = was.flag;
     }
 
