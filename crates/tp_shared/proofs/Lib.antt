@@ -1,4 +1,5 @@
 pub mod Untrimmed
+pub mod Waiting
 pub mod Telling
 pub mod Holding
 pub mod Writing
@@ -16,3 +17,4 @@ pub mod Trims
 pub mod Closing
 pub mod Positioned
 pub mod Keeping
+pub mod Gaining

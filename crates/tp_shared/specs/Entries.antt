@@ -47,9 +47,9 @@ TookAlone start number entries = Takes start number entries ⊎ TookAtOnce numbe
 
 -- The entries of an opening that was answered so. A turn that is one entry has none before its commit.
 abbrev pub OpenedEntries : Network NodeState → ℕ → Result Opened Refusal → List Entry → Type 0
-OpenedEntries start number (Ok (Apart taken)) entries = CountedTakes start number taken entries
-OpenedEntries start number (Ok (Whole taken)) entries = entries ≡ []
-OpenedEntries start number (Err e) entries = TookAlone start number entries
+OpenedEntries start number (Ok (Apart taken)) = CountedTakes start number taken
+OpenedEntries start number (Ok (Whole taken)) = λ entries. entries ≡ []
+OpenedEntries start number (Err e) = TookAlone start number
 
 -- ## Refusals
 

@@ -44,8 +44,7 @@ impl Shown {
     ) -> Shown
         ensures { result.state ≡ answered_with book.now number node.now answer.now }
     {
-        let both = (book, node);
-        let lent = (&both, (number, answer));
+        let lent = ((book, node), (number, answer));
         Shown::of(&lent)
     }
 }

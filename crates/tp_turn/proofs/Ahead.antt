@@ -197,7 +197,7 @@ rests_ahead b number takes sent n A =
 -- ## What others do
 
 -- no entry of another process is one of the node
-not_of : (b : BookValue) (number other : ℕ) → other ≢ number → (acts : List Act)
+pub not_of : (b : BookValue) (number other : ℕ) → other ≢ number → (acts : List Act)
     → AllByRecursion (λ e. process b.state.start.wires (length (agreed b.state)) e ≡ other) (entries_in acts) → AllByRecursion (IsNotOf (world_of b).live number) acts
 not_of b number other apart [] own = tt
 not_of b number other apart (Begin ∷ acts) own = (tt, not_of b number other apart acts own)

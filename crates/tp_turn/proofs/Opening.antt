@@ -94,7 +94,7 @@ turned_none count node = go (steps t414 count node)
 
 nothing_sent : (before ahead : NodeState) (sent : List (ℕ × Token)) → took_all t414 [] before ≡ Some (ahead, sent) → before ≡ ahead
 unfolding took_all
-nothing_sent before ahead sent took = let pair : (before, []) ≡ (ahead, sent) = cc in ap (λ p. p.0) pair
+nothing_sent before ahead sent took = let pair : ◌≡◌ {A = NodeState × List (ℕ × Token)} (before, []) (ahead, sent) = cc in ap (λ p. p.0) pair
 
 -- The node is behind what it received for the turn, and then it ran.
 pub turned_by : (b : BookValue) (number : ℕ) (opened : Opened) (count : ℕ) (tokens : List (ℕ × Token)) (before ahead node : NodeContents) → IsNodeOf b number before
