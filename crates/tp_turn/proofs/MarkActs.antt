@@ -1,7 +1,7 @@
 -- What the acts of a whole turn are: as it is opened a node records and lines are closed at Markers; at its commit there is its entry, or
 -- none. None of them is a trim.
-use Rattle.std.proofs.Common.{◌≡◌, ℕ, ◌+◌, ◌*◌, zero, suc, Bool, true, false, cond, inl, inr, List, [], ◌∷◌, ◌++◌, map, length, refl, sym, ap, subst, ◌∙◌, Option, Some, None}
-use Rattle.std.specs.Prelude.{◌==◌, ◌&&◌, nat_lt}
+use Rattle.std.proofs.Common.{◌≡◌, ℕ, ◌+◌, ◌*◌, zero, suc, Bool, true, false, cond, inl, inr, List, [], ◌∷◌, ◌++◌, map, refl, sym, ap, subst, ◌∙◌, Option, Some, None}
+use Rattle.std.specs.Prelude.{◌&&◌}
 use Rattle.std.specs.List.{AllByRecursion}
 use Rattle.tp_model.specs.declared.entry.Entry.{Entry}
 use Rattle.tp_model.specs.declared.link.Received.{Received}
@@ -17,7 +17,6 @@ use Rattle.tp_book.specs.Book.{BookValue}
 use Rattle.tp_turn.specs.declared.opened.Opened.{Opened}
 use Rattle.tp_turn.specs.Turns.{InOrder}
 use Rattle.tp_turn.specs.Moments.{Moment, entries_in}
-use Rattle.tp_turn.specs.Settled.{Records}
 use Rattle.tp_turn.specs.Whole.{close_acts, ClosesFront, Closes, EndsWhole, BreaksWhole}
 use Rattle.tp_turn.specs.Opened.{opened_acts, opened_entries}
 use Rattle.tp_turn.proofs.Adding.{entries_more}

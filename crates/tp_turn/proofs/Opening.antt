@@ -1,6 +1,6 @@
 -- A turn that was opened in the form of its book.
-use Rattle.std.proofs.Common.{◌≡◌, ℕ, ◌≤◌, Bool, true, false, cond, inl, inr, List, [], ◌∷◌, ◌++◌, length, refl, sym, ap, subst, ◌∙◌, append-nil, Option, Some, None}
-use Rattle.std.specs.Prelude.{Result, Ok, Err}
+use Rattle.std.proofs.Common.{◌≡◌, ℕ, ◌≤◌, Bool, true, false, inl, inr, List, [], ◌++◌, refl, sym, ap, subst, ◌∙◌, Option, Some, None}
+use Rattle.std.specs.Prelude.{Ok, Err}
 use Rattle.tp_model.specs.declared.form.Form.{Form}
 use Rattle.tp_model.specs.declared.form.Form.TheVariants.{Plain, Turns}
 use Rattle.tp_model.specs.declared.limits.TheConstants.{MAX_STEPS}
@@ -23,7 +23,7 @@ use Rattle.tp_book.specs.Refusals.{else_if, is_full_for_take, IsAnswer}
 use Rattle.tp_turn.specs.declared.opened.Opened.{Opened}
 use Rattle.tp_turn.specs.declared.opened.Opened.TheVariants.{Apart, Whole}
 use Rattle.tp_turn.specs.Moments.{Moment, IsNodeOf}
-use Rattle.tp_turn.specs.Whole.{BreaksWhole, EndsWhole, turn_refusal}
+use Rattle.tp_turn.specs.Whole.{BreaksWhole, EndsWhole}
 use Rattle.tp_turn.specs.Opened.{HasTurnedBy, IsOpenedIn, OpensIn, sent_in, takes_in, tokens_in}
 
 -- ## Why it is refused
