@@ -10,7 +10,7 @@ use Rattle.tp_shared.proofs.Gaining.{node_turned}
 use Rattle.tp_shared.proofs.cell.turn_of.Goals as goal
 
 pub run-stretch-requires : goal.run-stretch-requires
-run-stretch-requires g c = record { takes = takes_in c.in_ok-opened.opened; sent = sent_in c.in_ok-opened.opened; shows = c.in_ok-opened.ensures.shows }
+run-stretch-requires g c = record { turn = record { takes = takes_in c.in_ok-opened.opened; sent = sent_in c.in_ok-opened.opened; shows = c.in_ok-opened.ensures.shows } }
 
 pub commit-ran-requires-clause-ran : goal.commit-ran-requires-clause-ran
 commit-ran-requires-clause-ran g c =
