@@ -177,9 +177,9 @@ pub(crate) fn are_awaited<J: Naming, I: Source, R: Wait>(
     if pace.rooms.free(held.book()) <= u64::from(pace.need) {
         return false;
     }
-    for input in inputs.iter_mut() {
-        let port = input.port();
-        if port < shared.ports() && input.would_wait(held.book().accepted(port)) {
+    for next in inputs.iter_mut() {
+        let port = next.port();
+        if port < shared.ports() && next.would_wait(held.book().accepted(port)) {
             return true;
         }
     }
