@@ -11,6 +11,7 @@ use std::sync::Wait;
 use std::test::Fail;
 use tp_host::{ConfirmFault, OfferFault, Session, ShownFault};
 use tp_mark::{Pass, Raiser};
+use tp_model::{Entry, Received, Token};
 use tp_shared::{Naming, NoGate, Parts};
 use tp_work::{Net, Seat, TurnFault};
 
@@ -20,6 +21,25 @@ const TURNS: &[(u8, u64, Option<u16>)] = &[
     (1, 1, None),
     (0, 1, Some(16)),
     (1, 0, None),
+];
+
+/// What they journal: a run of the node, the letter as the host takes it, and its acknowledge as the node takes it with the next run.
+const JOURNAL: &[Entry] = &[
+    Entry::Run { node: 0, count: 3 },
+    Entry::Take {
+        line: 0,
+        token: Token::Data(0x41),
+    },
+    Entry::Turn {
+        node: 0,
+        takes: [
+            Received::JustAck,
+            Received::Nothing,
+            Received::Nothing,
+            Received::Nothing,
+        ],
+        count: 16,
+    },
 ];
 
 /// Offers one after another: their position, their bytes, and the receipt's number or the fault.
@@ -86,6 +106,17 @@ fn play_turns<J: Naming, R: Wait + Abort>(rt: &R, net: &Net<J, NoGate>, seat: &m
             Err(_) => panic!(rt; "the turn is made"),
         }
     }
+}
+
+/// Whether just `wanted` was journalled.
+fn is_journalled<J: Naming, R: Wait>(rt: &R, net: &Net<J, NoGate>, wanted: &[Entry]) -> bool {
+    let held = net.shared().book().lock(rt);
+    let entries = held.book().entries();
+    entries.len() == wanted.len()
+        && entries
+            .iter()
+            .zip(wanted)
+            .all(|(one, other)| one.entry == *other)
 }
 
 /// Shows the letter once the mark is above its Take, and confirms it once; then what was offered is stored once the mark says so.
@@ -166,6 +197,7 @@ fn play<J: Naming, R: Wait + Abort>(
         panic!(rt; "the port is there")
     };
     play_turns(rt, &net, &mut seat);
+    assert!(rt; is_journalled(rt, &net, JOURNAL));
     play_offers(rt, &session, OFFERS);
     play_outputs(rt, alloc, &session, &net, &mut raiser, &mut pass);
     play_broken(rt, &session, &net, &mut seat, &mut pass);
