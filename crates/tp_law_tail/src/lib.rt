@@ -8,6 +8,7 @@ ghost use Rattle.tp_law_device.specs.Checkpoints.{Switches};
 ghost use Rattle.tp_law_tail.specs.CanPut.{CanPut};
 ghost use Rattle.tp_law_tail.specs.CutSpelt.{CutSpelt};
 ghost use Rattle.tp_law_tail.specs.OneCheckpoint.{OneCheckpoint};
+ghost use Rattle.tp_law_tail.specs.OneTurn.{OneTurn};
 ghost use Rattle.tp_model.specs.Acts.{Act, CutHolds, happens};
 ghost use Rattle.tp_model.specs.Areas.{Held, gate_open};
 ghost use Rattle.tp_model.specs.CopySpelt.{CopySpelt};
@@ -148,4 +149,12 @@ pub fn cuts_can_be_switched_to()
 /// the device opens as the second area, which has turns, with the cut of two entries, the two behind it, and the network as it is.
 pub fn a_run_checkpoints()
     ensures { OneCheckpoint }
+{}
+
+/// A device whose journal has a turn, computed. Behind the cut of a node that is about to send a byte, in an area with turns, there is a
+/// group of three entries: the node sends, the host takes the byte, and in one entry the node takes the Ack and goes on. The device
+/// opens to them, and to the network to which the four entries lead that say it apart. With those bytes in a plain area it
+/// is damaged where the turn stands.
+pub fn a_device_has_a_turn()
+    ensures { OneTurn }
 {}
