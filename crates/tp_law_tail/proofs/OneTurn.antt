@@ -1,5 +1,5 @@
 -- The device with a turn in its journal, computed.
-use Rattle.std.proofs.Common.{◌+◌, false, List, [], ◌∷◌, length, refl}
+use Rattle.std.proofs.Common.{◌+◌, false, length, refl}
 use Rattle.tp_model.specs.declared.form.Form.TheVariants.{Turns}
 use Rattle.tp_model.specs.declared.head.HeadVersion.TheVariants.{Narrow}
 use Rattle.tp_model.specs.declared.limits.TheConstants.{AREA_HEAD_BYTES}

@@ -5,6 +5,7 @@ ghost use Rattle.tp_law_machine.specs.NodeOfBytes.{IsNodeOfBytes};
 ghost use Rattle.tp_book.specs.Opened.{IsOpened, now_of, opened_book};
 ghost use Rattle.tp_book.specs.Book.{next_number};
 ghost use Rattle.tp_node.specs.NodeContents.{NodeContents};
+ghost use Rattle.tp_shared.specs.Agreement.{at_rest};
 ghost use Rattle.tp_shared.specs.Parted.{IsDealt};
 ghost use Rattle.tp_turn.specs.Moments.{IsNodeOf};
 
@@ -49,8 +50,8 @@ impl Model for Parts {
 // A node's seal and key.
 fn ends_of(node: &Node) -> (Seal<Shown>, Key<Shown>)
     ensures names { result.0.name ≡ result.1.name }
-    ensures seal { result.0.value.state ≡ record { node = node.now.live; frozen = node.now.frozen; reserved = false } }
-    ensures key { result.1.value.state ≡ record { node = node.now.live; frozen = node.now.frozen; reserved = false } }
+    ensures seal { result.0.value.state ≡ at_rest node.now }
+    ensures key { result.1.value.state ≡ at_rest node.now }
 {
     let (mut seal, mut key) = pair::<Shown>();
     let shown = Shown::free(node);
