@@ -72,6 +72,7 @@ grown_like One Other b new like G = record {
 }
 
 pub acted_like : (One Other : List Entry → Type 0) (number : ℕ) (a : Agreement) (b new : BookValue) → ((es : List Entry) → One es → Other es) → NodeActed One number a b new → NodeActed Other number a b new
+unfolding grown_like
 acted_like One Other number a b new like A = record { grown = grown_like One Other b new like A.grown; own = A.own; nodes = A.nodes; runs = A.runs; recorded = A.recorded; frozen = A.frozen }
 
 -- ## Acts of a node
@@ -100,6 +101,7 @@ module _ (Are : List Entry → Type 0) (number : ℕ) (acts : List Act) (b mid :
 
     -- no turn is reserved
     pub acted_free : slice_get b.runs number ≡ Some false → a.reserved ≡ false → NodeActed Are number a b mid
+    unfolding grown
     acted_free free not = record {
       grown = grown;
       own = A.own;

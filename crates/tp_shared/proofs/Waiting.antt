@@ -7,7 +7,8 @@ use Rattle.tp_model.specs.declared.link.Received.{Received}
 use Rattle.tp_model.specs.NodeState.{NodeState}
 use Rattle.tp_model.specs.Node.{t414}
 use Rattle.tp_model.specs.Network.{Network}
-use Rattle.tp_model.specs.Entries.{process, after}
+use Rattle.tp_model.specs.Entries.{process}
+use Rattle.tp_model.specs.Order.{after}
 use Rattle.tp_model.specs.Halves.{BookState}
 use Rattle.tp_model.specs.Acts.{Act, acted}
 use Rattle.tp_law_cuts.specs.Reserved.{IsNotOf}

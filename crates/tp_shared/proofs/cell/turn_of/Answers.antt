@@ -9,8 +9,8 @@ use Rattle.tp_shared.specs.TurnsMade.{TurnBrokenOff, TurnMade}
 use Rattle.tp_shared.proofs.Gaining.{node_turned}
 use Rattle.tp_shared.proofs.cell.turn_of.Goals as goal
 
-pub run-stretch-requires-clause-turn : goal.run-stretch-requires-clause-turn
-run-stretch-requires-clause-turn g c = record { takes = takes_in c.in_ok-opened.opened; sent = sent_in c.in_ok-opened.opened; shows = c.in_ok-opened.ensures.shows }
+pub run-stretch-requires : goal.run-stretch-requires
+run-stretch-requires g c = record { turn = record { takes = takes_in c.in_ok-opened.opened; sent = sent_in c.in_ok-opened.opened; shows = c.in_ok-opened.ensures.shows } }
 
 pub commit-ran-requires-clause-ran : goal.commit-ran-requires-clause-ran
 commit-ran-requires-clause-ran g c =

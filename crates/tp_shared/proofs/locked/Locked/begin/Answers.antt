@@ -1,4 +1,4 @@
-use Rattle.std.proofs.Common.{◌∙◌, length, ap, sym, subst, arith, Some}
+use Rattle.std.proofs.Common.{◌∙◌, ◌<◌, length, ap, sym, subst, arith, Some}
 use Rattle.std.specs.Prelude.{is_some}
 use Rattle.std.proofs.lemmas.List.{length-set}
 use Rattle.tp_turn.specs.Moments.{IsNodeOf, moment}
@@ -67,7 +67,7 @@ invariant_of-self g c =
     let a = answered_with new c.args.number node done in
     let A = c.begin-done.ensures.acted in
     let now : NodeSeal = record { frozen = c.is_frozen-here.result; seal = c.turn.new.seal } in
-    let below = omega (arith, inv.seal_count, c.requires.there) in
+    let below : c.args.number < length c.self.inside.seals.items = (let count = inv.seal_count in omega (arith, count, c.requires.there)) in
     acted_written inv c.entries-before.result.now c.entries-before.ensures.entries c.entries-before.ensures.numbers A.grown (ap length A.runs ∙ length-set b.runs c.args.number _) (length-set seals c.args.number _)
     (sealed_after Are g.J.Naming.node seals b new c.args.number a inv.sealed A below now
     (answered_seal (g.J.Naming.node c.args.number) now new c.args.number node done c.begin-done.ensures.is

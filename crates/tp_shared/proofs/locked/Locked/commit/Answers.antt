@@ -1,4 +1,4 @@
-use Rattle.std.proofs.Common.{◌≡◌, ◌∙◌, List, [], length, ap, refl, sym, subst, arith, Some}
+use Rattle.std.proofs.Common.{◌<◌, ◌≡◌, ◌∙◌, List, [], length, ap, refl, sym, subst, arith, Some}
 use Rattle.std.specs.Prelude.{is_some}
 use Rattle.std.proofs.lemmas.List.{length-set}
 use Rattle.tp_model.specs.declared.entry.Entry.{Entry}
@@ -72,7 +72,7 @@ invariant_of-self g c =
     let Are = (λ (entries : List Entry). entries ≡ opened_entries c.args.number c.args.opened c.args.stretch.ran.count) in
     let A = c.commit-ran.ensures.acted in
     let now : NodeSeal = record { frozen = here.frozen; seal = c.turn.new.seal } in
-    let below = omega (arith, inv.seal_count, c.requires.there) in
+    let below : c.args.number < length c.self.inside.seals.items = (let count = inv.seal_count in omega (arith, count, c.requires.there)) in
     let flag = S.flag ∙ ap (λ (x : Agreement). is_some x.frozen) (ap (λ x. x.state) c.agree.ensures.agreed ∙ c.requires.ran.shown) in
     acted_written inv c.entries-before.result.now c.entries-before.ensures.entries c.entries-before.ensures.numbers A.grown (ap length A.runs ∙ length-set b.runs c.args.number _) (length-set seals c.args.number _)
     (sealed_after Are g.J.Naming.node seals b new c.args.number (at_rest node) inv.sealed A below now

@@ -1,4 +1,4 @@
-use Rattle.std.proofs.Common.{◌≡◌, ◌∙◌, List, [], length, ap, sym, subst, arith, Some}
+use Rattle.std.proofs.Common.{◌<◌, ◌≡◌, ◌∙◌, List, [], length, ap, sym, subst, arith, Some}
 use Rattle.std.specs.Prelude.{is_some}
 use Rattle.std.proofs.lemmas.List.{length-set}
 use Rattle.tp_model.specs.declared.entry.Entry.{Entry}
@@ -61,7 +61,7 @@ invariant_of-self g c =
     let Are = λ (entries : List Entry). entries ≡ [] in
     let A = c.record.ensures.acted in
     let now : NodeSeal = record { frozen = c.is_frozen-here.result; seal = c.turn.new.seal } in
-    let below = omega (arith, inv.seal_count, c.requires.there) in
+    let below : c.args.number < length c.self.inside.seals.items = (let count = inv.seal_count in omega (arith, count, c.requires.there)) in
     acted_still inv A.grown (ap length A.runs ∙ length-set b.runs c.args.number _) (length-set c.self.inside.seals.items c.args.number _)
     (sealed_after Are g.J.Naming.node c.self.inside.seals.items b new c.args.number (at_rest node) inv.sealed A below now
     (rest_seal (g.J.Naming.node c.args.number) now new c.args.number node c.record.ensures.is (reserved_after Are g.J.Naming.node c.self.inside.seals.items b new c.args.number (at_rest node) inv.sealed A below)
