@@ -4,10 +4,10 @@ use crate::{SIZE, place_all};
 use std::alloc::{AllocError, Global};
 
 /// Bytes at their places. All others are 00.
-type Pieces = &'static [(usize, &'static [u8])];
+pub(crate) type Pieces = &'static [(usize, &'static [u8])];
 
 /// What was formatted: the head, and the first area with the node that sends a letter.
-const FORMATTED: Pieces = &[
+pub(crate) const FORMATTED: Pieces = &[
     (0, &[0x54, 0x50, 0x4E, 0x45, 0x54, 0, 0, 1, 1, 1]),
     (16, &[0, 0x40]),
     (24, &[4]),
@@ -43,7 +43,7 @@ const CONFIRMED: Pieces = &[
 ];
 
 /// The second area behind a checkpoint, but for its gate: all five entries are in its cut.
-const CHECKPOINT: Pieces = &[
+pub(crate) const CHECKPOINT: Pieces = &[
     (16_897, &[2, 0, 0, 0, 0, 0, 0, 0, 0xDC, 0x30, 0, 0, 5]),
     (16_917, &[1, 0, 4, 0, 0x0B, 1, 0, 0x80, 0, 2, 0, 0x80]),
     (
@@ -63,7 +63,7 @@ const CHECKPOINT: Pieces = &[
     (21_213, &[1]),
 ];
 
-const SWITCHED: Pieces = &[(16_896, &[0xA5])];
+pub(crate) const SWITCHED: Pieces = &[(16_896, &[0xA5])];
 
 /// The group behind that: two runs of 16 steps.
 const GOES_ROUND: Pieces = &[
@@ -76,7 +76,7 @@ const GOES_ROUND: Pieces = &[
 /// the number of the next entry.
 #[derive(Clone, Copy)]
 pub struct Kept {
-    pieces: &'static [Pieces],
+    pub(crate) pieces: &'static [Pieces],
     pub second: bool,
     pub generation: u64,
     pub base: u64,

@@ -2,9 +2,11 @@
 #![tactic(auto)]
 
 mod kept;
+mod turned;
 
 pub use kept::{KEPT, Kept};
 use std::alloc::{AllocError, Global};
+pub use turned::WITH_TURNS;
 
 /// A network of one node of four pages, whose link 0 is wired to a port.
 pub const ONE_NODE: &[u8] = b"node a 4\nport h\nwire a.0 h\n";

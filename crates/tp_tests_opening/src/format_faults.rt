@@ -3,7 +3,7 @@
 use crate::devices::{
     CALLS_OF_FORMAT, Held, LETTER, Letter, append, disk_of, fresh, holds, what_is_held,
 };
-use crate::heads::{LEAST, SEVENTEEN, seventeen};
+use crate::wide::{LEAST, SEVENTEEN, seventeen};
 use std::alloc::{AllocError, Global};
 use std::process::Abort;
 use std::test::Fail;

@@ -1,22 +1,19 @@
-//! Heads of both versions: which networks have which, and what is no head.
+//! Heads of both versions: which networks have which, and what is no narrow head.
 
-use crate::apart::{Content, is_said, is_said_by_two, play, with_pieces};
+use crate::apart::{Content, is_said, play, with_pieces};
 use crate::devices::Letter;
-use crate::opened_books::{book_with, grown};
+use crate::opened_books::grown;
 use std::alloc::{AllocError, Global};
 use std::fmt;
 use std::test::Fail;
 use std::thread::Threads;
 use tp_area::FormatFault;
-use tp_book::Refusal;
 use tp_disk::MemDisk;
 use tp_model::OpenFault;
-use tp_model::OpenFault::{BadVersion, Damaged, NoOpenArea, NotFormatted};
+use tp_model::OpenFault::{BadVersion, Damaged};
 use tp_model::limits::{IMAGE_HEAD_BYTES, NARROW_HEAD_BYTES, PAGE_BYTES, WIDE_HEAD_BYTES};
 use tp_net::Topology;
-use tp_recover::open;
 use tp_tests_fixtures::{idle, place};
-use tp_tests_store::calls::hand_in;
 
 /// How many nodes a network has, each of four pages but the last; the pages of that; its least area; and whether its head is a wide one,
 /// since a narrow one can't say it. It has one port, and no wire.
@@ -204,200 +201,11 @@ const NARROW: &[Content<'static>] = &[
     },
 ];
 
-/// Seventeen nodes. The last is wired to the port and to the first.
-pub(crate) const SEVENTEEN: &[u8] =
-    b"node n0 4\nnode n1 4\nnode n2 4\nnode n3 4\nnode n4 4\nnode n5 4\nnode n6 4\nnode n7 4\nnode n8 4\nnode n9 4\nnode n10 4\nnode n11 4\nnode n12 4\nnode n13 4\nnode n14 4\nnode n15 4\nnode n16 4\nport h\nwire n16.0 h\nwire n16.3 n0.0\n";
-
-/// Their least area: 81,052 bytes of the cut image, 14 beside it, and 6,656 for groups.
-pub(crate) const LEAST: u64 = 87_722;
-
-/// Bytes of their device: the head; the first area's gate, generation, length, base and form; the gates of its first group and of the
-/// second area.
-const BYTES: &[(usize, &[u8])] = &[
-    (0, &[0x54, 0x50, 0x4E, 0x45, 0x54, 0, 0, 2, 17, 1, 0]),
-    (16, &[0xAA, 0x56, 1, 0, 0, 0, 0, 0, 4, 0, 4, 0]),
-    (54, &[4, 0, 4, 0, 0, 0]),
-    (150, &[0, 0, 0x44, 0, 0, 0]),
-    (278, &[0, 0, 0, 0x80, 0, 0, 0, 0, 1, 0, 0, 0]),
-    (
-        1_024,
-        &[
-            0xA5, 1, 0, 0, 0, 0, 0, 0, 0, 0x9C, 0x3C, 1, 0, 0, 0, 0, 0, 0, 0, 2, 0,
-        ],
-    ),
-    (82_089, &[0]),
-    (88_746, &[0]),
-];
-
-/// Changes of that device.
-const WIDE: &[Content<'static>] = &[
-    Content {
-        pieces: &[],
-        says: Ok(0),
-    },
-    Content {
-        pieces: &[(7, &[1])],
-        says: Err(Damaged(0)),
-    },
-    Content {
-        pieces: &[(7, &[3])],
-        says: Err(BadVersion),
-    },
-    Content {
-        pieces: &[(8, &[16])],
-        says: Err(Damaged(0)),
-    },
-    Content {
-        pieces: &[(8, &[65])],
-        says: Err(Damaged(0)),
-    },
-    Content {
-        pieces: &[(24, &[1, 4])],
-        says: Err(Damaged(0)),
-    },
-    // Where links lead: one way only; nowhere; to a link of no node; to a second port; to no port at all.
-    Content {
-        pieces: &[(152, &[0])],
-        says: Err(Damaged(0)),
-    },
-    Content {
-        pieces: &[(286, &[0])],
-        says: Err(Damaged(0)),
-    },
-    Content {
-        pieces: &[(152, &[0]), (286, &[0])],
-        says: Ok(0),
-    },
-    Content {
-        pieces: &[(153, &[1])],
-        says: Err(Damaged(0)),
-    },
-    Content {
-        pieces: &[(280, &[1])],
-        says: Err(Damaged(0)),
-    },
-    Content {
-        pieces: &[(281, &[0x81])],
-        says: Err(Damaged(0)),
-    },
-    // The first link is wired to itself.
-    Content {
-        pieces: &[(152, &[1]), (286, &[0])],
-        says: Ok(0),
-    },
-    // Bytes that are 00: behind the last node's pages, its ends, and the ends of all.
-    Content {
-        pieces: &[(58, &[4])],
-        says: Err(Damaged(0)),
-    },
-    Content {
-        pieces: &[(288, &[1])],
-        says: Err(Damaged(0)),
-    },
-    Content {
-        pieces: &[(664, &[1])],
-        says: Err(Damaged(0)),
-    },
-    Content {
-        pieces: &[(1_023, &[1])],
-        says: Err(Damaged(0)),
-    },
-    // The area.
-    Content {
-        pieces: &[(1_024, &[0])],
-        says: Err(NoOpenArea),
-    },
-    Content {
-        pieces: &[(1_043, &[1])],
-        says: Err(Damaged(1_024)),
-    },
-    Content {
-        pieces: &[(1_043, &[3])],
-        says: Err(Damaged(1_024)),
-    },
-    Content {
-        pieces: &[(1_043, &[0, 2])],
-        says: Err(Damaged(1_024)),
-    },
-    Content {
-        pieces: &[(1_043, &[0])],
-        says: Ok(0),
-    },
-    Content {
-        pieces: &[(88_746, &[0xA5, 1])],
-        says: Err(Damaged(88_746)),
-    },
-    // A group of one entry: the first node runs for 3 steps.
-    Content {
-        pieces: &[(82_089, &[0xA5, 0, 1]), (82_105, &[1, 0, 3])],
-        says: Ok(1),
-    },
-    Content {
-        pieces: &[(82_089, &[0xA5, 0, 1]), (82_105, &[1, 0, 4])],
-        says: Err(Damaged(82_105)),
-    },
-    Content {
-        pieces: &[(82_089, &[0xA5, 0, 1]), (82_105, &[1, 17, 3])],
-        says: Err(Damaged(82_105)),
-    },
-    Content {
-        pieces: &[(82_089, &[0xA5, 0, 1]), (82_105, &[1, 16, 3])],
-        says: Ok(1),
-    },
-];
-
-/// How many bytes of it are left, and what it then says.
-const LENGTHS: &[(usize, Result<u64, OpenFault>)] = &[
-    (511, Err(NotFormatted)),
-    (512, Err(Damaged(0))),
-    (600, Err(Damaged(0))),
-    (1_023, Err(Damaged(0))),
-    (1_024, Err(Damaged(0))),
-    (176_467, Err(Damaged(0))),
-    (176_468, Ok(0)),
-];
-
-/// The device of seventeen nodes.
-pub(crate) fn seventeen(alloc: Global) -> Result<Vec<u8>, Fail> {
-    Letter::of(alloc, SEVENTEEN, 17)?.device_behind(alloc, WIDE_HEAD_BYTES, LEAST)
-}
-
 #[test]
 fn heads_are_changed(rt: HostRuntime) -> Result<(), Fail> {
     let alloc = rt.alloc();
     let narrow = grown(alloc)?;
-    play(&rt, alloc, &narrow, NARROW)?;
-    let wide = seventeen(alloc)?;
-    play(&rt, alloc, &wide, WIDE)
-}
-
-#[test]
-fn wide_heads_have_their_bytes(rt: HostRuntime) -> Result<(), Fail> {
-    let alloc = rt.alloc();
-    let device = seventeen(alloc)?;
-    for (at, bytes) in BYTES {
-        let there = device.get(*at..).unwrap_or(&[]);
-        assert!(rt; there.starts_with(bytes), "{at}");
-    }
-    for (len, says) in LENGTHS {
-        let short = device.get(..*len).unwrap_or(&[]);
-        assert!(rt; is_said(&rt, alloc, short, *says)?, "{len} bytes");
-    }
-    Ok(())
-}
-
-/// One entry that anyone may make has room in the least area, and no second one.
-#[test]
-fn the_least_area_has_room_for_one_entry(rt: HostRuntime) -> Result<(), Fail> {
-    let alloc = rt.alloc();
-    let bytes = seventeen(alloc)?;
-    let mut disk = MemDisk::of_bytes(Vec::from_slice(alloc, &bytes)?);
-    let room = open(alloc, &mut disk)?.journal_room();
-    let mut book = book_with(alloc, bytes, room)?;
-    let one = hand_in(&mut book, b"x") == Ok(1);
-    let other = hand_in(&mut book, b"x") == Err(Refusal::JournalFull);
-    assert!(rt; room == 6_656 && one && other);
-    Ok(())
+    play(&rt, alloc, &narrow, NARROW)
 }
 
 /// The wide head of the network of one node, whose link leads to its port.

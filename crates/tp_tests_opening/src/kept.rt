@@ -1,14 +1,16 @@
-//! Devices that were kept from before areas had forms: what they open to, and that a group more is appended.
+//! Devices that were kept from before areas had forms: what they open to, and that a group more is appended. Devices with turns: what those
+//! open to.
 
 use crate::apart::is_said;
-use crate::devices::{LETTER, append, holds, replayed, store_of};
+use crate::checkpoints::Look;
+use crate::devices::{LETTER, append, holds, is_network, replayed, store_of, what_is_held};
 use crate::switch_faults::look_at;
 use std::alloc::{AllocError, Global};
 use std::test::Fail;
 use std::thread::Threads;
-use tp_model::Entry;
-use tp_model::Form::Plain;
-use tp_tests_fixtures::{KEPT, Kept};
+use tp_model::Form::{Plain, Turns};
+use tp_model::{Entry, Form, Token};
+use tp_tests_fixtures::{KEPT, Kept, WITH_TURNS};
 
 /// What the entries of the last kept device are behind the first turns.
 const BEHIND: [Entry; 3] = [
@@ -35,20 +37,24 @@ fn is_replayed(alloc: Global, bytes: &[u8], next: u64, more: &[Entry]) -> Result
     holds(alloc, bytes, &wanted)
 }
 
-/// Whether a kept device opens to what is written beside it, in an area without turns, and to a plain replay of its entries.
-fn opens<R: Threads + Sync>(rt: &R, alloc: Global, kept: &Kept) -> Result<bool, Fail> {
-    let bytes = kept.bytes(alloc)?;
+/// What opening says of a device, by what is written beside it, where its area is of this form.
+fn look_of(kept: &Kept, form: Form) -> Look {
     let count = kept.next.saturating_sub(kept.base) as usize;
-    let look = (
+    (
         kept.second,
         kept.generation,
         kept.base,
         count,
         kept.next,
-        Plain,
-    );
+        form,
+    )
+}
+
+/// Whether a kept device opens to what is written beside it, in an area without turns, and to a plain replay of its entries.
+fn opens<R: Threads + Sync>(rt: &R, alloc: Global, kept: &Kept) -> Result<bool, Fail> {
+    let bytes = kept.bytes(alloc)?;
     Ok(
-        look_at(alloc, &bytes)? == look
+        look_at(alloc, &bytes)? == look_of(kept, Plain)
             && is_said(rt, alloc, &bytes, Ok(kept.next))?
             && is_replayed(alloc, &bytes, kept.next, &[])?,
     )
@@ -77,5 +83,46 @@ fn kept_devices_open(rt: HostRuntime) -> Result<(), Fail> {
         let told = opens(&rt, rt.alloc(), kept)? && goes_on(rt.alloc(), kept)?;
         assert!(rt; told, "device {i}");
     }
+    Ok(())
+}
+
+/// What the node does in the turns, said apart: it takes the acknowledge and makes steps. Behind the checkpoint it takes what the port was handed.
+const APART: [Entry; 4] = [
+    Entry::Confirm { port: 0, upto: 1 },
+    Entry::HostIn {
+        port: 0,
+        byte: 0x42,
+    },
+    Entry::Take {
+        line: 4,
+        token: Token::Data(0x42),
+    },
+    Entry::Run { node: 0, count: 16 },
+];
+
+/// Whether a device with turns opens to what is written beside it, and to where `apart` leads.
+fn opens_with_turns<R: Threads + Sync>(
+    rt: &R,
+    alloc: Global,
+    kept: &Kept,
+    apart: &[&[Entry]],
+) -> Result<bool, Fail> {
+    let bytes = kept.bytes(alloc)?;
+    let held = what_is_held(alloc, &bytes)?;
+    let wanted = replayed(alloc, &KEPT[0].bytes(alloc)?, apart)?;
+    Ok(
+        look_at(alloc, &bytes)? == look_of(kept, Turns)
+            && is_said(rt, alloc, &bytes, Ok(kept.next))?
+            && is_network(&held.net, &wanted.net),
+    )
+}
+
+#[test]
+fn devices_with_turns_open(rt: HostRuntime) -> Result<(), Fail> {
+    let alloc = rt.alloc();
+    let (letter, apart) = (LETTER, APART);
+    let first = opens_with_turns(&rt, alloc, &WITH_TURNS[0], &[&letter])?;
+    let second = opens_with_turns(&rt, alloc, &WITH_TURNS[1], &[&letter, &apart])?;
+    assert!(rt; first && second);
     Ok(())
 }

@@ -35,3 +35,5 @@ mod reserve;
 mod stories;
 #[cfg(test)]
 mod switch_faults;
+#[cfg(test)]
+mod wide;

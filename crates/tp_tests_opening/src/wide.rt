@@ -1,0 +1,277 @@
+//! The device of seventeen nodes, which has a wide head: all its bytes, what changes of them say, and a turn in its journal.
+
+use crate::apart::{Content, is_said, play, with_pieces};
+use crate::devices::{Letter, is_network, replayed, what_is_held};
+use crate::opened_books::book_with;
+use std::alloc::{AllocError, Global};
+use std::test::Fail;
+use tp_book::Refusal;
+use tp_disk::MemDisk;
+use tp_model::OpenFault::{BadVersion, Damaged, NoOpenArea, NotFormatted};
+use tp_model::limits::WIDE_HEAD_BYTES;
+use tp_model::{Entry, OpenFault, Token};
+use tp_recover::open;
+use tp_tests_fixtures::{letter, place};
+use tp_tests_store::calls::hand_in;
+
+/// Seventeen nodes. The last is wired to the port and to the first.
+pub(crate) const SEVENTEEN: &[u8] =
+    b"node n0 4\nnode n1 4\nnode n2 4\nnode n3 4\nnode n4 4\nnode n5 4\nnode n6 4\nnode n7 4\nnode n8 4\nnode n9 4\nnode n10 4\nnode n11 4\nnode n12 4\nnode n13 4\nnode n14 4\nnode n15 4\nnode n16 4\nport h\nwire n16.0 h\nwire n16.3 n0.0\n";
+
+/// Their least area: 81,052 bytes of the cut image, 14 beside it, and 6,656 for groups.
+pub(crate) const LEAST: u64 = 87_722;
+
+/// Bytes of their device, beside its images: the head; and the first area's gate, generation, length, base and form. All others are 00.
+const BYTES: &[(usize, &[u8])] = &[
+    (0, &[0x54, 0x50, 0x4E, 0x45, 0x54, 0, 0, 2, 17, 1]),
+    (16, &[0xAA, 0x56, 1]),
+    (
+        24,
+        &[
+            4, 0, 4, 0, 4, 0, 4, 0, 4, 0, 4, 0, 4, 0, 4, 0, 4, 0, 4, 0, 4, 0, 4, 0, 4, 0, 4, 0, 4,
+            0, 4, 0, 4,
+        ],
+    ),
+    (152, &[0x44]),
+    (281, &[0x80]),
+    (286, &[1]),
+    (1_024, &[0xA5, 1]),
+    (1_033, &[0x9C, 0x3C, 1]),
+    (1_043, &[2]),
+];
+
+/// How long their device is, and where the images stand on it.
+const SIZE: usize = 176_468;
+
+const IMAGES: [usize; 17] = [
+    1_045, 5_313, 9_581, 13_849, 18_117, 22_385, 26_653, 30_921, 35_189, 39_457, 43_725, 47_993,
+    52_261, 56_529, 60_797, 65_065, 69_333,
+];
+
+/// Changes of that device.
+const WIDE: &[Content<'static>] = &[
+    Content {
+        pieces: &[],
+        says: Ok(0),
+    },
+    Content {
+        pieces: &[(7, &[1])],
+        says: Err(Damaged(0)),
+    },
+    Content {
+        pieces: &[(7, &[3])],
+        says: Err(BadVersion),
+    },
+    Content {
+        pieces: &[(8, &[16])],
+        says: Err(Damaged(0)),
+    },
+    Content {
+        pieces: &[(8, &[65])],
+        says: Err(Damaged(0)),
+    },
+    Content {
+        pieces: &[(24, &[1, 4])],
+        says: Err(Damaged(0)),
+    },
+    // Where links lead: one way only; nowhere; to a link of no node; to a second port; to no port at all.
+    Content {
+        pieces: &[(152, &[0])],
+        says: Err(Damaged(0)),
+    },
+    Content {
+        pieces: &[(286, &[0])],
+        says: Err(Damaged(0)),
+    },
+    Content {
+        pieces: &[(152, &[0]), (286, &[0])],
+        says: Ok(0),
+    },
+    Content {
+        pieces: &[(153, &[1])],
+        says: Err(Damaged(0)),
+    },
+    Content {
+        pieces: &[(280, &[1])],
+        says: Err(Damaged(0)),
+    },
+    Content {
+        pieces: &[(281, &[0x81])],
+        says: Err(Damaged(0)),
+    },
+    // The first link is wired to itself.
+    Content {
+        pieces: &[(152, &[1]), (286, &[0])],
+        says: Ok(0),
+    },
+    // Bytes that are 00: behind the last node's pages, its ends, and the ends of all.
+    Content {
+        pieces: &[(58, &[4])],
+        says: Err(Damaged(0)),
+    },
+    Content {
+        pieces: &[(288, &[1])],
+        says: Err(Damaged(0)),
+    },
+    Content {
+        pieces: &[(664, &[1])],
+        says: Err(Damaged(0)),
+    },
+    Content {
+        pieces: &[(1_023, &[1])],
+        says: Err(Damaged(0)),
+    },
+    // The area.
+    Content {
+        pieces: &[(1_024, &[0])],
+        says: Err(NoOpenArea),
+    },
+    Content {
+        pieces: &[(1_043, &[1])],
+        says: Err(Damaged(1_024)),
+    },
+    Content {
+        pieces: &[(1_043, &[3])],
+        says: Err(Damaged(1_024)),
+    },
+    Content {
+        pieces: &[(1_043, &[0, 2])],
+        says: Err(Damaged(1_024)),
+    },
+    Content {
+        pieces: &[(1_043, &[0])],
+        says: Ok(0),
+    },
+    Content {
+        pieces: &[(88_746, &[0xA5, 1])],
+        says: Err(Damaged(88_746)),
+    },
+    // A group of one entry: the first node runs for 3 steps.
+    Content {
+        pieces: &[(82_089, &[0xA5, 0, 1]), (82_105, &[1, 0, 3])],
+        says: Ok(1),
+    },
+    Content {
+        pieces: &[(82_089, &[0xA5, 0, 1]), (82_105, &[1, 0, 4])],
+        says: Err(Damaged(82_105)),
+    },
+    Content {
+        pieces: &[(82_089, &[0xA5, 0, 1]), (82_105, &[1, 17, 3])],
+        says: Err(Damaged(82_105)),
+    },
+    Content {
+        pieces: &[(82_089, &[0xA5, 0, 1]), (82_105, &[1, 16, 3])],
+        says: Ok(1),
+    },
+    // The last node's turn, as another node's.
+    Content {
+        pieces: &[
+            (82_089, &[0xA5, 0, 3]),
+            (82_105, &[1, 16, 3]),
+            (82_121, &[2, 1, 64, 0, 0x41, 0, 0, 0, 1]),
+            (82_137, &[5, 15, 16, 0, 0, 0, 0, 0, 2, 0, 0, 0, 0, 0, 2]),
+        ],
+        says: Err(Damaged(82_137)),
+    },
+];
+
+/// A group of three entries: the last node runs for 3 steps, the host takes the letter, and in a turn the node takes the
+/// acknowledge and makes 16 steps.
+const A_TURN: &[(usize, &[u8])] = &[
+    (82_089, &[0xA5, 0, 3]),
+    (82_105, &[1, 16, 3]),
+    (82_121, &[2, 1, 64, 0, 0x41, 0, 0, 0, 1]),
+    (82_137, &[5, 16, 16, 0, 0, 0, 0, 0, 2, 0, 0, 0, 0, 0, 2]),
+];
+
+/// The same, said apart.
+const APART: [Entry; 4] = [
+    Entry::Run { node: 16, count: 3 },
+    Entry::Take {
+        line: 64,
+        token: Token::Data(0x41),
+    },
+    Entry::Take {
+        line: 68,
+        token: Token::Ack,
+    },
+    Entry::Run {
+        node: 16,
+        count: 16,
+    },
+];
+
+/// How many bytes of it are left, and what it then says.
+const LENGTHS: &[(usize, Result<u64, OpenFault>)] = &[
+    (511, Err(NotFormatted)),
+    (512, Err(Damaged(0))),
+    (600, Err(Damaged(0))),
+    (1_023, Err(Damaged(0))),
+    (1_024, Err(Damaged(0))),
+    (SIZE - 1, Err(Damaged(0))),
+    (SIZE, Ok(0)),
+];
+
+/// The device of seventeen nodes.
+pub(crate) fn seventeen(alloc: Global) -> Result<Vec<u8>, Fail> {
+    Letter::of(alloc, SEVENTEEN, 17)?.device_behind(alloc, WIDE_HEAD_BYTES, LEAST)
+}
+
+#[test]
+fn a_wide_device_is_changed(rt: HostRuntime) -> Result<(), Fail> {
+    let alloc = rt.alloc();
+    let wide = seventeen(alloc)?;
+    play(&rt, alloc, &wide, WIDE)
+}
+
+/// Puts images at their places.
+fn place_images(bytes: &mut [u8], image: &[u8]) {
+    for at in IMAGES {
+        place(bytes, at, image);
+    }
+}
+
+/// The device of seventeen nodes, made by hand.
+fn by_hand(alloc: Global) -> Result<Vec<u8>, AllocError> {
+    let mut bytes = Vec::from_elem(alloc, 0u8, SIZE)?;
+    place_images(&mut bytes, &letter(alloc)?);
+    with_pieces(alloc, &bytes, BYTES)
+}
+
+#[test]
+fn wide_heads_have_their_bytes(rt: HostRuntime) -> Result<(), Fail> {
+    let alloc = rt.alloc();
+    let device = seventeen(alloc)?;
+    assert!(rt; device == by_hand(alloc)?);
+    for (len, says) in LENGTHS {
+        let short = device.get(..*len).unwrap_or(&[]);
+        assert!(rt; is_said(&rt, alloc, short, *says)?, "{len} bytes");
+    }
+    Ok(())
+}
+
+/// A turn of a node above 15 leads where its take and its run lead.
+#[test]
+fn the_last_node_turns(rt: HostRuntime) -> Result<(), Fail> {
+    let alloc = rt.alloc();
+    let device = seventeen(alloc)?;
+    let held = what_is_held(alloc, &with_pieces(alloc, &device, A_TURN)?)?;
+    let apart = APART;
+    let wanted = replayed(alloc, &device, &[&apart])?;
+    assert!(rt; held.next == 3 && is_network(&held.net, &wanted.net));
+    Ok(())
+}
+
+/// One entry that anyone may make has room in the least area, and no second one.
+#[test]
+fn the_least_area_has_room_for_one_entry(rt: HostRuntime) -> Result<(), Fail> {
+    let alloc = rt.alloc();
+    let bytes = seventeen(alloc)?;
+    let mut disk = MemDisk::of_bytes(Vec::from_slice(alloc, &bytes)?);
+    let room = open(alloc, &mut disk)?.journal_room();
+    let mut book = book_with(alloc, bytes, room)?;
+    let one = hand_in(&mut book, b"x") == Ok(1);
+    let other = hand_in(&mut book, b"x") == Err(Refusal::JournalFull);
+    assert!(rt; room == 6_656 && one && other);
+    Ok(())
+}
