@@ -27,3 +27,5 @@ mod scenes;
 mod team;
 #[cfg(test)]
 mod teams;
+#[cfg(test)]
+mod trimmed;

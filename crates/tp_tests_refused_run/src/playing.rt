@@ -164,8 +164,8 @@ fn small_pools_and_a_full_journal(rt: HostRuntime) -> Result<(), Fail> {
     Ok(())
 }
 
-/// With one byte the confirm wants memory for its entry; with two the host's take; with three the run, once the node took; with four
-/// the node's take.
+/// With one byte the node's second turn wants memory for its entry; with two the confirm; with three the host's take; with four the node's
+/// first turn.
 const OFFERED: &[&[u8]] = &[b"1", b"12", b"123", b"1234"];
 
 #[test]

@@ -5,7 +5,7 @@ use crate::playing::plays;
 use std::alloc::Global;
 use std::process::Abort;
 use std::sync::Wait;
-use tp_model::{Entry, Token};
+use tp_model::{Entry, Received, Token};
 
 /// Something that is done. Each number of an entry is one behind the bytes that the story offers first.
 #[derive(Clone, Copy)]
@@ -41,11 +41,6 @@ pub(crate) struct Story<'a> {
     pub(crate) kept: &'a [(u64, Entry)],
 }
 
-const ACK: Entry = Entry::Take {
-    line: 4,
-    token: Token::Ack,
-};
-
 const LETTER: Entry = Entry::Take {
     line: 0,
     token: Token::Data(b'A'),
@@ -59,7 +54,25 @@ const RUN_3: Entry = Entry::Run { node: 0, count: 3 };
 
 const RUN_16: Entry = Entry::Run { node: 0, count: 16 };
 
-/// Without a spare frame: the node records, takes the acknowledge, closes its line and runs a whole turn, since nothing is written.
+/// The node takes the acknowledge, and makes a whole turn's steps.
+const ACK_16: Entry = turn(Received::JustAck, 16);
+
+/// A turn in which the node takes this on its link 0, and makes so many steps.
+const fn turn(first: Received, count: u16) -> Entry {
+    Entry::Turn {
+        node: 0,
+        takes: [
+            first,
+            Received::Nothing,
+            Received::Nothing,
+            Received::Nothing,
+        ],
+        count,
+    }
+}
+
+/// Without a spare frame: the node records, takes the acknowledge and makes a whole turn's steps, and in its next turn closes its line and
+/// makes as many, since nothing is written.
 pub(crate) fn nothing_written<R: Wait + Abort>(rt: &R, alloc: Global) -> bool {
     let story = Story {
         spare: 0,
@@ -68,13 +81,14 @@ pub(crate) fn nothing_written<R: Wait + Abort>(rt: &R, alloc: Global) -> bool {
             (Step::Turn(0, 0, Some(3)), 1),
             (Step::Turn(1, 1, None), 2),
             (Step::Begin, 2),
-            (Step::Turn(0, 1, Some(16)), 4),
-            (Step::Turn(1, 0, None), 4),
+            (Step::Turn(0, 1, Some(16)), 3),
+            (Step::Turn(1, 0, None), 3),
+            (Step::Turn(0, 0, Some(16)), 4),
             (Step::Whole(1, 1, Some(Token::Ack), 2), 4),
             (Step::Flush(true), 4),
         ],
         base: 2,
-        kept: &[(2, ACK), (3, RUN_16)],
+        kept: &[(2, ACK_16), (3, RUN_16)],
     };
     plays(rt, alloc, &story)
 }
@@ -94,11 +108,11 @@ pub(crate) fn no_frame<R: Wait + Abort>(rt: &R, alloc: Global) -> bool {
             (Step::Flush(true), 1),
             (Step::Turn(0, 0, Some(1)), 2),
             (Step::Turn(1, 1, None), 3),
-            (Step::Turn(0, 1, Some(16)), 5),
-            (Step::Flush(false), 5),
+            (Step::Turn(0, 1, Some(16)), 4),
+            (Step::Flush(false), 4),
         ],
         base: 0,
-        kept: &[(0, RUN_2), (1, RUN_1), (2, LETTER), (3, ACK), (4, RUN_16)],
+        kept: &[(0, RUN_2), (1, RUN_1), (2, LETTER), (3, ACK_16)],
     };
     plays(rt, alloc, &story)
 }
@@ -113,11 +127,11 @@ pub(crate) fn one_frame<R: Wait + Abort>(rt: &R, alloc: Global) -> bool {
             (Step::Turn(0, 0, Some(3)), 1),
             (Step::Turn(1, 1, None), 2),
             (Step::Whole(0, 0, None, 2), 2),
-            (Step::Turn(0, 1, Some(16)), 4),
-            (Step::Flush(true), 4),
+            (Step::Turn(0, 1, Some(16)), 3),
+            (Step::Flush(true), 3),
         ],
         base: 0,
-        kept: &[(0, RUN_3), (1, LETTER), (2, ACK), (3, RUN_16)],
+        kept: &[(0, RUN_3), (1, LETTER), (2, ACK_16)],
     };
     plays(rt, alloc, &story)
 }
@@ -125,7 +139,8 @@ pub(crate) fn one_frame<R: Wait + Abort>(rt: &R, alloc: Global) -> bool {
 /// As many bytes as the journal has room for entries.
 const ALL: &[u8] = &[7; 105];
 
-/// A journal that is full stays so without a snapshot. One that runs takes what it needs from what is kept for it, and its end makes room.
+/// A journal that is full stays so without a snapshot. One that runs takes what it needs from what is kept for it: the node takes a byte in
+/// a turn without a step, and in its next turn closes its line. Its end makes room.
 pub(crate) fn full<R: Wait + Abort>(rt: &R, alloc: Global) -> bool {
     let story = Story {
         spare: 4,
@@ -138,6 +153,8 @@ pub(crate) fn full<R: Wait + Abort>(rt: &R, alloc: Global) -> bool {
             (Step::Begin, 0),
             (Step::Full, 1),
             (Step::Turn(1, 0, None), 1),
+            (Step::Full, 1),
+            (Step::Turn(1, 0, None), 1),
             (Step::Whole(0, 0, Some(Token::Data(7)), 1), 1),
             (Step::Refused, 1),
             (Step::Flush(true), 1),
@@ -145,33 +162,24 @@ pub(crate) fn full<R: Wait + Abort>(rt: &R, alloc: Global) -> bool {
             (Step::Flush(false), 2),
         ],
         base: 0,
-        kept: &[
-            (
-                0,
-                Entry::Take {
-                    line: 4,
-                    token: Token::Data(7),
-                },
-            ),
-            (1, RUN_3),
-        ],
+        kept: &[(0, turn(Received::JustData(7), 0)), (1, RUN_3)],
     };
     plays(rt, alloc, &story)
 }
 
 /// A byte comes in, the letter goes out and is confirmed, and a snapshot comes to its end.
 const CALLS: &[Row] = &[
-    (Step::Turn(0, 1, Some(3)), 2),
-    (Step::Turn(1, 1, None), 3),
-    (Step::Flush(false), 3),
-    (Step::Shown(b"A"), 4),
-    (Step::Turn(0, 1, Some(16)), 6),
-    (Step::Begin, 6),
-    (Step::Turn(1, 0, None), 6),
-    (Step::Turn(0, 0, Some(16)), 7),
-    (Step::Turn(1, 0, None), 7),
-    (Step::Whole(4, 2, None, 1), 7),
-    (Step::Flush(true), 7),
+    (Step::Turn(0, 1, Some(3)), 1),
+    (Step::Turn(1, 1, None), 2),
+    (Step::Flush(false), 2),
+    (Step::Shown(b"A"), 3),
+    (Step::Turn(0, 1, Some(16)), 4),
+    (Step::Begin, 4),
+    (Step::Turn(1, 0, None), 4),
+    (Step::Turn(0, 0, Some(16)), 5),
+    (Step::Turn(1, 0, None), 5),
+    (Step::Whole(2, 2, None, 1), 5),
+    (Step::Flush(true), 5),
 ];
 
 /// The same calls behind a number of bytes, so that each of them wants memory for its entry in one of the stories.
@@ -180,8 +188,8 @@ pub(crate) fn calls<R: Wait + Abort>(rt: &R, alloc: Global, offered: &[u8]) -> b
         spare: 4,
         offered,
         rows: CALLS,
-        base: 6,
-        kept: &[(6, RUN_16)],
+        base: 4,
+        kept: &[(4, RUN_16)],
     };
     plays(rt, alloc, &story)
 }

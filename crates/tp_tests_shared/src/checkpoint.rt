@@ -159,6 +159,7 @@ fn record_both<J: Naming, R: Wait>(
     make_turn(rt, shared, seat, 1);
     let first = image_of(rt, alloc, shared, key, 0)?;
     make_turn(rt, shared, seat, 0);
+    make_turn(rt, shared, seat, 1);
     let second = image_of(rt, alloc, shared, key, 1)?;
     Ok((first, second))
 }

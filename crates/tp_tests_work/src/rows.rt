@@ -11,6 +11,7 @@ use std::sync::Wait;
 use std::test::Fail;
 use tp_host::{ConfirmFault, OfferFault, Session, ShownFault};
 use tp_mark::{Pass, Raiser};
+use tp_model::{Entry, Received, Token};
 use tp_shared::{Naming, NoGate, Parts};
 use tp_work::{Net, Seat, TurnFault};
 
@@ -22,14 +23,33 @@ const TURNS: &[(u8, u64, Option<u16>)] = &[
     (1, 0, None),
 ];
 
+/// What they journal: a run of the node, the letter as the host takes it, and its acknowledge as the node takes it with the next run.
+const JOURNAL: &[Entry] = &[
+    Entry::Run { node: 0, count: 3 },
+    Entry::Take {
+        line: 0,
+        token: Token::Data(0x41),
+    },
+    Entry::Turn {
+        node: 0,
+        takes: [
+            Received::JustAck,
+            Received::Nothing,
+            Received::Nothing,
+            Received::Nothing,
+        ],
+        count: 16,
+    },
+];
+
 /// Offers one after another: their position, their bytes, and the receipt's number or the fault.
 const OFFERS: &[(u64, &[u8], Result<u64, OfferFault>)] = &[
     (1, b"b", Err(OfferFault::Gap(0))),
-    (0, b"", Ok(4)),
-    (0, b"ab", Ok(6)),
+    (0, b"", Ok(3)),
+    (0, b"ab", Ok(5)),
     (0, b"ab", Err(OfferFault::Already(2))),
     (3, b"c", Err(OfferFault::Gap(2))),
-    (2, b"", Ok(6)),
+    (2, b"", Ok(5)),
     (2, &[7; 4095], Err(OfferFault::PortFull(4094))),
 ];
 
@@ -39,7 +59,7 @@ const BROKEN_OFFERS: &[(u64, &[u8], Result<u64, OfferFault>)] = &[
     (3, b"c", Err(OfferFault::Gap(2))),
     (2, b"c", Err(OfferFault::StoreBroken)),
     (2, &[7; 4095], Err(OfferFault::StoreBroken)),
-    (2, b"", Ok(7)),
+    (2, b"", Ok(6)),
 ];
 
 fn play_offers<J: Naming, R: Wait + Abort>(
@@ -88,6 +108,17 @@ fn play_turns<J: Naming, R: Wait + Abort>(rt: &R, net: &Net<J, NoGate>, seat: &m
     }
 }
 
+/// Whether just `wanted` was journalled.
+fn is_journalled<J: Naming, R: Wait>(rt: &R, net: &Net<J, NoGate>, wanted: &[Entry]) -> bool {
+    let held = net.shared().book().lock(rt);
+    let entries = held.book().entries();
+    entries.len() == wanted.len()
+        && entries
+            .iter()
+            .zip(wanted)
+            .all(|(one, other)| one.entry == *other)
+}
+
 /// Shows the letter once the mark is above its Take, and confirms it once; then what was offered is stored once the mark says so.
 fn play_outputs<J: Naming, R: Wait + Abort>(
     rt: &R,
@@ -108,11 +139,11 @@ fn play_outputs<J: Naming, R: Wait + Abort>(
     let Ok(receipt) = session.confirm(rt, 1, pass) else {
         panic!(rt; "the letter is confirmed")
     };
-    assert!(rt; receipt.number() == 7);
+    assert!(rt; receipt.number() == 6);
+    assert!(rt; !session.is_stored(&receipt, pass));
+    net.shared().mark().raise(raiser, 5);
     assert!(rt; !session.is_stored(&receipt, pass));
     net.shared().mark().raise(raiser, 6);
-    assert!(rt; !session.is_stored(&receipt, pass));
-    net.shared().mark().raise(raiser, 7);
     assert!(rt; session.is_stored(&receipt, pass));
     assert!(rt; is_shown(rt, alloc, session, pass, 0, Err(ShownFault::TooOld)));
     assert!(rt; is_shown(rt, alloc, session, pass, 1, Ok(b"")));
@@ -166,6 +197,7 @@ fn play<J: Naming, R: Wait + Abort>(
         panic!(rt; "the port is there")
     };
     play_turns(rt, &net, &mut seat);
+    assert!(rt; is_journalled(rt, &net, JOURNAL));
     play_offers(rt, &session, OFFERS);
     play_outputs(rt, alloc, &session, &net, &mut raiser, &mut pass);
     play_broken(rt, &session, &net, &mut seat, &mut pass);

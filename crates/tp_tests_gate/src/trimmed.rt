@@ -1,0 +1,194 @@
+//! A node's turn that is open while the areas are switched and the book is trimmed.
+
+ghost use Rattle.std.specs.Prelude.{◌≡◌};
+ghost use Rattle.tp_shared.specs.Named.{Names};
+ghost use Rattle.tp_tests_begun.specs.Spelt.{IsSpelt};
+
+use crate::device::{formatted, without_turns};
+use crate::hold::Hold;
+use crate::left::is_left;
+use std::alloc::Global;
+use std::marker::Brand;
+use std::sync::Wait;
+use std::test::Fail;
+use std::thread::{Threads, join};
+use tp_disk::MemDisk;
+use tp_flush::Flusher;
+use tp_model::{Entry, Form, Received, Token};
+use tp_shared::gate::RUN_DONE;
+use tp_shared::{Gate, Naming, NoGate, Seat, Shared};
+use tp_tests_begun::opening::{Opening, begin, opening_of};
+
+/// The node that sends a letter, and whose turn is open.
+const NODE: u8 = 0;
+
+/// How many steps a turn has.
+const QUANTUM: u16 = 9;
+
+/// The line from the port to the node.
+const LINE: u16 = 64;
+
+/// What the open turn journals: the letter's acknowledge and the run in one entry, or apart.
+const WHOLE: &[Entry] = &[Entry::Turn {
+    node: NODE,
+    takes: [
+        Received::JustAck,
+        Received::Nothing,
+        Received::Nothing,
+        Received::Nothing,
+    ],
+    count: QUANTUM,
+}];
+
+const APART: &[Entry] = &[
+    Entry::Take {
+        line: LINE,
+        token: Token::Ack,
+    },
+    Entry::Run {
+        node: NODE,
+        count: QUANTUM,
+    },
+];
+
+/// A turn of the node `number`. Answers whether it was made.
+fn is_turned<J: Naming, G: Gate, R: Wait>(
+    rt: &R,
+    shared: &Shared<J>,
+    gate: &G,
+    number: u8,
+) -> bool {
+    if number >= shared.nodes() {
+        return false;
+    }
+    let mut seat = Seat::new();
+    shared.turn(rt, gate, &mut seat, number, QUANTUM).is_ok()
+}
+
+/// A turn of each node.
+fn are_turned<J: Naming, R: Wait>(rt: &R, shared: &Shared<J>) -> bool {
+    let mut are_made = true;
+    for number in 0..shared.nodes() {
+        are_made = is_turned(rt, shared, &NoGate, number) && are_made;
+    }
+    are_made
+}
+
+/// A turn of the flusher. Answers whether it switched.
+fn switches<J: Naming, R: Wait>(
+    rt: &R,
+    alloc: Global,
+    shared: &Shared<J>,
+    flusher: &mut Flusher<J, MemDisk>,
+) -> Option<bool> {
+    match flusher.turn(rt, alloc, shared) {
+        Ok(flushed) => Some(flushed.switched),
+        Err(_) => None,
+    }
+}
+
+/// The node sends its letter, and a snapshot begins, in which all nodes record. The flusher copies their images, and doesn't switch, since
+/// the letter is on its line, and a Marker behind it. Then the host takes both, and nothing is wanting any more.
+fn comes_whole<J: Naming, R: Wait>(
+    rt: &R,
+    alloc: Global,
+    shared: &Shared<J>,
+    flusher: &mut Flusher<J, MemDisk>,
+) -> bool {
+    let is_sent = is_turned(rt, shared, &NoGate, NODE);
+    let is_begun = flusher.snapshot(rt, alloc, shared).answer().is_ok();
+    let are_recorded = are_turned(rt, shared);
+    let is_copied = switches(rt, alloc, shared, flusher) == Some(false);
+    let mut seat = Seat::new();
+    let is_taken = shared.host_turn(rt, &NoGate, &mut seat).is_ok();
+    is_sent && is_begun && are_recorded && is_copied && is_taken
+}
+
+// A turn of the flusher once the node is held, which is let go then. Answers whether it was there, and the areas were switched.
+fn switch_beside<J: Naming, R: Wait>(
+    rt: &R,
+    alloc: Global,
+    shared: &Shared<J>,
+    flusher: Flusher<J, MemDisk>,
+    gate: &Hold,
+) -> (Flusher<J, MemDisk>, bool) {
+    let mut flusher = flusher;
+    let came = gate.wait();
+    let switched = switches(rt, alloc, shared, &mut flusher);
+    gate.open();
+    (flusher, came && switched == Some(true))
+}
+
+/// Whether the areas are switched while the node is held behind its run, and its turn is made.
+fn is_switched_beside<J: Naming + Send + Sync, R: Threads + Wait + Sync>(
+    rt: &R,
+    alloc: Global,
+    shared: &Shared<J>,
+    flusher: Flusher<J, MemDisk>,
+) -> (Flusher<J, MemDisk>, bool) {
+    let hold = Hold::new(NODE, RUN_DONE);
+    let gate = &hold;
+    let (is_made, (flusher, is_switched)) = join(
+        rt,
+        move || is_turned(rt, shared, gate, NODE),
+        move || switch_beside(rt, alloc, shared, flusher, gate),
+    );
+    (flusher, is_made && is_switched && hold.was_let_go())
+}
+
+/// Whether the book has form Turns, and these are its last entries.
+fn ends_with<J: Naming, R: Wait>(rt: &R, shared: &Shared<J>, wanted: &[Entry]) -> bool {
+    let held = shared.book().lock(rt);
+    let entries = held.book().entries();
+    let last = entries.len().saturating_sub(wanted.len());
+    let is_long = entries.len() >= wanted.len();
+    is_long
+        && held.book().form() == Form::Turns
+        && entries
+            .iter()
+            .skip(last)
+            .zip(wanted)
+            .all(|(one, other)| one.entry == *other)
+}
+
+/// Whether a turn that is open while the book is trimmed ends the journal with `wanted`, and the device opens to that.
+fn play<J: Naming + Send + Sync, R: Threads + Wait + Sync>(
+    rt: &R,
+    alloc: Global,
+    opening: Opening<MemDisk>,
+    wanted: &[Entry],
+) -> Result<bool, Fail>
+    requires names { Names J.roll J.first J.start J.node J.mark J.flusher J.sights J.room opening.parts }
+    requires spelt { IsSpelt opening.opened.value }
+{
+    let (net, _, mut flusher, _) = begin::<J, MemDisk, NoGate, R>(rt, alloc, opening, 1, NoGate)?;
+    let is_whole = comes_whole(rt, alloc, net.shared(), &mut flusher);
+    let (flusher, is_switched) = is_switched_beside(rt, alloc, net.shared(), flusher);
+    let is_last = ends_with(rt, net.shared(), wanted);
+    let is_left = is_left(rt, alloc, net.shared(), flusher)?;
+    Ok(is_whole && is_switched && is_last && is_left)
+}
+
+/// The same with new names.
+fn play_in<R: Threads + Wait + Sync>(
+    rt: &R,
+    alloc: Global,
+    opening: Opening<MemDisk>,
+    wanted: &[Entry],
+) -> Result<bool, Fail>
+    requires { IsSpelt opening.opened.value }
+{
+    play::<Brand, R>(rt, alloc, opening, wanted)
+}
+
+#[test]
+fn a_turn_that_is_open_at_a_trim_is_committed_as_it_was_opened(
+    rt: HostRuntime,
+) -> Result<(), Fail> {
+    let alloc = rt.alloc();
+    let opening = opening_of(alloc, formatted(alloc)?)?;
+    assert!(rt; play_in(&rt, alloc, opening, WHOLE)?);
+    let opening = opening_of(alloc, without_turns(formatted(alloc)?))?;
+    assert!(rt; play_in(&rt, alloc, opening, APART)?);
+    Ok(())
+}
