@@ -1,4 +1,5 @@
-use Rattle.std.proofs.Common.{◌≡◌, ◌∙◌, ℕ, List, [], ◌∷◌, ◌++◌, Vec, Global, map, length, Some, sym}
+use Rattle.std.proofs.Common.{◌∙◌, ℕ, Vec, Global, map, length, sym}
+use Rattle.std.proofs.lemmas.List.{map-id}
 use Rattle.std.proofs.lemmas.Iterator.Adapters.{YieldsList-from_vec}
 use Rattle.std.proofs.lemmas.Iterator.Consumers.{YieldsList-end, YieldsList-turn}
 use Rattle.tp_model.specs.Image.{node_at, node_of}
@@ -27,18 +28,18 @@ returns-clause-live c =
     let images = c.args.state.net.images.items in
     let gives = c.into_iter-image-iterator.ensures.into_iter_gives in
     let all = YieldsList-end (YieldsList-from_vec {s = c.into_iter-image-iterator.result} images gives.0 (gives.1 ∙ c.args.state.net.images.ok.0)) c.loop-image.yielded c.loop-image.image-iterator c.loop-image.yielded_by c.next.result c.next.new.self c.in-None.is c.next.ensures.steps in
-    made_live c.args.spare (map node_behind images) c.loop-image.nodes.items (made_all c.args.spare node_behind c.loop-image.yielded images c.loop-image.nodes.items all.0 c.loop-image.invariant)
+    made_live c.args.spare (map node_behind images) c.loop-image.nodes.items (made_all c.args.spare node_behind c.loop-image.yielded images c.loop-image.nodes.items (sym (map-id c.loop-image.yielded) ∙ all.0) c.loop-image.invariant)
 
 pub returns-clause-each : goal.returns-clause-each
 returns-clause-each c =
     let images = c.args.state.net.images.items in
     let gives = c.into_iter-image-iterator.ensures.into_iter_gives in
     let all = YieldsList-end (YieldsList-from_vec {s = c.into_iter-image-iterator.result} images gives.0 (gives.1 ∙ c.args.state.net.images.ok.0)) c.loop-image.yielded c.loop-image.image-iterator c.loop-image.yielded_by c.next.result c.next.new.self c.in-None.is c.next.ensures.steps in
-    made_each c.args.spare (map node_behind images) c.loop-image.nodes.items (made_all c.args.spare node_behind c.loop-image.yielded images c.loop-image.nodes.items all.0 c.loop-image.invariant)
+    made_each c.args.spare (map node_behind images) c.loop-image.nodes.items (made_all c.args.spare node_behind c.loop-image.yielded images c.loop-image.nodes.items (sym (map-id c.loop-image.yielded) ∙ all.0) c.loop-image.invariant)
 
 pub returns-clause-frames : goal.returns-clause-frames
 returns-clause-frames c =
     let images = c.args.state.net.images.items in
     let gives = c.into_iter-image-iterator.ensures.into_iter_gives in
     let all = YieldsList-end (YieldsList-from_vec {s = c.into_iter-image-iterator.result} images gives.0 (gives.1 ∙ c.args.state.net.images.ok.0)) c.loop-image.yielded c.loop-image.image-iterator c.loop-image.yielded_by c.next.result c.next.new.self c.in-None.is c.next.ensures.steps in
-    made_frames c.args.spare (map node_behind images) c.loop-image.nodes.items (made_all c.args.spare node_behind c.loop-image.yielded images c.loop-image.nodes.items all.0 c.loop-image.invariant)
+    made_frames c.args.spare (map node_behind images) c.loop-image.nodes.items (made_all c.args.spare node_behind c.loop-image.yielded images c.loop-image.nodes.items (sym (map-id c.loop-image.yielded) ∙ all.0) c.loop-image.invariant)
