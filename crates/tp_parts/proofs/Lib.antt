@@ -1,3 +1,4 @@
+pub mod Bare
 pub mod Dealt
 pub mod First
 pub mod GoesUpTo

@@ -1,4 +1,5 @@
 pub mod Members
+pub mod Numbers
 pub mod Pair
 pub mod PairTurns
 pub mod PairWhole

@@ -11,14 +11,18 @@ use crate::waiting::Waiting;
 use crate::watched::{Watch, Watched};
 use std::alloc::{AllocError, Global};
 use std::test::Fail;
+use tp_entry::Numbered;
 use tp_gate::NoGate;
 use tp_model::{Entry, Token};
 use tp_parts::play_whole;
 
 /// The byte on the first node's line is taken.
-const ENTRIES: [Entry; 1] = [Entry::Take {
-    line: 0,
-    token: Token::Data(65),
+const ENTRIES: [Numbered; 1] = [Numbered {
+    entry: Entry::Take {
+        line: 0,
+        token: Token::Data(65),
+    },
+    number: 0,
 }];
 
 fn node(side: Side) -> HaltedNode {
@@ -106,11 +110,17 @@ fn the_gate_is_called_before_the_first_entry(rt: HostRuntime) -> Result<(), Fail
     let alloc = rt.alloc();
     let watch = Watch::new();
     let entries = [
-        Entry::Take {
-            line: 0,
-            token: Token::Data(65),
+        Numbered {
+            entry: Entry::Take {
+                line: 0,
+                token: Token::Data(65),
+            },
+            number: 0,
         },
-        Entry::Run { node: 1, count: 1 },
+        Numbered {
+            entry: Entry::Run { node: 1, count: 1 },
+            number: 1,
+        },
     ];
     let parts = vec![in alloc;
         Watched {

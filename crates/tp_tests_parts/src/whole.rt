@@ -7,6 +7,7 @@ ghost use Rattle.tp_model.specs.Entries.{next};
 ghost use Rattle.tp_model.specs.Node.{t414};
 ghost use Rattle.tp_model.specs.Order.{after};
 ghost use Rattle.tp_law_parts.specs.Reach.{reach};
+ghost use Rattle.tp_law_parts.specs.Readable.{bare};
 ghost use Rattle.tp_parts.specs.Whole.{EndsAgree, IsStop, IsWhole};
 ghost use Rattle.tp_tests_parts.specs.Member.{member_network};
 ghost use Rattle.tp_tests_parts.specs.Pair.{pair_end, pair_whole, whole_parts, whole_pieces};
@@ -17,6 +18,7 @@ use crate::node::HaltedNode;
 use crate::side::Side;
 use std::alloc::{AllocError, Global};
 use std::thread::Threads;
+use tp_entry::Numbered;
 use tp_gate::NoGate;
 use tp_model::Entry;
 use tp_parts::{Played, play_whole};
@@ -28,6 +30,19 @@ pub fn the_pair_is_whole()
     ensures goes { after t414 pair_whole (Take 0 (Data 65) ∷ Take 4 (Data 66) ∷ []) ≡ Some pair_end }
     ensures stops { reach (next t414) pair_whole (Take 4 (Data 66) ∷ Take 0 (Data 66) ∷ []) ≡ 1 }
 {}
+
+/// The entries, all with the number 0.
+fn numbered(alloc: Global, entries: &[Entry]) -> Result<Vec<Numbered>, AllocError>
+    ensures { IfOk result (λ all. bare all.items ≡ entries.now) }
+{
+    entries
+        .iter()
+        .map(|entry| Numbered {
+            entry: *entry,
+            number: 0,
+        })
+        .collect(alloc)
+}
 
 /// Replays the pair by its parts. Answers them, with the place of the first entry that isn't possible in the pair, if there is one.
 pub fn replay_pair<R: Threads + Sync>(
@@ -53,5 +68,6 @@ pub fn replay_pair<R: Threads + Sync>(
         Member::Node(second),
         Member::Host(Host),
     ]?;
-    play_whole(rt, alloc, parts, entries, &NoGate)
+    let entries = numbered(alloc, entries)?;
+    play_whole(rt, alloc, parts, &entries, &NoGate)
 }
