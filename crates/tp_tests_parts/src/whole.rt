@@ -1,13 +1,12 @@
 //! The pair as a whole: its parts, replayed.
 
-ghost use Rattle.std.specs.Prelude.{◌≡◌, ℕ, List, [], ◌∷◌, IfOk, None, Some, slice_index_or};
+ghost use Rattle.std.specs.Prelude.{◌≡◌, ℕ, List, [], ◌∷◌, IfOk, None, Some, map, slice_index_or};
 ghost use Rattle.tp_model.specs.declared.link.Token.TheVariants.{Data};
 ghost use Rattle.tp_model.specs.declared.entry.Entry.TheVariants.{Take};
 ghost use Rattle.tp_model.specs.Entries.{next};
 ghost use Rattle.tp_model.specs.Node.{t414};
 ghost use Rattle.tp_model.specs.Order.{after};
 ghost use Rattle.tp_law_parts.specs.Reach.{reach};
-ghost use Rattle.tp_law_parts.specs.Readable.{bare};
 ghost use Rattle.tp_parts.specs.Whole.{EndsAgree, IsStop, IsWhole};
 ghost use Rattle.tp_tests_parts.specs.Member.{member_network};
 ghost use Rattle.tp_tests_parts.specs.Pair.{pair_end, pair_whole, whole_parts, whole_pieces};
@@ -33,7 +32,7 @@ pub fn the_pair_is_whole()
 
 /// The entries, all with the number 0.
 fn numbered(alloc: Global, entries: &[Entry]) -> Result<Vec<Numbered>, AllocError>
-    ensures { IfOk result (λ all. bare all.items ≡ entries.now) }
+    ensures { IfOk result (λ all. all.items ≡ map (λ entry. (entry, 0)) entries.now) }
 {
     entries
         .iter()
