@@ -6,6 +6,7 @@ pub mod Opens
 pub mod Status
 pub mod NodeText
 pub mod Entries
+pub mod Views
 pub mod Looks
 pub mod Steady
 pub mod Attempt
