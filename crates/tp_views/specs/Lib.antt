@@ -1,7 +1,12 @@
 pub mod Front
+pub mod Hex
+pub mod Names
 pub mod Shown
 pub mod Opens
 pub mod Status
+pub mod NodeText
+pub mod Entries
+pub mod Views
 pub mod Looks
 pub mod Steady
 pub mod Attempt

@@ -1,18 +1,17 @@
 -- The line that `status` prints of a device.
-use Rattle.std.specs.Prelude.{◌≡◌, ℕ, ◌+◌, ◌-◌, ◌*◌, ◌/◌, ◌^◌, ◌==◌, Bool, true, false, if◌then◌else◌, List, [], ◌∷◌, ◌++◌, length, map, codes, Option, Some, None, slice_get}
-use Rattle.std.specs.Fmt.{decimal, digits, format_spec, padded_integral}
+use Rattle.std.specs.Prelude.{◌≡◌, ℕ, ◌+◌, ◌-◌, ◌*◌, ◌/◌, ◌==◌, Bool, if◌then◌else◌, List, [], ◌∷◌, ◌++◌, length, map, codes, Option, Some, None, slice_get}
+use Rattle.std.specs.Fmt.{decimal}
 use Rattle.std.specs.Option.{option_map}
 use Rattle.tp_layout.specs.Capacity.{capacity, journal_of}
 use Rattle.tp_model.specs.NodeState.{NodeState}
 use Rattle.tp_model.specs.Network.{Port}
 use Rattle.tp_model.specs.Opening.{Opened, next_of}
 use Rattle.tp_model.specs.declared.form.Form.{Form}
-use Rattle.tp_model.specs.declared.form.Form.TheVariants.{Plain, Turns}
-use Rattle.tp_model.specs.declared.processor.Fault.{Fault}
-use Rattle.tp_model.specs.declared.processor.Fault.TheVariants.{BadAddress, UnknownOp, LongPrefix, LinkBusy}
 use Rattle.tp_node.specs.Standing.{standing}
 use Rattle.tp_node.specs.declared.standing.Standing.{Standing}
 use Rattle.tp_node.specs.declared.standing.Standing.TheVariants.{Halted, Waits, Free}
+use Rattle.tp_views.specs.Hex.{hex_word}
+use Rattle.tp_views.specs.Names.{fault_name, form_name}
 use Rattle.tp_views.specs.declared.status.PortSeen.{PortSeen}
 use Rattle.tp_views.specs.declared.status.Seen.{Seen}
 use Rattle.tp_views.specs.declared.status.Since.{Since}
@@ -71,11 +70,6 @@ yes_or_no is_so = if is_so then codes "yes" else codes "no"
 abbrev pub percent : ℕ → ℕ → ℕ
 percent entries room = if room == 0 then 0 else entries * 100 / room
 
--- the name of an area's form
-abbrev pub form_name : Form → List ℕ
-form_name Plain = codes "plain"
-form_name Turns = codes "turns"
-
 -- whether a process holds the device, which checkpoint it has, the form of its area, and the number of the next entry
 abbrev pub front_part : Bool → ℕ → Form → ℕ → Option Since → List ℕ
 front_part held generation form next since =
@@ -106,18 +100,9 @@ port_parts number at before [] = []
 port_parts number at before (port ∷ ports) =
     port_part number (millis_since at before) (port_before before number) port ++ port_parts (number + 1) at before ports
 
--- why a node halted, and the instruction at which it did, as eight hexadecimal digits
-abbrev pub fault_name : Fault → List ℕ
-fault_name BadAddress = codes "BadAddress"
-fault_name UnknownOp = codes "UnknownOp"
-fault_name LongPrefix = codes "LongPrefix"
-fault_name LinkBusy = codes "LinkBusy"
-
-abbrev pub address : ℕ → List ℕ
-address n = padded_integral (format_spec 32 0 4 8 (2 ^ 64 - 1)) false [] (digits 16 true n)
-
+-- why a node halted, and the instruction at which it did
 abbrev pub halted_part : ℕ → Standing → List ℕ
-halted_part number (Halted fault at) = codes " halted " ++ (decimal number ++ (codes " " ++ (fault_name fault ++ (codes " at " ++ address at))))
+halted_part number (Halted fault at) = codes " halted " ++ (decimal number ++ (codes " " ++ (fault_name fault ++ (codes " at " ++ hex_word at))))
 halted_part number Waits = []
 halted_part number Free = []
 

@@ -1,11 +1,11 @@
-//! The version of a head and the form of an area, as they are printed.
+//! Versions, forms, faults and what runs, as they are printed.
 
 ghost use Rattle.std.specs.Prelude.{◌≡◌};
 ghost use Rattle.tp_model.specs.Head.{version_byte};
-ghost use Rattle.tp_views.specs.Status.{form_name};
+ghost use Rattle.tp_views.specs.Names.{fault_name, form_name, halt_name, state_name};
 
 use tp_model::limits::{NARROW_VERSION, WIDE_VERSION};
-use tp_model::{Form, HeadVersion};
+use tp_model::{Fault, Form, HeadVersion, State};
 
 /// The number of a head's version.
 pub(crate) fn version_number(version: HeadVersion) -> u8
@@ -24,5 +24,38 @@ pub(crate) fn form_name(form: Form) -> &'static str
     match form {
         Form::Plain => "plain",
         Form::Turns => "turns",
+    }
+}
+
+/// Why a node halted, in a word.
+pub(crate) fn fault_name(fault: Fault) -> &'static str
+    ensures { result.now ≡ fault_name fault }
+{
+    match fault {
+        Fault::BadAddress => "BadAddress",
+        Fault::UnknownOp => "UnknownOp",
+        Fault::LongPrefix => "LongPrefix",
+        Fault::LinkBusy => "LinkBusy",
+    }
+}
+
+/// Why a node halted, or that it runs.
+pub(crate) fn halt_name(halt: Option<Fault>) -> &'static str
+    ensures { result.now ≡ halt_name halt }
+{
+    match halt {
+        None => "runs",
+        Some(fault) => fault_name(fault),
+    }
+}
+
+/// What a processor runs, in a word.
+pub(crate) fn state_name(state: State) -> &'static str
+    ensures { result.now ≡ state_name state }
+{
+    match state {
+        State::Idle => "idle",
+        State::High => "high",
+        State::Low => "low",
     }
 }

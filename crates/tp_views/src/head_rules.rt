@@ -1,6 +1,6 @@
 //! Which rule of a device's head bytes break.
 
-use crate::registers::byte_in;
+use crate::image_fields::byte_in;
 use std::alloc::AllocError;
 use std::fmt::Write;
 use tp_layout::head_places::{AREA_PLACE, NODES_PLACE, PAGES_PLACE, PORTS_PLACE, ends_place};

@@ -1,6 +1,6 @@
 //! Which rule of a node's image bytes break.
 
-use crate::registers::{byte_in, half_in, word_in};
+use crate::image_fields::{byte_in, half_in, word_in};
 use std::alloc::{AllocError, Global};
 use std::fmt::Write;
 use tp_layout::image_length;

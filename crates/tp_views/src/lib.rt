@@ -10,6 +10,7 @@ mod entries;
 mod explaining;
 mod formats;
 mod head_rules;
+mod image_fields;
 mod image_rules;
 mod looking;
 mod opening;

@@ -1,7 +1,7 @@
 //! What stands at a place of a device, in words.
 
 use crate::head_rules::{half_at, most_nodes, number_at, pages_at};
-use crate::registers::byte_in;
+use crate::image_fields::byte_in;
 use std::alloc::AllocError;
 use std::fmt::Write;
 use tp_layout::head_places::{AREA_PLACE, NODES_PLACE, PORTS_PLACE};

@@ -1,142 +1,164 @@
-//! A node's registers, queues and link ends as text, from its image.
+//! What is printed of a node: its registers, queues and link ends, addresses in hexadecimal.
 
-ghost use Rattle.std.specs.Prelude.{◌<◌, ◌^◌};
+ghost use Rattle.std.specs.Prelude.{◌≡◌, ◌++◌, IfOk, OnOk, string_bytes};
+ghost use Rattle.tp_model.specs.Image.{node_at};
+ghost use Rattle.tp_views.specs.NodeText.{cpu_lines, idle_line, input_line, input_lines, node_lines, node_text, number_line, output_line, output_lines, pointer_line, queue_line, stack_line, state_line, working_line};
 
+use crate::formats::{halt_name, state_name};
+use crate::image_fields::{cpu_in, inputs_in, outputs_in, pages_in};
 use std::alloc::{AllocError, Global};
 use std::fmt::Write;
-use tp_node::image_places::{
-    A_PLACE, B_PLACE, C_PLACE, END_BYTES, ERROR_PLACE, HALT_PLACE, HIGH_PLACE, INPUTS_PLACE,
-    IPTR_PLACE, LEFT_PLACE, LOW_PLACE, OUTPUTS_PLACE, PAGES_PLACE, POINTER_PLACE, PROCESS_PLACE,
-    SLICE_PLACE, STATE_PLACE, WPTR_PLACE,
-};
+use tp_model::{Cpu, Fault, InEnd, OutEnd, Queue, Regs, State, Transfer};
+use tp_node::halt_byte;
 
-/// The byte of an image at a place.
-pub(crate) fn byte_in(image: &[u8], at: usize) -> u8 {
-    match image.get(at) {
-        Some(byte) => *byte,
-        None => 0,
-    }
-}
-
-/// The number of two bytes of an image, the low one first.
-pub(crate) fn half_in(image: &[u8], at: usize) -> u16
-    requires { at < 2 ^ 32 }
-{
-    u16::from_le_bytes([byte_in(image, at), byte_in(image, at + 1)])
-}
-
-/// The number of four bytes of an image, the low one first.
-pub(crate) fn word_in(image: &[u8], at: usize) -> u32
-    requires { at < 2 ^ 32 }
-{
-    u32::from_le_bytes([
-        byte_in(image, at),
-        byte_in(image, at + 1),
-        byte_in(image, at + 2),
-        byte_in(image, at + 3),
-    ])
-}
-
-/// The name of a halt code.
-fn halt_name(code: u8) -> &'static str {
-    match code {
-        0 => "runs",
-        1 => "BadAddress",
-        2 => "UnknownOp",
-        3 => "LongPrefix",
-        _ => "LinkBusy",
-    }
-}
-
-/// The name of what the processor does.
-fn state_name(state: u8) -> &'static str {
-    match state {
-        0 => "idle",
-        1 => "high",
-        _ => "low",
-    }
-}
-
-/// The name of what a link end does.
-fn end_name(state: u8, is_input: bool) -> &'static str {
-    match state {
-        0 => "idle",
-        1 if is_input => "inputs",
-        1 => "waits",
-        _ => "enabled",
-    }
-}
-
-fn push_registers(text: &mut String, image: &[u8]) -> Result<(), AllocError> {
-    let (iptr, wptr) = (word_in(image, IPTR_PLACE), word_in(image, WPTR_PLACE));
-    let (a, b, c) = (
-        word_in(image, A_PLACE),
-        word_in(image, B_PLACE),
-        word_in(image, C_PLACE),
-    );
-    write!(
-        text,
-        "Iptr {iptr:08X} Wptr {wptr:08X}\nA {a:08X} B {b:08X} C {c:08X}\n"
-    )?;
-    let (high, high_back) = (word_in(image, HIGH_PLACE), word_in(image, HIGH_PLACE + 4));
-    let (low, low_back) = (word_in(image, LOW_PLACE), word_in(image, LOW_PLACE + 4));
-    write!(
-        text,
-        "high front {high:08X} back {high_back:08X}\nlow front {low:08X} back {low_back:08X}\n"
-    )?;
-    let (error, state, slice) = (
-        byte_in(image, ERROR_PLACE),
-        state_name(byte_in(image, STATE_PLACE)),
-        half_in(image, SLICE_PLACE),
-    );
-    write!(text, "error {error} state {state} slice {slice}\n")
-}
-
-/// Appends the line of a link end, whose bytes begin at `at` in the image.
-fn push_end(
+fn push_number(
     text: &mut String,
-    image: &[u8],
-    link: u8,
-    at: usize,
-    is_input: bool,
+    number: u64,
+    pages: usize,
+    halt: Option<Fault>,
 ) -> Result<(), AllocError>
-    requires { at < 2 ^ 16 }
+    ensures { OnOk result (string_bytes text.new ≡ string_bytes text.old ++ number_line number pages halt) }
 {
-    let side = if is_input { "in" } else { "out" };
-    let state = end_name(byte_in(image, at), is_input);
-    let (held, byte) = (byte_in(image, at + 1), byte_in(image, at + 2));
-    write!(text, "{side} {link} {state}")?;
-    if held != 0 {
-        write!(text, " held {byte:02X}")?;
-    }
-    if byte_in(image, at) != 0 {
-        let (process, pointer, left) = (
-            word_in(image, at + PROCESS_PLACE),
-            word_in(image, at + POINTER_PLACE),
-            word_in(image, at + LEFT_PLACE),
-        );
-        write!(
-            text,
-            " process {process:08X} pointer {pointer:08X} left {left:08X}"
-        )?;
-    }
-    write!(text, "\n")
+    let (code, name) = (halt_byte(halt), halt_name(halt));
+    write!(text, "node {number} pages {pages} halt {code} {name}\n")
 }
 
-/// All that is printed of a node by its image: its halt code, registers, queues and link ends, addresses in hexadecimal.
-pub(crate) fn node_text(alloc: Global, node: u64, image: &[u8]) -> Result<String, AllocError> {
+fn push_pointers(text: &mut String, iptr: u32, wptr: u32) -> Result<(), AllocError>
+    ensures { OnOk result (string_bytes text.new ≡ string_bytes text.old ++ pointer_line iptr wptr) }
+{
+    write!(text, "Iptr {iptr:08X} Wptr {wptr:08X}\n")
+}
+
+fn push_stack(text: &mut String, regs: Regs) -> Result<(), AllocError>
+    ensures { OnOk result (string_bytes text.new ≡ string_bytes text.old ++ stack_line regs.a regs.b regs.c) }
+{
+    let Regs { a, b, c, .. } = regs;
+    write!(text, "A {a:08X} B {b:08X} C {c:08X}\n")
+}
+
+fn push_queue(text: &mut String, name: &str, queue: Queue) -> Result<(), AllocError>
+    ensures { OnOk result (string_bytes text.new ≡ string_bytes text.old ++ queue_line name.now queue) }
+{
+    let Queue { front, back } = queue;
+    write!(text, "{name} front {front:08X} back {back:08X}\n")
+}
+
+fn push_state(text: &mut String, error: bool, state: State, slice: u16) -> Result<(), AllocError>
+    ensures { OnOk result (string_bytes text.new ≡ string_bytes text.old ++ state_line error state slice) }
+{
+    let (flag, name) = (u8::from(error), state_name(state));
+    write!(text, "error {flag} state {name} slice {slice}\n")
+}
+
+/// Appends the lines of a processor.
+fn push_cpu(text: &mut String, cpu: &Cpu) -> Result<(), AllocError>
+    ensures { OnOk result (string_bytes text.new ≡ string_bytes text.old ++ cpu_lines cpu.now) }
+{
+    push_pointers(text, cpu.iptr, cpu.wptr)?;
+    push_stack(text, cpu.regs)?;
+    push_queue(text, "high", cpu.high)?;
+    push_queue(text, "low", cpu.low)?;
+    push_state(text, cpu.regs.error, cpu.state, cpu.slice)
+}
+
+/// Appends the line of an end at which nothing is under way.
+fn push_idle(text: &mut String, side: &str, link: usize) -> Result<(), AllocError>
+    ensures { OnOk result (string_bytes text.new ≡ string_bytes text.old ++ idle_line side.now link) }
+{
+    write!(text, "{side} {link} idle\n")
+}
+
+/// Appends the line of an end at which a process waits.
+fn push_working(
+    text: &mut String,
+    side: &str,
+    link: usize,
+    what: &str,
+    transfer: Transfer,
+) -> Result<(), AllocError>
+    ensures { OnOk result (string_bytes text.new ≡ string_bytes text.old ++ working_line side.now link what.now transfer) }
+{
+    let Transfer {
+        process,
+        pointer,
+        left,
+    } = transfer;
+    write!(
+        text,
+        "{side} {link} {what} process {process:08X} pointer {pointer:08X} left {left:08X}\n"
+    )
+}
+
+fn push_output(text: &mut String, link: usize, end: OutEnd) -> Result<(), AllocError>
+    ensures { OnOk result (string_bytes text.new ≡ string_bytes text.old ++ output_line link end) }
+{
+    match end {
+        OutEnd::Idle => push_idle(text, "out", link),
+        OutEnd::Waits(transfer) => push_working(text, "out", link, "waits", transfer),
+    }
+}
+
+fn push_input(text: &mut String, link: usize, end: InEnd) -> Result<(), AllocError>
+    ensures { OnOk result (string_bytes text.new ≡ string_bytes text.old ++ input_line link end) }
+{
+    match end {
+        InEnd::Idle(None) => push_idle(text, "in", link),
+        InEnd::Idle(Some(byte)) => write!(text, "in {link} idle held {byte:02X}\n"),
+        InEnd::Inputs(transfer) => push_working(text, "in", link, "inputs", transfer),
+        InEnd::Enabled(process) => {
+            let alone = Transfer {
+                process,
+                pointer: 0,
+                left: 0,
+            };
+            push_working(text, "in", link, "enabled", alone)
+        }
+    }
+}
+
+fn push_outputs(text: &mut String, ends: &[OutEnd]) -> Result<(), AllocError>
+    ensures { OnOk result (string_bytes text.new ≡ string_bytes text.old ++ output_lines 0 ends.now) }
+{
+    for (link, end) in ends.iter().enumerate() {
+        push_output(text, link, *end)?;
+    }
+    Ok(())
+}
+
+fn push_inputs(text: &mut String, ends: &[InEnd]) -> Result<(), AllocError>
+    ensures { OnOk result (string_bytes text.new ≡ string_bytes text.old ++ input_lines 0 ends.now) }
+{
+    for (link, end) in ends.iter().enumerate() {
+        push_input(text, link, *end)?;
+    }
+    Ok(())
+}
+
+/// The lines of a node, by its pages, its processor and its ends.
+fn node_lines(
+    alloc: Global,
+    number: u64,
+    pages: usize,
+    cpu: &Cpu,
+    outputs: &[OutEnd],
+    inputs: &[InEnd],
+) -> Result<String, AllocError>
+    ensures { IfOk result (λ text. string_bytes text ≡ node_lines number pages cpu.now outputs.now inputs.now) }
+{
     let mut text = String::new(alloc);
-    let (halt, pages) = (byte_in(image, HALT_PLACE), half_in(image, PAGES_PLACE));
-    let name = halt_name(halt);
-    write!(&mut text, "node {node} pages {pages} halt {halt} {name}\n")?;
-    push_registers(&mut text, image)?;
-    for link in 0..4u8 {
-        let at = OUTPUTS_PLACE + END_BYTES * usize::from(link);
-        push_end(&mut text, image, link, at, false)?;
-    }
-    for link in 0..4u8 {
-        let at = INPUTS_PLACE + END_BYTES * usize::from(link);
-        push_end(&mut text, image, link, at, true)?;
-    }
+    push_number(&mut text, number, pages, cpu.halt)?;
+    push_cpu(&mut text, cpu)?;
+    push_outputs(&mut text, outputs)?;
+    push_inputs(&mut text, inputs)?;
     Ok(text)
+}
+
+/// All that is printed of a node, which its image spells.
+pub(crate) fn node_text(alloc: Global, number: u64, image: &[u8]) -> Result<String, AllocError>
+    ensures { IfOk result (λ text. string_bytes text ≡ node_text number (node_at image.now)) }
+{
+    let pages = pages_in(image);
+    let cpu = cpu_in(image);
+    let (outputs, inputs) = (outputs_in(image), inputs_in(image));
+    node_lines(alloc, number, pages, &cpu, &outputs, &inputs)
 }

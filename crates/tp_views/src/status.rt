@@ -1,14 +1,14 @@
 //! The line of `tpnet status`, and what a look sees that the next one compares with.
 
 ghost use Rattle.std.specs.Prelude.{◌≡◌, ◌++◌, ◌∷◌, ◌<◌, ◌^◌, [], IfOk, OnOk, codes, map, string_bytes};
-ghost use Rattle.tp_views.specs.Status.{IsSeen, accepted, accepted_before, accepted_part, address, count_part, fault_name, front_part, growth_part, halted_or_none, halted_part, halted_parts, journal_part, millis_since, next_before, out_before, out_part, percent, port_before, port_part, port_parts, port_seen, put_out, room_of, status_line, yes_or_no};
+ghost use Rattle.tp_views.specs.Status.{IsSeen, accepted, accepted_before, accepted_part, count_part, front_part, growth_part, halted_or_none, halted_part, halted_parts, journal_part, millis_since, next_before, out_before, out_part, percent, port_before, port_part, port_parts, port_seen, put_out, room_of, status_line, yes_or_no};
 ghost use Rattle.tp_node.specs.Standing.{standing};
 
-use crate::formats::form_name;
+use crate::formats::{fault_name, form_name};
 use std::alloc::{AllocError, Global};
 use std::fmt::Write;
 use tp_layout::JournalRoom;
-use tp_model::{Fault, Form};
+use tp_model::Form;
 use tp_node::{Node, Standing};
 use tp_port::HostPort;
 use tp_recover::Opened;
@@ -275,17 +275,6 @@ fn push_ports(
         )?;
     }
     Ok(())
-}
-
-fn fault_name(fault: Fault) -> &'static str
-    ensures { result.now ≡ fault_name fault }
-{
-    match fault {
-        Fault::BadAddress => "BadAddress",
-        Fault::UnknownOp => "UnknownOp",
-        Fault::LongPrefix => "LongPrefix",
-        Fault::LinkBusy => "LinkBusy",
-    }
 }
 
 /// Appends why and where a node has halted, if it has.

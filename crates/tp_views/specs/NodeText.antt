@@ -1,0 +1,89 @@
+-- The lines that `node` prints of a node.
+use Rattle.std.specs.Prelude.{ℕ, ◌+◌, Bool, List, [], ◌∷◌, ◌++◌, Option, Some, None, codes}
+use Rattle.std.specs.Fmt.{decimal}
+use Rattle.tp_model.specs.declared.link.InEnd.{InEnd}
+use Rattle.tp_model.specs.declared.link.InEnd.TheVariants.{Idle as InIdle, Inputs, Enabled}
+use Rattle.tp_model.specs.declared.link.OutEnd.{OutEnd}
+use Rattle.tp_model.specs.declared.link.OutEnd.TheVariants.{Idle as OutIdle, Waits}
+use Rattle.tp_model.specs.declared.link.Transfer.{Transfer}
+use Rattle.tp_model.specs.declared.processor.Cpu.{Cpu}
+use Rattle.tp_model.specs.declared.processor.Fault.{Fault}
+use Rattle.tp_model.specs.declared.processor.Queue.{Queue}
+use Rattle.tp_model.specs.declared.processor.State.{State}
+use Rattle.tp_model.specs.Image.{halt_byte, page_count}
+use Rattle.tp_model.specs.NodeState.{NodeState}
+use Rattle.tp_model.specs.Word.{bit}
+use Rattle.tp_views.specs.Hex.{hex_byte, hex_word}
+use Rattle.tp_views.specs.Names.{halt_name, state_name}
+
+-- ## The processor
+
+-- its number, its pages, and why it halted: the code and its name
+abbrev pub number_line : ℕ → ℕ → Option Fault → List ℕ
+number_line number pages halt =
+    codes "node " ++ (decimal number ++ (codes " pages " ++ (decimal pages ++ (codes " halt " ++ (decimal (halt_byte halt) ++ (codes " " ++ (halt_name halt ++ 10 ∷ [])))))))
+
+-- the next instruction, and the workspace
+abbrev pub pointer_line : ℕ → ℕ → List ℕ
+pointer_line iptr wptr = codes "Iptr " ++ (hex_word iptr ++ (codes " Wptr " ++ (hex_word wptr ++ 10 ∷ [])))
+
+-- the evaluation stack
+abbrev pub stack_line : ℕ → ℕ → ℕ → List ℕ
+stack_line a b c = codes "A " ++ (hex_word a ++ (codes " B " ++ (hex_word b ++ (codes " C " ++ (hex_word c ++ 10 ∷ [])))))
+
+-- the first and the last process of the queue with this name
+abbrev pub queue_line : List ℕ → Queue → List ℕ
+queue_line name queue = name ++ (codes " front " ++ (hex_word queue.front ++ (codes " back " ++ (hex_word queue.back ++ 10 ∷ []))))
+
+-- the Error flag, what runs, and the slice count
+abbrev pub state_line : Bool → State → ℕ → List ℕ
+state_line error state slice =
+    codes "error " ++ (decimal (bit error) ++ (codes " state " ++ (state_name state ++ (codes " slice " ++ (decimal slice ++ 10 ∷ [])))))
+
+abbrev pub cpu_lines : Cpu → List ℕ
+cpu_lines cpu =
+    pointer_line cpu.iptr cpu.wptr
+    ++ (stack_line cpu.regs.a cpu.regs.b cpu.regs.c
+    ++ (queue_line (codes "high") cpu.high ++ (queue_line (codes "low") cpu.low ++ state_line cpu.regs.error cpu.state cpu.slice)))
+
+-- ## The links
+
+-- an end at which nothing is under way
+abbrev pub idle_line : List ℕ → ℕ → List ℕ
+idle_line side link = side ++ (codes " " ++ (decimal link ++ (codes " idle" ++ 10 ∷ [])))
+
+-- an end at which a process waits: what it does, the process, where the next byte is or goes, and how many bytes are left
+abbrev pub working_line : List ℕ → ℕ → List ℕ → Transfer → List ℕ
+working_line side link what t =
+    side ++ (codes " " ++ (decimal link ++ (codes " " ++ (what ++ (codes " process " ++ (hex_word t.process
+    ++ (codes " pointer " ++ (hex_word t.pointer ++ (codes " left " ++ (hex_word t.left ++ 10 ∷ []))))))))))
+
+abbrev pub output_line : ℕ → OutEnd → List ℕ
+output_line link OutIdle = idle_line (codes "out") link
+output_line link (Waits t) = working_line (codes "out") link (codes "waits") t
+
+-- an input end may hold a byte; of an alternative there is its process alone
+abbrev pub input_line : ℕ → InEnd → List ℕ
+input_line link (InIdle None) = idle_line (codes "in") link
+input_line link (InIdle (Some byte)) = codes "in " ++ (decimal link ++ (codes " idle held " ++ (hex_byte byte ++ 10 ∷ [])))
+input_line link (Inputs t) = working_line (codes "in") link (codes "inputs") t
+input_line link (Enabled process) = working_line (codes "in") link (codes "enabled") (record { process = process; pointer = 0; left = 0 })
+
+abbrev pub output_lines : ℕ → List OutEnd → List ℕ
+output_lines link [] = []
+output_lines link (end ∷ ends) = output_line link end ++ output_lines (link + 1) ends
+
+abbrev pub input_lines : ℕ → List InEnd → List ℕ
+input_lines link [] = []
+input_lines link (end ∷ ends) = input_line link end ++ input_lines (link + 1) ends
+
+-- ## The node
+
+-- the node with this number, by its pages, its processor and its ends
+abbrev pub node_lines : ℕ → ℕ → Cpu → List OutEnd → List InEnd → List ℕ
+node_lines number pages cpu outputs inputs =
+    number_line number pages cpu.halt ++ (cpu_lines cpu ++ (output_lines 0 outputs ++ input_lines 0 inputs))
+
+-- All that is printed of it.
+abbrev pub node_text : ℕ → NodeState → List ℕ
+node_text number node = node_lines number (page_count node.memory) node.cpu node.outputs node.inputs
