@@ -17,56 +17,56 @@ IsNo answer = answer ≡ false
 
 -- none yet
 pub none_looked : (task : Task) (old : List Bool) → HaveLooked task old old None
-none_looked task old = record { noes = []; each = All-nil IsNo; are = sym (append-nil old); unasked = λ no. refl }
+none_looked task old = record { noes = []; each = All-nil IsNo; are = sym (append-nil old); unasked = λ is_no. refl }
 
 -- what is behind a last answer that is no, or behind one that is yes
 behind_no : (old noes : List Bool) (ended : Option Ending) → is_stopped ended ≡ false → old ++ (noes ++ []) ≡ old ++ (noes ++ (if is_stopped ended then true ∷ [] else []))
-behind_no old noes ended no = ap (λ answer. old ++ (noes ++ (if answer then true ∷ [] else []))) (sym no)
+behind_no old noes ended is_no = ap (λ answer. old ++ (noes ++ (if answer then true ∷ [] else []))) (sym is_no)
 
 behind_yes : (old noes : List Bool) (ended : Option Ending) → is_stopped ended ≡ true → (old ++ (noes ++ [])) ++ true ∷ [] ≡ old ++ (noes ++ (if is_stopped ended then true ∷ [] else []))
-behind_yes old noes ended yes =
+behind_yes old noes ended is_yes =
     append_assoc old (noes ++ []) (true ∷ []) ∙ ap (λ front. old ++ (front ++ true ∷ [])) (append-nil noes)
-    ∙ ap (λ answer. old ++ (noes ++ (if answer then true ∷ [] else []))) (sym yes)
+    ∙ ap (λ answer. old ++ (noes ++ (if answer then true ∷ [] else []))) (sym is_yes)
 
 -- one more that answers no, where it is looked, or isn't
 one_no : (until : Bool) (task : Task) (old mid new : List Bool) (ended : Option Ending) → task.until_asked ≡ until → is_stopped ended ≡ false → HaveLooked task old mid None
     → new ≡ mid ++ (if until then false ∷ [] else []) → HaveLooked task old new ended
-one_no true task old mid new ended until no H grew =
+one_no true task old mid new ended until is_no H grew =
     let noes = H.noes in
     record {
       noes = noes ++ false ∷ [];
       each = All-append IsNo noes (false ∷ []) H.each (All-cons IsNo false [] refl (All-nil IsNo));
       are =
           grew ∙ ap (λ front. front ++ false ∷ []) H.are ∙ append_assoc old (noes ++ []) (false ∷ []) ∙ ap (λ front. old ++ (front ++ false ∷ [])) (append-nil noes)
-          ∙ ap (λ all. old ++ all) (sym (append-nil (noes ++ false ∷ []))) ∙ behind_no old (noes ++ false ∷ []) ended no;
+          ∙ ap (λ all. old ++ all) (sym (append-nil (noes ++ false ∷ []))) ∙ behind_no old (noes ++ false ∷ []) ended is_no;
       unasked = λ unasked. absurd (true≢false (sym until ∙ unasked));
     }
-one_no false task old mid new ended until no H grew =
-    record { noes = H.noes; each = H.each; are = grew ∙ append-nil mid ∙ H.are ∙ behind_no old H.noes ended no; unasked = H.unasked }
+one_no false task old mid new ended until is_no H grew =
+    record { noes = H.noes; each = H.each; are = grew ∙ append-nil mid ∙ H.are ∙ behind_no old H.noes ended is_no; unasked = H.unasked }
 
 -- one that answers yes
 one_yes : (task : Task) (old mid new : List Bool) (ended : Option Ending) → task.until_asked ≡ true → is_stopped ended ≡ true → HaveLooked task old mid None
     → new ≡ mid ++ looked task true → HaveLooked task old new ended
-one_yes task old mid new ended until yes H grew = record {
+one_yes task old mid new ended until is_yes H grew = record {
   noes = H.noes;
   each = H.each;
-  are = grew ∙ ap (λ u. mid ++ (if u then true ∷ [] else [])) until ∙ ap (λ front. front ++ true ∷ []) H.are ∙ behind_yes old H.noes ended yes;
+  are = grew ∙ ap (λ u. mid ++ (if u then true ∷ [] else [])) until ∙ ap (λ front. front ++ true ∷ []) H.are ∙ behind_yes old H.noes ended is_yes;
   unasked = H.unasked;
 }
 
 -- where it is over so, it was to end so
 stopped_until : (start : Network NodeState) (task : Task) (ended : Option Ending) → IfSome ended (IsWhyEnded start task) → is_stopped ended ≡ true → task.until_asked ≡ true
-stopped_until start task None why yes = absurd (true≢false (sym yes))
-stopped_until start task (Some Quiet) why yes = absurd (true≢false (sym yes))
-stopped_until start task (Some Turns) why yes = absurd (true≢false (sym yes))
-stopped_until start task (Some Gone) why yes = absurd (true≢false (sym yes))
-stopped_until start task (Some Halted) why yes = absurd (true≢false (sym yes))
-stopped_until start task (Some Stopped) why yes = why
+stopped_until start task None why is_yes = absurd (true≢false (sym is_yes))
+stopped_until start task (Some Quiet) why is_yes = absurd (true≢false (sym is_yes))
+stopped_until start task (Some Turns) why is_yes = absurd (true≢false (sym is_yes))
+stopped_until start task (Some Gone) why is_yes = absurd (true≢false (sym is_yes))
+stopped_until start task (Some Halted) why is_yes = absurd (true≢false (sym is_yes))
+stopped_until start task (Some Stopped) why is_yes = why
 
 one_look : (answer : Bool) (start : Network NodeState) (task : Task) (old mid new : List Bool) (ended : Option Ending) → is_stopped ended ≡ answer
     → IfSome ended (IsWhyEnded start task) → HaveLooked task old mid None → new ≡ mid ++ looked task answer → HaveLooked task old new ended
-one_look true start task old mid new ended yes why H grew = one_yes task old mid new ended (stopped_until start task ended why yes) yes H grew
-one_look false start task old mid new ended no why H grew = one_no task.until_asked task old mid new ended refl no H grew
+one_look true start task old mid new ended is_yes why H grew = one_yes task old mid new ended (stopped_until start task ended why is_yes) is_yes H grew
+one_look false start task old mid new ended is_no why H grew = one_no task.until_asked task old mid new ended refl is_no H grew
 
 -- what comes in a cycle
 looks_more : (start : Network NodeState) (task : Task) (made later : ℕ) (old mid new : List Bool) (ended : Option Ending) → IfSome ended (IsWhyEnded start task)

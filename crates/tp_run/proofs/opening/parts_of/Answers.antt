@@ -1,6 +1,7 @@
 use Rattle.std.proofs.Common.{Some, sym, ap, subst, ◌<◌, length, ◌∙◌}
 use Rattle.tp_book.specs.Book.{BookValue, next_number}
 use Rattle.tp_run.specs.Outset.{outset_of}
+use Rattle.tp_book.specs.Opened.{opened_book}
 use Rattle.tp_flush.proofs.Made.{kept_is, ports_are, stands}
 use Rattle.tp_run.proofs.Made.{outset_is}
 use Rattle.tp_run.proofs.opening.parts_of.Goals as goal
@@ -30,3 +31,11 @@ returns-clause-outset c =
     let s = c.in_ok-state.state in
     let E = c.in_ok-state.ensures in
     c.of-outset.ensures ∙ ap (λ b. outset_of b c.args.port) c.in_ok-book.ensures ∙ outset_is s c.args.opened (Some c.journal_room-room.result) c.args.port E.now E.base E.kept
+
+pub opened-requires-clause-opened : goal.opened-requires-clause-opened
+opened-requires-clause-opened c = record {
+  state = c.in_ok-state.state;
+  opened = c.in_ok-state.ensures.opened;
+  book_is = c.in_ok-book.ensures ∙ ap (opened_book c.in_ok-state.state) (sym (ap (λ (b : BookValue). b.room) c.in_ok-book.ensures));
+  nodes_are = c.in_ok-nodes.ensures.live;
+}

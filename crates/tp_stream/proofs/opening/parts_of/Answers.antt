@@ -13,8 +13,8 @@ use Rattle.tp_stream.proofs.opening.parts_of.Goals as goal
 pub begin_all-requires : goal.begin_all-requires
 begin_all-requires g c = subst (λ (b : BookValue). AreCounted c.in-Ok.state.next b.state.ports) (sym c.in-Ok-open.ensures) c.in-Ok.ensures.opened.counted
 
-pub returns-clause-refused : goal.returns-clause-refused
-returns-clause-refused g c =
+pub returns-in-Err-clause-refused : goal.returns-in-Err-clause-refused
+returns-in-Err-clause-refused g c =
     let s = c.in-Ok.state in
     let o = c.args.opened in
     let fault = c.in-Err.fault in

@@ -1,5 +1,6 @@
 use Rattle.std.proofs.Common.{Some, sym, ap, ◌∙◌}
 use Rattle.tp_book.specs.Book.{BookValue, next_number}
+use Rattle.tp_book.specs.Opened.{opened_book}
 use Rattle.tp_flush.proofs.Made.{kept_is, stands}
 use Rattle.tp_tests_begun.proofs.opening.parts_of.Goals as goal
 
@@ -16,3 +17,11 @@ returns-clause-parts c =
 
 pub returns-clause-bound : goal.returns-clause-bound
 returns-clause-bound c = ap (λ (b : BookValue). b.room) (c.in_ok-parts.ensures.book ∙ c.in_ok-book.ensures) ∙ ap Some c.journal_room-room.ensures
+
+pub opened-requires-clause-opened : goal.opened-requires-clause-opened
+opened-requires-clause-opened c = record {
+  state = c.in_ok-state.state;
+  opened = c.in_ok-state.ensures.opened;
+  book_is = c.in_ok-book.ensures ∙ ap (opened_book c.in_ok-state.state) (sym (ap (λ (b : BookValue). b.room) c.in_ok-book.ensures));
+  nodes_are = c.in_ok-nodes.ensures.live;
+}
