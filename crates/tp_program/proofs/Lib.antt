@@ -1,4 +1,3 @@
-pub mod Ends
 pub mod Histories
 mod Statuses
 mod Stayed
