@@ -1,5 +1,4 @@
 pub mod Kept
-pub mod Looks
 pub mod Puts
 pub mod Quiets
 pub mod Runs

@@ -1,5 +1,4 @@
 pub mod Endings
-pub mod Looks
 pub mod Offered
 pub mod Outcomes
 pub mod Put

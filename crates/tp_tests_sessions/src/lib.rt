@@ -8,6 +8,4 @@ mod program;
 #[cfg(test)]
 mod run_tests;
 #[cfg(test)]
-mod stop_tests;
-#[cfg(test)]
 mod stream_tests;
