@@ -28,29 +28,6 @@ const QUANTUM: u16 = 9;
 /// The line from the port to the node.
 const LINE: u16 = 64;
 
-/// What the open turn journals: the letter's acknowledge and the run in one entry, or apart.
-const WHOLE: &[Entry] = &[Entry::Turn {
-    node: NODE,
-    takes: [
-        Received::JustAck,
-        Received::Nothing,
-        Received::Nothing,
-        Received::Nothing,
-    ],
-    count: QUANTUM,
-}];
-
-const APART: &[Entry] = &[
-    Entry::Take {
-        line: LINE,
-        token: Token::Ack,
-    },
-    Entry::Run {
-        node: NODE,
-        count: QUANTUM,
-    },
-];
-
 /// A turn of the node `number`. Answers whether it was made.
 fn is_turned<J: Naming, G: Gate, R: Wait>(
     rt: &R,
@@ -181,14 +158,35 @@ fn play_in<R: Threads + Wait + Sync>(
     play::<Brand, R>(rt, alloc, opening, wanted)
 }
 
+/// The open turn journals the letter's acknowledge and the run in one entry, or apart.
 #[test]
 fn a_turn_that_is_open_at_a_trim_is_committed_as_it_was_opened(
     rt: HostRuntime,
 ) -> Result<(), Fail> {
     let alloc = rt.alloc();
+    let whole = [Entry::Turn {
+        node: NODE,
+        takes: [
+            Received::JustAck,
+            Received::Nothing,
+            Received::Nothing,
+            Received::Nothing,
+        ],
+        count: QUANTUM,
+    }];
     let opening = opening_of(alloc, formatted(alloc)?)?;
-    assert!(rt; play_in(&rt, alloc, opening, WHOLE)?);
+    assert!(rt; play_in(&rt, alloc, opening, &whole)?);
+    let apart = [
+        Entry::Take {
+            line: LINE,
+            token: Token::Ack,
+        },
+        Entry::Run {
+            node: NODE,
+            count: QUANTUM,
+        },
+    ];
     let opening = opening_of(alloc, without_turns(formatted(alloc)?))?;
-    assert!(rt; play_in(&rt, alloc, opening, APART)?);
+    assert!(rt; play_in(&rt, alloc, opening, &apart)?);
     Ok(())
 }

@@ -23,25 +23,6 @@ const TURNS: &[(u8, u64, Option<u16>)] = &[
     (1, 0, None),
 ];
 
-/// What they journal: a run of the node, the letter as the host takes it, and its acknowledge as the node takes it with the next run.
-const JOURNAL: &[Entry] = &[
-    Entry::Run { node: 0, count: 3 },
-    Entry::Take {
-        line: 0,
-        token: Token::Data(0x41),
-    },
-    Entry::Turn {
-        node: 0,
-        takes: [
-            Received::JustAck,
-            Received::Nothing,
-            Received::Nothing,
-            Received::Nothing,
-        ],
-        count: 16,
-    },
-];
-
 /// Offers one after another: their position, their bytes, and the receipt's number or the fault.
 const OFFERS: &[(u64, &[u8], Result<u64, OfferFault>)] = &[
     (1, b"b", Err(OfferFault::Gap(0))),
@@ -108,14 +89,32 @@ fn play_turns<J: Naming, R: Wait + Abort>(rt: &R, net: &Net<J, NoGate>, seat: &m
     }
 }
 
-/// Whether just `wanted` was journalled.
-fn is_journalled<J: Naming, R: Wait>(rt: &R, net: &Net<J, NoGate>, wanted: &[Entry]) -> bool {
+/// Whether the turns journalled a run of the node, the letter as the host takes it, and its acknowledge as the node takes it with the next
+/// run, and nothing else.
+fn is_journalled<J: Naming, R: Wait>(rt: &R, net: &Net<J, NoGate>) -> bool {
+    let wanted = [
+        Entry::Run { node: 0, count: 3 },
+        Entry::Take {
+            line: 0,
+            token: Token::Data(0x41),
+        },
+        Entry::Turn {
+            node: 0,
+            takes: [
+                Received::JustAck,
+                Received::Nothing,
+                Received::Nothing,
+                Received::Nothing,
+            ],
+            count: 16,
+        },
+    ];
     let held = net.shared().book().lock(rt);
     let entries = held.book().entries();
     entries.len() == wanted.len()
         && entries
             .iter()
-            .zip(wanted)
+            .zip(&wanted)
             .all(|(one, other)| one.entry == *other)
 }
 
@@ -197,7 +196,7 @@ fn play<J: Naming, R: Wait + Abort>(
         panic!(rt; "the port is there")
     };
     play_turns(rt, &net, &mut seat);
-    assert!(rt; is_journalled(rt, &net, JOURNAL));
+    assert!(rt; is_journalled(rt, &net));
     play_offers(rt, &session, OFFERS);
     play_outputs(rt, alloc, &session, &net, &mut raiser, &mut pass);
     play_broken(rt, &session, &net, &mut seat, &mut pass);
