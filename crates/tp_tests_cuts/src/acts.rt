@@ -32,9 +32,10 @@ pub(crate) fn run(book: &mut Book, node: &mut Node, number: u8, quantum: u16) ->
     ensures sits { Sits book.new number None node.new }
     ensures passes { Passes number book.old book.new }
 {
-    if book.reserve_run(number).is_err() {
+    let Ok(()) = book.reserve_run(number) else {
         return None;
-    }
+    };
+    book.known();
     let stretch = run_node(node, quantum);
     let sent = all_sent(&[], stretch.sent.as_slice());
     let ran = commit_turn(book, node, number, stretch);
