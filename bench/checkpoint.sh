@@ -1,6 +1,6 @@
 #!/bin/bash
 # What checkpoints cost a run, as ratios of programs that run in turns on one machine, outside the gate:
-#   entries   16 busy nodes of 256 pages, one step a turn: durable entries a second with checkpoints as they come beside none
+#   entries   16 busy nodes of 256 pages (or NODES of PAGES), one step a turn: durable entries a second with checkpoints as they come beside none
 #   copy      the seconds of a checkpoint of these nodes beside a raw copy of as many bytes with the same syncs
 # What is compared goes first in turns.
 #   turns     one worker, 1,024 or 4,096 steps a turn, and the flusher, which sleeps where nothing is new: the slowest turn of a hundred
@@ -9,7 +9,12 @@
 #             again, which says how much of it is the machine's
 # usage: bench/checkpoint.sh TPNET [ROUNDS [FOLDER ..]]      5 rounds in /dev/shm (in memory, so only our own cost shows) by default
 #        TURNS_ALONE=1 bench/checkpoint.sh ..                the turns alone, also without a TPNET of the same day
+#        NODES=64 PAGES=1024 TURNS_ALONE=1 bench/checkpoint.sh ..      of other networks: as many nodes of as many pages
 set -e
+nodes=${NODES:-16}
+pages=${PAGES:-256}
+head=512
+[ "$nodes" -le 16 ] && [ "$pages" -le 256 ] || head=1024
 top=$(cd "$(dirname "$0")/.." && pwd)
 tpnet=$(realpath "$1")
 rounds=${2:-5}
@@ -38,14 +43,15 @@ static void settle(int file) {
 
 int main(int count, char **words) {
     int file = open(words[1], O_RDWR);
+    if (count != 5 || file < 0) return 1;
     off_t area = atoll(words[2]), at = area + 21;
-    if (count != 3 || file < 0) return 1;
+    int nodes = atoi(words[3]), pages = atoi(words[4]), lines = 4 * (4 * nodes + 1);
     memset(page, 1, sizeof page);
-    for (int node = 0; node < 16; node++) {
+    for (int node = 0; node < nodes; node++) {
         put(file, 172, at), at += 172;
-        for (int piece = 0; piece < 256; piece++) put(file, 1024, at), at += 1024;
+        for (int piece = 0; piece < pages; piece++) put(file, 1024, at), at += 1024;
     }
-    put(file, 8, area + 13), put(file, 4 * 65, at), put(file, sizeof page, at + 4 * 65), put(file, 12, area + 1);
+    put(file, 8, area + 13), put(file, lines, at), put(file, sizeof page, at + lines), put(file, 12, area + 1);
     settle(file);
     put(file, 1, area);
     settle(file);
@@ -118,17 +124,18 @@ sed -n 's/^tp_tests_gate:/bench_turns:/p' "$top/crates.txt" >> "$work/crates.txt
 (cd "$turns" && rt run > "$work/build.log" 2>&1) || true
 [ -x "$turns/out/bench_turns" ] || { tail -20 "$work/build.log"; exit 1; }
 
-sed 's/^pages .*/pages 256/' "$top/examples/compute.txt" > "$work/node.txt"
+sed "s/^pages .*/pages $pages/" "$top/examples/compute.txt" > "$work/node.txt"
 : > "$work/net"
-for name in a b c d e f g h i j k l m n o p; do
+for ((node = 0; node < nodes; node++)); do
+    name=n$node
     "$top/tools/make-image" "$work/node.txt" "$work/$name.img"
-    echo "node $name 256" >> "$work/net"
+    echo "node $name $pages" >> "$work/net"
 done
 echo 'port host' >> "$work/net"
-"$tpnet" format "$work/device" "$work/net" "$work" $((1 << 23)) > "$work/said"
-python3 - "$tpnet" "$work" "$rounds" "${folders[@]}" <<'PY'
+"$tpnet" format "$work/device" "$work/net" "$work" $((1024 * nodes * pages + (1 << 22))) > "$work/said"
+python3 - "$tpnet" "$work" "$rounds" "$head $nodes $pages" "${folders[@]}" <<'PY'
 import os, re, statistics, subprocess, sys, tempfile, threading, time
-tpnet, work, rounds = sys.argv[1:4]
+tpnet, work, rounds, sizes = sys.argv[1:5]
 rounds = range(int(rounds))
 TURNS, NEVER = 130000, (1 << 32) - 1
 
@@ -136,6 +143,10 @@ def timed(command):
     begun = time.monotonic()
     subprocess.run(command, capture_output=True, check=True)
     return time.monotonic() - begun
+
+def raw_of(file):
+    """What makes a raw copy of a checkpoint."""
+    return [os.path.join(work, "raw"), file, *sizes.split()]
 
 def run(file, turns, workers, every):
     """The seconds of a run on a new copy of the formatted device, and what `show` says of it then."""
@@ -168,7 +179,7 @@ def bare(file, usual, count):
     ended = threading.Event()
     def copies():
         while not ended.is_set():
-            subprocess.run([os.path.join(work, "raw"), file, str(512)], check=True)
+            subprocess.run(raw_of(file), check=True)
     copier = threading.Thread(target=copies)
     copier.start()
     words = [os.path.join(work, "bare"), str(round(usual)), str(20 * count)]
@@ -198,7 +209,7 @@ def of_turns(file, quantum):
         statistics.median(max(beside) / middle for (_, beside), middle in zip(of_rounds, medians)),
         statistics.median(max(times) / statistics.median(times) for times in loops)), flush=True)
 
-for folder in sys.argv[4:]:
+for folder in sys.argv[5:]:
     kind = subprocess.run(["stat", "-f", "-c", "%T", folder], capture_output=True, text=True, check=True).stdout.strip()
     print("%s (%s), medians of %d:" % (folder, kind, len(rounds)))
     with tempfile.TemporaryDirectory(prefix="bench-checkpoint-", dir=folder) as place:
@@ -228,7 +239,7 @@ for folder in sys.argv[4:]:
         def copy():
             subprocess.run(["cp", "--sparse=always", os.path.join(work, "device"), file], check=True)
             subprocess.run(["sync", file], check=True)
-            return timed([os.path.join(work, "raw"), file, str(512)]) - timed(["true"])
+            return timed(raw_of(file)) - timed(["true"])
         ours, raw = [], []
         for number in range(4 * len(rounds)):
             for what, found in ((checkpoint, ours), (copy, raw)) if number % 2 else ((copy, raw), (checkpoint, ours)):

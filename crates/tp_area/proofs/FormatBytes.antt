@@ -10,7 +10,7 @@ use Rattle.std.proofs.Math.Seq.{take-append-add}
 use Rattle.std.proofs.lemmas.List.Sums.{sum_by-cons}
 use Rattle.tp_model.specs.declared.areas.TwoAreas.{TwoAreas}
 use Rattle.tp_model.specs.declared.form.Form.TheVariants.{Turns}
-use Rattle.tp_model.specs.declared.limits.TheConstants.{GATE_OPEN, GATE_CLOSED}
+use Rattle.tp_model.specs.declared.limits.TheConstants.{AREA_HEAD_BYTES, GATE_OPEN, GATE_CLOSED, LINE_BYTES, MAX_HELD, PORT_BYTES}
 use Rattle.tp_model.specs.Bytes.{u16_bytes, u32_bytes, u64_bytes, zeros}
 use Rattle.tp_model.specs.NodeState.{NodeState}
 use Rattle.tp_model.specs.Network.{◌>>=◌, Network}
@@ -89,31 +89,31 @@ checked_length f pages xs h =
 
 -- ## Lines and ports
 
-blank_lines : (n : ℕ) → flat_map line_bytes (replicate n []) ≡ zeros (4 * n)
+blank_lines : (n : ℕ) → flat_map line_bytes (replicate n []) ≡ zeros (LINE_BYTES * n)
 blank_lines zero = refl
 blank_lines (suc n) =
-    ap (λ xs. (0 ∷ 0 ∷ 0 ∷ 0 ∷ []) ++ xs) (blank_lines n) ∙ replicate-append-replicate 4 (4 * n) 0 ∙ ap zeros (omega arith)
+    ap (λ xs. (0 ∷ 0 ∷ 0 ∷ 0 ∷ []) ++ xs) (blank_lines n) ∙ replicate-append-replicate LINE_BYTES (LINE_BYTES * n) 0 ∙ ap zeros (omega arith)
 
 blank_port : (n : ℕ) → u64_bytes 0 ++ (u64_bytes 0 ++ (u16_bytes 0 ++ (u16_bytes 0 ++ (zeros n ++ zeros n)))) ≡ zeros (20 + (n + n))
 blank_port n =
     ap (λ xs. zeros 20 ++ xs) (replicate-append-replicate n n 0) ∙ replicate-append-replicate 20 (n + n) 0
 
-blank_ports : (n : ℕ) → flat_map port_bytes (replicate n fresh_port) ≡ zeros (8212 * n)
+blank_ports : (n : ℕ) → flat_map port_bytes (replicate n fresh_port) ≡ zeros (PORT_BYTES * n)
 blank_ports zero = refl
 blank_ports (suc n) =
-    ap (λ xs. xs ++ flat_map port_bytes (replicate n fresh_port)) (blank_port 4096)
-    ∙ ap (λ xs. zeros 8212 ++ xs) (blank_ports n) ∙ replicate-append-replicate 8212 (8212 * n) 0 ∙ ap zeros (omega arith)
+    ap (λ xs. xs ++ flat_map port_bytes (replicate n fresh_port)) (blank_port MAX_HELD)
+    ∙ ap (λ xs. zeros PORT_BYTES ++ xs) (blank_ports n) ∙ replicate-append-replicate PORT_BYTES (PORT_BYTES * n) 0 ∙ ap zeros (omega arith)
 
 -- ## The first area
 
 -- what stands behind the images, with the closed gate
-tail_is : (t : Topology) (rest : ℕ) → rest ≡ 4 * line_count t + 8212 * t.ports + 1
+tail_is : (t : Topology) (rest : ℕ) → rest ≡ LINE_BYTES * line_count t + PORT_BYTES * t.ports + 1
     → (flat_map line_bytes (replicate (line_count t) []) ++ flat_map port_bytes (replicate t.ports fresh_port)) ++ GATE_CLOSED ∷ [] ≡ zeros rest
 tail_is t rest is =
     let lines = flat_map line_bytes (replicate (line_count t) []) in
     let ports = flat_map port_bytes (replicate t.ports fresh_port) in
-    let n : ℕ = 4 * line_count t in
-    let m : ℕ = 8212 * t.ports in
+    let n : ℕ = LINE_BYTES * line_count t in
+    let m : ℕ = PORT_BYTES * t.ports in
     ap (λ xs. (xs ++ ports) ++ GATE_CLOSED ∷ []) (blank_lines (line_count t))
     ∙ ap (λ xs. (zeros n ++ xs) ++ GATE_CLOSED ∷ []) (blank_ports t.ports)
     ∙ ap (λ xs. xs ++ zeros 1) (replicate-append-replicate n m 0)
@@ -125,7 +125,7 @@ abbrev pub start_with : Topology → List NodeState → Network NodeState
 start_with t nodes = network_of t nodes (replicate (line_count t) []) (replicate t.ports fresh_port)
 
 area_is : (t : Topology) (images : List (List ℕ)) (nodes : List NodeState) (cut rest : ℕ) → fresh_nodes t.pages images ≡ Some nodes → cut ≡ cut_length t
-    → rest ≡ 4 * line_count t + 8212 * t.ports + 1
+    → rest ≡ LINE_BYTES * line_count t + PORT_BYTES * t.ports + 1
     → (area_front cut ++ concat images) ++ zeros rest ≡ first_area t (start_with t nodes)
 unfolding area_front front_bytes cut_bytes
 area_is t images nodes cut rest fresh is_cut is_rest =
@@ -140,7 +140,7 @@ area_is t images nodes cut rest fresh is_cut is_rest =
     ∙ ap (λ xs. GATE_OPEN ∷ (u64_bytes 1 ++ (u32_bytes (cut_length t) ++ (u64_bytes (base_number Turns 0) ++ xs)))) tail
 
 length-area : (t : Topology) (images : List (List ℕ)) (nodes : List NodeState) (cut rest : ℕ) → fresh_nodes t.pages images ≡ Some nodes → cut ≡ cut_length t
-    → rest ≡ 4 * line_count t + 8212 * t.ports + 1 → length (first_area t (start_with t nodes)) ≡ 14 + cut_length t
+    → rest ≡ LINE_BYTES * line_count t + PORT_BYTES * t.ports + 1 → length (first_area t (start_with t nodes)) ≡ AREA_HEAD_BYTES + cut_length t + 1
 length-area t images nodes cut rest fresh is_cut is_rest =
     let front = length-area_front cut in
     let all = length-append (area_front cut ++ concat images) (zeros rest) in
@@ -153,7 +153,7 @@ length-area t images nodes cut rest fresh is_cut is_rest =
 
 pub record IsRoomy (size : ℕ) (t : Topology) (areas : TwoAreas) : Type 0 where
   pub both : areas_end areas ≤ size
-  pub cut : cut_length t + 14 < areas.length
+  pub cut : AREA_HEAD_BYTES + cut_length t + 1 < areas.length
 
 pub roomy : (size : ℕ) (t : Topology) (areas : TwoAreas) → fits size t areas ≡ true → IsRoomy size t areas
 roomy size t areas h =
@@ -162,7 +162,7 @@ roomy size t areas h =
     record { both = leb-true (areas_end areas) size parts.0; cut = omega arith }
 
 formatted_is : (t : Topology) (areas : TwoAreas) (s : Network NodeState) (old new : List ℕ) → areas.first ≡ head_length (version_for t) → length (head_bytes (version_for t) t areas) ≡ areas.first → areas_end areas ≤ length old
-    → length (first_area t s) ≤ areas.length → new ≡ written (with_areas (first_area t s) areas old) 0 (head_bytes (version_for t) t areas) → IsFormatted t areas s new
+    → length (first_area t s) ≤ areas.length → new ≡ written (with_areas (first_area t s) areas old) 0 (head_bytes (version_for t) t areas) → IsFormatted t areas Turns s new
 formatted_is t areas s old new begins size room most is =
     let front = front_bytes t 1 Turns 0 s in
     let whole = first_area t s in
@@ -185,7 +185,7 @@ formatted_is t areas s old new begins size room most is =
     let second : drop behind_first two ≡ GATE_CLOSED ∷ drop (behind_first + 1) one = drop_written one behind_first (GATE_CLOSED ∷ []) (omega arith) in
     let k : ℕ = areas.length - 1 - (length front + 1) in
     let parts : areas.length - 1 ≡ length (front ++ GATE_CLOSED ∷ []) + k = omega (arith, length-append front (GATE_CLOSED ∷ [])) in
-    let there : IsFormatted t areas s three = record {
+    let there : IsFormatted t areas Turns s three = record {
       first = begins;
       head = take_at head (drop (0 + length head) two) start size;
       open_gate = same_three.same start (inr (omega arith)) ∙ same_two.same start (inl (omega arith))
@@ -200,7 +200,7 @@ formatted_is t areas s old new begins size room most is =
           ∙ take-append-add (front ++ GATE_CLOSED ∷ []) behind k
           ∙ append_assoc front (GATE_CLOSED ∷ []) (take k behind);
     } in
-    subst (IsFormatted t areas s) (sym is) there
+    subst (IsFormatted t areas Turns s) (sym is) there
 
 -- ## The whole
 
@@ -211,7 +211,7 @@ synced_after first head areas old new wrote =
 -- images that were accepted, areas that are large enough, and what was written
 pub formatted_by : {X : Type 0} (f : X → List ℕ) (t : Topology) (xs : List X) (pages head : List ℕ) (areas : TwoAreas) (size cut rest : ℕ) (old new : State)
     → pages ≡ t.pages → Checks (fresh_nodes pages (map f xs)) (Ok tt) → fits size t areas ≡ true → areas.first ≡ head_length (version_for t) → length old.now.bytes ≡ size
-    → head ≡ head_bytes (version_for t) t areas → length head ≡ areas.first → cut ≡ cut_length t → rest ≡ 4 * line_count t + 8212 * t.ports + 1
+    → head ≡ head_bytes (version_for t) t areas → length head ≡ areas.first → cut ≡ cut_length t → rest ≡ LINE_BYTES * line_count t + PORT_BYTES * t.ports + 1
     → Wrote ((area_front cut ++ flat_map f xs) ++ zeros rest) head areas old new → Formatted t (map f xs) areas old new
 formatted_by f t xs pages head areas size cut rest old new is_pages checked large begins whole is_head long is_cut is_rest wrote =
     let images = map f xs in
@@ -230,13 +230,13 @@ formatted_by f t xs pages head areas size cut rest old new is_pages checked larg
       is = ap (option_map (λ ns. start_with t ns)) nodes.1;
       wrote = both;
       synced = synced_after (first_area t start) (head_bytes (version_for t) t areas) areas old new both;
-      formatted = λ left may. subst (IsFormatted t areas start) (sym (synced_stands new left (synced_after (first_area t start) (head_bytes (version_for t) t areas) areas old new both) may))
+      formatted = λ left may. subst (IsFormatted t areas Turns start) (sym (synced_stands new left (synced_after (first_area t start) (head_bytes (version_for t) t areas) areas old new both) may))
           (formatted_is t areas start old.now.bytes new.now.bytes begins (ap length (sym is_head) ∙ long) (omega arith) (omega arith) both.bytes);
     }
 
 -- the same images and areas, whatever came of the calls: what a crash leaves
 pub format_leaves : {X : Type 0} (f : X → List ℕ) (t : Topology) (xs : List X) (pages : List ℕ) (areas : TwoAreas) (cut rest : ℕ) (old new : State)
-    → pages ≡ t.pages → Checks (fresh_nodes pages (map f xs)) (Ok tt) → cut ≡ cut_length t → rest ≡ 4 * line_count t + 8212 * t.ports + 1
+    → pages ≡ t.pages → Checks (fresh_nodes pages (map f xs)) (Ok tt) → cut ≡ cut_length t → rest ≡ LINE_BYTES * line_count t + PORT_BYTES * t.ports + 1
     → LeavesOnly old new (λ left. ButFor areas.first (2 * areas.length) old.now left ⊎ SameOutside 0 areas.first (with_areas ((area_front cut ++ flat_map f xs) ++ zeros rest) areas old.now.bytes) left)
     → LeavesOnly old new (IsOldOrNew t (map f xs) areas old)
 format_leaves f t xs pages areas cut rest old new is_pages checked is_cut is_rest only =

@@ -1,8 +1,8 @@
 -- The calls of formatting: what they write, and in which order.
-use Rattle.std.proofs.Common.{◌≡◌, ℕ, ◌*◌, ◌≤◌, ◌⊎◌, inl, inr, true, Result, OnOk, OnErr, List, [], ◌∷◌, ◌++◌, length, refl, sym, ap, subst, ◌∙◌, arith}
+use Rattle.std.proofs.Common.{◌≡◌, ℕ, ◌+◌, ◌*◌, ◌≤◌, ◌⊎◌, inl, inr, true, Result, OnOk, OnErr, List, [], ◌∷◌, ◌++◌, length, refl, sym, ap, subst, ◌∙◌, arith}
 use Rattle.std.specs.List.{AllByRecursion}
 use Rattle.tp_model.specs.declared.areas.TwoAreas.{TwoAreas}
-use Rattle.tp_model.specs.declared.limits.TheConstants.{GATE_CLOSED}
+use Rattle.tp_model.specs.declared.limits.TheConstants.{AREA_HEAD_BYTES, BASE_BYTES, GATE_CLOSED}
 use Rattle.tp_model.specs.Device.{area_start}
 use Rattle.tp_model.specs.Disk.{Moment, MayBe, IsWithin, SameOutside, Write, Sync, written, done, within}
 use Rattle.tp_model.specs.DiskHistory.{State, Goes, Fails, LeavesOnly}
@@ -12,7 +12,11 @@ use Rattle.tp_area.specs.Puts.{ButFor, Puts}
 use Rattle.tp_area.specs.Formatting.{area_front, Wrote, with_areas}
 use Rattle.tp_area.proofs.PutLaws.{put_calls-append, wider_leaves, then_leaves}
 
-pub length-area_front : (cut : ℕ) → length (area_front cut) ≡ 21
+-- how many bytes of an area stand in front of its images
+abbrev pub front_size : ℕ
+front_size = AREA_HEAD_BYTES + BASE_BYTES
+
+pub length-area_front : (cut : ℕ) → length (area_front cut) ≡ front_size
 unfolding area_front
 length-area_front cut = refl
 

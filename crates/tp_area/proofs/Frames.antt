@@ -3,7 +3,7 @@ use Rattle.std.proofs.Common.{◌≡◌, ℕ, ◌+◌, ◌-◌, ◌≤◌, inl, 
 use Rattle.std.proofs.lemmas.List.{drop_at, length-take-le}
 use Rattle.std.proofs.Math.Seq.{take-append-add}
 use Rattle.tp_model.specs.declared.areas.TwoAreas.{TwoAreas}
-use Rattle.tp_model.specs.declared.limits.TheConstants.{GATE_OPEN}
+use Rattle.tp_model.specs.declared.limits.TheConstants.{AREA_HEAD_BYTES, BASE_BYTES, GATE_OPEN}
 use Rattle.tp_model.specs.Disk.{SameOutside, written}
 use Rattle.tp_model.specs.Device.{area_start, gate_of, content_of, is_open, generation_of}
 use Rattle.tp_model.specs.Opening.{chosen_area, choice}
@@ -57,7 +57,7 @@ taken_gate m body rest le =
 
 -- where a range lies that holds none of the areas' gates and generations: in the groups of this area
 pub record InGroups (areas : TwoAreas) (second : Bool) (at count : ℕ) : Type 0 where
-  pub behind : area_start areas second + 21 ≤ at
+  pub behind : area_start areas second + AREA_HEAD_BYTES + BASE_BYTES ≤ at
   pub inside : at + count ≤ area_start areas second + areas.length
 
 gate_stays : (areas : TwoAreas) (at count : ℕ) (second which : Bool) (old new : List ℕ) → InGroups areas second at count → SameOutside at count old new

@@ -5,7 +5,7 @@ use Rattle.std.specs.List.{list_all}
 use Rattle.std.proofs.lemmas.Bool.{and_parts, leb-true, eqb-true, ne_eqb, eq-eqb, true≢false}
 use Rattle.std.proofs.lemmas.Option.{cond_some}
 use Rattle.std.proofs.lemmas.List.{drop_all, drop_more}
-use Rattle.tp_model.specs.declared.limits.TheConstants.{MIN_PAGES, MAX_PAGES}
+use Rattle.tp_model.specs.declared.limits.TheConstants.{IMAGE_HEAD_BYTES, PAGE_BYTES, MIN_PAGES, MAX_PAGES}
 use Rattle.tp_model.specs.NodeState.{NodeState}
 use Rattle.tp_model.specs.Network.{◌>>=◌}
 use Rattle.tp_model.specs.EndBytes.{out_end_at, in_end_at, ends_at, is_idle_out, is_idle_in}
@@ -24,28 +24,28 @@ use Rattle.tp_area.specs.Formatting.{Checks}
 pub record IsImageOf (bytes : List ℕ) (n : NodeState) : Type 0 where
   pub outputs : n.outputs ≡ ends_at out_end_at 4 (drop 44 bytes)
   pub inputs : n.inputs ≡ ends_at in_end_at 4 (drop 108 bytes)
-  pub memory : length n.memory ≡ 1024 * page_count n.memory
-  pub size : length bytes ≡ 172 + length n.memory
+  pub memory : length n.memory ≡ PAGE_BYTES * page_count n.memory
+  pub size : length bytes ≡ IMAGE_HEAD_BYTES + length n.memory
 
 node_at_is : (bytes : List ℕ) → is_node (node_at bytes) ≡ true → IsImageOf bytes (node_at bytes)
 unfolding node_at is_node
 node_at_is bytes keeps =
-    let memory = drop 172 bytes in
+    let memory = drop IMAGE_HEAD_BYTES bytes in
     let t = and_parts (is_memory memory) _ keeps in
-    let parts = and_parts (length memory == 1024 * page_count memory) (nat_le MIN_PAGES (page_count memory) && nat_le (page_count memory) MAX_PAGES) t.0 in
+    let parts = and_parts (length memory == PAGE_BYTES * page_count memory) (nat_le MIN_PAGES (page_count memory) && nat_le (page_count memory) MAX_PAGES) t.0 in
     let pages = and_parts (nat_le MIN_PAGES (page_count memory)) (nat_le (page_count memory) MAX_PAGES) parts.1 in
-    let whole : length memory ≡ 1024 * page_count memory = eqb-true (length memory) (1024 * page_count memory) parts.0 in
+    let whole : length memory ≡ PAGE_BYTES * page_count memory = eqb-true (length memory) (PAGE_BYTES * page_count memory) parts.0 in
     record {
       outputs = refl;
       inputs = refl;
       memory = whole;
-      size = omega (arith, leb-true MIN_PAGES (page_count memory) pages.0, whole, length-drop 172 bytes);
+      size = omega (arith, leb-true MIN_PAGES (page_count memory) pages.0, whole, length-drop IMAGE_HEAD_BYTES bytes);
     }
 
 pub image_is : (bytes : List ℕ) (n : NodeState) → node_of bytes ≡ Some n → IsImageOf bytes n
 unfolding node_of
 image_is bytes n e =
-    let found = cond_some (is_node (node_at bytes) && bytes_eq (take 172 bytes) (image_head (node_at bytes))) (node_at bytes) n e in
+    let found = cond_some (is_node (node_at bytes) && bytes_eq (take IMAGE_HEAD_BYTES bytes) (image_head (node_at bytes))) (node_at bytes) n e in
     subst (IsImageOf bytes) found.1 (node_at_is bytes (and_parts (is_node (node_at bytes)) _ found.0).0)
 
 -- what the node of an image has at its links
@@ -65,7 +65,7 @@ bad_image (Some y) is = cc
 bad_image None is = tt
 
 -- its pages and its links decide
-image_checked : (pages count : ℕ) (bytes : List ℕ) (node : NodeContents) (answer : Bool) → ReadsImage (node_of bytes) (Ok node) → length node.live.memory ≡ 1024 * count
+image_checked : (pages count : ℕ) (bytes : List ℕ) (node : NodeContents) (answer : Bool) → ReadsImage (node_of bytes) (Ok node) → length node.live.memory ≡ PAGE_BYTES * count
     → answer ≡ (list_all is_idle_out (ends_at out_end_at 4 (drop 44 bytes)) && list_all is_idle_in (ends_at in_end_at 4 (drop 108 bytes)))
     → fresh_node pages bytes ≡ cond ((count == pages) && answer) (Some node.live) None
 image_checked pages count bytes node answer read size has =
@@ -79,14 +79,14 @@ image_checked pages count bytes node answer read size has =
     ∙ ap (λ ends. cond ((count == pages) && (list_all is_idle_out (ends_at out_end_at 4 (drop 44 bytes)) && list_all is_idle_in ends)) (Some n) None) is.inputs
     ∙ ap (λ b. cond ((count == pages) && b) (Some n) None) (sym has)
 
-pub other_pages : (pages count : ℕ) (bytes : List ℕ) (node : NodeContents) → ReadsImage (node_of bytes) (Ok node) → length node.live.memory ≡ 1024 * count → count ≢ pages
+pub other_pages : (pages count : ℕ) (bytes : List ℕ) (node : NodeContents) → ReadsImage (node_of bytes) (Ok node) → length node.live.memory ≡ PAGE_BYTES * count → count ≢ pages
     → Checks (fresh_node pages bytes) (Err FormatFault.BadImage)
 other_pages pages count bytes node read size other =
     let answer = list_all is_idle_out (ends_at out_end_at 4 (drop 44 bytes)) && list_all is_idle_in (ends_at in_end_at 4 (drop 108 bytes)) in
     bad_image (fresh_node pages bytes)
     (image_checked pages count bytes node answer read size refl ∙ ap (λ b. cond (b && answer) (Some node.live) None) (ne_eqb count pages other))
 
-pub other_links : (pages count : ℕ) (bytes : List ℕ) (node : NodeContents) (answer : Bool) → ReadsImage (node_of bytes) (Ok node) → length node.live.memory ≡ 1024 * count → count ≡ pages
+pub other_links : (pages count : ℕ) (bytes : List ℕ) (node : NodeContents) (answer : Bool) → ReadsImage (node_of bytes) (Ok node) → length node.live.memory ≡ PAGE_BYTES * count → count ≡ pages
     → answer ≡ (list_all is_idle_out (ends_at out_end_at 4 (drop 44 bytes)) && list_all is_idle_in (ends_at in_end_at 4 (drop 108 bytes)))
     → answer ≡ false → Checks (fresh_node pages bytes) (Err FormatFault.BadImage)
 other_links pages count bytes node answer read size same has not =
@@ -94,7 +94,7 @@ other_links pages count bytes node answer read size same has not =
     (image_checked pages count bytes node answer read size has ∙ ap (λ b. cond ((count == pages) && b) (Some node.live) None) not
     ∙ ap (λ b. cond (b && false) (Some node.live) None) (eq-eqb count pages same))
 
-pub fresh_image : (pages count : ℕ) (bytes : List ℕ) (node : NodeContents) (answer : Bool) → ReadsImage (node_of bytes) (Ok node) → length node.live.memory ≡ 1024 * count → count ≡ pages
+pub fresh_image : (pages count : ℕ) (bytes : List ℕ) (node : NodeContents) (answer : Bool) → ReadsImage (node_of bytes) (Ok node) → length node.live.memory ≡ PAGE_BYTES * count → count ≡ pages
     → answer ≡ (list_all is_idle_out (ends_at out_end_at 4 (drop 44 bytes)) && list_all is_idle_in (ends_at in_end_at 4 (drop 108 bytes)))
     → answer ≡ true → Checks (fresh_node pages bytes) (Ok tt)
 fresh_image pages count bytes node answer read size same has so =

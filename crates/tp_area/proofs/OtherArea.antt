@@ -6,7 +6,7 @@ use Rattle.std.proofs.lemmas.Option.{cond_some, same_Some}
 use Rattle.std.proofs.lemmas.List.{drop_more, get_or-drop}
 use Rattle.tp_model.specs.declared.opening.OpenFault.{OpenFault}
 use Rattle.tp_model.specs.declared.areas.TwoAreas.{TwoAreas}
-use Rattle.tp_model.specs.declared.limits.TheConstants.{GATE_CLOSED}
+use Rattle.tp_model.specs.declared.limits.TheConstants.{AREA_HEAD_BYTES, GATE_CLOSED}
 use Rattle.tp_model.specs.Bytes.{u8_at}
 use Rattle.tp_model.specs.NodeState.{NodeState}
 use Rattle.tp_model.specs.Node.{t414, t414_ends}
@@ -111,10 +111,10 @@ pub areas_fit : (areas : TwoAreas) (size : ℕ) (second : Bool) → areas_end ar
 areas_fit areas size false room = omega arith
 areas_fit areas size true room = omega arith
 
-pub some_area : (areas : TwoAreas) (end : ℕ) (second : Bool) → area_start areas second + 13 ≤ end → end < area_start areas second + areas.length → 1 ≤ areas.length
+pub some_area : (areas : TwoAreas) (end : ℕ) (second : Bool) → area_start areas second + AREA_HEAD_BYTES ≤ end → end < area_start areas second + areas.length → 1 ≤ areas.length
 some_area areas end second low high = omega arith
 
-pub gate_inside : (areas : TwoAreas) (size gate end : ℕ) (second : Bool) → gate ≡ area_start areas (not second) → areas_end areas ≤ size → area_start areas second + 13 ≤ end → end < area_start areas second + areas.length
+pub gate_inside : (areas : TwoAreas) (size gate end : ℕ) (second : Bool) → gate ≡ area_start areas (not second) → areas_end areas ≤ size → area_start areas second + AREA_HEAD_BYTES ≤ end → end < area_start areas second + areas.length
     → gate + 1 ≤ size
 gate_inside areas size gate end second is room low high =
     let some = some_area areas end second low high in

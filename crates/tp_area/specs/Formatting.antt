@@ -51,14 +51,14 @@ pub record Wrote (first head : List ℕ) (areas : TwoAreas) (old new : State) : 
   pub called : Called (put_calls pieces ++ (Sync ∷ Write 0 head ∷ Sync ∷ [])) old new
   pub bytes : new.now.bytes ≡ written (with_areas first areas old.now.bytes) 0 head
 
--- The device was formatted for the network of the images, before its first entry, and so is whatever a crash leaves from
--- then on.
+-- The device was formatted, with turns, for the network of the images, before its first entry, and so is whatever a crash leaves
+-- from then on.
 pub record Formatted (t : Topology) (images : List (List ℕ)) (areas : TwoAreas) (old new : State) : Type 0 where
   pub start : Network NodeState
   pub is : start_of t images ≡ Some start
   pub wrote : Wrote (first_area t start) (head_bytes (version_for t) t areas) areas old new
   pub synced : IsSynced new
-  pub formatted : (left : List ℕ) → MayBe new.now left → IsFormatted t areas start left
+  pub formatted : (left : List ℕ) → MayBe new.now left → IsFormatted t areas Turns start left
 
 -- Both areas are complete, whatever the head is: all outside it is as at the end of formatting.
 pub record HasNewAreas (t : Topology) (images : List (List ℕ)) (areas : TwoAreas) (old left : List ℕ) : Type 0 where

@@ -19,7 +19,7 @@ use Rattle.tp_law_network.proofs.Lines.{on_set_same}
 use Rattle.tp_law_cuts.proofs.Marks.{marker_there}
 use Rattle.tp_law_cuts.proofs.Whole.{running}
 use Rattle.tp_net.specs.declared.line.TheConstants.{LINE_TOKENS}
-use Rattle.tp_law_cuts.proofs.Invariant.{Holds}
+use Rattle.tp_law_cuts.specs.Invariant.{Holds}
 use Rattle.tp_law_cuts.proofs.Room.{few_markers}
 use Rattle.tp_law_cuts.proofs.Happens.{happens_holds}
 use Rattle.tp_law_cuts.proofs.Halves.{begin_joins, record_joins, close_joins, close_over_joins}

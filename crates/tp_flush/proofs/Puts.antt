@@ -4,7 +4,7 @@ use Rattle.std.proofs.Common.{◌≡◌, ℕ, zero, suc, ◌+◌, ◌-◌, ◌*�
 use Rattle.std.specs.Prelude.{if◌then◌else◌, sum_by, nat_le, IfOk}
 use Rattle.std.specs.List.{list_all}
 use Rattle.std.proofs.Math.Dec.{eqb-suc-zero}
-use Rattle.std.proofs.lemmas.Bool.{and_parts, leb-true, lt-ltb}
+use Rattle.std.proofs.lemmas.Bool.{and_parts, leb-true}
 use Rattle.tp_law_device.proofs.Wires.{has_shape}
 use Rattle.std.proofs.lemmas.List.Sums.{sum_by-cons}
 use Rattle.std.specs.Option.{option_map}
@@ -192,15 +192,31 @@ piece_inside t area node piece roomy there low =
     let wide = leb-true _ _ roomy in
     omega (arith, wide, sum_front t.pages node there, piece_ends piece (get_or t.pages node 0) low)
 
-pub piece_fits : (broken : Bool) (place : Place) (t : Topology) (node piece : ℕ) → broken ≡ false → is_roomy t place.areas.length ≡ true → node < length t.pages → piece ≤ get_or t.pages node 0
-    → put_refusal broken place (piece_place t node piece + piece_length piece) ≡ None
-piece_fits broken place t node piece unbroken roomy there low =
-    ap (λ b. put_refusal b place (piece_place t node piece + piece_length piece)) unbroken
-    ∙ ap (λ b. if b then None else Some AreaFull) (lt-ltb (piece_place t node piece + piece_length piece) place.areas.length (piece_inside t place.areas.length node piece roomy there low))
-
 pub if_answered : (r : Result Unit StoreFault) (q : Result Unit FlushFault) → MatchResult r (λ unit. q ≡ Ok unit) (λ fault. q ≡ Err DeviceFailed) → (P : Type 0) → OnOk r P → IfOk q (λ done. P)
 if_answered (Ok x) q is P given = subst (λ (y : Result Unit FlushFault). IfOk y (λ done. P)) (sym is) given
 if_answered (Err e) q is P given = subst (λ (y : Result Unit FlushFault). IfOk y (λ done. P)) (sym is) tt
+
+-- ## Where images begin
+
+-- a piece stands behind where its image begins
+pub place_from : (t : Topology) (node piece image inner : ℕ) → image ≡ piece_place t node 0 → inner ≡ place_in_image piece → image + inner ≡ piece_place t node piece
+place_from t node piece image inner begins is = omega (arith, begins, is)
+
+sum_next : (pages : List ℕ) (i : ℕ) → i < length pages → sum_by image_length (take (suc i) pages) ≡ sum_by image_length (take i pages) + image_length (get_or pages i 0)
+sum_next [] i low = absurd (omega (arith, low))
+sum_next (p ∷ ps) zero low = omega (arith, sum_by-cons image_length p (take zero ps))
+sum_next (p ∷ ps) (suc i) low =
+    omega (arith, sum_next ps i (omega (arith, low)), sum_by-cons image_length p (take (suc i) ps), sum_by-cons image_length p (take i ps))
+
+-- an image behind the one before
+pub image_next : (t : Topology) (node : ℕ) → node < length t.pages → piece_place t node 0 + image_length (get_or t.pages node 0) ≡ piece_place t (node + 1) 0
+image_next t node there =
+    let next : suc node ≡ node + 1 = omega arith in
+    omega (arith, sum_next t.pages node there, ap (λ n. sum_by image_length (take n t.pages)) next)
+
+-- and it ends inside the area
+pub image_inside : (t : Topology) (area node : ℕ) → is_roomy t area ≡ true → node < length t.pages → piece_place t node 0 + image_length (get_or t.pages node 0) < area
+image_inside t area node roomy there = let wide = leb-true _ _ roomy in omega (arith, wide, sum_front t.pages node there)
 
 -- ## A topology's pages
 

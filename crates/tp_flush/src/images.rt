@@ -4,6 +4,7 @@ ghost use Rattle.std.specs.Prelude.{◌≡◌, ◌+◌, ◌<◌, ◌≤◌, true
 ghost use Rattle.tp_model.specs.declared.limits.TheConstants.{MAX_NODES, MAX_PAGES};
 ghost use Rattle.tp_model.specs.WriteOrder.{Resting};
 ghost use Rattle.tp_area.specs.Tails.{content_beside};
+ghost use Rattle.tp_layout.specs.Pieces.{piece_place};
 ghost use Rattle.tp_flush.specs.Copying.{IsPartOut};
 ghost use Rattle.tp_flush.specs.Progress.{is_out};
 ghost use Rattle.tp_flush.specs.Flushing.{Goes};
@@ -14,6 +15,7 @@ use crate::flusher::Flusher;
 use crate::turn::FLUSHER;
 use std::sync::Wait;
 use tp_disk::Disk;
+use tp_layout::FIELDS_BYTES;
 use tp_model::limits::{IMAGE_HEAD_BYTES, MAX_PAGES, PAGE_BYTES};
 use tp_shared::gate::PAGE_COPIED;
 use tp_shared::{Gate, Look, Naming, Shared};
@@ -45,16 +47,18 @@ impl<J: Naming, D: Disk> Flusher<J, D> {
         self.parts.progress.is_out(node)
     }
 
-    /// Copies the head of a frozen image. False where the node isn't frozen.
+    /// Copies the head of a frozen image, which begins at `image` in the other area. False where the node isn't frozen.
     fn copy_head<R: Wait>(
         &mut self,
         rt: &R,
         shared: &Shared<J>,
         node: u8,
+        image: u64,
     ) -> Result<bool, FlushFault>
         requires rests { self.old.world.at ≡ Resting }
         requires cleared { self.old.progress.cleared ≡ true }
         requires node { node < length self.old.topology.pages }
+        requires image { image ≡ piece_place self.old.topology node 0 }
         requires there { node < length J.start.nodes }
         requires free { is_out self.old.progress node ≡ false }
         ensures tried { Tried result self.old self.new }
@@ -66,22 +70,24 @@ impl<J: Naming, D: Disk> Flusher<J, D> {
         if !self.read_head(rt, shared, node, &mut head) {
             return Ok(false);
         }
-        self.put(node as usize, 0, &head)?;
+        self.put(node as usize, image, 0, &head)?;
         Ok(true)
     }
 
-    /// Copies a page of a frozen image. False where the node isn't frozen, or has no such page.
+    /// Copies a page of a frozen image, which begins at `image`. False where the node isn't frozen, or has no such page.
     fn copy_page<R: Wait, G: Gate>(
         &mut self,
         rt: &R,
         shared: &Shared<J>,
         gate: &G,
         node: u8,
+        image: u64,
         page: usize,
     ) -> Result<bool, FlushFault>
         requires rests { self.old.world.at ≡ Resting }
         requires cleared { self.old.progress.cleared ≡ true }
         requires node { node < length self.old.topology.pages }
+        requires image { image ≡ piece_place self.old.topology node 0 }
         requires there { node < length J.start.nodes }
         requires page { page < get_or self.old.topology.pages node 0 }
         requires few { page < MAX_PAGES }
@@ -97,39 +103,42 @@ impl<J: Naming, D: Disk> Flusher<J, D> {
             return Ok(false);
         }
         gate.at(FLUSHER, PAGE_COPIED);
-        self.put(node as usize, page + 1, &bytes)?;
+        self.put(node as usize, image, page + 1, &bytes)?;
         Ok(true)
     }
 
-    /// Copies a frozen image. False where the node isn't frozen.
+    /// Copies a frozen image, which begins at `image`. False where the node isn't frozen.
     fn copy_image<R: Wait, G: Gate>(
         &mut self,
         rt: &R,
         shared: &Shared<J>,
         gate: &G,
         node: u8,
+        image: u64,
     ) -> Result<bool, FlushFault>
         requires rests { self.old.world.at ≡ Resting }
         requires cleared { self.old.progress.cleared ≡ true }
         requires node { node < length self.old.topology.pages }
+        requires image { image ≡ piece_place self.old.topology node 0 }
         requires there { node < length J.start.nodes }
         requires free { is_out self.old.progress node ≡ false }
         ensures tried { Tried result self.old self.new }
         ensures stands { D.keeps → IfOk result (λ found. found ≡ true → IsPartOut self.new.topology self.new.world.net (content_beside self.new.place self.new.state) node (get_or self.new.topology.pages node 0)) }
         ensures goes { Goes D.keeps J.formatted J.before self.old self.new }
     {
-        if !self.copy_head(rt, shared, node)? {
+        if !self.copy_head(rt, shared, node, image)? {
             return Ok(false);
         }
         for page in 0..self.pages_of(node as usize) {
-            if !self.copy_page(rt, shared, gate, node, page)? {
+            if !self.copy_page(rt, shared, gate, node, image, page)? {
                 return Ok(false);
             }
         }
         Ok(true)
     }
 
-    /// Copies the frozen image of a node that has recorded and isn't out yet, and lets its frozen pages go behind the last one.
+    /// Copies the frozen image of a node that has recorded and isn't out yet, which begins at `image`, and lets its frozen pages go
+    /// behind the last one.
     fn copy_node<R: Wait, G: Gate>(
         &mut self,
         rt: &R,
@@ -137,10 +146,12 @@ impl<J: Naming, D: Disk> Flusher<J, D> {
         gate: &G,
         look: &Look,
         node: u8,
+        image: u64,
     ) -> Result<(), FlushFault>
         requires rests { self.old.world.at ≡ Resting }
         requires cleared { self.old.progress.cleared ≡ true }
         requires node { node < length self.old.topology.pages }
+        requires image { image ≡ piece_place self.old.topology node 0 }
         requires there { node < length J.start.nodes }
         ensures tried { Tried result self.old self.new }
         ensures goes { Goes D.keeps J.formatted J.before self.old self.new }
@@ -149,14 +160,15 @@ impl<J: Naming, D: Disk> Flusher<J, D> {
         if self.is_out(node as usize) || !look.recorded[node as usize] {
             return Ok(());
         }
-        if !self.copy_image(rt, shared, gate, node)? {
+        if !self.copy_image(rt, shared, gate, node, image)? {
             return Ok(());
         }
         self.let_go(rt, shared, node);
         Ok(())
     }
 
-    /// Copies the frozen images of all that have recorded, without waiting for the others.
+    /// Copies the frozen images of all that have recorded, without waiting for the others. Where each begins in the other area is known
+    /// from where the one before did, so no page asks for a sum over the images before.
     pub(crate) fn copy_images<R: Wait, G: Gate>(
         &mut self,
         rt: &R,
@@ -171,8 +183,10 @@ impl<J: Naming, D: Disk> Flusher<J, D> {
     {
         self.known();
         let count = self.nodes().min(shared.nodes() as usize);
+        let mut image = FIELDS_BYTES as u64;
         for node in 0..count {
-            self.copy_node(rt, shared, gate, look, node as u8)?;
+            self.copy_node(rt, shared, gate, look, node as u8, image)?;
+            image = self.image_behind(node, image);
         }
         Ok(())
     }

@@ -2,6 +2,7 @@
 
 ghost use Rattle.std.specs.Prelude.{ℕ, List};
 ghost use Rattle.tp_model.specs.declared.areas.TwoAreas.{TwoAreas};
+ghost use Rattle.tp_model.specs.declared.form.Form.{Form};
 ghost use Rattle.tp_model.specs.NodeState.{NodeState};
 ghost use Rattle.tp_model.specs.Network.{Network};
 ghost use Rattle.tp_model.specs.Topology.{Topology};
@@ -10,9 +11,9 @@ ghost use Rattle.tp_model.specs.Runs.{World};
 ghost use Rattle.tp_law_device.specs.FormattedWorld.{formatted_world, WasFormatted};
 ghost use Rattle.tp_flush.specs.Known.{Began, Reached};
 
-/// The first process begins with a device that was formatted: whatever a crash leaves of it from then on.
+/// The first process begins with a device that was formatted, of either form: whatever a crash leaves of it from then on.
 pub fn first_process_begins()
-    ensures { (t : Topology) (areas : TwoAreas) (images : List (List ℕ)) (start : Network NodeState) (bytes : List ℕ) → WasFormatted t areas images start bytes
+    ensures { (t : Topology) (areas : TwoAreas) (form : Form) (images : List (List ℕ)) (start : Network NodeState) (bytes : List ℕ) → WasFormatted t areas form images start bytes
         → (left : List ℕ) → MayBe (formatted_world start bytes).disk left → Began start (formatted_world start bytes) left }
 {}
 

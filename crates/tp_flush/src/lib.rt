@@ -13,6 +13,7 @@ mod generation;
 mod images;
 mod laws;
 mod pieces;
+mod places;
 mod progress;
 mod raising;
 mod settle;

@@ -14,7 +14,8 @@ ghost use Rattle.tp_flush.specs.Ends.{Tried, Went};
 
 use crate::appending::answer_of;
 use crate::fault::FlushFault;
-use crate::flusher::{Flusher, Parts};
+use crate::flusher::Flusher;
+use crate::places::place_in_image;
 use crate::whole::Whole;
 use std::sync::Wait;
 use tp_disk::Disk;
@@ -40,11 +41,18 @@ impl<J: Naming, D: Disk> Flusher<J, D> {
         answer_of(done)
     }
 
-    /// Puts a piece of the frozen image of `node` into the other area.
-    pub(crate) fn put(&mut self, node: usize, piece: usize, bytes: &[u8]) -> Result<(), FlushFault>
+    /// Puts a piece of the frozen image of `node` into the other area, where that image begins at `image`.
+    pub(crate) fn put(
+        &mut self,
+        node: usize,
+        image: u64,
+        piece: usize,
+        bytes: &[u8],
+    ) -> Result<(), FlushFault>
         requires rests { self.old.world.at ≡ Resting }
         requires cleared { self.old.progress.cleared ≡ true }
         requires node { node < length self.old.topology.pages }
+        requires image { image ≡ piece_place self.old.topology node 0 }
         requires piece { piece ≤ get_or self.old.topology.pages node 0 }
         requires few { piece ≤ MAX_PAGES }
         requires whole { length bytes.now ≡ piece_length piece }
@@ -56,13 +64,9 @@ impl<J: Naming, D: Disk> Flusher<J, D> {
         ensures goes { Goes D.keeps J.formatted J.before self.old self.new }
     {
         self.known();
+        let _node = node;
         let Flusher { parts, .. } = self;
-        let Parts {
-            store,
-            topology,
-            ..
-        } = parts;
-        let done = store.put_piece(topology, node, piece, bytes);
+        let done = parts.store.put_at(image + place_in_image(piece), bytes);
         parts.whole = Whole::of(&*parts);
         answer_of(done)
     }

@@ -20,7 +20,7 @@ use Rattle.tp_law_network.proofs.Reorder.{first_possible, process_next}
 use Rattle.tp_law_network.proofs.Flight.{owner_host}
 use Rattle.tp_law_network.proofs.Room.{on_line-plain}
 use Rattle.tp_law_cuts.proofs.Marks.{AreMarkers, plain_unmarked, before_unmarked}
-use Rattle.tp_law_cuts.proofs.Invariant.{in_count, in_cut, early, late, as_recorded, Base, Marking}
+use Rattle.tp_law_cuts.specs.Invariant.{in_count, in_cut, early, late, as_recorded, Base, Marking}
 use Rattle.tp_law_cuts.proofs.Shape.{live_nodes}
 use Rattle.tp_law_cuts.proofs.Sending.{host_marked, host_markers_all, host_elsewhere, owner_most, before_marked, markers_marked, marked_length}
 

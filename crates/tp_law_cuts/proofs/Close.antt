@@ -10,7 +10,7 @@ use Rattle.tp_model.specs.Snapshot.{Snapshot, MarkedNetwork, has_recorded, is_cl
 use Rattle.tp_law_network.proofs.Lines.{on_set_same, on_set_other}
 use Rattle.tp_law_network.proofs.Local.{own-lines}
 use Rattle.tp_law_cuts.proofs.Marks.{marker_gone, marker_there, unmarked_markers}
-use Rattle.tp_law_cuts.proofs.Invariant.{as_recorded, Base, Marking}
+use Rattle.tp_law_cuts.specs.Invariant.{as_recorded, Base, Marking}
 
 module _ {Node : Type 0} (M : Machine Node) (w : MarkedNetwork Node) (B : Base M w) (line : ℕ) (marker : has_marker (on_line w.live.lines line) ≡ true) where
   abbrev rest : List Token

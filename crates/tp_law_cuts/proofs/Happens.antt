@@ -11,7 +11,7 @@ use Rattle.tp_model.specs.WholeCut.{WholeCut, count_in, all_some, whole, IsWhole
 use Rattle.tp_model.specs.Acts.{Act, Begin, Record, Journal, Close, Trim, happens, acted, IsOpened, CutHolds}
 use Rattle.tp_law_network.proofs.Partial.{bind_some}
 use Rattle.tp_law_network.proofs.Local.{Step, step_of}
-use Rattle.tp_law_cuts.proofs.Invariant.{Inside, Holds}
+use Rattle.tp_law_cuts.specs.Invariant.{Inside, Holds}
 use Rattle.tp_law_cuts.proofs.Shape.{base_journalled, markers_kept}
 use Rattle.tp_law_cuts.proofs.Journal.{entry_journalled}
 use Rattle.tp_law_cuts.proofs.Sending.{host_markers_all, node_markers_all, base_marked}

@@ -17,7 +17,7 @@ use Rattle.tp_law_network.proofs.Local.{Step, SameShape, next_from, takes_same, 
 use Rattle.tp_law_network.proofs.Choice.{made-append, chosen_last_in, chosen_last_out, chosen_passed}
 use Rattle.tp_law_network.proofs.Reorder.{after_front, after_last, reorder_trans, reorder_front, reorder_back, reorder_end, move_left}
 use Rattle.tp_law_cuts.proofs.Marks.{before_unmarked, before-append, before-append_marked}
-use Rattle.tp_law_cuts.proofs.Invariant.{in_count, in_cut, early, late, as_recorded, Base, Marking}
+use Rattle.tp_law_cuts.specs.Invariant.{in_count, in_cut, early, late, as_recorded, Base, Marking}
 use Rattle.tp_law_cuts.proofs.Shape.{live_process, mid_wires, mid_nodes, mid_lines, mid_process, was_line, now_line, takes_unmarked, sends_unmarked, markers_kept, markers_left}
 
 -- ## One line

@@ -11,7 +11,7 @@ use Rattle.tp_model.specs.Snapshot.{MarkedNetwork, has_recorded, is_closed}
 use Rattle.tp_model.specs.WholeCut.{WholeCut, count_in, all_some, whole, network_in, trimmed}
 use Rattle.tp_model.specs.Acts.{CutHolds}
 use Rattle.tp_law_network.proofs.Reorder.{after_front, after_shape}
-use Rattle.tp_law_cuts.proofs.Invariant.{Holds}
+use Rattle.tp_law_cuts.specs.Invariant.{Holds}
 use Rattle.tp_law_cuts.proofs.Whole.{all_some-map, all_closed_at, whole_parts, running, whole_holds}
 
 -- the frozen nodes and the cut are the network that the entries in the cut lead to

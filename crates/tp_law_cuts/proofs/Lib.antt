@@ -1,5 +1,4 @@
 pub mod Marks
-pub mod Invariant
 pub mod Shape
 pub mod Journal
 pub mod Sending

@@ -11,7 +11,7 @@ use Rattle.tp_model.specs.Markers.{markers}
 use Rattle.tp_model.specs.Snapshot.{Snapshot, MarkedNetwork, count_of, has_recorded, is_closed, taker, with_count, with_markers, node_markers}
 use Rattle.tp_law_network.proofs.Local.{own-node, own-lines}
 use Rattle.tp_law_network.proofs.Choice.{chosen_agree}
-use Rattle.tp_law_cuts.proofs.Invariant.{in_count, in_cut, early, late, as_recorded, Base, Marking}
+use Rattle.tp_law_cuts.specs.Invariant.{in_count, in_cut, early, late, as_recorded, Base, Marking}
 use Rattle.tp_law_cuts.proofs.Sending.{node_marked, node_markers_all, node_elsewhere, owner_node, before_marked, markers_marked, marked_length}
 
 module _ {Node : Type 0} (M : Machine Node) (w : MarkedNetwork Node) (B : Base M w)

@@ -7,7 +7,7 @@ use Rattle.tp_model.specs.Sound.{Ends, Sound, owner}
 use Rattle.tp_model.specs.Markers.{markers, plain_network}
 use Rattle.tp_model.specs.Snapshot.{Snapshot, MarkedNetwork, has_recorded, is_closed}
 use Rattle.tp_law_network.proofs.Room.{line_room as sound_room, sound_marked}
-use Rattle.tp_law_cuts.proofs.Invariant.{Inside, Holds}
+use Rattle.tp_law_cuts.specs.Invariant.{Inside, Holds}
 use Rattle.tp_law_cuts.proofs.Whole.{running}
 
 module _ {Node : Type 0} (M : Machine Node) (w : MarkedNetwork Node) (H : Holds M w) where

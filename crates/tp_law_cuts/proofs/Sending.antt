@@ -14,7 +14,7 @@ use Rattle.tp_law_network.proofs.Lines.{on_sent, on_sent_shut, length_sent, for_
 use Rattle.tp_law_network.proofs.Local.{owner_of_link, owner_of_port}
 use Rattle.tp_law_network.proofs.Marks.{markers-append}
 use Rattle.tp_law_cuts.proofs.Marks.{AreMarkers, before-append_markers, for_line_markers, sent_markers}
-use Rattle.tp_law_cuts.proofs.Invariant.{Base}
+use Rattle.tp_law_cuts.specs.Invariant.{Base}
 
 -- ## How many Markers on a line
 

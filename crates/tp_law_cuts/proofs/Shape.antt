@@ -14,7 +14,7 @@ use Rattle.tp_law_network.proofs.Reorder.{after_last, after_shape}
 use Rattle.tp_law_network.proofs.Room.{markers-for_line}
 use Rattle.tp_law_network.proofs.Marks.{markers-taken}
 use Rattle.tp_law_network.proofs.Plain.{plain_step, step_markers, step_takes_unmarked, step_sends_unmarked}
-use Rattle.tp_law_cuts.proofs.Invariant.{Base, Marking}
+use Rattle.tp_law_cuts.specs.Invariant.{Base, Marking}
 
 module _ {Node : Type 0} (M : Machine Node) (four : HasFourLinks M) (w : MarkedNetwork Node) (B : Base M w) where
   live_shape : SameShape w.start (plain_network w.live)

@@ -14,7 +14,7 @@ use Rattle.tp_model.specs.Acts.{Act, Begin, Record, Journal, Close, Trim, happen
 use Rattle.tp_model.specs.Runs.{grown, is_trim, HasCut}
 use Rattle.tp_law_network.proofs.Lines.{same_lines, length_sent, on_sent_shut, on_sent_none}
 use Rattle.tp_law_network.proofs.Local.{Step, SameShape, step_of, step_shape}
-use Rattle.tp_law_cuts.proofs.Invariant.{Holds}
+use Rattle.tp_law_cuts.specs.Invariant.{Holds}
 use Rattle.tp_law_cuts.proofs.Shape.{out_unwired}
 use Rattle.tp_law_cuts.proofs.Close.{marker_wired, was_open}
 use Rattle.tp_law_cuts.proofs.Whole.{WholeParts, whole_parts, whole_from, parts_recorded, all_counts, all_closed_at, running}

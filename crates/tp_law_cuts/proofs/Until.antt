@@ -9,7 +9,7 @@ use Rattle.tp_model.specs.WholeCut.{WholeCut}
 use Rattle.tp_model.specs.Acts.{Act, happens, acted, IsOpened}
 use Rattle.tp_model.specs.Runs.{is_trim, HasCut}
 use Rattle.tp_law_network.proofs.Partial.{bind_some}
-use Rattle.tp_law_cuts.proofs.Invariant.{Holds}
+use Rattle.tp_law_cuts.specs.Invariant.{Holds}
 use Rattle.tp_law_cuts.proofs.Happens.{happens_holds, acted_holds, opened_holds}
 use Rattle.tp_law_cuts.proofs.Stays.{cut_stays}
 

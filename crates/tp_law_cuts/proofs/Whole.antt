@@ -17,7 +17,7 @@ use Rattle.tp_law_network.proofs.Lines.{same_lines}
 use Rattle.tp_law_network.proofs.Local.{own_host, own-node}
 use Rattle.tp_law_network.proofs.Choice.{chosen_agree}
 use Rattle.tp_law_network.proofs.Reorder.{reorder_end}
-use Rattle.tp_law_cuts.proofs.Invariant.{in_count, in_cut, early, late, as_recorded, Base, Marking, Inside, Holds}
+use Rattle.tp_law_cuts.specs.Invariant.{in_count, in_cut, early, late, as_recorded, Base, Marking, Inside, Holds}
 use Rattle.tp_law_cuts.proofs.Shape.{mid_nodes, mid_lines}
 
 -- ## All are there

@@ -1,1 +1,2 @@
+pub mod Invariant
 pub mod Reserved

@@ -111,33 +111,31 @@ all_done-sync (call ∷ calls) m = all_done-sync calls (done call m)
 -- ## The checkpoint
 
 -- as `SpellsCopy`, of a cut that is read back
-pub record ReadsCopy (w : World NodeState) (o : Opened) (pieces : List (ℕ × List ℕ)) (copy : Held NodeState) (generation : ℕ) : Type 0 where
+pub record ReadsCopy (w : World NodeState) (o : Opened) (pieces : List (ℕ × List ℕ)) (copy : Held NodeState) (generation : ℕ) (form : Form) : Type 0 where
   pub opens : opening t414 t414_ends w.disk.bytes ≡ Ok o
   pub closed : other_is_open o w.disk.bytes ≡ false
   pub inside : AllByRecursion (λ piece. IsWithin (device_areas.spare w.disk.bytes) (piece.0, length piece.1)) pieces
-  pub form : Form
   pub groups : List (List (Entry × ℕ))
   pub now : Network NodeState
   pub spelt : SpeltArea t414 t414_ends o.head.topology (other_content o (all_done (put_calls pieces) w.disk).bytes) generation form copy.base copy.network groups now
   pub entries : map (λ e. e.0) (entries_in groups) ≡ copy.entries
   pub later : o.generation < generation
 
-pub spells_reads : (w : World NodeState) (o : Opened) (pieces : List (ℕ × List ℕ)) (copy : Held NodeState) (generation : ℕ) → SpellsCopy w o pieces copy generation → ReadsCopy w o pieces copy generation
+pub spells_reads : (w : World NodeState) (o : Opened) (pieces : List (ℕ × List ℕ)) (copy : Held NodeState) (generation : ℕ) (form : Form) → SpellsCopy w o pieces copy generation form → ReadsCopy w o pieces copy generation form
 unfolding verdict
-spells_reads w o pieces copy generation S = record {
+spells_reads w o pieces copy generation form S = record {
   opens = S.opens;
   closed = S.closed;
   inside = S.inside;
-  form = S.form;
   groups = S.groups;
   now = S.now;
-  spelt = spelt_area t414 t414_ends o.head.topology (other_content o (all_done (put_calls pieces) w.disk).bytes) generation S.form copy.base copy.network S.groups S.now S.spells;
+  spelt = spelt_area t414 t414_ends o.head.topology (other_content o (all_done (put_calls pieces) w.disk).bytes) generation form copy.base copy.network S.groups S.now S.spells;
   entries = S.entries;
   later = S.later;
 }
 
-module _ (w : World NodeState) (cut : WholeCut) (nodes : List NodeState) (o : Opened) (pieces : List (ℕ × List ℕ)) (generation : ℕ) (rests : w.at ≡ Resting) (has : HasCut w.net cut nodes)
-    (S : ReadsCopy w o pieces (copy_of w.net w.base cut nodes) generation) where
+module _ (w : World NodeState) (cut : WholeCut) (nodes : List NodeState) (o : Opened) (pieces : List (ℕ × List ℕ)) (generation : ℕ) (form : Form) (rests : w.at ≡ Resting) (has : HasCut w.net cut nodes)
+    (S : ReadsCopy w o pieces (copy_of w.net w.base cut nodes) generation form) where
   abbrev copy : Held NodeState
   copy = copy_of w.net w.base cut nodes
 
@@ -164,14 +162,14 @@ module _ (w : World NodeState) (cut : WholeCut) (nodes : List NodeState) (o : Op
   kept = puts_keep t414 t414_ends o w.disk (device_areas.spare w.disk.bytes) pieces (record { opens = S.opens; closed = S.closed; range = refl }) S.inside
 
   abbrev next : Opened
-  next = other_opened t414 t414_ends bytes o kept.opens kept.closed generation S.form copy.base copy.network S.groups S.now S.spelt S.later
+  next = other_opened t414 t414_ends bytes o kept.opens kept.closed generation form copy.base copy.network S.groups S.now S.spelt S.later
 
   holds : held_of next ≡ copy
   holds = let entries = S.entries in λ i. record { network = copy.network; entries = entries i; base = copy.base }
 
   other_is : device_areas.other bytes ≡ Some (other_start o, copy)
   other_is =
-      other_spelt t414 t414_ends bytes o kept.opens kept.closed generation S.form copy.base copy.network S.groups S.now S.spelt S.later
+      other_spelt t414 t414_ends bytes o kept.opens kept.closed generation form copy.base copy.network S.groups S.now S.spelt S.later
       ∙ (λ i. Some (other_start o, holds i))
 
   to_tail : (events : List (Event NodeState)) × Run t414 device_areas copied events tailed
@@ -182,7 +180,7 @@ module _ (w : World NodeState) (cut : WholeCut) (nodes : List NodeState) (o : Op
   abbrev gate_written : World NodeState
   gate_written = record tailed { disk = done (Write (other_start o) gate_open) tailed.disk; at = Opening copy upto }
 
-  pub checkpoint_switches : Switches w o cut nodes generation
+  pub checkpoint_switches : Switches w o cut nodes generation form
   unfolding verdict
   checkpoint_switches = record {
     events = CopiesTail cut nodes ∷ (to_tail.0 ++ (Does (Write (other_start o) gate_open) (Opening copy upto) ∷ Does Sync (AfterOpening copy upto) ∷ Trims copy upto cut nodes ∷ []));
@@ -199,8 +197,9 @@ module _ (w : World NodeState) (cut : WholeCut) (nodes : List NodeState) (o : Op
     base = refl;
     journal = refl;
     opened = next;
-    reads = other_opens t414 t414_ends bytes o kept.opens kept.closed generation S.form copy.base copy.network S.groups S.now S.spelt S.later;
+    reads = other_opens t414 t414_ends bytes o kept.opens kept.closed generation form copy.base copy.network S.groups S.now S.spelt S.later;
     holds = holds;
     second = refl;
     age = refl;
+    of_form = refl;
   }

@@ -7,6 +7,7 @@ use Rattle.std.proofs.lemmas.List.{drop_at}
 use Rattle.std.proofs.Math.Seq.{take-append-add}
 use Rattle.tp_model.specs.declared.areas.TwoAreas.{TwoAreas}
 use Rattle.tp_model.specs.declared.limits.TheConstants.{GATE_CLOSED}
+use Rattle.tp_model.specs.declared.form.Form.{Form}
 use Rattle.tp_model.specs.declared.form.Form.TheVariants.{Turns}
 use Rattle.tp_model.specs.NodeState.{NodeState}
 use Rattle.tp_model.specs.Node.{t414, t414_ends}
@@ -27,7 +28,7 @@ use Rattle.tp_model.specs.DeviceAreas.{device_areas, other_start, other_is_open,
 use Rattle.tp_model.specs.Runs.{World, Acts, HasCut, copy_of, fresh, is_trim}
 use Rattle.tp_law_machine.proofs.LinkLaws.{has_four_links, never_marks}
 use Rattle.tp_law_network.proofs.Partial.{bind_some}
-use Rattle.tp_law_cuts.proofs.Invariant.{Holds}
+use Rattle.tp_law_cuts.specs.Invariant.{Holds}
 use Rattle.tp_law_cuts.proofs.Happens.{acted_holds, opened_holds}
 use Rattle.tp_law_cuts.proofs.Kept.{cut_network}
 use Rattle.tp_law_cuts.proofs.Stays.{start_stays}
@@ -67,7 +68,7 @@ none_copied net H none cut nodes has =
 
 -- ## The device
 
-module _ (t : Topology) (areas : TwoAreas) (given : List (List ℕ)) (s : Network NodeState) (bytes : List ℕ) (W : WasFormatted t areas given s bytes) where
+module _ (t : Topology) (areas : TwoAreas) (form : Form) (given : List (List ℕ)) (s : Network NodeState) (bytes : List ℕ) (W : WasFormatted t areas form given s bytes) where
   shape : HasShape t
   shape = has_shape t W.topology
 
@@ -75,10 +76,10 @@ module _ (t : Topology) (areas : TwoAreas) (given : List (List ℕ)) (s : Networ
   back = start_reads_back t given s W.network shape
 
   abbrev o : Opened
-  o = found t414 t areas given s bytes W
+  o = found t414 t areas form given s bytes W
 
   opens : opening t414 t414_ends bytes ≡ Ok o
-  opens = formatted_opens t414 t areas given s bytes W
+  opens = formatted_opens t414 t areas form given s bytes W
 
   abbrev place : ℕ
   place = area_start areas true + 1
@@ -149,13 +150,13 @@ module _ (t : Topology) (areas : TwoAreas) (given : List (List ℕ)) (s : Networ
   first_checkpoint acts none net is empty cut nodes has =
       let run = acts_run t414 device_areas (formatted_world s bytes) acts net none is in
       let w : World NodeState = record (formatted_world s bytes) { net = net; journal = run.0 } in
-      let H = acted_holds t414 has_four_links never_marks (fresh s) net acts (opened_holds t414 (fresh s) (formatted_begins t414 t areas given s bytes W)) is in
+      let H = acted_holds t414 has_four_links never_marks (fresh s) net acts (opened_holds t414 (fresh s) (formatted_begins t414 t areas form given s bytes W)) is in
       let start = acts_start t414 (fresh s) net acts none is in
       let copy : copy_of net 0 cut nodes ≡ record { network = s; entries = []; base = 0 } =
       none_copied net H empty cut nodes has ∙ (λ i. record { network = start i; entries = []; base = 0 }) in
-      let S : ReadsCopy w o ((place, piece) ∷ []) (copy_of net 0 cut nodes) 2 =
-      subst (λ (h : Held NodeState). ReadsCopy w o ((place, piece) ∷ []) h 2) (sym copy)
-      (record { opens = opens; closed = closed; inside = (inside, tt); form = Turns; groups = []; now = s; spelt = spelt; entries = refl; later = omega arith }) in
+      let S : ReadsCopy w o ((place, piece) ∷ []) (copy_of net 0 cut nodes) 2 Turns =
+      subst (λ (h : Held NodeState). ReadsCopy w o ((place, piece) ∷ []) h 2 Turns) (sym copy)
+      (record { opens = opens; closed = closed; inside = (inside, tt); groups = []; now = s; spelt = spelt; entries = refl; later = omega arith }) in
       record {
         events = map Acts acts;
         w = w;
@@ -164,7 +165,7 @@ module _ (t : Topology) (areas : TwoAreas) (given : List (List ℕ)) (s : Networ
         first = o;
         opens = opens;
         age = refl;
-        switches = checkpoint_switches w cut nodes o ((place, piece) ∷ []) 2 refl has S;
+        switches = checkpoint_switches w cut nodes o ((place, piece) ∷ []) 2 Turns refl has S;
       }
 
 -- ## One node

@@ -7,7 +7,6 @@ use Rattle.tp_model.specs.declared.areas.TwoAreas.{TwoAreas}
 use Rattle.tp_model.specs.declared.limits.TheConstants.{GATE_OPEN, GATE_CLOSED}
 use Rattle.tp_model.specs.Bytes.{zeros}
 use Rattle.tp_model.specs.declared.form.Form.{Form}
-use Rattle.tp_model.specs.declared.form.Form.TheVariants.{Turns}
 use Rattle.tp_model.specs.NodeState.{NodeState}
 use Rattle.tp_model.specs.Image.{image}
 use Rattle.tp_model.specs.Network.{Network}
@@ -40,7 +39,7 @@ length-front_bytes E t L generation form base s C =
     let c = length-ports base s.ports C.ports in
     omega (arith, length-append images (lines ++ ports), length-append lines ports, C.count, L.lines)
 
-module _ (t : Topology) (areas : TwoAreas) (given : List (List ℕ)) (s : Network NodeState) (topology : is_topology t ≡ true) (roomy : is_roomy t areas.length ≡ true) (starts : areas.first ≡ head_length (version_for t))
+module _ (t : Topology) (areas : TwoAreas) (form : Form) (given : List (List ℕ)) (s : Network NodeState) (topology : is_topology t ≡ true) (roomy : is_roomy t areas.length ≡ true) (starts : areas.first ≡ head_length (version_for t))
     (low : areas.length < 2 ^ 64) (start : start_of t given ≡ Some s) where
   limits : HasShape t
   limits = has_shape t topology
@@ -49,10 +48,10 @@ module _ (t : Topology) (areas : TwoAreas) (given : List (List ℕ)) (s : Networ
   head = head_bytes (version_for t) t areas
 
   abbrev front : List ℕ
-  front = front_bytes t 1 Turns 0 s
+  front = front_bytes t 1 form 0 s
 
   size_front : length front ≡ groups_place t
-  size_front = length-front_bytes t414_ends t limits 1 Turns 0 s (start_reads_back t given s start limits)
+  size_front = length-front_bytes t414_ends t limits 1 form 0 s (start_reads_back t given s start limits)
 
   size_head : length head ≡ areas.first
   size_head = length-head_bytes (version_for t) t limits (version_keeps t topology) areas starts
@@ -90,7 +89,7 @@ module _ (t : Topology) (areas : TwoAreas) (given : List (List ℕ)) (s : Networ
       let size : length front_part ≡ areas.first + areas.length = omega (arith, length-append head (GATE_OPEN ∷ content), size_head, size_content, wide) in
       ap (λ xs. get_or xs (areas.first + areas.length) 0) (sym (append_assoc head (GATE_OPEN ∷ content) second)) ∙ get_or_at front_part GATE_CLOSED (zeros (areas.length - 1)) 0 (areas.first + areas.length) size
 
-  pub formattable_with : (bytes : List ℕ) × WasFormatted t areas given s bytes
+  pub formattable_with : (bytes : List ℕ) × WasFormatted t areas form given s bytes
   formattable_with = (
     device,
     record {
@@ -109,6 +108,6 @@ module _ (t : Topology) (areas : TwoAreas) (given : List (List ℕ)) (s : Networ
     },
   )
 
-pub formattable : (t : Topology) (areas : TwoAreas) (given : List (List ℕ)) (s : Network NodeState) → is_topology t ≡ true → is_roomy t areas.length ≡ true → areas.first ≡ head_length (version_for t) → areas.length < 2 ^ 64
-    → start_of t given ≡ Some s → (bytes : List ℕ) × WasFormatted t areas given s bytes
-formattable t areas given s topology roomy starts low start = formattable_with t areas given s topology roomy starts low start
+pub formattable : (t : Topology) (areas : TwoAreas) (form : Form) (given : List (List ℕ)) (s : Network NodeState) → is_topology t ≡ true → is_roomy t areas.length ≡ true → areas.first ≡ head_length (version_for t) → areas.length < 2 ^ 64
+    → start_of t given ≡ Some s → (bytes : List ℕ) × WasFormatted t areas form given s bytes
+formattable t areas form given s topology roomy starts low start = formattable_with t areas form given s topology roomy starts low start

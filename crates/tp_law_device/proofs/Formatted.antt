@@ -8,7 +8,7 @@ use Rattle.tp_model.specs.declared.link.Token.{Token}
 use Rattle.tp_model.specs.declared.wire.WireEnd.{WireEnd}
 use Rattle.tp_model.specs.declared.limits.TheConstants.{GATE_CLOSED}
 use Rattle.tp_model.specs.Image.{page_count}
-use Rattle.tp_model.specs.declared.form.Form.TheVariants.{Turns}
+use Rattle.tp_model.specs.declared.form.Form.{Form}
 use Rattle.tp_model.specs.NodeState.{NodeState}
 use Rattle.tp_model.specs.Network.{Machine, Network, has_wire, on_line}
 use Rattle.tp_model.specs.Markers.{markers, plain}
@@ -63,7 +63,7 @@ module _ (t : Topology) (given : List (List ℕ)) (s : Network NodeState) (start
 
 -- ## The device
 
-module _ (M : Machine NodeState) (t : Topology) (areas : TwoAreas) (given : List (List ℕ)) (s : Network NodeState) (bytes : List ℕ) (W : WasFormatted t areas given s bytes) where
+module _ (M : Machine NodeState) (t : Topology) (areas : TwoAreas) (form : Form) (given : List (List ℕ)) (s : Network NodeState) (bytes : List ℕ) (W : WasFormatted t areas form given s bytes) where
   abbrev pub head : Head
   head = record { version = version_for t; topology = t; areas = areas }
 
@@ -75,9 +75,9 @@ module _ (M : Machine NodeState) (t : Topology) (areas : TwoAreas) (given : List
 
   -- what opening answers of it
   abbrev pub found : Opened
-  found = record { head = head; second = false; generation = 1; form = Turns; base = 0; cut = s; kept = []; now = s; end = end_of_groups head false [] }
+  found = record { head = head; second = false; generation = 1; form = form; base = 0; cut = s; kept = []; now = s; end = end_of_groups head false [] }
 
-  area_is : SpeltArea M t414_ends t (content_of areas false bytes) 1 Turns 0 s [] s
+  area_is : SpeltArea M t414_ends t (content_of areas false bytes) 1 form 0 s [] s
   unfolding groups_bytes after
   area_is = record {
     gate = GATE_CLOSED;
@@ -100,7 +100,7 @@ module _ (M : Machine NodeState) (t : Topology) (areas : TwoAreas) (given : List
       opening_from M t414_ends bytes head false found
       (head_of-head_bytes (version_for t) t areas bytes W.topology (version_keeps t W.topology) W.room W.format.first W.area_fits W.format.head)
       (chosen_alone areas bytes false (ap (λ gate. is_open gate) opened) (ap (λ gate. is_open gate) closed))
-      (area_spelt M t414_ends head false limits (content_of areas false bytes) 1 Turns 0 s [] s area_is)
+      (area_spelt M t414_ends head false limits (content_of areas false bytes) 1 form 0 s [] s area_is)
 
   pub formatted_holds : held_in (opening M t414_ends bytes) ≡ Some (record { network = s; entries = []; base = 0 })
   formatted_holds = held_from (opening M t414_ends bytes) found (record { network = s; entries = []; base = 0 }) formatted_opens refl
@@ -139,21 +139,30 @@ module _ (M : Machine NodeState) (t : Topology) (areas : TwoAreas) (given : List
     unwired = λ line is. no_tokens line;
   }
 
-pub formatted_starts : (M : Machine NodeState) (t : Topology) (areas : TwoAreas) (given : List (List ℕ)) (s : Network NodeState) (bytes : List ℕ) → WasFormatted t areas given s bytes
+pub formatted_starts : (M : Machine NodeState) (t : Topology) (areas : TwoAreas) (form : Form) (given : List (List ℕ)) (s : Network NodeState) (bytes : List ℕ) → WasFormatted t areas form given s bytes
     → IsFormatted M (areas_of M t414_ends) s (formatted_world s bytes)
-formatted_starts M t areas given s bytes W = record {
-  reads = formatted_holds M t areas given s bytes W;
+formatted_starts M t areas form given s bytes W = record {
+  reads = formatted_holds M t areas form given s bytes W;
   synced = refl;
-  opened = formatted_begins M t areas given s bytes W;
+  opened = formatted_begins M t areas form given s bytes W;
   net = refl;
   rests = (refl, refl);
   none = (refl, refl, refl, refl, refl);
 }
 
-pub formatted_stands : (t : Topology) (areas : TwoAreas) (given : List (List ℕ)) (s : Network NodeState) (bytes : List ℕ) → WasFormatted t areas given s bytes → StandsFor bytes s [] 0
+pub formatted_stands : (t : Topology) (areas : TwoAreas) (form : Form) (given : List (List ℕ)) (s : Network NodeState) (bytes : List ℕ) → WasFormatted t areas form given s bytes → StandsFor bytes s [] 0
 unfolding verdict
-formatted_stands t areas given s bytes W = record {
-  opened = found t414 t areas given s bytes W;
-  is = formatted_opens t414 t areas given s bytes W;
+formatted_stands t areas form given s bytes W = record {
+  opened = found t414 t areas form given s bytes W;
+  is = formatted_opens t414 t areas form given s bytes W;
   holds = refl;
 }
+
+-- it opens with the form that it was formatted with
+pub formatted_form : (t : Topology) (areas : TwoAreas) (form : Form) (given : List (List ℕ)) (s : Network NodeState) (bytes : List ℕ) → WasFormatted t areas form given s bytes
+    → (o : Opened) → verdict bytes ≡ Ok o → o.form ≡ form
+unfolding verdict
+formatted_form t areas form given s bytes W o is =
+    let both = sym is ∙ formatted_opens t414 t areas form given s bytes W in
+    let same : o ≡ found t414 t areas form given s bytes W = cc in
+    ap (λ (k : Opened). k.form) same

@@ -7,7 +7,7 @@ use Rattle.std.proofs.lemmas.Slice.Eq.{bytes_eq-Decides}
 use Rattle.tp_model.specs.declared.areas.TwoAreas.{TwoAreas}
 use Rattle.tp_model.specs.declared.head.HeadVersion.{HeadVersion}
 use Rattle.tp_model.specs.declared.head.HeadVersion.TheVariants.{Narrow, Wide}
-use Rattle.tp_model.specs.declared.limits.TheConstants.{NARROW_HEAD_BYTES, MIN_PAGES, MAX_NODES, MAX_PAGES}
+use Rattle.tp_model.specs.declared.limits.TheConstants.{NARROW_HEAD_BYTES, WIDE_HEAD_NODES, WIDE_HEAD_PAGES, MIN_PAGES, MAX_PAGES}
 use Rattle.tp_model.specs.declared.opening.OpenFault.TheVariants.{NotFormatted, Damaged}
 use Rattle.tp_model.specs.Bytes.{u8_at, u64_at}
 use Rattle.tp_model.specs.Topology.{Topology, node_count, line_count, is_page_count, is_topology}
@@ -61,17 +61,19 @@ pub keeps_nodes : (version : HeadVersion) (t : Topology) → keeps_limits versio
 keeps_nodes version t h =
     leb-true (node_count t) (head_nodes version) (and_parts (nat_le (node_count t) (head_nodes version)) (list_all (λ pages. nat_le pages (head_pages version)) t.pages) h).0
 
-pages_below : (pages : List ℕ) → list_all is_page_count pages ≡ true → list_all (λ n. nat_le n MAX_PAGES) pages ≡ true
+pages_below : (pages : List ℕ) → list_all is_page_count pages ≡ true → list_all (λ n. nat_le n WIDE_HEAD_PAGES) pages ≡ true
 pages_below [] h = refl
 pages_below (n ∷ ns) h =
     let both = and_parts (is_page_count n) (list_all is_page_count ns) h in
-    and_from (nat_le n MAX_PAGES) (list_all (λ m. nat_le m MAX_PAGES) ns) (and_parts (nat_le MIN_PAGES n) (nat_le n MAX_PAGES) both.0).1 (pages_below ns both.1)
+    let most = leb-true n MAX_PAGES (and_parts (nat_le MIN_PAGES n) (nat_le n MAX_PAGES) both.0).1 in
+    and_from (nat_le n WIDE_HEAD_PAGES) (list_all (λ m. nat_le m WIDE_HEAD_PAGES) ns) (le-leb n WIDE_HEAD_PAGES (omega arith)) (pages_below ns both.1)
 
 -- a wide head can say every topology
 pub wide_keeps : (t : Topology) → is_topology t ≡ true → keeps_limits Wide t ≡ true
 wide_keeps t h =
     let L = has_shape t h in
-    and_from (nat_le (node_count t) MAX_NODES) (list_all (λ pages. nat_le pages MAX_PAGES) t.pages) (le-leb (node_count t) MAX_NODES L.few_nodes) (pages_below t.pages L.pages)
+    let few = L.few_nodes in
+    and_from (nat_le (node_count t) WIDE_HEAD_NODES) (list_all (λ pages. nat_le pages WIDE_HEAD_PAGES) t.pages) (le-leb (node_count t) WIDE_HEAD_NODES (omega arith)) (pages_below t.pages L.pages)
 
 -- and so can the version that formatting writes
 pub version_keeps : (t : Topology) → is_topology t ≡ true → keeps_limits (version_for t) t ≡ true

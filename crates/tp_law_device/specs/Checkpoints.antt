@@ -4,6 +4,7 @@ use Rattle.std.specs.List.{AllByRecursion}
 use Rattle.tp_model.specs.declared.entry.Entry.{Entry}
 use Rattle.tp_model.specs.declared.wire.WireEnd.TheVariants.{Link, Port as AtPort}
 use Rattle.tp_model.specs.declared.form.Form.{Form}
+use Rattle.tp_model.specs.declared.form.Form.TheVariants.{Turns}
 use Rattle.tp_model.specs.NodeState.{NodeState}
 use Rattle.tp_model.specs.Node.{t414, t414_ends}
 use Rattle.tp_model.specs.Network.{Network}
@@ -23,12 +24,11 @@ use Rattle.tp_model.specs.Runs.{World, Event, Run, HasCut, copy_of, fresh}
 use Rattle.tp_law_device.specs.FormattedWorld.{formatted_world}
 
 -- The world's device opens as `o`, whose other area is closed. The pieces lie behind that area's gate; once they are written,
--- the area spells the copy, in some form and with a higher generation.
-pub record SpellsCopy (w : World NodeState) (o : Opened) (pieces : List (ℕ × List ℕ)) (copy : Held NodeState) (generation : ℕ) : Type 0 where
+-- the area spells the copy, with a higher generation and in this form.
+pub record SpellsCopy (w : World NodeState) (o : Opened) (pieces : List (ℕ × List ℕ)) (copy : Held NodeState) (generation : ℕ) (form : Form) : Type 0 where
   pub opens : verdict w.disk.bytes ≡ Ok o
   pub closed : other_is_open o w.disk.bytes ≡ false
   pub inside : AllByRecursion (λ piece. IsWithin (device_areas.spare w.disk.bytes) (piece.0, length piece.1)) pieces
-  pub form : Form
   pub groups : List (List (Entry × ℕ))
   pub now : Network NodeState
   pub spells : Spells t414 t414_ends o.head.topology (other_content o (all_done (put_calls pieces) w.disk).bytes) generation form copy.base copy.network groups now
@@ -36,8 +36,8 @@ pub record SpellsCopy (w : World NodeState) (o : Opened) (pieces : List (ℕ × 
   pub later : o.generation < generation
 
 -- A run leads from the world to one in which the book is trimmed to the cut, and whose device opens as the other area, with
--- that generation, and holds the cut and all entries outside it.
-pub record Switches (w : World NodeState) (o : Opened) (cut : WholeCut) (nodes : List NodeState) (generation : ℕ) : Type 0 where
+-- that generation and form, and holds the cut and all entries outside it.
+pub record Switches (w : World NodeState) (o : Opened) (cut : WholeCut) (nodes : List NodeState) (generation : ℕ) (form : Form) : Type 0 where
   pub events : List (Event NodeState)
   pub last : World NodeState
   pub run : Run t414 device_areas w events last
@@ -50,9 +50,10 @@ pub record Switches (w : World NodeState) (o : Opened) (cut : WholeCut) (nodes :
   pub holds : held_of opened ≡ copy_of w.net w.base cut nodes
   pub second : opened.second ≡ not o.second
   pub age : opened.generation ≡ generation
+  pub of_form : opened.form ≡ form
 
 -- From a device that was formatted, a run leads to a world with this network and book, and from there a checkpoint to the
--- second area.
+-- second area, which has turns.
 pub record HasCheckpoint (start : Network NodeState) (bytes : List ℕ) (net : MarkedNetwork NodeState) (cut : WholeCut) (nodes : List NodeState) : Type 0 where
   pub events : List (Event NodeState)
   pub w : World NodeState
@@ -61,7 +62,7 @@ pub record HasCheckpoint (start : Network NodeState) (bytes : List ℕ) (net : M
   pub first : Opened
   pub opens : verdict bytes ≡ Ok first
   pub age : first.generation ≡ 1
-  pub switches : Switches w first cut nodes 2
+  pub switches : Switches w first cut nodes 2 Turns
 
 -- ## A snapshot of one node, whose link 0 is wired to port 0
 

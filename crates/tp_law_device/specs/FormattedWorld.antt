@@ -1,6 +1,7 @@
 -- Where runs begin: a device that was formatted, and opened.
 use Rattle.std.specs.Prelude.{◌≡◌, ◌<◌, ℕ, ◌^◌, true, List, [], length, Some}
 use Rattle.tp_model.specs.declared.areas.TwoAreas.{TwoAreas}
+use Rattle.tp_model.specs.declared.form.Form.{Form}
 use Rattle.tp_model.specs.NodeState.{NodeState}
 use Rattle.tp_model.specs.Network.{Network}
 use Rattle.tp_model.specs.WriteOrder.{Resting}
@@ -24,10 +25,10 @@ formatted_world start bytes = record {
 }
 
 -- The bytes are a device that was formatted with the images, for a topology, in areas of a length for which there is
--- room and a field.
-pub record WasFormatted (t : Topology) (areas : TwoAreas) (images : List (List ℕ)) (start : Network NodeState) (bytes : List ℕ) : Type 0 where
+-- room and a field; its open area is of this form.
+pub record WasFormatted (t : Topology) (areas : TwoAreas) (form : Form) (images : List (List ℕ)) (start : Network NodeState) (bytes : List ℕ) : Type 0 where
   pub topology : is_topology t ≡ true
   pub room : fits (length bytes) t areas ≡ true
   pub area_fits : areas.length < 2 ^ 64
   pub network : start_of t images ≡ Some start
-  pub format : IsFormatted t areas start bytes
+  pub format : IsFormatted t areas form start bytes

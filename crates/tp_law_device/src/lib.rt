@@ -101,22 +101,24 @@ pub fn heads_read_back()
         → take areas.first bytes ≡ head_bytes version t areas → head_of bytes ≡ Ok (record { version = version; topology = t; areas = areas }) }
 {}
 
-/// A device that was formatted stands for the network of its images, with no entries behind it. So a run may begin there,
-/// and then whatever a crash leaves is recovered.
+/// A device that was formatted, of either form, stands for the network of its images, with no entries behind it, and opens with
+/// that form. So a run may begin there, and then whatever a crash leaves is recovered.
 pub fn formatted_starts()
-    ensures stands { (t : Topology) (areas : TwoAreas) (images : List (List ℕ)) (start : Network NodeState) (bytes : List ℕ)
-        → WasFormatted t areas images start bytes → StandsFor bytes start [] 0 }
-    ensures starts { (t : Topology) (areas : TwoAreas) (images : List (List ℕ)) (start : Network NodeState) (bytes : List ℕ)
-        → WasFormatted t areas images start bytes → IsFormatted t414 device_areas start (formatted_world start bytes) }
-    ensures recovers { (t : Topology) (areas : TwoAreas) (images : List (List ℕ)) (start : Network NodeState) (bytes : List ℕ) → WasFormatted t areas images start bytes
+    ensures stands { (t : Topology) (areas : TwoAreas) (form : Form) (images : List (List ℕ)) (start : Network NodeState) (bytes : List ℕ)
+        → WasFormatted t areas form images start bytes → StandsFor bytes start [] 0 }
+    ensures form { (t : Topology) (areas : TwoAreas) (form : Form) (images : List (List ℕ)) (start : Network NodeState) (bytes : List ℕ)
+        → WasFormatted t areas form images start bytes → (o : Opened) → verdict bytes ≡ Ok o → o.form ≡ form }
+    ensures starts { (t : Topology) (areas : TwoAreas) (form : Form) (images : List (List ℕ)) (start : Network NodeState) (bytes : List ℕ)
+        → WasFormatted t areas form images start bytes → IsFormatted t414 device_areas start (formatted_world start bytes) }
+    ensures recovers { (t : Topology) (areas : TwoAreas) (form : Form) (images : List (List ℕ)) (start : Network NodeState) (bytes : List ℕ) → WasFormatted t areas form images start bytes
         → (events : List (Event NodeState)) (last : World NodeState) → Run t414 device_areas (formatted_world start bytes) events last
         → (left : List ℕ) → MayBe last.disk left → Recovers t414 device_areas start last left }
 {}
 
-/// There is such a device for each topology, each area with room for it, and each network of images.
+/// There is such a device of each form for each topology, each area with room for it, and each network of images.
 pub fn devices_can_be_formatted()
-    ensures { (t : Topology) (areas : TwoAreas) (images : List (List ℕ)) (start : Network NodeState) → is_topology t ≡ true → is_roomy t areas.length ≡ true → areas.first ≡ head_length (version_for t) → areas.length < 2 ^ 64
-        → start_of t images ≡ Some start → (bytes : List ℕ) × WasFormatted t areas images start bytes }
+    ensures { (t : Topology) (areas : TwoAreas) (form : Form) (images : List (List ℕ)) (start : Network NodeState) → is_topology t ≡ true → is_roomy t areas.length ≡ true → areas.first ≡ head_length (version_for t) → areas.length < 2 ^ 64
+        → start_of t images ≡ Some start → (bytes : List ℕ) × WasFormatted t areas form images start bytes }
 {}
 
 /// Opening answers exactly what is spelt: a device that has a head, an open area of highest generation, a cut and groups with
@@ -193,16 +195,16 @@ pub fn groups_fit()
 /// A checkpoint is a piece of a run. Where the other area is closed, what it spells is what the device stands for once its gate is
 /// open; so from a world whose flusher rests and whose cut is whole, with pieces that make the other area spell the copy,
 /// a run copies cut and tail, writes them, syncs, opens the gate, syncs and trims the book: its last world's device opens as
-/// the other area, and holds the copy. There is such a run for each device that was formatted and each whole cut that acts
-/// without an entry lead to, and on one node acts lead to one.
+/// the other area, in the form that it is spelt in, and holds the copy. There is such a run, to an area with turns, for each device that
+/// was formatted, of either form, and each whole cut that acts without an entry lead to, and on one node acts lead to one.
 pub fn checkpoints_switch()
     ensures other { (bytes : List ℕ) (o : Opened) → verdict bytes ≡ Ok o → other_is_open o bytes ≡ false
         → (generation : ℕ) (form : Form) (base : ℕ) (s : Network NodeState) (groups : List (List (Entry × ℕ))) (now : Network NodeState)
         → Spells t414 t414_ends o.head.topology (other_content o bytes) generation form base s groups now → o.generation < generation
         → device_areas.other bytes ≡ Some (other_start o, record { network = s; entries = map (λ e. e.0) (entries_in groups); base = base }) }
-    ensures switches { (w : World NodeState) (cut : WholeCut) (nodes : List NodeState) (o : Opened) (pieces : List (ℕ × List ℕ)) (generation : ℕ)
-        → w.at ≡ Resting → HasCut w.net cut nodes → SpellsCopy w o pieces (copy_of w.net w.base cut nodes) generation → Switches w o cut nodes generation }
-    ensures formatted { (t : Topology) (areas : TwoAreas) (images : List (List ℕ)) (start : Network NodeState) (bytes : List ℕ) → WasFormatted t areas images start bytes
+    ensures switches { (w : World NodeState) (cut : WholeCut) (nodes : List NodeState) (o : Opened) (pieces : List (ℕ × List ℕ)) (generation : ℕ) (form : Form)
+        → w.at ≡ Resting → HasCut w.net cut nodes → SpellsCopy w o pieces (copy_of w.net w.base cut nodes) generation form → Switches w o cut nodes generation form }
+    ensures formatted { (t : Topology) (areas : TwoAreas) (form : Form) (images : List (List ℕ)) (start : Network NodeState) (bytes : List ℕ) → WasFormatted t areas form images start bytes
         → (acts : List Act) → AllByRecursion (λ act. is_trim act ≡ false) acts → (net : MarkedNetwork NodeState) → acted t414 (fresh start) acts ≡ Some net → net.entries ≡ []
         → (cut : WholeCut) (nodes : List NodeState) → HasCut net cut nodes → HasCheckpoint start bytes net cut nodes }
     ensures snapshot { (node : NodeState) → HasSnapshot node }

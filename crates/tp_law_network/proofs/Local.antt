@@ -247,7 +247,7 @@ steps_links {Node} M four (suc k) n r e =
     (all_append (λ m. m.0 < 4) F.0.1 R.0.1 (four.step n F.0 F.1) (steps_links M four k F.0.0 R.0 R.1))
 
 -- so it does for tokens that are taken
-took_all_links : {Node : Type 0} (M : Machine Node) → HasFourLinks M → (ms : List (ℕ × Token)) (n : Node) (r : Node × List (ℕ × Token)) → took_all M ms n ≡ Some r → AllByRecursion (λ m. m.0 < 4) r.1
+pub took_all_links : {Node : Type 0} (M : Machine Node) → HasFourLinks M → (ms : List (ℕ × Token)) (n : Node) (r : Node × List (ℕ × Token)) → took_all M ms n ≡ Some r → AllByRecursion (λ m. m.0 < 4) r.1
 unfolding took_all
 took_all_links {Node} M four [] n r e =
     let is : ◌≡◌ {A = Node × List (ℕ × Token)} (n, []) r = cc in

@@ -9,7 +9,7 @@ use Rattle.tp_model.specs.Areas.{Areas, Held}
 use Rattle.tp_model.specs.WriteOrder.{Position, Resting, Body, Ready, Gate, Cleared, Tail, Opening, Opened, Broken}
 use Rattle.tp_model.specs.Runs.{World}
 use Rattle.tp_model.specs.CutOrder.{HasOrder}
-use Rattle.tp_law_cuts.proofs.Invariant.{Holds}
+use Rattle.tp_law_cuts.specs.Invariant.{Holds}
 use Rattle.tp_law_runs.specs.Standing.{Rests, Bodied, Readied, Gated, Clearing, Switching}
 use Rattle.tp_law_runs.proofs.Prefix.{Stands, Kept, Copied, held_of}
 

@@ -16,7 +16,7 @@ use Rattle.tp_model.specs.Areas.{Areas, AreasHold, Held, next_number}
 use Rattle.tp_model.specs.WriteOrder.{Position, Resting, Body, Ready, Gate, Cleared, Tail, Opening, Opened, Broken, Allows, reached, left}
 use Rattle.tp_model.specs.Runs.{World, Event, Acts, Copies, CopiesTail, Does, Breaks, Trims, Raises, Reads as ReadsMark, Reopens, grown, is_trim, copy_of, reopened, HasCut, Leaves, Step, Run, fresh, IsFormatted, Recovers}
 use Rattle.tp_law_network.proofs.Reorder.{first_possible, front_possible, same_behind}
-use Rattle.tp_law_cuts.proofs.Invariant.{Inside, Holds}
+use Rattle.tp_law_cuts.specs.Invariant.{Inside, Holds}
 use Rattle.tp_law_runs.specs.Standing.{Rests}
 use Rattle.tp_law_runs.proofs.Moments.{broken_may}
 use Rattle.tp_model.specs.CutOrder.{HasOrder}

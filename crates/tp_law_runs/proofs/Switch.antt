@@ -13,7 +13,7 @@ use Rattle.tp_model.specs.Runs.{World, HasCut, copy_of}
 use Rattle.tp_model.specs.CutOrder.{HasOrder}
 use Rattle.tp_law_network.proofs.Choice.{pre-append_outside, post-append_outside}
 use Rattle.tp_law_network.proofs.Reorder.{same_behind}
-use Rattle.tp_law_cuts.proofs.Invariant.{Holds, Inside}
+use Rattle.tp_law_cuts.specs.Invariant.{Holds, Inside}
 use Rattle.tp_law_runs.specs.Standing.{Rests}
 use Rattle.tp_law_runs.proofs.Prefix.{Kept, held_of, in_counts, copied_exact, copied_count}
 use Rattle.tp_law_runs.proofs.Orders.{order_behind, order_cut}

@@ -31,7 +31,7 @@ use Rattle.tp_law_machine.proofs.LinkLaws.{has_four_links}
 use Rattle.tp_law_machine.proofs.Numbers.{AreBytes}
 use Rattle.tp_law_network.proofs.Choice.{length-pre-post, chosen_keeps}
 use Rattle.tp_law_network.proofs.Reorder.{after_front}
-use Rattle.tp_law_cuts.proofs.Invariant.{Holds}
+use Rattle.tp_law_cuts.specs.Invariant.{Holds}
 use Rattle.tp_law_cuts.proofs.Kept.{cut_network}
 use Rattle.tp_law_cuts.proofs.Whole.{whole_holds}
 use Rattle.tp_law_runs.proofs.Moments.{length-written, get_or-written_outside}

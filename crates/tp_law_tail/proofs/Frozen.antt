@@ -70,24 +70,24 @@ cut_frozen w cut nodes i node has F = all_some_at w.frozen nodes i node has.imag
 
 -- ## An image in pieces
 
-image_there : (content : List ℕ) (at : ℕ) (node : NodeState) (pages : ℕ) → length (image_head node) ≡ 172 → length node.memory ≡ 1024 * pages → IsThere content at (image_head node)
-    → ((page : ℕ) → page < pages → IsThere content (at + 172 + 1024 * page) (take 1024 (drop (1024 * page) node.memory))) → IsThere content at (image node)
+image_there : (content : List ℕ) (at : ℕ) (node : NodeState) (pages : ℕ) → length (image_head node) ≡ IMAGE_HEAD_BYTES → length node.memory ≡ PAGE_BYTES * pages → IsThere content at (image_head node)
+    → ((page : ℕ) → page < pages → IsThere content (at + IMAGE_HEAD_BYTES + PAGE_BYTES * page) (take PAGE_BYTES (drop (PAGE_BYTES * page) node.memory))) → IsThere content at (image node)
 unfolding image
 image_there content at node pages head long first each =
-    there_append content at (at + 172) (image_head node) node.memory (omega (arith, head)) first memory
+    there_append content at (at + IMAGE_HEAD_BYTES) (image_head node) node.memory (omega (arith, head)) first memory
   where
-    memory : IsThere content (at + 172) node.memory
+    memory : IsThere content (at + IMAGE_HEAD_BYTES) node.memory
     memory k low =
-        let page = k / 1024 in
-        let rest = k % 1024 in
-        let split : 1024 * page + rest ≡ k = omega arith in
-        let within : rest < 1024 = omega arith in
+        let page = k / PAGE_BYTES in
+        let rest = k % PAGE_BYTES in
+        let split : PAGE_BYTES * page + rest ≡ k = omega arith in
+        let within : rest < PAGE_BYTES = omega arith in
         let there : page < pages = omega (arith, long, low, split, within) in
-        let size : rest < length (take 1024 (drop (1024 * page) node.memory)) = omega (arith, long, low, split, within, length-take 1024 (drop (1024 * page) node.memory), length-drop (1024 * page) node.memory) in
+        let size : rest < length (take PAGE_BYTES (drop (PAGE_BYTES * page) node.memory)) = omega (arith, long, low, split, within, length-take PAGE_BYTES (drop (PAGE_BYTES * page) node.memory), length-drop (PAGE_BYTES * page) node.memory) in
         ap (λ place. get_or content place 0) (omega (arith, split))
         ∙ each page there rest size
-        ∙ get_or-take 1024 (drop (1024 * page) node.memory) rest 0 within
-        ∙ get_or-drop (1024 * page) node.memory rest 0
+        ∙ get_or-take PAGE_BYTES (drop (PAGE_BYTES * page) node.memory) rest 0 within
+        ∙ get_or-drop (PAGE_BYTES * page) node.memory rest 0
         ∙ ap (λ place. get_or node.memory place 0) split
 
 -- of a node that has an image, each of its pages there

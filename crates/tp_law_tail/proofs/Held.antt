@@ -34,7 +34,7 @@ use Rattle.tp_law_machine.proofs.Numbers.{AreBytes, are_bytes-take, are_bytes-dr
 use Rattle.tp_law_machine.proofs.Partial.{all_append}
 use Rattle.tp_law_network.proofs.Choice.{length-pre-post, chosen_keeps}
 use Rattle.tp_law_network.proofs.Reorder.{after_last}
-use Rattle.tp_law_cuts.proofs.Invariant.{Holds}
+use Rattle.tp_law_cuts.specs.Invariant.{Holds}
 use Rattle.tp_law_cuts.proofs.Whole.{whole_holds}
 use Rattle.tp_law_cuts.proofs.Stays.{start_stays, entries_grow}
 use Rattle.tp_law_cuts.proofs.Happens.{happens_holds}

@@ -13,6 +13,7 @@ pub mod Numbers
 pub mod OneCheckpoint
 pub mod OneDevice
 pub mod OneSnapshot
+pub mod OneTurn
 pub mod Other
 pub mod Pieces
 pub mod Places

@@ -1,6 +1,7 @@
 -- The computed checkpoint: its run, and what the device opens to.
 use Rattle.std.proofs.Common.{◌≡◌, ℕ, ◌+◌, List, [], ◌∷◌, ◌++◌, map, refl, sym, ap, subst, ◌∙◌, arith, le_refl, Some, Ok}
 use Rattle.std.specs.Prelude.{max}
+use Rattle.tp_model.specs.declared.form.Form.TheVariants.{Turns}
 use Rattle.tp_model.specs.NodeState.{NodeState}
 use Rattle.tp_model.specs.Node.{t414}
 use Rattle.tp_model.specs.Image.{image}
@@ -103,9 +104,9 @@ one_run =
 -- ## The checkpoint
 
 begins : IsFormatted t414 device_areas one_before formatted
-begins = formatted_starts t414 one_node one_areas (image sends ∷ []) one_before one_device one_formatted
+begins = formatted_starts t414 one_node one_areas Turns (image sends ∷ []) one_before one_device one_formatted
 
-one_switches : Switches whole_world grouped one_cut (awaits ∷ []) 2
+one_switches : Switches whole_world grouped one_cut (awaits ∷ []) 2 Turns
 one_switches =
     cut_switches one_room one_before formatted begins one_bytes one_events whole_world one_run grouped one_cut (awaits ∷ []) refl grouped_bytes late_cut grouped_opens (omega arith) (le_refl one_room)
 

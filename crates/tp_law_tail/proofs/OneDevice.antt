@@ -34,7 +34,7 @@ use Rattle.tp_law_machine.proofs.Numbers.{AreBytes}
 use Rattle.tp_law_device.specs.FormattedWorld.{WasFormatted}
 use Rattle.tp_law_tail.specs.OneCheckpoint.{one_areas, first_content, one_device, inside, cut_network}
 
-pub one_formatted : WasFormatted one_node one_areas (image sends ∷ []) one_before one_device
+pub one_formatted : WasFormatted one_node one_areas Turns (image sends ∷ []) one_before one_device
 unfolding image_head image node_at is_node node_of ends_at cut_bytes is_topology all_lead_back head_bytes front_bytes fresh_nodes
 one_formatted = record {
   topology = refl;

@@ -17,7 +17,7 @@ use Rattle.tp_model.specs.TailRoom.{HasTailRoom, FindsRoom}
 use Rattle.tp_model.specs.KeptRun.{IsKept}
 use Rattle.tp_law_machine.proofs.LinkLaws.{has_four_links}
 use Rattle.tp_law_network.proofs.Choice.{length-pre-post}
-use Rattle.tp_law_cuts.proofs.Invariant.{Holds}
+use Rattle.tp_law_cuts.specs.Invariant.{Holds}
 use Rattle.tp_law_cuts.proofs.Whole.{whole_holds}
 use Rattle.tp_law_cuts.proofs.Stays.{entries_grow}
 use Rattle.tp_law_runs.proofs.Invariant.{Inv, At}

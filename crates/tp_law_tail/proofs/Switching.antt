@@ -59,17 +59,16 @@ unfolding spare_of
 spare_closed bytes o is closed = ap (λ found. spare_of found bytes) is ∙ ap (λ b. cond b (0, 0) (other_start o + 1, o.head.areas.length - 1)) closed
 
 closed_switches : (w : World NodeState) (o : Opened) (cut : WholeCut) (nodes : List NodeState) → w.at ≡ Resting → opening t414 t414_ends w.disk.bytes ≡ Ok o
-    → other_is_open o w.disk.bytes ≡ false → HasCut w.net cut nodes → CanPut w.disk.bytes o (copy_of w.net w.base cut nodes) → Switches w o cut nodes (o.generation + 1)
+    → other_is_open o w.disk.bytes ≡ false → HasCut w.net cut nodes → CanPut w.disk.bytes o (copy_of w.net w.base cut nodes) → Switches w o cut nodes (o.generation + 1) Turns
 closed_switches w o cut nodes rests is closed has P =
     let copy = copy_of w.net w.base cut nodes in
     let C = content_written w.disk.bytes o P.content is P.long in
     let S = spelt_area t414 t414_ends o.head.topology P.content (o.generation + 1) Turns copy.base copy.network P.groups P.now P.spells in
     let spare_is = spare_closed w.disk.bytes o is closed in
-    checkpoint_switches w cut nodes o ((other_start o + 1, P.content) ∷ []) (o.generation + 1) rests has (record {
+    checkpoint_switches w cut nodes o ((other_start o + 1, P.content) ∷ []) (o.generation + 1) Turns rests has (record {
       opens = is;
       closed = closed;
       inside = (subst (λ range. IsWithin range (other_start o + 1, length P.content)) (sym spare_is) (le_refl (other_start o + 1), omega (arith, P.long)), tt);
-      form = Turns;
       groups = P.groups;
       now = P.now;
       spelt = subst (λ content. SpeltArea t414 t414_ends o.head.topology content (o.generation + 1) Turns copy.base copy.network P.groups P.now) (sym C) S;
@@ -130,7 +129,7 @@ cleared_are_bytes bytes o are =
 module _ (most : ℕ) (start : Network NodeState) (first : World NodeState) (F : IsFormatted t414 device_areas start first) (first_bytes : AreBytes first.disk.bytes) where
   switches_from : (events : List (Event NodeState)) (w : World NodeState) → KeptRun most first events w → (o : Opened) (cut : WholeCut) (nodes : List NodeState) → w.at ≡ Resting → AreBytes w.disk.bytes
       → HasCut w.net cut nodes → opening t414 t414_ends w.disk.bytes ≡ Ok o → other_is_open o w.disk.bytes ≡ false → o.generation + 1 < NUMBER_LIMIT → most ≤ room o.head.topology o.head.areas.length
-      → Switches w o cut nodes (o.generation + 1)
+      → Switches w o cut nodes (o.generation + 1) Turns
   switches_from events w run o cut nodes rests are has is closed young small =
       closed_switches w o cut nodes rests is closed has
       (run_tail_put most start events first w F first_bytes run o cut nodes (numbered w.base w.net.entries) rests are has is closed
@@ -139,7 +138,7 @@ module _ (most : ℕ) (start : Network NodeState) (first : World NodeState) (F :
 
   pub cut_switches : (events : List (Event NodeState)) (w : World NodeState) → KeptRun most first events w → (o : Opened) (cut : WholeCut) (nodes : List NodeState) → w.at ≡ Resting → AreBytes w.disk.bytes
       → HasCut w.net cut nodes → opening t414 t414_ends w.disk.bytes ≡ Ok o → o.generation + 1 < NUMBER_LIMIT → most ≤ room o.head.topology o.head.areas.length
-      → Switches w o cut nodes (o.generation + 1)
+      → Switches w o cut nodes (o.generation + 1) Turns
   cut_switches events w run o cut nodes rests are has is young small = elim (cases_Bool (other_is_open o w.disk.bytes)) [
     | inr closed ↦ switches_from events w run o cut nodes rests are has is closed young small
     | inl opened ↦
@@ -160,5 +159,6 @@ module _ (most : ℕ) (start : Network NodeState) (first : World NodeState) (F :
           holds = S.holds;
           second = S.second;
           age = S.age;
+          of_form = S.of_form;
         }
   ]

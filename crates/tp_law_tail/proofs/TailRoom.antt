@@ -15,7 +15,7 @@ use Rattle.tp_model.specs.Journal.{entry_room}
 use Rattle.tp_model.specs.Runs.{is_trim}
 use Rattle.tp_law_network.proofs.Choice.{length-pre-post, post_all}
 use Rattle.tp_law_network.proofs.Reorder.{after_shape}
-use Rattle.tp_law_cuts.proofs.Invariant.{Holds}
+use Rattle.tp_law_cuts.specs.Invariant.{Holds}
 use Rattle.tp_law_cuts.proofs.Whole.{all_counts}
 use Rattle.tp_law_cuts.proofs.Acts.{begin_parts, record_parts, close_parts, journal_parts}
 use Rattle.tp_law_cuts.proofs.Begin.{made_past}

@@ -2,3 +2,4 @@ pub mod CanPut
 pub mod CutSpelt
 pub mod InGroups
 pub mod OneCheckpoint
+pub mod OneTurn

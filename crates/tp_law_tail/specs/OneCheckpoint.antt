@@ -62,7 +62,7 @@ one_room = 3862
 -- trimmed to the cut, and the device opens as the second area, of generation 2; it holds the cut, of two entries, and the two
 -- entries outside it, which lead to the network as it is.
 pub record OneCheckpoint : Type 0 where
-  pub formatted : WasFormatted one_node one_areas (image sends ∷ []) one_before one_device
+  pub formatted : WasFormatted one_node one_areas Turns (image sends ∷ []) one_before one_device
   pub events : List (Event NodeState)
   pub w : World NodeState
   pub run : KeptRun one_room (formatted_world one_before one_device) events w
@@ -76,7 +76,7 @@ pub record OneCheckpoint : Type 0 where
   pub in_first : (first.second ≡ false) × (first.generation ≡ 1)
   pub cut : WholeCut
   pub has : HasCut w.net cut (awaits ∷ [])
-  pub switches : Switches w first cut (awaits ∷ []) 2
+  pub switches : Switches w first cut (awaits ∷ []) 2 Turns
   pub book : switches.last.net ≡ record { start = cut_network; entries = outside; live = one_after; snapshot = None; frozen = [] }
   pub copy : held_of switches.opened ≡ record { network = cut_network; entries = outside; base = 2 }
   pub now : switches.opened.now ≡ one_after

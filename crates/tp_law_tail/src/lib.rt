@@ -8,6 +8,7 @@ ghost use Rattle.tp_law_device.specs.Checkpoints.{Switches};
 ghost use Rattle.tp_law_tail.specs.CanPut.{CanPut};
 ghost use Rattle.tp_law_tail.specs.CutSpelt.{CutSpelt};
 ghost use Rattle.tp_law_tail.specs.OneCheckpoint.{OneCheckpoint};
+ghost use Rattle.tp_law_tail.specs.OneTurn.{OneTurn};
 ghost use Rattle.tp_model.specs.Acts.{Act, CutHolds, happens};
 ghost use Rattle.tp_model.specs.Areas.{Held, gate_open};
 ghost use Rattle.tp_model.specs.CopySpelt.{CopySpelt};
@@ -36,6 +37,7 @@ ghost use Rattle.tp_model.specs.WholeCut.{WholeCut, all_some, count_in, network_
 ghost use Rattle.tp_model.specs.WriteOrder.{Resting};
 ghost use Rattle.tp_model.specs.declared.areas.TwoAreas.{TwoAreas};
 ghost use Rattle.tp_model.specs.declared.entry.Entry.{Entry};
+ghost use Rattle.tp_model.specs.declared.form.Form.TheVariants.{Turns};
 ghost use Rattle.tp_model.specs.declared.limits.TheConstants.{IMAGE_HEAD_BYTES, NUMBER_LIMIT, PAGE_BYTES};
 
 /// However the other area came to hold the pieces of a copy, each at its place and the tail in any groups of 1 to 64: that
@@ -130,20 +132,29 @@ pub fn pieces_stay()
 /// Each whole cut of a run can be switched to, whatever checkpoints, crashes and openings came before, and whether the other area
 /// is closed or still open. Where entries are made with room for them, and a generation is left: whenever the flusher rests, a
 /// run closes the other area if it is open, copies cut and tail, writes them there, syncs, opens the gate, syncs and trims the
-/// book. Its last world's device opens as the other area, of the next generation, and holds the cut and each entry outside it.
+/// book. Its last world's device opens as the other area, of the next generation and with turns, and holds the cut and each entry
+/// outside it.
 pub fn cuts_can_be_switched_to()
     ensures { (most : ℕ) (start : Network NodeState) (events : List (Event NodeState)) (first w : World NodeState) → IsFormatted t414 device_areas start first
         → AllByRecursion (λ byte. byte < 256) first.disk.bytes → KeptRun most first events w
         → (o : Opened) (cut : WholeCut) (nodes : List NodeState) → w.at ≡ Resting → AllByRecursion (λ byte. byte < 256) w.disk.bytes → HasCut w.net cut nodes
         → verdict w.disk.bytes ≡ Ok o → o.generation + 1 < NUMBER_LIMIT → most ≤ room o.head.topology o.head.areas.length
-        → Switches w o cut nodes (o.generation + 1) }
+        → Switches w o cut nodes (o.generation + 1) Turns }
 {}
 
 /// A run that does a checkpoint, computed from a formatted device on. A node sends a byte and the host takes it; both entries are
 /// appended as a group, the mark is raised, and read. A snapshot begins, the node records, and then takes the Ack and goes on,
 /// which are two entries outside the cut; in the cut the Ack is on its line. Both Markers are taken, so the cut is whole. Then
 /// it is copied with its tail, written into the other area and synced, the gate is opened and synced, and the book is trimmed:
-/// the device opens as the second area, with the cut of two entries, the two behind it, and the network as it is.
+/// the device opens as the second area, which has turns, with the cut of two entries, the two behind it, and the network as it is.
 pub fn a_run_checkpoints()
     ensures { OneCheckpoint }
+{}
+
+/// A device whose journal has a turn, computed. Behind the cut of a node that is about to send a byte, in an area with turns, there is a
+/// group of three entries: the node sends, the host takes the byte, and in one entry the node takes the Ack and goes on. The device
+/// opens to them, and to the network to which the four entries lead that say it apart. With those bytes in a plain area it
+/// is damaged where the turn stands.
+pub fn a_device_has_a_turn()
+    ensures { OneTurn }
 {}

@@ -1,8 +1,8 @@
 -- The head that bytes are, by their fields.
 use Rattle.std.proofs.Common.{◌≡◌, ℕ, ◌+◌, ◌-◌, ◌*◌, ◌<◌, ◌≤◌, List, length, take, drop, map, refl, sym, ap, ◌∙◌, arith, Bool, true, false, cond, inl, inr}
-use Rattle.std.specs.Prelude.{not, nat_le, ◌&&◌, ◌⊎◌, bytes_eq, Option, Some, None, Ok, Err}
+use Rattle.std.specs.Prelude.{not, ◌&&◌, ◌⊎◌, bytes_eq, Option, Some, None, Ok, Err}
 use Rattle.std.specs.List.{list_all, range_with_len}
-use Rattle.std.proofs.lemmas.Bool.{and_parts, cases_Bool, cases_lt, cond-false, cond-true, le-leb, le-ltb, leb-true, lt-leb}
+use Rattle.std.proofs.lemmas.Bool.{and_parts, cases_Bool, cases_lt, le-leb, lt-leb}
 use Rattle.std.proofs.lemmas.Option.{cond_some}
 use Rattle.std.proofs.lemmas.List.{take-take, take_rest}
 use Rattle.tp_model.specs.declared.areas.TwoAreas.{TwoAreas}
@@ -10,7 +10,7 @@ use Rattle.tp_model.specs.declared.head.HeadVersion.{HeadVersion}
 use Rattle.tp_model.specs.declared.wire.WireEnd.{WireEnd}
 use Rattle.tp_model.specs.declared.opening.OpenFault.{OpenFault}
 use Rattle.tp_model.specs.declared.opening.OpenFault.TheVariants.{NotFormatted, Damaged}
-use Rattle.tp_model.specs.declared.limits.TheConstants.{NARROW_HEAD_BYTES, MAX_NODES, MAX_PORTS}
+use Rattle.tp_model.specs.declared.limits.TheConstants.{NARROW_HEAD_BYTES, MAX_PORTS}
 use Rattle.tp_model.specs.Bytes.{u8_at, u64_at}
 use Rattle.tp_model.specs.CutImage.{or_damaged}
 use Rattle.tp_model.specs.Device.{areas_end, fits}

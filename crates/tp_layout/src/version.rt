@@ -7,8 +7,8 @@ ghost use Rattle.tp_model.specs.Topology.{is_topology};
 
 use tp_model::HeadVersion;
 use tp_model::limits::{
-    MAX_NODES, MAX_PAGES, NARROW_HEAD_BYTES, NARROW_HEAD_NODES, NARROW_HEAD_PAGES, NARROW_VERSION,
-    WIDE_HEAD_BYTES, WIDE_VERSION,
+    NARROW_HEAD_BYTES, NARROW_HEAD_NODES, NARROW_HEAD_PAGES, NARROW_VERSION, WIDE_HEAD_BYTES,
+    WIDE_HEAD_NODES, WIDE_HEAD_PAGES, WIDE_VERSION,
 };
 use tp_net::Topology;
 
@@ -47,11 +47,11 @@ pub(crate) fn version_of(byte: u8) -> Option<HeadVersion>
 /// How many nodes a head has fields for.
 pub(crate) fn head_nodes(version: HeadVersion) -> usize
     ensures value { result ≡ head_nodes version }
-    ensures bound { result ≤ MAX_NODES }
+    ensures bound { result ≤ WIDE_HEAD_NODES }
 {
     match version {
         HeadVersion::Narrow => NARROW_HEAD_NODES,
-        HeadVersion::Wide => MAX_NODES,
+        HeadVersion::Wide => WIDE_HEAD_NODES,
     }
 }
 
@@ -61,7 +61,7 @@ fn head_pages(version: HeadVersion) -> usize
 {
     match version {
         HeadVersion::Narrow => NARROW_HEAD_PAGES,
-        HeadVersion::Wide => MAX_PAGES,
+        HeadVersion::Wide => WIDE_HEAD_PAGES,
     }
 }
 

@@ -6,6 +6,7 @@ use Rattle.std.proofs.lemmas.List.Folds.{list_any-append}
 use Rattle.std.specs.List.{list_any}
 use Rattle.std.specs.Prelude.{slice_range, option_and_then}
 use Rattle.std.specs.Int.{to_le_bytes, w32}
+use Rattle.tp_model.specs.declared.limits.TheConstants.{PAGE_BYTES}
 use Rattle.tp_model.specs.Memory.{offset, word_offset, set_byte, set_word, byte_stored, stored, is_inside, moved, copied, changed}
 use Rattle.tp_model.specs.SharedPages.{touches, word_ranges, block_ranges, byte_ranges}
 use Rattle.tp_mem.specs.After.{changed_after}
@@ -56,40 +57,40 @@ side_of j zero = inr (omega arith)
 side_of zero (suc at) = inl (omega arith)
 side_of (suc j) (suc at) = one_more j at (side_of j at)
 
-touched : (p at len : ℕ) → 0 < len → at < 1024 * p + 1024 → 1024 * p < at + len → touches p (at, len) ≡ true
+touched : (p at len : ℕ) → 0 < len → at < PAGE_BYTES * p + PAGE_BYTES → PAGE_BYTES * p < at + len → touches p (at, len) ≡ true
 touched p at len some begins ends =
-    ap (λ b. b && ltb at (1024 * p + 1024) && ltb (1024 * p) (at + len)) (lt-ltb 0 len some)
-    ∙ ap (λ b. b && ltb (1024 * p) (at + len)) (lt-ltb at (1024 * p + 1024) begins) ∙ lt-ltb (1024 * p) (at + len) ends
+    ap (λ b. b && ltb at (PAGE_BYTES * p + PAGE_BYTES) && ltb (PAGE_BYTES * p) (at + len)) (lt-ltb 0 len some)
+    ∙ ap (λ b. b && ltb (PAGE_BYTES * p) (at + len)) (lt-ltb at (PAGE_BYTES * p + PAGE_BYTES) begins) ∙ lt-ltb (PAGE_BYTES * p) (at + len) ends
 
-within_second : (p at len j : ℕ) → touches p (at, len) ≡ false → 1024 * p ≤ j → j < 1024 * p + 1024 → at ≤ j → (j < at + len) ⊎ (at + len ≤ j) → (j < at) ⊎ (at + len ≤ j)
+within_second : (p at len j : ℕ) → touches p (at, len) ≡ false → PAGE_BYTES * p ≤ j → j < PAGE_BYTES * p + PAGE_BYTES → at ≤ j → (j < at + len) ⊎ (at + len ≤ j) → (j < at) ⊎ (at + len ≤ j)
 within_second p at len j none low high from (inr past) = inr past
 within_second p at len j none low high from (inl inside) = absurd (let so = touched p at len (omega arith) (omega arith) (omega arith) in cc)
 
-within_first : (p at len j : ℕ) → touches p (at, len) ≡ false → 1024 * p ≤ j → j < 1024 * p + 1024 → (j < at) ⊎ (at ≤ j) → (j < at) ⊎ (at + len ≤ j)
+within_first : (p at len j : ℕ) → touches p (at, len) ≡ false → PAGE_BYTES * p ≤ j → j < PAGE_BYTES * p + PAGE_BYTES → (j < at) ⊎ (at ≤ j) → (j < at) ⊎ (at + len ≤ j)
 within_first p at len j none low high (inl before) = inl before
 within_first p at len j none low high (inr from) = within_second p at len j none low high from (side_of j (at + len))
 
-side_within : (p at len j : ℕ) → touches p (at, len) ≡ false → 1024 * p ≤ j → j < 1024 * p + 1024 → (j < at) ⊎ (at + len ≤ j)
+side_within : (p at len j : ℕ) → touches p (at, len) ≡ false → PAGE_BYTES * p ≤ j → j < PAGE_BYTES * p + PAGE_BYTES → (j < at) ⊎ (at + len ≤ j)
 side_within p at len j none low high = within_first p at len j none low high (side_of j at)
 
 length-splice : (memory ws : List ℕ) (at : ℕ) → at + length ws ≤ length memory → length (take at memory ++ (ws ++ drop (at + length ws) memory)) ≡ length memory
 length-splice memory ws at fits =
     omega (arith, length-append (take at memory) (ws ++ drop (at + length ws) memory), length-append ws (drop (at + length ws) memory), length-take-le at memory (omega arith), length-drop (at + length ws) memory)
 
-length-taken : (xs ys : List ℕ) → length xs ≡ length ys → length (take 1024 xs) ≡ length (take 1024 ys)
-length-taken xs ys long = length-take 1024 xs ∙ ap (min 1024) long ∙ sym (length-take 1024 ys)
+length-taken : (xs ys : List ℕ) → length xs ≡ length ys → length (take PAGE_BYTES xs) ≡ length (take PAGE_BYTES ys)
+length-taken xs ys long = length-take PAGE_BYTES xs ∙ ap (min PAGE_BYTES) long ∙ sym (length-take PAGE_BYTES ys)
 
-length-take-most : (xs : List ℕ) → length (take 1024 xs) ≤ 1024
-length-take-most xs = omega (arith, length-take 1024 xs)
+length-take-most : (xs : List ℕ) → length (take PAGE_BYTES xs) ≤ PAGE_BYTES
+length-take-most xs = omega (arith, length-take PAGE_BYTES xs)
 
-same_page : (after memory : List ℕ) (p : ℕ) → length after ≡ length memory → ((j : ℕ) → 1024 * p ≤ j → j < 1024 * p + 1024 → get_or after j 0 ≡ get_or memory j 0) → take 1024 (drop (1024 * p) after) ≡ take 1024 (drop (1024 * p) memory)
+same_page : (after memory : List ℕ) (p : ℕ) → length after ≡ length memory → ((j : ℕ) → PAGE_BYTES * p ≤ j → j < PAGE_BYTES * p + PAGE_BYTES → get_or after j 0 ≡ get_or memory j 0) → take PAGE_BYTES (drop (PAGE_BYTES * p) after) ≡ take PAGE_BYTES (drop (PAGE_BYTES * p) memory)
 same_page after memory p long same =
-    ext_get_or 0 (take 1024 (drop (1024 * p) after)) (take 1024 (drop (1024 * p) memory))
-    (length-taken (drop (1024 * p) after) (drop (1024 * p) memory) (omega (arith, length-drop (1024 * p) after, length-drop (1024 * p) memory)))
+    ext_get_or 0 (take PAGE_BYTES (drop (PAGE_BYTES * p) after)) (take PAGE_BYTES (drop (PAGE_BYTES * p) memory))
+    (length-taken (drop (PAGE_BYTES * p) after) (drop (PAGE_BYTES * p) memory) (omega (arith, length-drop (PAGE_BYTES * p) after, length-drop (PAGE_BYTES * p) memory)))
     (λ i within.
-    let small : i < 1024 = omega (arith, length-take-most (drop (1024 * p) after)) in
-    get_or-take 1024 (drop (1024 * p) after) i 0 small ∙ get_or-drop (1024 * p) after i 0 ∙ same (1024 * p + i) (omega arith) (omega arith)
-    ∙ sym (get_or-drop (1024 * p) memory i 0) ∙ sym (get_or-take 1024 (drop (1024 * p) memory) i 0 small))
+    let small : i < PAGE_BYTES = omega (arith, length-take-most (drop (PAGE_BYTES * p) after)) in
+    get_or-take PAGE_BYTES (drop (PAGE_BYTES * p) after) i 0 small ∙ get_or-drop (PAGE_BYTES * p) after i 0 ∙ same (PAGE_BYTES * p + i) (omega arith) (omega arith)
+    ∙ sym (get_or-drop (PAGE_BYTES * p) memory i 0) ∙ sym (get_or-take PAGE_BYTES (drop (PAGE_BYTES * p) memory) i 0 small))
 
 pub KeepsPages-splice : (memory ws : List ℕ) (at : ℕ) → at + length ws ≤ length memory → KeepsPages ((at, length ws) ∷ []) memory (take at memory ++ (ws ++ drop (at + length ws) memory))
 KeepsPages-splice memory ws at fits = record {

@@ -3,6 +3,7 @@ use Rattle.std.proofs.Common.{◌≡◌, ℕ, zero, suc, ◌+◌, ◌-◌, ◌*�
 use Rattle.std.specs.Option.{ForSome}
 use Rattle.std.proofs.lemmas.List.{get_or-set_same, get_or-set_other, length-append, length-take-le, length-drop, take-append-drop, drop-drop}
 use Rattle.std.proofs.Math.Seq.{take-append_seam}
+use Rattle.tp_model.specs.declared.limits.TheConstants.{PAGE_BYTES}
 use Rattle.tp_model.specs.Frames.{Held, Frames, frame, held_owners, held_bytes, owners_of, bytes_of, free_in}
 use Rattle.tp_model.specs.SharedPages.{private_in}
 use Rattle.tp_mem.specs.Contents.{page_of}
@@ -56,7 +57,7 @@ AreCopies-elsewhere frames id entry (Some here ∷ copies) apart own =
     (owners-other frames id here entry apart.0 ∙ own.0, ap length (bytes-other frames id here entry apart.0) ∙ own.1, own.2, AreCopies-elsewhere frames id entry copies apart.1 own.3)
 
 -- what is so of one of the copies
-pub AreCopies-at : (frames : Frames) (copies : List (Option ℕ)) (i id : ℕ) → AreCopies frames copies → get_or copies i None ≡ Some id → (owners_of frames id ≡ 1) × (length (bytes_of frames id) ≡ 1024)
+pub AreCopies-at : (frames : Frames) (copies : List (Option ℕ)) (i id : ℕ) → AreCopies frames copies → get_or copies i None ≡ Some id → (owners_of frames id ≡ 1) × (length (bytes_of frames id) ≡ PAGE_BYTES)
 AreCopies-at frames [] i id own at = absurd (cc)
 AreCopies-at frames (None ∷ copies) zero id own at = absurd (cc)
 AreCopies-at frames (Some here ∷ copies) zero id own at =
@@ -80,7 +81,7 @@ AreCopies-without frames (Some here ∷ copies) (suc i) id entry own at =
     )
 
 -- a copy more
-pub AreCopies-with : (frames : Frames) (copies : List (Option ℕ)) (i id : ℕ) (bytes : List ℕ) → id < length frames → length bytes ≡ 1024 → owners_of frames id ≡ 0 → i < length copies
+pub AreCopies-with : (frames : Frames) (copies : List (Option ℕ)) (i id : ℕ) (bytes : List ℕ) → id < length frames → length bytes ≡ PAGE_BYTES → owners_of frames id ≡ 0 → i < length copies
     → AreCopies frames copies → AreCopies (set frames id (copy_of bytes)) (set copies i (Some id))
 AreCopies-with frames [] i id bytes within long fresh inside own = absurd (omega arith)
 AreCopies-with frames (None ∷ copies) zero id bytes within long fresh inside own = (
@@ -217,13 +218,13 @@ frozen_from-elsewhere page live (Some here ∷ copies) frames id entry apart =
     ap (λ front. front ++ frozen_from (page + 1) live copies (set frames id entry)) (bytes-other frames id here entry apart.0)
     ∙ ap (λ rest. bytes_of frames here ++ rest) (frozen_from-elsewhere (page + 1) live copies frames id entry apart.1)
 
-pub page_of-take : (bytes : List ℕ) (page : ℕ) → page_of bytes page ≡ take 1024 (drop (1024 * page) bytes)
-page_of-take bytes page = let size : 1024 * page + 1024 - 1024 * page ≡ 1024 = omega arith in ap (λ n. take n (drop (1024 * page) bytes)) size
+pub page_of-take : (bytes : List ℕ) (page : ℕ) → page_of bytes page ≡ take PAGE_BYTES (drop (PAGE_BYTES * page) bytes)
+page_of-take bytes page = let size : PAGE_BYTES * page + PAGE_BYTES - PAGE_BYTES * page ≡ PAGE_BYTES = omega arith in ap (λ n. take n (drop (PAGE_BYTES * page) bytes)) size
 
-pub length-page_of : (bytes : List ℕ) (page : ℕ) → 1024 * page + 1024 ≤ length bytes → length (page_of bytes page) ≡ 1024
-length-page_of bytes page inside = ap length (page_of-take bytes page) ∙ length-take-le 1024 (drop (1024 * page) bytes) (omega (arith, length-drop (1024 * page) bytes))
+pub length-page_of : (bytes : List ℕ) (page : ℕ) → PAGE_BYTES * page + PAGE_BYTES ≤ length bytes → length (page_of bytes page) ≡ PAGE_BYTES
+length-page_of bytes page inside = ap length (page_of-take bytes page) ∙ length-take-le PAGE_BYTES (drop (PAGE_BYTES * page) bytes) (omega (arith, length-drop (PAGE_BYTES * page) bytes))
 
-length-frozen_bytes : (page : ℕ) (live : List ℕ) (copy : Option ℕ) (copies : List (Option ℕ)) (frames : Frames) → 1024 * page + 1024 ≤ length live → AreCopies frames (copy ∷ copies) → length (frozen_bytes page live copy frames) ≡ 1024
+length-frozen_bytes : (page : ℕ) (live : List ℕ) (copy : Option ℕ) (copies : List (Option ℕ)) (frames : Frames) → PAGE_BYTES * page + PAGE_BYTES ≤ length live → AreCopies frames (copy ∷ copies) → length (frozen_bytes page live copy frames) ≡ PAGE_BYTES
 length-frozen_bytes page live None copies frames inside own = length-page_of live page inside
 length-frozen_bytes page live (Some id) copies frames inside own = own.1
 
@@ -231,7 +232,7 @@ AreCopies-rest : (frames : Frames) (copy : Option ℕ) (copies : List (Option �
 AreCopies-rest frames None copies own = own
 AreCopies-rest frames (Some id) copies own = own.3
 
-pub length-frozen_from : (page : ℕ) (live : List ℕ) (copies : List (Option ℕ)) (frames : Frames) → 1024 * page + 1024 * length copies ≤ length live → AreCopies frames copies → length (frozen_from page live copies frames) ≡ 1024 * length copies
+pub length-frozen_from : (page : ℕ) (live : List ℕ) (copies : List (Option ℕ)) (frames : Frames) → PAGE_BYTES * page + PAGE_BYTES * length copies ≤ length live → AreCopies frames copies → length (frozen_from page live copies frames) ≡ PAGE_BYTES * length copies
 length-frozen_from page live [] frames inside own = refl
 length-frozen_from page live (copy ∷ copies) frames inside own =
     omega (
@@ -242,13 +243,13 @@ length-frozen_from page live (copy ∷ copies) frames inside own =
     )
 
 -- where no page has a copy, they are the live bytes
-pub frozen_from-none : (page : ℕ) (live : List ℕ) (copies : List (Option ℕ)) (frames : Frames) → 1024 * page + 1024 * length copies ≡ length live → copied_in copies ≡ 0 → frozen_from page live copies frames ≡ drop (1024 * page) live
-frozen_from-none page live [] frames all none = let past : length live ≤ 1024 * page = omega arith in sym (drop_past (1024 * page) live past)
+pub frozen_from-none : (page : ℕ) (live : List ℕ) (copies : List (Option ℕ)) (frames : Frames) → PAGE_BYTES * page + PAGE_BYTES * length copies ≡ length live → copied_in copies ≡ 0 → frozen_from page live copies frames ≡ drop (PAGE_BYTES * page) live
+frozen_from-none page live [] frames all none = let past : length live ≤ PAGE_BYTES * page = omega arith in sym (drop_past (PAGE_BYTES * page) live past)
 frozen_from-none page live (None ∷ copies) frames all none =
-    let next : 1024 * (page + 1) ≡ 1024 * page + 1024 = omega arith in
+    let next : PAGE_BYTES * (page + 1) ≡ PAGE_BYTES * page + PAGE_BYTES = omega arith in
     ap (λ bytes. bytes ++ frozen_from (page + 1) live copies frames) (page_of-take live page)
-    ∙ ap (λ bytes. take 1024 (drop (1024 * page) live) ++ bytes) (frozen_from-none (page + 1) live copies frames (omega arith) none ∙ ap (λ n. drop n live) next ∙ sym (drop-drop 1024 (1024 * page) live))
-    ∙ take-append-drop 1024 (drop (1024 * page) live)
+    ∙ ap (λ bytes. take PAGE_BYTES (drop (PAGE_BYTES * page) live) ++ bytes) (frozen_from-none (page + 1) live copies frames (omega arith) none ∙ ap (λ n. drop n live) next ∙ sym (drop-drop PAGE_BYTES (PAGE_BYTES * page) live))
+    ∙ take-append-drop PAGE_BYTES (drop (PAGE_BYTES * page) live)
 frozen_from-none page live (Some id ∷ copies) frames all none = absurd (omega arith)
 
 -- a copy of a page that was shared
@@ -270,20 +271,20 @@ frozen_from-with page live (Some here ∷ copies) frames (suc i) id bytes within
     ∙ ap (λ rest. bytes_of frames here ++ rest) (frozen_from-with (page + 1) live copies frames i id bytes within fresh own.3 none (same ∙ ap (λ p. page_of live p) place))
 
 -- each page of them
-pub page_of-frozen_from : (page : ℕ) (live : List ℕ) (copies : List (Option ℕ)) (frames : Frames) (i : ℕ) → i < length copies → 1024 * page + 1024 * length copies ≤ length live → AreCopies frames copies
+pub page_of-frozen_from : (page : ℕ) (live : List ℕ) (copies : List (Option ℕ)) (frames : Frames) (i : ℕ) → i < length copies → PAGE_BYTES * page + PAGE_BYTES * length copies ≤ length live → AreCopies frames copies
     → page_of (frozen_from page live copies frames) i ≡ frozen_bytes (page + i) live (get_or copies i None) frames
 page_of-frozen_from page live [] frames i within inside own = absurd (omega arith)
 page_of-frozen_from page live (copy ∷ copies) frames zero within inside own =
     let front = frozen_bytes page live copy frames in let rest = frozen_from (page + 1) live copies frames in
-    let long : 1024 ≡ length front = sym (length-frozen_bytes page live copy copies frames (omega arith) own) in
+    let long : PAGE_BYTES ≡ length front = sym (length-frozen_bytes page live copy copies frames (omega arith) own) in
     page_of-take (front ++ rest) 0 ∙ ap (λ n. take n (front ++ rest)) long ∙ take-append_seam front rest
     ∙ ap (λ p. frozen_bytes p live copy frames) (let e : page ≡ page + 0 = omega arith in e)
 page_of-frozen_from page live (copy ∷ copies) frames (suc i) within inside own =
     let front = frozen_bytes page live copy frames in let rest = frozen_from (page + 1) live copies frames in
-    let long : length front ≡ 1024 = length-frozen_bytes page live copy copies frames (omega arith) own in
-    let place : 1024 * suc i ≡ length front + 1024 * i = omega arith in
+    let long : length front ≡ PAGE_BYTES = length-frozen_bytes page live copy copies frames (omega arith) own in
+    let place : PAGE_BYTES * suc i ≡ length front + PAGE_BYTES * i = omega arith in
     let page_is : page + 1 + i ≡ page + suc i = omega arith in
-    page_of-take (front ++ rest) (suc i) ∙ ap (λ n. take 1024 (drop n (front ++ rest))) place ∙ ap (take 1024) (drop-append front rest (1024 * i)) ∙ sym (page_of-take rest i)
+    page_of-take (front ++ rest) (suc i) ∙ ap (λ n. take PAGE_BYTES (drop n (front ++ rest))) place ∙ ap (take PAGE_BYTES) (drop-append front rest (PAGE_BYTES * i)) ∙ sym (page_of-take rest i)
     ∙ page_of-frozen_from (page + 1) live copies frames i (omega arith) (omega arith) (AreCopies-rest frames copy copies own)
     ∙ ap (λ p. frozen_bytes p live (get_or copies i None) frames) page_is
 

@@ -1,6 +1,7 @@
 -- What is so of every memory that copies pages before it writes stays so.
 use Rattle.std.proofs.Common.{◌≡◌, ℕ, zero, suc, ◌+◌, ◌*◌, ◌<◌, ◌≤◌, Bool, true, false, cond, List, [], ◌∷◌, length, Option, Some, None, get_or, set, replicate, refl, sym, ap, subst, ◌∙◌, arith, IsSome, IsNone}
 use Rattle.std.proofs.lemmas.List.{length-set, length-replicate}
+use Rattle.tp_model.specs.declared.limits.TheConstants.{MAX_PAGES, PAGE_BYTES}
 use Rattle.tp_model.specs.Frames.{Frames, frame, held_owners, owners_of, free_in}
 use Rattle.tp_model.specs.SharedPages.{private_in}
 use Rattle.tp_frames.proofs.Frames.{vacancy, free_in-set}
@@ -38,14 +39,14 @@ is_frozen_some true bytes frozen = refl
 is_frozen_some false bytes frozen = absurd (cc)
 
 module _ (live : List ℕ) (shared : List Bool) (copies : List (Option ℕ)) (frames : Frames) (is_frozen : Bool) (paged : IsPaged live shared copies frames is_frozen) where
-  pub few_flags : length shared ≤ 1024
+  pub few_flags : length shared ≤ MAX_PAGES
   few_flags = omega (arith, ap length paged.flags, length-shared_of is_frozen copies, paged.few)
 
   -- a page that is shared
   pub at_page : (page : ℕ) → get_or shared page false ≡ true → (is_frozen ≡ true) × (get_or copies page None ≡ None) × (page < length copies)
   at_page page is_shared = shared_at is_frozen copies page (ap (λ pages. get_or pages page false) (sym paged.flags) ∙ is_shared)
 
-  pub page_inside : (page : ℕ) → get_or shared page false ≡ true → 1024 * page + 1024 ≤ length live
+  pub page_inside : (page : ℕ) → get_or shared page false ≡ true → PAGE_BYTES * page + PAGE_BYTES ≤ length live
   page_inside page is_shared = omega (arith, (at_page page is_shared).2, paged.whole)
 
   -- while memory is frozen, the pages that aren't shared have a copy
@@ -56,7 +57,7 @@ module _ (live : List ℕ) (shared : List Bool) (copies : List (Option ℕ)) (fr
   pub room_is : (page : ℕ) → get_or shared page false ≡ true → private_in shared < spare_in copies frames → 0 < free_in frames
   room_is page is_shared room = omega (arith, private_is (at_page page is_shared).0)
 
-  module _ (page : ℕ) (is_shared : get_or shared page false ≡ true) (id : ℕ) (within : id < length frames) (free : frame frames id ≡ None) (old bytes : List ℕ) (long : length bytes ≡ 1024) (same : bytes ≡ page_of live page)
+  module _ (page : ℕ) (is_shared : get_or shared page false ≡ true) (id : ℕ) (within : id < length frames) (free : frame frames id ≡ None) (old bytes : List ℕ) (long : length bytes ≡ PAGE_BYTES) (same : bytes ≡ page_of live page)
       (taken filled : Frames) (takes : taken ≡ set frames id (copy_of old)) (fills : filled ≡ set taken id (copy_of bytes)) where
     after : filled ≡ set frames id (copy_of bytes)
     after = fills ∙ ap (λ fs. set fs id (copy_of bytes)) takes ∙ set-twice frames id (copy_of old) (copy_of bytes)
@@ -99,7 +100,7 @@ all_free : (n : ℕ) → free_in (replicate n None) ≡ n
 all_free zero = refl
 all_free (suc n) = omega (arith, all_free n)
 
-pub IsPaged-fresh : (live : List ℕ) (pages : ℕ) (frames : Frames) → length live ≡ 1024 * pages → pages ≤ 1024 → IsPaged live (replicate pages false) (replicate pages None) frames false
+pub IsPaged-fresh : (live : List ℕ) (pages : ℕ) (frames : Frames) → length live ≡ PAGE_BYTES * pages → pages ≤ MAX_PAGES → IsPaged live (replicate pages false) (replicate pages None) frames false
 IsPaged-fresh live pages frames whole few = record {
   whole = omega (arith, length-replicate {A = Option ℕ} pages None);
   few = omega (arith, length-replicate {A = Option ℕ} pages None);

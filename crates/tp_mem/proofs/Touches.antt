@@ -1,9 +1,10 @@
 -- Which pages stay shared behind writes.
-use Rattle.std.proofs.Common.{◌≡◌, ℕ, zero, suc, ◌+◌, ◌*◌, ◌/◌, ◌<◌, ◌≤◌, Bool, true, false, not, ◌&&◌, ◌||◌, if◌then◌else◌, List, All, [], ◌∷◌, length, get_or, set, drop, refl, sym, ap, ◌∙◌, arith, ltb}
+use Rattle.std.proofs.Common.{◌≡◌, ℕ, zero, suc, ◌+◌, ◌-◌, ◌*◌, ◌/◌, ◌<◌, ◌≤◌, Bool, true, false, not, ◌&&◌, ◌||◌, if◌then◌else◌, List, All, [], ◌∷◌, length, get_or, set, drop, refl, sym, ap, ◌∙◌, arith, ltb}
 use Rattle.std.proofs.lemmas.List.{set-get_or}
 use Rattle.std.proofs.lemmas.Bool.{ltb-true, and_parts, or_parts}
 use Rattle.std.proofs.Math.Seq.{drop-cons}
 use Rattle.std.specs.List.{list_any}
+use Rattle.tp_model.specs.declared.limits.TheConstants.{PAGE_BYTES}
 use Rattle.tp_model.specs.Memory.{word_offset}
 use Rattle.tp_model.specs.SharedPages.{Kept, word_ranges, touches, shared_from, wanted_from, private_in, kept_behind, LacksFrames}
 
@@ -128,31 +129,31 @@ not_true false not_so = refl
 -- where a range has bytes in a page
 pub record Meets (page at len : ℕ) : Type 0 where
   pub some : 0 < len
-  pub begins : at < 1024 * page + 1024
-  pub ends : 1024 * page < at + len
+  pub begins : at < PAGE_BYTES * page + PAGE_BYTES
+  pub ends : PAGE_BYTES * page < at + len
 
 pub touches-meets : (page at len : ℕ) → touches page (at, len) ≡ true → Meets page at len
 touches-meets page at len touched =
-    let outer = and_parts (ltb 0 len && ltb at (1024 * page + 1024)) (ltb (1024 * page) (at + len)) touched in
-    let inner = and_parts (ltb 0 len) (ltb at (1024 * page + 1024)) outer.0 in
-    record { some = ltb-true 0 len inner.0; begins = ltb-true at (1024 * page + 1024) inner.1; ends = ltb-true (1024 * page) (at + len) outer.1 }
+    let outer = and_parts (ltb 0 len && ltb at (PAGE_BYTES * page + PAGE_BYTES)) (ltb (PAGE_BYTES * page) (at + len)) touched in
+    let inner = and_parts (ltb 0 len) (ltb at (PAGE_BYTES * page + PAGE_BYTES)) outer.0 in
+    record { some = ltb-true 0 len inner.0; begins = ltb-true at (PAGE_BYTES * page + PAGE_BYTES) inner.1; ends = ltb-true (PAGE_BYTES * page) (at + len) outer.1 }
 
 -- pages that a loop over a range found not to be shared
-pub range_untouched : (pages : List Bool) (at len page : ℕ) → ((p : ℕ) → at / 1024 ≤ p → p < (at + len + 1023) / 1024 → get_or pages p false ≡ false) → get_or pages page false ≡ true → touches page (at, len) ≡ false
+pub range_untouched : (pages : List Bool) (at len page : ℕ) → ((p : ℕ) → at / PAGE_BYTES ≤ p → p < (at + len + (PAGE_BYTES - 1)) / PAGE_BYTES → get_or pages p false ≡ false) → get_or pages page false ≡ true → touches page (at, len) ≡ false
 range_untouched pages at len page none shared = not_true (touches page (at, len)) (λ touched.
     let meets = touches-meets page at len touched in
     let not_shared = none page (omega (arith, meets.begins)) (omega (arith, meets.ends)) in absurd (cc))
 
-word_untouched : (pages : List Bool) (address page : ℕ) → get_or pages (word_offset address / 1024) false ≡ false → get_or pages page false ≡ true → touches page (word_offset address, 4) ≡ false
+word_untouched : (pages : List Bool) (address page : ℕ) → get_or pages (word_offset address / PAGE_BYTES) false ≡ false → get_or pages page false ≡ true → touches page (word_offset address, 4) ≡ false
 word_untouched pages address page none shared = not_true (touches page (word_offset address, 4)) (λ touched.
     let meets = touches-meets page (word_offset address) 4 touched in
-    let here : word_offset address / 1024 ≡ page = omega (arith, meets.begins, meets.ends) in
+    let here : word_offset address / PAGE_BYTES ≡ page = omega (arith, meets.begins, meets.ends) in
     let not_shared : get_or pages page false ≡ false = ap (λ p. get_or pages p false) (sym here) ∙ none in absurd (cc))
 
-pub words_untouched : (pages : List Bool) (words : List (ℕ × ℕ)) (page : ℕ) → list_any (λ word. get_or pages (word_offset word.0 / 1024) false) words ≡ false → get_or pages page false ≡ true → list_any (touches page) (word_ranges words) ≡ false
+pub words_untouched : (pages : List Bool) (words : List (ℕ × ℕ)) (page : ℕ) → list_any (λ word. get_or pages (word_offset word.0 / PAGE_BYTES) false) words ≡ false → get_or pages page false ≡ true → list_any (touches page) (word_ranges words) ≡ false
 words_untouched pages [] page none shared = refl
 words_untouched pages (word ∷ words) page none shared =
-    let parts = or_parts (get_or pages (word_offset word.0 / 1024) false) (list_any (λ w. get_or pages (word_offset w.0 / 1024) false) words) none in
+    let parts = or_parts (get_or pages (word_offset word.0 / PAGE_BYTES) false) (list_any (λ w. get_or pages (word_offset w.0 / PAGE_BYTES) false) words) none in
     ap (λ b. b || list_any (touches page) (word_ranges words)) (word_untouched pages word.0 page parts.0 shared) ∙ words_untouched pages words page parts.1 shared
 
 pub or_false : (a b c : Bool) → a ≡ false → b ≡ false → c ≡ false → (a || (b || c)) ≡ false
@@ -215,10 +216,10 @@ shared_from-true page (is_shared ∷ pages) ranges (suc i) shared =
     let place : page + suc i ≡ page + 1 + i = omega arith in ap (λ p. list_any (touches p) ranges) place ∙ shared_from-true (page + 1) pages ranges i shared
 
 -- words in one page have bytes in no other
-pub words_alone : (words : List (ℕ × ℕ)) (page other : ℕ) → All (λ word. word_offset word.0 / 1024 ≡ page) words → ¬ (other ≡ page) → list_any (touches other) (word_ranges words) ≡ false
+pub words_alone : (words : List (ℕ × ℕ)) (page other : ℕ) → All (λ word. word_offset word.0 / PAGE_BYTES ≡ page) words → ¬ (other ≡ page) → list_any (touches other) (word_ranges words) ≡ false
 words_alone [] page other all differs = refl
 words_alone (word ∷ words) page other all differs =
-    let here : word_offset word.0 / 1024 ≡ page = all 0 word (omega arith) in
+    let here : word_offset word.0 / PAGE_BYTES ≡ page = all 0 word (omega arith) in
     let untouched = not_true (touches other (word_offset word.0, 4)) (λ touched. let meets = touches-meets other (word_offset word.0) 4 touched in differs (omega (arith, here, meets.begins, meets.ends))) in
     ap (λ b. b || list_any (touches other) (word_ranges words)) untouched ∙ words_alone words page other (λ k d within. all (suc k) d (omega (arith, within))) differs
 

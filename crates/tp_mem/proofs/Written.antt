@@ -3,6 +3,7 @@ use Rattle.std.proofs.Common.{◌≡◌, ℕ, ◌+◌, ◌-◌, ◌*◌, ◌<◌
 use Rattle.std.proofs.Math.Seq.{take-append_seam}
 use Rattle.std.specs.Prelude.{is_some, IfSome}
 use Rattle.std.specs.List.{list_any}
+use Rattle.tp_model.specs.declared.limits.TheConstants.{PAGE_BYTES}
 use Rattle.tp_model.specs.Frames.{Frames}
 use Rattle.tp_model.specs.SharedPages.{touches, shared_from, wanted_from, private_in, kept_behind, LacksFrames}
 use Rattle.tp_mem.specs.Contents.{page_of}
@@ -43,7 +44,7 @@ module _ (live : List ℕ) (shared : List Bool) (copies : List (Option ℕ)) (fr
   frozen_page_is true page paged within =
       page_of-frozen_from 0 live copies frames page within (omega (arith, paged.whole)) paged.own ∙ ap (λ p. frozen_bytes p live (get_or copies page None) frames) (zero_plus page)
 
-  pub length-frozen_of : (is_frozen : Bool) → IsPaged live shared copies frames is_frozen → IfSome (frozen_of is_frozen live copies frames) (λ kept. length kept ≡ 1024 * length copies)
+  pub length-frozen_of : (is_frozen : Bool) → IsPaged live shared copies frames is_frozen → IfSome (frozen_of is_frozen live copies frames) (λ kept. length kept ≡ PAGE_BYTES * length copies)
   length-frozen_of false paged = tt
   length-frozen_of true paged = length-frozen_from 0 live copies frames (omega (arith, paged.whole)) paged.own
 

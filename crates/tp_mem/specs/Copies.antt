@@ -3,7 +3,7 @@
 use Rattle.std.specs.Prelude.{◌≡◌, ℕ, ◌+◌, ◌*◌, ◌≤◌, Bool, false, not, ◌&&◌, List, [], ◌∷◌, ◌++◌, length, set, Option, Some, None, is_some, if◌then◌else◌}
 use Rattle.tp_model.specs.Frames.{Frames, owners_of, bytes_of, free_in}
 use Rattle.tp_model.specs.SharedPages.{Kept}
-use Rattle.tp_model.specs.declared.limits.TheConstants.{PAGE_BYTES}
+use Rattle.tp_model.specs.declared.limits.TheConstants.{MAX_PAGES, PAGE_BYTES}
 use Rattle.tp_mem.specs.Contents.{page_of}
 
 -- What contracts see: the live bytes; while memory is frozen, the bytes as they were at the freeze; of each page, whether
@@ -59,7 +59,7 @@ without_copy frames (Some id) = set frames id None
 -- what is so of every such memory
 pub record IsPaged (live : List ℕ) (shared : List Bool) (copies : List (Option ℕ)) (frames : Frames) (is_frozen : Bool) : Type 0 where
   pub whole : length live ≡ PAGE_BYTES * length copies
-  pub few : length copies ≤ 1024
+  pub few : length copies ≤ MAX_PAGES
   pub flags : shared ≡ shared_of is_frozen copies
   pub own : AreCopies frames copies
   pub thawed : is_frozen ≡ false → copied_in copies ≡ 0

@@ -2,6 +2,7 @@
 
 ghost use Rattle.std.specs.Prelude.{◌≡◌, ℕ, ◌+◌, ◌*◌, ◌/◌, ◌<◌, ◌≤◌, ◌^◌, ◌∷◌, true, false, ◌&&◌, if◌then◌else◌, length, get_or, All, IfSome};
 ghost use Rattle.std.specs.List.{list_any};
+ghost use Rattle.tp_model.specs.declared.limits.TheConstants.{MAX_PAGES};
 ghost use Rattle.tp_model.specs.Memory.{word_offset};
 ghost use Rattle.tp_model.specs.SharedPages.{block_ranges, word_ranges, touches, wanted_from};
 
@@ -27,7 +28,7 @@ pub(crate) fn block(to: u32, count: u32) -> Range
 
 /// Whether a range has bytes in a page.
 fn touches(page: usize, range: Range) -> bool
-    requires page { page ≤ 1024 }
+    requires page { page ≤ MAX_PAGES }
     requires small { range.0 + range.1 < 2 ^ 33 }
     ensures { result ≡ touches page range }
 {
@@ -36,7 +37,7 @@ fn touches(page: usize, range: Range) -> bool
 
 /// Whether a word that is written lies in a page.
 fn has_word(page: usize, words: &[(u32, u32)]) -> bool
-    requires page { page ≤ 1024 }
+    requires page { page ≤ MAX_PAGES }
     ensures { result ≡ list_any (λ word. touches page (word_offset word.0, 4)) words.now }
 {
     words
@@ -47,7 +48,7 @@ fn has_word(page: usize, words: &[(u32, u32)]) -> bool
 /// Whether two ranges, or words that are written, have bytes in a page.
 #[tactic(auto, using(crate::proofs::Touches::words_touch))]
 pub(crate) fn is_touched(page: usize, first: Range, block: Range, words: &[(u32, u32)]) -> bool
-    requires page { page ≤ 1024 }
+    requires page { page ≤ MAX_PAGES }
     requires first { first.0 + first.1 < 2 ^ 33 }
     requires block { block.0 + block.1 < 2 ^ 33 }
     ensures { result ≡ list_any (touches page) (first ∷ block ∷ word_ranges words.now) }
@@ -152,7 +153,7 @@ pub(crate) fn one_page(first: Range, block: Range, words: &[(u32, u32)]) -> Opti
 
 /// One where a page is shared and has such bytes.
 fn wants(is_shared: bool, page: usize, first: Range, block: Range, words: &[(u32, u32)]) -> usize
-    requires page { page ≤ 1024 }
+    requires page { page ≤ MAX_PAGES }
     requires first { first.0 + first.1 < 2 ^ 33 }
     requires block { block.0 + block.1 < 2 ^ 33 }
     ensures { result ≡ (if is_shared && list_any (touches page) (first ∷ block ∷ word_ranges words.now) then 1 else 0) }
@@ -166,7 +167,7 @@ fn wants(is_shared: bool, page: usize, first: Range, block: Range, words: &[(u32
 
 /// How many of the shared pages have such bytes.
 pub(crate) fn wanted(shared: &[bool], first: Range, block: Range, words: &[(u32, u32)]) -> usize
-    requires few { length shared.now ≤ 1024 }
+    requires few { length shared.now ≤ MAX_PAGES }
     requires first { first.0 + first.1 < 2 ^ 33 }
     requires block { block.0 + block.1 < 2 ^ 33 }
     ensures { result ≡ wanted_from 0 shared.now (first ∷ block ∷ word_ranges words.now) }

@@ -62,8 +62,8 @@ pub(crate) fn parts_of(
     let state = opened.into_state(alloc)?;
     let book = Book::open(alloc, &state, Some(room))?;
     let outset = Outset::of(&book, port);
-    let nodes = nodes_of(alloc, &state, spare as usize)?;
     let (mark, raiser, _) = Mark::start(alloc, state.next, 0)?;
-    let parts = Parts::opened(alloc, &state, book, nodes, mark)?;
+    let nodes = nodes_of(alloc, state, spare as usize)?;
+    let parts = Parts::opened(alloc, book, nodes, mark)?;
     Ok((parts, raiser, outset))
 }

@@ -1,8 +1,7 @@
 //! Workers.
 
-ghost use Rattle.std.specs.Prelude.{◌≡◌, All, Some, IfSome, length};
+ghost use Rattle.std.specs.Prelude.{◌≡◌, ◌≤◌, All, Some, length};
 ghost use Rattle.tp_run.specs.Worked.{Worked};
-ghost use Rattle.tp_work.specs.Made.{made_by};
 
 use crate::beginning::{begin_where_due, missing_in};
 use crate::watch::Watch;
@@ -13,25 +12,14 @@ use std::thread::Threads;
 use tp_shared::{Naming, NoGate, Shared};
 use tp_work::{Net, Seat, Turn, TurnFault};
 
-/// How many entries a turn is reckoned at where nobody knows how many it made. No turn makes more.
-const RECKONED_ENTRIES: u64 = 64;
-
-/// How many entries a turn made, where that is a number.
-fn entries_of(turn: &Turn) -> Option<u64>
-    ensures { IfSome result (λ count. count ≡ made_by turn.now) }
+/// How many entries a turn is told to have made that made `made`: one at least where it was refused for want of room or memory, since the
+/// flusher's turn may give some.
+fn told_of(done: &Result<Turn, TurnFault>, made: u64) -> u64
+    ensures { made ≤ result }
 {
-    match &turn.ran {
-        Some(ran) if ran.count() > 0 => turn.takes.checked_add(1),
-        _ => Some(turn.takes),
-    }
-}
-
-/// The same; or more, where the turn was broken off, since it may have taken tokens before.
-fn made_by(done: &Result<Turn, TurnFault>) -> u64 {
     match done {
-        Ok(turn) => entries_of(turn).unwrap_or(RECKONED_ENTRIES),
-        Err(TurnFault::JournalFull | TurnFault::Memory) => RECKONED_ENTRIES,
-        Err(TurnFault::Empty | TurnFault::StoreBroken) => 0,
+        Err(TurnFault::JournalFull | TurnFault::Memory) => made.max(1),
+        Ok(_) | Err(TurnFault::Empty | TurnFault::StoreBroken) => made,
     }
 }
 
@@ -63,8 +51,9 @@ fn work<J: Naming, R: Wait>(
             return;
         }
         begin(rt, alloc, net.shared(), watch);
+        let before = seat.count();
         let done = net.turn(rt, seat);
-        watch.tell(made_by(&done));
+        watch.tell(told_of(&done, seat.count().saturating_sub(before)));
         if matches!(done, Err(TurnFault::Empty)) {
             thread::yield_now();
         }

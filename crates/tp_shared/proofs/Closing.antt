@@ -14,10 +14,11 @@ use Rattle.tp_turn.specs.Over.{ClosesOver, ClosesAll}
 use Rattle.tp_turn.proofs.Adding.{entries_more}
 use Rattle.tp_turn.specs.Settled.{Records}
 use Rattle.tp_snap.specs.Needs.{is_asked}
+use Rattle.tp_shared.specs.Agreement.{at_rest}
 use Rattle.tp_shared.specs.BookActs.{NodeActed, HostActed}
 use Rattle.tp_shared.proofs.Holding.{acted_free}
 use Rattle.tp_shared.proofs.Hosting.{hosted_by}
-use Rattle.tp_shared.proofs.Untrimmed.{AreTurnActs}
+use Rattle.tp_shared.proofs.Untrimmed.{AreTurnActs, untrimmed}
 
 -- none of them is a trim, and none makes an entry
 closes_one : (line : ℕ) (b : Bool) (acts : List Act) → acts ≡ cond b (Close line ∷ []) [] → AllByRecursion (λ act. is_trim act ≡ false) acts × (entries_in acts ≡ [])
@@ -44,8 +45,7 @@ records_quiet : (number : ℕ) (asked : Bool) (acts : List Act) → acts ≡ con
 records_quiet number true acts e = subst (λ given. AreTurnActs given × (entries_in given ≡ [])) (sym e) ((tt, tt), refl)
 records_quiet number false acts e = subst (λ given. AreTurnActs given × (entries_in given ≡ [])) (sym e) (tt, refl)
 
-pub acted_records : (number : ℕ) (s t : Moment) → slice_get s.book.runs number ≡ Some false → Done number (Records number) s t
-    → NodeActed (λ entries. entries ≡ []) number (record { node = t.node.live; frozen = t.node.frozen; reserved = false }) s.book t.book
+pub acted_records : (number : ℕ) (s t : Moment) → slice_get s.book.runs number ≡ Some false → Done number (Records number) s t → NodeActed (λ entries. entries ≡ []) number (at_rest t.node) s.book t.book
 acted_records number s t free D =
     let quiet = records_quiet number (is_asked s.book.state.snapshot number) D.acts D.did.are in
-    acted_free (λ (entries : List Entry). entries ≡ []) number D.acts s.book t.book t.node D.added quiet.0 quiet.1 free
+    acted_free (λ (entries : List Entry). entries ≡ []) number D.acts s.book t.book t.node.live D.added (untrimmed D.acts quiet.0) quiet.1 (at_rest t.node) refl free refl

@@ -9,7 +9,7 @@ use Rattle.tp_model.specs.Acts.{Act, happens, acted}
 use Rattle.tp_model.specs.Runs.{is_trim, HasCut}
 use Rattle.tp_law_machine.proofs.LinkLaws.{has_four_links, never_marks}
 use Rattle.tp_law_network.proofs.Partial.{bind_some}
-use Rattle.tp_law_cuts.proofs.Invariant.{Holds}
+use Rattle.tp_law_cuts.specs.Invariant.{Holds}
 use Rattle.tp_law_cuts.proofs.Happens.{happens_holds}
 use Rattle.tp_law_cuts.proofs.Stays.{cut_stays}
 use Rattle.tp_law_cuts.proofs.Whole.{whole_parts, parts_recorded}

@@ -11,7 +11,7 @@ use Rattle.tp_model.specs.Snapshot.{Snapshot, MarkedNetwork, has_recorded}
 use Rattle.tp_model.specs.FrozenAs.{IsFrozenAs}
 use Rattle.tp_law_machine.proofs.LinkLaws.{has_four_links}
 use Rattle.tp_law_network.proofs.Local.{own-node}
-use Rattle.tp_law_cuts.proofs.Invariant.{Holds, as_recorded}
+use Rattle.tp_law_cuts.specs.Invariant.{Holds, as_recorded}
 use Rattle.tp_law_cuts.proofs.Shape.{mid_nodes}
 use Rattle.tp_law_cuts.proofs.Whole.{running}
 use Rattle.tp_snap.specs.Needs.{has_recorded_in}

@@ -5,7 +5,9 @@ use Rattle.std.specs.List.{AllByRecursion, range_with_len}
 use Rattle.std.proofs.lemmas.List.{append-nil, length-map}
 use Rattle.tp_model.specs.declared.entry.Entry.{Entry}
 use Rattle.tp_model.specs.declared.entry.Entry.TheVariants.{HostIn, Confirm}
+use Rattle.tp_model.specs.declared.wire.WireEnd.{WireEnd}
 use Rattle.tp_model.specs.Node.{t414}
+use Rattle.tp_model.specs.Entries.{process}
 use Rattle.tp_model.specs.Acts.{Act, Begin, Journal, happens, acted}
 use Rattle.tp_model.specs.Runs.{is_trim}
 use Rattle.tp_snap.specs.Needs.{has_recorded_in}
@@ -36,6 +38,16 @@ inputs_listed : (port : ℕ) (bytes : List ℕ) → entries_in (input_acts port 
 inputs_listed port [] = refl
 inputs_listed port (x ∷ xs) = ap (λ es. HostIn port x ∷ es) (inputs_listed port xs)
 
+-- they are the host's
+inputs_own : (wires : List (Option WireEnd)) (count port : ℕ) (bytes : List ℕ) → AllByRecursion (λ e. process wires count e ≡ count) (entries_in (input_acts port bytes))
+unfolding process
+inputs_own wires count port [] = tt
+inputs_own wires count port (x ∷ xs) = (refl, inputs_own wires count port xs)
+
+confirm_own : (wires : List (Option WireEnd)) (count port upto : ℕ) → process wires count (Confirm port upto) ≡ count
+unfolding process
+confirm_own wires count port upto = refl
+
 inputs_many : (port : ℕ) (bytes : List ℕ) → length bytes ≡ length (entries_in (input_acts port bytes))
 inputs_many port bytes = sym (ap length (inputs_listed port bytes) ∙ length-map bytes (HostIn port))
 
@@ -57,6 +69,7 @@ hosted_input b new port bytes is same act = record {
     floor = ap (λ x. x.floor) is;
     form = ap (λ x. x.form) is;
   };
+  own = inputs_own b.state.start.wires (length b.state.start.nodes) port bytes;
   nodes = same;
   runs = ap (λ x. x.runs) is;
   recorded = λ process. ap (λ x. has_recorded_in x.state.snapshot process) is;
@@ -87,6 +100,7 @@ hosted_confirm b new port upto is same act = go (nat_le upto (port_in b port).ou
         floor = ap (λ x. x.floor) e;
         form = ap (λ x. x.form) e;
       };
+      own = tt;
       nodes = same;
       runs = ap (λ x. x.runs) e;
       recorded = λ process. ap (λ x. has_recorded_in x.state.snapshot process) e;
@@ -108,6 +122,7 @@ hosted_confirm b new port upto is same act = go (nat_le upto (port_in b port).ou
         floor = ap (λ x. x.floor) e;
         form = ap (λ x. x.form) e;
       };
+      own = (confirm_own b.state.start.wires (length b.state.start.nodes) port upto, tt);
       nodes = same;
       runs = ap (λ x. x.runs) e;
       recorded = λ process. ap (λ x. has_recorded_in x.state.snapshot process) e ∙ collected_recorded b.state.snapshot _ process _;
@@ -133,6 +148,7 @@ hosted_by Are acts b new A none are = record {
     floor = A.grew.floor;
     form = A.grew.form;
   };
+  own = A.own;
   nodes = A.nodes;
   runs = A.grew.runs;
   recorded = A.recorded;
@@ -210,6 +226,7 @@ hosted_broken b new is = record {
     floor = ap (λ x. x.floor) is;
     form = ap (λ x. x.form) is;
   };
+  own = tt;
   nodes = ap (λ x. agreed x.state) is;
   runs = ap (λ x. x.runs) is;
   recorded = λ process. ap (λ x. has_recorded_in x.state.snapshot process) is;

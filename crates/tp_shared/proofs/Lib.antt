@@ -1,4 +1,5 @@
 pub mod Untrimmed
+pub mod Waiting
 pub mod Telling
 pub mod Holding
 pub mod Writing
@@ -10,10 +11,10 @@ pub mod Hosting
 pub mod Frozen
 pub mod Cuts
 pub mod Thawing
-pub mod Staying
 pub mod Resealing
 pub mod Copying
 pub mod Trims
 pub mod Closing
 pub mod Positioned
 pub mod Keeping
+pub mod Gaining

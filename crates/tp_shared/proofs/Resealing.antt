@@ -31,12 +31,13 @@ sealed_again names seals b i was now S at name value frozen =
 
 -- a node whose pages went
 pub thawed_seal : (name seal_name : ℕ) (a : Agreement) (flag : Bool) (b : BookValue) (i : ℕ) → IsSealOf name a flag seal_name b i
-    → IsSealOf name (record { node = a.node; frozen = None; reserved = a.reserved }) false seal_name b i
+    → IsSealOf name (record { node = a.node; frozen = None; reserved = a.reserved; takes = a.takes }) false seal_name b i
 thawed_seal name seal_name a flag b i S = record {
   named = S.named;
   node = S.node;
   recorded = λ some. absurd (let bad : false ≡ true = some in cc);
   kept = λ here there h t. cc;
   reserved = S.reserved;
+  received = S.received;
   flag = refl;
 }

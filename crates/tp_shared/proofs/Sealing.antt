@@ -1,26 +1,38 @@
 -- Seals beside a book that grew, and its roll.
 use Rattle.std.proofs.Common.{◌≡◌, ℕ, zero, suc, ◌+◌, ◌<◌, Bool, true, false, inl, inr, List, [], ◌∷◌, ◌++◌, length, set, drop, get_or, refl, sym, ap, subst, ◌∙◌, arith, Option, Some, None, slice_get, length-append}
-use Rattle.std.specs.Prelude.{◌≤◌, ◌-◌, IsSome, is_some}
+use Rattle.std.specs.Prelude.{◌≤◌, ◌-◌, IsSome, is_some, Result, Ok, Err, is_ok, MatchResult}
 use Rattle.std.specs.List.{AllByRecursion, enumerate_from}
 use Rattle.std.proofs.lemmas.Bool.{cases_eq}
 use Rattle.std.proofs.lemmas.List.{append-nil, drop_at}
+use Rattle.std.proofs.lemmas.Option.{slice_get_within}
 use mathlib.Core.List.{cons≢nil}
 use Rattle.tp_law_machine.proofs.Partial.{slice_get-set_same, slice_get-set_other}
 use Rattle.tp_token.specs.Sound.{Sound, item_of}
 use Rattle.tp_model.specs.declared.entry.Entry.{Entry}
+use Rattle.tp_model.specs.declared.form.Form.TheVariants.{Turns}
+use Rattle.tp_model.specs.declared.link.Received.{Received}
 use Rattle.tp_model.specs.NodeState.{NodeState}
+use Rattle.tp_model.specs.Node.{t414}
+use Rattle.tp_model.specs.Acts.{Begin, happens}
 use Rattle.tp_law_machine.specs.NodeOfBytes.{IsNodeOfBytes}
 use Rattle.tp_node.specs.NodeContents.{NodeContents}
 use Rattle.tp_snap.specs.Needs.{has_recorded_in}
-use Rattle.tp_book.specs.Book.{BookValue, agreed, next_number}
+use Rattle.tp_book.specs.declared.refusal.Refusal.{Refusal}
+use Rattle.tp_book.specs.Book.{BookValue, agreed, next_number, world_of}
 use Rattle.tp_book.specs.Joined.{FitsRoom}
+use Rattle.tp_book.proofs.Stood.{one_act}
+use Rattle.tp_turn.specs.declared.opened.Opened.{Opened}
 use Rattle.tp_turn.specs.Moments.{IsNodeOf, entries_in}
-use Rattle.tp_shared.specs.Agreement.{Agreement}
+use Rattle.tp_turn.specs.Opened.{IsOpenedIn, sent_in, takes_in}
+use Rattle.tp_turn.proofs.Opening.{opened_behind}
+use Rattle.tp_shared.specs.Agreement.{Agreement, answered_with, at_rest, takes_of}
 use Rattle.tp_shared.specs.BookActs.{Grown, NodeActed, HostActed}
 use Rattle.tp_shared.specs.Gains.{Noted}
-use Rattle.tp_shared.specs.Seals.{Stage, IsSealOf, Sealed, IsTied}
+use Rattle.tp_shared.specs.Seals.{Stage, IsSealOf, Sealed, IsTied, Shows, ShowsOpen}
 use Rattle.tp_shared.specs.Receipted.{AreBelow}
+use Rattle.tp_shared.specs.declared.place.Place.{Place}
 use Rattle.tp_shared.specs.declared.seal.NodeSeal.{NodeSeal}
+use Rattle.tp_shared.proofs.Waiting.{agreed_many, others_wait, waits_on}
 use Rattle.tp_shared.proofs.Writing.{enumerated_below}
 
 -- ## Seals
@@ -39,41 +51,90 @@ node_of_seal name a flag seal_name b i n S node frozen image = record {
   kept = λ here there h t. S.kept here there (frozen ∙ h) t;
 }
 
-module _ (Are : List Entry → Type 0) (names : ℕ → ℕ) (seals : List NodeSeal) (b new : BookValue) (i : ℕ) (n : NodeContents) (reserved : Bool) (s : NodeSeal) (S : Sealed names seals b)
-    (A : NodeActed Are i (record { node = n.live; frozen = n.frozen; reserved = reserved }) b new) (N : IsNodeOf new i n) (below : i < length seals)
-    (named : s.seal.name ≡ names i) (shows : s.seal.value.state ≡ record { node = n.live; frozen = n.frozen; reserved = reserved }) (flag : s.frozen ≡ is_some n.frozen) where
-  here : IsSealOf (names i) (record { node = n.live; frozen = n.frozen; reserved = reserved }) s.frozen s.seal.name new i
-  here =
+-- what stands in a list
+pub get_found : {A : Type 0} (xs : List A) (i : ℕ) (x d : A) → slice_get xs i ≡ Some x → get_or xs i d ≡ x
+get_found [] i x d e = cc
+get_found (y ∷ ys) zero x d e = cc
+get_found (y ∷ ys) (suc i) x d e = get_found ys i x d e
+
+-- the seal of a node no turn of which is open
+pub rest_seal : (name : ℕ) (s : NodeSeal) (b : BookValue) (i : ℕ) (n : NodeContents) → IsNodeOf b i n → slice_get b.runs i ≡ Some false → s.seal.name ≡ name → s.seal.value.state ≡ at_rest n → s.frozen ≡ is_some n.frozen
+    → IsSealOf name s.seal.value.state s.frozen s.seal.name b i
+rest_seal name s b i n N free named shows flag =
+    subst (λ a. IsSealOf name a s.frozen s.seal.name b i) (sym shows)
+    (record {
+      named = named;
+      node = N.there;
+      recorded = N.recorded;
+      kept = N.kept;
+      reserved = free;
+      received = λ takes given. cc;
+      flag = flag;
+    })
+
+-- the seal of a node whose turn's opening was answered
+pub answered_seal : (name : ℕ) (s : NodeSeal) (b : BookValue) (i : ℕ) (n : NodeContents) (answer : Result Opened Refusal) → IsOpenedIn answer b i n → ((takes : List Received) → takes_of answer ≡ Some takes → b.form ≡ Turns)
+    → slice_get b.runs i ≡ Some (is_ok answer) → s.seal.name ≡ name → s.seal.value.state ≡ answered_with b i n answer → s.frozen ≡ is_some n.frozen → IsSealOf name s.seal.value.state s.frozen s.seal.name b i
+answered_seal name s b i n (Ok opened) O form runs named shows flag =
+    let B = opened_behind b i opened n O in
+    subst (λ a. IsSealOf name a s.frozen s.seal.name b i) (sym shows)
+    (record {
+      named = named;
+      node = B.is.there ∙ ap Some (sym (get_found (agreed b.state) i B.before.live n.live B.is.there));
+      recorded = λ some. B.is.recorded (subst IsSome B.kept some);
+      kept = λ here there h t. B.is.kept here there (sym B.kept ∙ h) t;
+      reserved = runs;
+      received = λ takes given. record { form = form takes given; fronts = B.received takes given };
+      flag = flag;
+    })
+answered_seal name s b i n (Err e) O form runs named shows flag =
+    rest_seal name s b i n O runs named (shows ∙ ap (λ x. record { node = x; frozen = n.frozen; reserved = false; takes = None }) (get_found (agreed b.state) i n.live n.live O.there)) flag
+
+-- what its place's key shows
+pub answered_shows : (place : Place) (b : BookValue) (i : ℕ) (answer : Result Opened Refusal) → place.key.value.state ≡ answered_with b i place.node answer → IsOpenedIn answer b i place.node
+    → MatchResult answer (λ opened. ShowsOpen place (takes_in opened) (sent_in opened)) (λ e. Shows place)
+answered_shows place b i (Ok opened) shown O =
+    let B = opened_behind b i opened place.node O in
+    record {
+      before = B.before.live;
+      shown = shown ∙ ap (λ x. record { node = x; frozen = place.node.frozen; reserved = true; takes = takes_in opened }) (get_found (agreed b.state) i B.before.live place.node.live B.is.there);
+      was = B.is.image;
+      took = B.took;
+      image = B.image;
+    }
+answered_shows place b i (Err e) shown O = record {
+  shown = shown ∙ ap (λ x. record { node = x; frozen = place.node.frozen; reserved = false; takes = None }) (get_found (agreed b.state) i place.node.live place.node.live O.there);
+  image = O.image;
+}
+
+some_same : (x y : NodeSeal) → Some x ≡ Some y → x ≡ y
+some_same x y e = cc
+
+module _ (Are : List Entry → Type 0) (names : ℕ → ℕ) (seals : List NodeSeal) (b new : BookValue) (i : ℕ) (a : Agreement) (S : Sealed names seals b) (A : NodeActed Are i a b new) (below : i < length seals) where
+  -- whether a turn of the node that was acted on is reserved
+  pub reserved_after : slice_get new.runs i ≡ Some a.reserved
+  reserved_after =
       let old = get_within seals i below in
       let was = S i old.0 old.1 in
-      record {
-        named = named;
-        node = N.there;
-        recorded = N.recorded;
-        kept = N.kept;
-        reserved = ap (λ rs. slice_get rs i) A.runs ∙ slice_get-set_same b.runs i reserved old.0.seal.value.state.reserved was.reserved;
-        flag = flag;
-      }
-
-  some_same : (x y : NodeSeal) → Some x ≡ Some y → x ≡ y
-  some_same x y e = cc
+      ap (λ rs. slice_get rs i) A.runs ∙ slice_get-set_same b.runs i a.reserved old.0.seal.value.state.reserved was.reserved
 
   -- the seal of the node that was acted on shows what it is then, and the others what they showed
-  pub sealed_after : Sealed names (set seals i s) new
-  sealed_after j t e = elim (cases_eq j i) [
+  pub sealed_after : (s : NodeSeal) → IsSealOf (names i) s.seal.value.state s.frozen s.seal.name new i → Sealed names (set seals i s) new
+  sealed_after s here j t e = elim (cases_eq j i) [
     | inl same ↦
         let old = get_within seals i below in
         let is : s ≡ t = some_same s t (sym (slice_get-set_same seals i s old.0 old.1) ∙ ap (slice_get (set seals i s)) (sym same) ∙ e) in
         subst (λ k. IsSealOf (names k) t.seal.value.state t.frozen t.seal.name new k) (sym same)
-        (subst (λ (x : NodeSeal). IsSealOf (names i) x.seal.value.state x.frozen x.seal.name new i) is (subst (λ x. IsSealOf (names i) x s.frozen s.seal.name new i) (sym shows) here))
+        (subst (λ (x : NodeSeal). IsSealOf (names i) x.seal.value.state x.frozen x.seal.name new i) is here)
     | inr other ↦
         let was = S j t (sym (slice_get-set_other seals i j s other) ∙ e) in
         record {
           named = was.named;
-          node = ap (λ ns. slice_get ns j) A.nodes ∙ slice_get-set_other (agreed b.state) i j n.live other ∙ was.node;
+          node = ap (λ ns. slice_get ns j) A.nodes ∙ slice_get-set_other (agreed b.state) i j a.node other ∙ was.node;
           recorded = λ some. A.recorded j other ∙ was.recorded some;
           kept = λ here there h t. was.kept here there h (sym (A.frozen j other) ∙ t);
-          reserved = ap (λ rs. slice_get rs j) A.runs ∙ slice_get-set_other b.runs i j reserved other ∙ was.reserved;
+          reserved = ap (λ rs. slice_get rs j) A.runs ∙ slice_get-set_other b.runs i j a.reserved other ∙ was.reserved;
+          received = λ takes given. others_wait b new j i t.seal.value.state.node takes A.grown.acts A.grown.did was.node (λ same. other (sym same)) A.own A.grown.form (was.received takes given);
           flag = was.flag;
         }
   ]
@@ -82,12 +143,16 @@ module _ (Are : List Entry → Type 0) (names : ℕ → ℕ) (seals : List NodeS
 pub sealed_still : (Are : List Entry → Type 0) (names : ℕ → ℕ) (seals : List NodeSeal) (b new : BookValue) → Sealed names seals b → HostActed Are b new → Sealed names seals new
 sealed_still Are names seals b new S H i s e =
     let was = S i s e in
+    let below = slice_get_within (agreed b.state) i s.seal.value.state.node was.node in
+    let many = agreed_many b.state i s.seal.value.state.node was.node in
     record {
       named = was.named;
       node = ap (λ ns. slice_get ns i) H.nodes ∙ was.node;
       recorded = λ some. H.recorded i ∙ was.recorded some;
       kept = λ here there h t. was.kept here there h (ap (λ xs. get_or xs i None) (sym H.frozen) ∙ t);
       reserved = ap (λ rs. slice_get rs i) H.runs ∙ was.reserved;
+      received = λ takes given.
+          others_wait b new i (length b.state.start.nodes) s.seal.value.state.node takes H.grown.acts H.grown.did was.node (λ same. omega (arith, same, below, many)) H.own H.grown.form (was.received takes given);
       flag = was.flag;
     }
 
@@ -96,8 +161,9 @@ none_frozen None h = refl
 none_frozen (Some x) h = let bad : false ≡ true = h refl in cc
 
 -- where no snapshot runs no node is frozen, and so it is whatever the book then has frozen
-pub sealed_begun : (names : ℕ → ℕ) (seals : List NodeSeal) (b new : BookValue) → Sealed names seals b → b.state.snapshot ≡ None → agreed new.state ≡ agreed b.state → new.runs ≡ b.runs → Sealed names seals new
-sealed_begun names seals b new S idle nodes runs i s e =
+pub sealed_begun : (names : ℕ → ℕ) (seals : List NodeSeal) (b new : BookValue) → Sealed names seals b → b.state.snapshot ≡ None → agreed new.state ≡ agreed b.state → new.runs ≡ b.runs → new.form ≡ b.form
+    → happens t414 (world_of b) Begin ≡ Some (world_of new) → Sealed names seals new
+sealed_begun names seals b new S idle nodes runs form act i s e =
     let was = S i s e in
     let none = none_frozen s.seal.value.state.frozen (λ some. ap (λ given. has_recorded_in given i) (sym idle) ∙ was.recorded some) in
     record {
@@ -106,6 +172,9 @@ sealed_begun names seals b new S idle nodes runs i s e =
       recorded = λ some. let bad : false ≡ true = subst IsSome none some in cc;
       kept = λ here there h t. let bad = sym none ∙ h in cc;
       reserved = ap (λ rs. slice_get rs i) runs ∙ was.reserved;
+      received = λ takes given.
+          let W = was.received takes given in
+          waits_on b new i takes (Begin ∷ []) (one_act (world_of b) (world_of new) Begin act) (tt, tt) (form ∙ W.form) W;
       flag = was.flag;
     }
 

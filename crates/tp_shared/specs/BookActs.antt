@@ -4,6 +4,7 @@ use Rattle.std.specs.List.{AllByRecursion, range_with_len}
 use Rattle.tp_model.specs.declared.entry.Entry.{Entry}
 use Rattle.tp_model.specs.Node.{t414}
 use Rattle.tp_model.specs.Acts.{Act, acted}
+use Rattle.tp_model.specs.Entries.{process}
 use Rattle.tp_model.specs.Runs.{is_trim}
 use Rattle.tp_snap.specs.Needs.{has_recorded_in}
 use Rattle.tp_book.specs.Book.{BookValue, agreed, next_number, world_of}
@@ -26,10 +27,12 @@ pub record Grown (Are : List Entry → Type 0) (old new : BookValue) : Type 0 wh
   pub floor : new.floor ≡ old.floor
   pub form : new.form ≡ old.form
 
--- Acts of a node were done, and it and whether a run of it is reserved are then so. The others are as they were: whether they have
+-- Acts of a node were done, and it and whether a turn of it is reserved are then so. The others are as they were: whether they have
 -- recorded, and their frozen images.
 pub record NodeActed (Are : List Entry → Type 0) (number : ℕ) (agreement : Agreement) (old new : BookValue) : Type 0 where
   pub grown : Grown Are old new
+  -- no entry among them is another process's, so what others received stays in front of their lines
+  pub own : AllByRecursion (λ e. process old.state.start.wires (length old.state.start.nodes) e ≡ number) (entries_in grown.acts)
   pub nodes : agreed new.state ≡ set (agreed old.state) number agreement.node
   pub runs : new.runs ≡ set old.runs number agreement.reserved
   pub recorded : (other : ℕ) → other ≢ number → has_recorded_in new.state.snapshot other ≡ has_recorded_in old.state.snapshot other
@@ -38,6 +41,8 @@ pub record NodeActed (Are : List Entry → Type 0) (number : ℕ) (agreement : A
 -- Acts of the host were done. All nodes and reservations are as they were.
 pub record HostActed (Are : List Entry → Type 0) (old new : BookValue) : Type 0 where
   pub grown : Grown Are old new
+  -- no entry among them is a node's
+  pub own : AllByRecursion (λ e. process old.state.start.wires (length old.state.start.nodes) e ≡ length old.state.start.nodes) (entries_in grown.acts)
   pub nodes : agreed new.state ≡ agreed old.state
   pub runs : new.runs ≡ old.runs
   pub recorded : (process : ℕ) → has_recorded_in new.state.snapshot process ≡ has_recorded_in old.state.snapshot process

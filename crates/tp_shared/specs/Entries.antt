@@ -1,13 +1,17 @@
 -- What entries are of which process.
-use Rattle.std.specs.Prelude.{◌≡◌, ℕ, List, length, Result, Ok, Err}
+use Rattle.std.specs.Prelude.{◌≡◌, ◌⊎◌, ℕ, List, [], length, Result, Ok, Err}
 use Rattle.std.specs.List.{AllByRecursion}
 use Rattle.tp_model.specs.declared.entry.Entry.{Entry}
 use Rattle.tp_model.specs.declared.entry.Entry.TheVariants.{Run, Take, HostIn, Confirm, Turn}
+use Rattle.tp_model.specs.declared.link.Received.{Received}
 use Rattle.tp_model.specs.NodeState.{NodeState}
 use Rattle.tp_model.specs.Network.{Network}
 use Rattle.tp_model.specs.Entries.{process}
+use Rattle.tp_law_cuts.specs.Reserved.{turn_entries}
 use Rattle.tp_book.specs.declared.refusal.Refusal.{Refusal}
 use Rattle.tp_book.specs.declared.refusal.Refusal.TheVariants.{JournalFull, StoreBroken, Memory, NothingToTake, SnapshotRunning, PortFull}
+use Rattle.tp_turn.specs.declared.opened.Opened.{Opened}
+use Rattle.tp_turn.specs.declared.opened.Opened.TheVariants.{Apart, Whole}
 
 -- a Take of this process
 abbrev pub IsTakeBy : Network NodeState → ℕ → Entry → Type 0
@@ -29,6 +33,25 @@ CountedTakes start number count entries = (length entries ≡ count) × Takes st
 abbrev pub TakesOf : Network NodeState → ℕ → Result ℕ Refusal → List Entry → Type 0
 TakesOf start number (Ok count) = CountedTakes start number count
 TakesOf start number (Err e) = Takes start number
+
+-- ## A node's turn
+
+-- what a node received, without a step: one entry; none where it received nothing
+pub record TookAtOnce (number : ℕ) (entries : List Entry) : Type 0 where
+  pub takes : List Received
+  pub are : entries ≡ turn_entries number takes 0
+
+-- the entries of a node's turn that broke off: an entry for each token that it took, or one for all
+abbrev pub TookAlone : Network NodeState → ℕ → List Entry → Type 0
+TookAlone start number entries = Takes start number entries ⊎ TookAtOnce number entries
+
+-- The entries of an opening that was answered so. A turn that is one entry has none before its commit.
+abbrev pub OpenedEntries : Network NodeState → ℕ → Result Opened Refusal → List Entry → Type 0
+OpenedEntries start number (Ok (Apart taken)) = CountedTakes start number taken
+OpenedEntries start number (Ok (Whole taken)) = λ entries. entries ≡ []
+OpenedEntries start number (Err e) = TookAlone start number
+
+-- ## Refusals
 
 -- A turn is refused where the journal is full, the store is broken, or memory is wanting.
 abbrev pub IsTurnRefusal : Refusal → Type 0

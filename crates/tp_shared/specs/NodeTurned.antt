@@ -1,18 +1,31 @@
 -- What a turn of a node does to a seat.
-use Rattle.std.specs.Prelude.{◌≡◌, ◌≤◌, ℕ, List}
+use Rattle.std.specs.Prelude.{◌≡◌, ◌≤◌, ◌⊎◌, ℕ, List, length}
 use Rattle.tp_model.specs.declared.entry.Entry.{Entry}
+use Rattle.tp_model.specs.declared.link.Received.{Received}
 use Rattle.tp_model.specs.NodeState.{NodeState}
 use Rattle.tp_model.specs.Network.{Network}
+use Rattle.tp_model.specs.Turn.{by_link}
+use Rattle.tp_law_cuts.specs.Reserved.{turn_entries}
 use Rattle.tp_book.specs.Acts.{run_entries}
 use Rattle.tp_shared.specs.Entries.{CountedTakes}
 use Rattle.tp_shared.specs.Gains.{Gained}
 use Rattle.tp_shared.specs.declared.node_turn.NodeTurn.{NodeTurn}
+
+-- Each token that the node took is an entry, and then its run is one; none without a step.
+pub record TookApart (start : Network NodeState) (number : ℕ) (turn : NodeTurn) (seat_old seat_new : List (ℕ × Entry)) : Type 0 where
+  pub between : List (ℕ × Entry)
+  pub took : Gained (CountedTakes start number turn.taken) seat_old between
+  pub ran : Gained (λ entries. entries ≡ run_entries number turn.ran.count) between seat_new
+
+-- What the node received, and its run, are one entry: a Run where it received nothing, and none where it made no step, either.
+pub record TurnedWhole (number : ℕ) (turn : NodeTurn) (seat_old seat_new : List (ℕ × Entry)) : Type 0 where
+  pub takes : List Received
+  pub many : turn.taken ≡ length (by_link 0 takes)
+  pub gained : Gained (λ entries. entries ≡ turn_entries number takes turn.ran.count) seat_old seat_new
 
 -- The node took as many tokens as the turn says, and then ran as many steps as it says, of as many as were asked for. The seat
 -- has the slips of just the turn's entries.
 pub record NodeTurned (start : Network NodeState) (number quantum : ℕ) (turn : NodeTurn) (seat_old seat_new : List (ℕ × Entry)) : Type 0 where
   pub asked : turn.ran.max ≡ quantum
   pub few : turn.ran.count ≤ quantum
-  pub between : List (ℕ × Entry)
-  pub took : Gained (CountedTakes start number turn.taken) seat_old between
-  pub ran : Gained (λ entries. entries ≡ run_entries number turn.ran.count) between seat_new
+  pub did : TookApart start number turn seat_old seat_new ⊎ TurnedWhole number turn seat_old seat_new

@@ -1,11 +1,19 @@
 -- What lies under the book's lock beside the book, and what a node's place shows.
-use Rattle.std.specs.Prelude.{◌≡◌, ℕ, ◌+◌, Bool, true, List, length, get_or, Some, None, IsSome, is_some, slice_get}
+use Rattle.std.specs.Prelude.{◌≡◌, ℕ, ◌+◌, Bool, true, List, length, get_or, Option, Some, None, IsSome, is_some, slice_get}
+use Rattle.tp_law_cuts.specs.Reserved.{IsReceived}
 use Rattle.tp_law_machine.specs.NodeOfBytes.{IsNodeOfBytes}
 use Rattle.tp_model.specs.declared.entry.Entry.{Entry}
+use Rattle.tp_model.specs.declared.form.Form.TheVariants.{Turns}
+use Rattle.tp_model.specs.declared.link.Received.{Received}
+use Rattle.tp_model.specs.declared.link.Token.{Token}
 use Rattle.tp_model.specs.NodeState.{NodeState}
+use Rattle.tp_model.specs.Node.{t414}
+use Rattle.tp_model.specs.Network.{steps}
+use Rattle.tp_model.specs.Turn.{took_all}
 use Rattle.tp_snap.specs.Needs.{has_recorded_in}
-use Rattle.tp_book.specs.Book.{BookValue, agreed, next_number}
-use Rattle.tp_shared.specs.Agreement.{Agreement}
+use Rattle.tp_book.specs.Book.{BookValue, agreed, next_number, world_of}
+use Rattle.tp_turn.specs.Opened.{tokens_in}
+use Rattle.tp_shared.specs.Agreement.{Agreement, at_rest}
 use Rattle.tp_shared.specs.declared.place.Place.{Place}
 use Rattle.tp_shared.specs.declared.seal.NodeSeal.{NodeSeal}
 
@@ -15,14 +23,27 @@ pub record Stage : Type 0 where
   pub all : List Entry
   pub numbered_from : ℕ
 
--- A seal of this name shows the book's agreed node, and whether a run of it is reserved. While the node is frozen, it has recorded
--- in a snapshot that runs, and is kept as the book has it frozen. Beside the seal stands whether it is.
+-- Node i received these for an open turn that is one entry, and the book doesn't have them yet.
+pub record AreWaiting (b : BookValue) (i : ℕ) (takes : List Received) : Type 0 where
+  -- the book may have such an entry
+  pub form : b.form ≡ Turns
+  -- they stand in front of the node's lines, and stay there until the turn's commit
+  pub fronts : IsReceived (world_of b).live i takes
+
+-- A seal of this name shows what the book has of a node.
 pub record IsSealOf (name : ℕ) (agreement : Agreement) (is_frozen : Bool) (seal_name : ℕ) (b : BookValue) (i : ℕ) : Type 0 where
   pub named : seal_name ≡ name
+  -- the node is the one that the book's entries make, whatever it received since
   pub node : slice_get (agreed b.state) i ≡ Some agreement.node
+  -- while it is frozen, it has recorded in a snapshot that runs
   pub recorded : IsSome agreement.frozen → has_recorded_in b.state.snapshot i ≡ true
+  -- and it is kept as the book has it frozen
   pub kept : (here there : NodeState) → agreement.frozen ≡ Some here → get_or b.frozen i None ≡ Some there → here ≡ there
+  -- whether a turn of it is reserved
   pub reserved : slice_get b.runs i ≡ Some agreement.reserved
+  -- what it received for an open turn that is one entry is there for the commit, whatever others did since, and after a trim
+  pub received : (takes : List Received) → agreement.takes ≡ Some takes → AreWaiting b i takes
+  -- beside the seal stands whether it is frozen
   pub flag : is_frozen ≡ is_some agreement.frozen
 
 -- so does each
@@ -34,7 +55,32 @@ pub record IsTied (first : ℕ) (all : List Entry) (b : BookValue) : Type 0 wher
   pub are : all ≡ b.history
   pub next : first + length all ≡ next_number b
 
--- A place's key shows its node, also as it is frozen, and whether a run of it is reserved. The node has an image.
-pub record Shows (place : Place) (reserved : Bool) : Type 0 where
-  pub shown : place.key.value.state ≡ record { node = place.node.live; frozen = place.node.frozen; reserved = reserved }
+-- No turn of the node is open. Its place's key shows it as it is, also as it is frozen. It has an image.
+pub record Shows (place : Place) : Type 0 where
+  pub shown : place.key.value.state ≡ at_rest place.node
   pub image : IsNodeOfBytes place.node.live
+
+-- A turn of the node is open. Its place's key shows the node as the book has it, and what the node received since for a turn that is one
+-- entry, to which it answered `sent`. Both nodes have an image.
+pub record ShowsOpen (place : Place) (takes : Option (List Received)) (sent : List (ℕ × Token)) : Type 0 where
+  pub before : NodeState
+  pub shown : place.key.value.state ≡ record { node = before; frozen = place.node.frozen; reserved = true; takes = takes }
+  pub was : IsNodeOfBytes before
+  pub took : took_all t414 (tokens_in takes) before ≡ Some (place.node.live, sent)
+  pub image : IsNodeOfBytes place.node.live
+
+-- so it is, whatever was received for it
+pub record IsInTurn (place : Place) : Type 0 where
+  pub takes : Option (List Received)
+  pub sent : List (ℕ × Token)
+  pub shows : ShowsOpen place takes sent
+
+-- The node has run since: it made `count` steps and sent `tokens` in them. The key shows what it showed.
+pub record ShowsRun (place : Place) (takes : Option (List Received)) (sent : List (ℕ × Token)) (count : ℕ) (tokens : List (ℕ × Token)) : Type 0 where
+  pub before : NodeState
+  pub ahead : NodeState
+  pub shown : place.key.value.state ≡ record { node = before; frozen = place.node.frozen; reserved = true; takes = takes }
+  pub was : IsNodeOfBytes before
+  pub took : took_all t414 (tokens_in takes) before ≡ Some (ahead, sent)
+  pub image : IsNodeOfBytes ahead
+  pub made : steps t414 count ahead ≡ Some (place.node.live, tokens)

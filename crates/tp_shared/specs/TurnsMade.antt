@@ -9,12 +9,12 @@ use Rattle.tp_model.specs.SharedPages.{LacksFrames}
 use Rattle.tp_node.specs.NodeContents.{NodeContents, kept_of}
 use Rattle.tp_node.specs.RunEnd.{IsWhy}
 use Rattle.tp_book.specs.declared.refusal.Refusal.{Refusal}
-use Rattle.tp_book.specs.Acts.{run_acts}
 use Rattle.tp_book.specs.Book.{BookValue}
 use Rattle.tp_book.specs.Calls.{without_run}
 use Rattle.tp_turn.specs.Hosted.{HostDone, HostTurns}
 use Rattle.tp_turn.specs.Moments.{moment, IsNodeOf, Added}
-use Rattle.tp_turn.specs.Stages.{Opens}
+use Rattle.tp_turn.specs.declared.opened.Opened.{Opened}
+use Rattle.tp_turn.specs.Opened.{OpensIn, opened_acts, taken_in}
 use Rattle.tp_shared.specs.declared.node_turn.NodeTurn.{NodeTurn}
 
 -- a book of the network
@@ -22,33 +22,36 @@ pub record IsBookOf (start : Network NodeState) (b : BookValue) : Type 0 where
   pub wires : b.state.start.wires ≡ start.wires
   pub nodes : length b.state.start.nodes ≡ length start.nodes
 
--- A node's turn was opened, with this answer, in a book in which the node was the one that its entries make: all was done that may be.
-pub record TurnOpened (start : Network NodeState) (number : ℕ) (answer : Result ℕ Refusal) (old new : NodeContents) : Type 0 where
+-- A node's turn was opened, with this answer, in a book in which the node was the one that its entries make, and by that book's form: all
+-- was done that may be.
+pub record TurnOpened (start : Network NodeState) (number : ℕ) (answer : Result Opened Refusal) (old new : NodeContents) : Type 0 where
   pub found : BookValue
   pub left : BookValue
   pub of : IsBookOf start found
   pub is : IsNodeOf found number old
-  pub opens : Opens number answer (moment found old) (moment left new)
+  pub opens : OpensIn found.form number answer (moment found old) (moment left new)
 
--- its run was journalled in a book
-pub record RunCommitted (start : Network NodeState) (number count : ℕ) (node : NodeContents) : Type 0 where
+-- A turn that was opened so was journalled in a book, of whatever form that was by then: its run, and what it received for one entry.
+pub record TurnCommitted (start : Network NodeState) (number : ℕ) (opened : Opened) (count : ℕ) (node : NodeContents) : Type 0 where
   pub found : BookValue
   pub left : BookValue
   pub of : IsBookOf start found
-  pub added : Added number node.live (run_acts number count) (without_run found number) left
+  pub added : Added number node.live (opened_acts number opened count) (without_run found number) left
 
--- The whole turn of a node: it was opened, it ran as far as it may, and the run was journalled.
+-- The turn of a node: it was opened, it ran as far as it may, and was journalled by how it was opened.
 pub record TurnMade (start : Network NodeState) (number quantum : ℕ) (turn : NodeTurn) : Type 0 where
   pub found : NodeContents
   pub settled : NodeContents
-  pub opened : TurnOpened start number (Ok turn.taken) found settled
+  pub opening : Opened
+  pub many : turn.taken ≡ taken_in opening
+  pub opened : TurnOpened start number (Ok opening) found settled
   pub ran : NodeContents
   pub sent : List (ℕ × Token)
   pub steps : steps t414 turn.ran.count settled.live ≡ Some (ran.live, sent)
   pub why : IsWhy turn.ran.why quantum turn.ran.count (LacksFrames (kept_of ran) (node_ranges ran.live)) ran.live
   pub kept : ran.frozen ≡ settled.frozen
   pub shared : kept_of ran ≡ kept_behind_steps turn.ran.count settled.live (kept_of settled)
-  pub committed : RunCommitted start number turn.ran.count ran
+  pub committed : TurnCommitted start number opening turn.ran.count ran
 
 -- A turn of a node was refused, where it was opened.
 pub record TurnBrokenOff (start : Network NodeState) (number : ℕ) (reason : Refusal) : Type 0 where

@@ -1,18 +1,15 @@
 //! The nodes under one lock, and their turns.
 
-ghost use Rattle.std.specs.Prelude.{◌≡◌, ◌<◌, ◌≤◌, ◌%◌, Some, true, false, length, is_ok, IfErr, MatchResult};
-ghost use Rattle.tp_law_machine.specs.NodeOfBytes.{IsNodeOfBytes};
-ghost use Rattle.tp_model.specs.Network.{steps};
-ghost use Rattle.tp_model.specs.Node.{t414};
+ghost use Rattle.std.specs.Prelude.{◌≡◌, ◌<◌, ◌≤◌, ◌%◌, length, IfErr, MatchResult};
 ghost use Rattle.tp_model.specs.declared.limits.TheConstants.{MAX_STEPS};
 ghost use Rattle.tp_shared.specs.Cells.{AreOfCell};
-ghost use Rattle.tp_book.specs.Acts.{run_entries};
-ghost use Rattle.tp_shared.specs.Entries.{IsTurnRefusal, Takes, TakesOf};
+ghost use Rattle.tp_shared.specs.Entries.{IsTurnRefusal, OpenedEntries, TookAlone};
 ghost use Rattle.tp_shared.specs.Gains.{Gained};
-ghost use Rattle.tp_shared.specs.Seals.{Shows};
+ghost use Rattle.tp_shared.specs.Seals.{Shows, ShowsOpen, ShowsRun};
 ghost use Rattle.tp_shared.specs.NodeTurned.{NodeTurned};
 ghost use Rattle.tp_shared.specs.RecordedIn.{RecordedIn};
-ghost use Rattle.tp_shared.specs.TurnsMade.{TurnBrokenOff, RunCommitted, TurnOpened, TurnMade};
+ghost use Rattle.tp_shared.specs.TurnsMade.{TurnBrokenOff, TurnCommitted, TurnOpened, TurnMade};
+ghost use Rattle.tp_turn.specs.Opened.{opened_entries, sent_in, takes_in};
 
 use crate::gate::{COMMITTED, Gate, NODE_LOCKED, RUN_DONE};
 use crate::locked::Locked;
@@ -26,7 +23,7 @@ use std::marker::{Model, PhantomData};
 use std::sync::{Mutex, Wait};
 use tp_book::Refusal;
 use tp_node::Ran;
-use tp_turn::Stretch;
+use tp_turn::{Opened, Stretch};
 
 /// Every fourth node, from the node `I` on.
 #[derive(Drop)]
@@ -54,14 +51,14 @@ fn begin<J: Naming, R: Wait>(
     place: &mut Place,
     seat: &mut Seat<J>,
     number: u8,
-) -> Result<u64, Refusal>
+) -> Result<Opened, Refusal>
     requires there { number < length J.start.nodes }
     requires named { place.old.key.name ≡ J.node number }
-    requires shows { Shows place.old false }
+    requires shows { Shows place.old }
     ensures named { place.new.key.name ≡ place.old.key.name }
-    ensures shows { Shows place.new (is_ok result) }
+    ensures shows { MatchResult result (λ opened. ShowsOpen place.new (takes_in opened) (sent_in opened)) (λ e. Shows place.new) }
     ensures opened { TurnOpened J.start number result place.old.node place.new.node }
-    ensures gained { Gained (TakesOf J.start number result) seat.old seat.new }
+    ensures gained { Gained (OpenedEntries J.start number result) seat.old seat.new }
     ensures refused { IfErr result IsTurnRefusal }
 {
     let mut held = lock_soon(rt, book);
@@ -75,26 +72,24 @@ fn commit<J: Naming, R: Wait>(
     place: &mut Place,
     seat: &mut Seat<J>,
     number: u8,
+    opened: Opened,
     stretch: Stretch,
 ) -> Ran
     requires there { number < length J.start.nodes }
     requires named { place.old.key.name ≡ J.node number }
-    requires reserved { place.old.key.value.state.reserved ≡ true }
     requires few { stretch.ran.count ≤ MAX_STEPS }
-    requires was { IsNodeOfBytes place.old.key.value.state.node }
-    requires ran { steps t414 stretch.ran.count place.old.key.value.state.node ≡ Some (place.old.node.live, stretch.sent.items) }
-    requires kept { place.old.node.frozen ≡ place.old.key.value.state.frozen }
+    requires ran { ShowsRun place.old (takes_in opened) (sent_in opened) stretch.ran.count stretch.sent.items }
     ensures ran { result ≡ stretch.ran }
     ensures named { place.new.key.name ≡ place.old.key.name }
-    ensures shows { Shows place.new false }
-    ensures committed { RunCommitted J.start number stretch.ran.count place.old.node }
-    ensures gained { Gained (λ entries. entries ≡ run_entries number stretch.ran.count) seat.old seat.new }
+    ensures shows { Shows place.new }
+    ensures committed { TurnCommitted J.start number opened stretch.ran.count place.old.node }
+    ensures gained { Gained (λ entries. entries ≡ opened_entries number opened stretch.ran.count) seat.old seat.new }
 {
     let mut held = lock_soon(rt, book);
-    held.commit(place, seat, number, stretch)
+    held.commit(place, seat, number, opened, stretch)
 }
 
-// A turn of a node whose lock is held. The book's is let go while the node runs.
+// A turn of a node whose lock is held: one hold of the book's lock to open it, one to commit it, and that lock is let go while the node runs.
 fn turn_of<J: Naming, G: Gate, R: Wait>(
     rt: &R,
     gate: &G,
@@ -107,18 +102,19 @@ fn turn_of<J: Naming, G: Gate, R: Wait>(
     requires quantum { quantum ≤ MAX_STEPS }
     requires there { number < length J.start.nodes }
     requires named { place.old.key.name ≡ J.node number }
-    requires shows { Shows place.old false }
+    requires shows { Shows place.old }
     ensures named { place.new.key.name ≡ place.old.key.name }
-    ensures shows { Shows place.new false }
-    ensures turned { MatchResult result (λ turn. NodeTurned J.start number quantum turn seat.old seat.new) (λ e. Gained (Takes J.start number) seat.old seat.new) }
+    ensures shows { Shows place.new }
+    ensures turned { MatchResult result (λ turn. NodeTurned J.start number quantum turn seat.old seat.new) (λ e. Gained (TookAlone J.start number) seat.old seat.new) }
     ensures went { MatchResult result (λ turn. TurnMade J.start number quantum turn) (λ e. TurnBrokenOff J.start number e) }
     ensures refused { IfErr result IsTurnRefusal }
 {
     gate.at(number, NODE_LOCKED);
-    let taken = begin(rt, book, place, seat, number)?;
+    let opened = begin(rt, book, place, seat, number)?;
+    let taken = opened.taken();
     let stretch = place.run(quantum);
     gate.at(number, RUN_DONE);
-    let ran = commit(rt, book, place, seat, number, stretch);
+    let ran = commit(rt, book, place, seat, number, opened, stretch);
     gate.at(number, COMMITTED);
     Ok(NodeTurn { taken, ran })
 }
@@ -132,9 +128,9 @@ fn record_of<J: Naming, R: Wait>(
 ) -> Recorded<J>
     requires there { number < length J.start.nodes }
     requires named { place.old.key.name ≡ J.node number }
-    requires shows { Shows place.old false }
+    requires shows { Shows place.old }
     ensures named { place.new.key.name ≡ place.old.key.name }
-    ensures shows { Shows place.new false }
+    ensures shows { Shows place.new }
     ensures recorded { RecordedIn J.start number result.seen result.done }
 {
     let mut held = lock_soon(rt, book);
@@ -164,7 +160,7 @@ impl<const I: usize, J: Naming> Cell<I, J> {
         requires quantum { quantum ≤ MAX_STEPS }
         requires there { number < length J.start.nodes }
         requires here { number % 4 ≡ I }
-        ensures turned { MatchResult result (λ turn. NodeTurned J.start number quantum turn seat.old seat.new) (λ e. Gained (Takes J.start number) seat.old seat.new) }
+        ensures turned { MatchResult result (λ turn. NodeTurned J.start number quantum turn seat.old seat.new) (λ e. Gained (TookAlone J.start number) seat.old seat.new) }
         ensures went { MatchResult result (λ turn. TurnMade J.start number quantum turn) (λ e. TurnBrokenOff J.start number e) }
         ensures refused { IfErr result IsTurnRefusal }
     {

@@ -1,20 +1,16 @@
 //! What lies under the book's lock.
 
-ghost use Rattle.std.specs.Prelude.{◌≡◌, ◌<◌, ◌≤◌, ◌+◌, ◌-◌, ◌*◌, Some, true, None, false, [], length, is_ok, IfErr};
-ghost use Rattle.tp_law_machine.specs.NodeOfBytes.{IsNodeOfBytes};
-ghost use Rattle.tp_model.specs.Network.{steps};
-ghost use Rattle.tp_model.specs.Node.{t414};
+ghost use Rattle.std.specs.Prelude.{◌≡◌, ◌<◌, ◌≤◌, ◌+◌, ◌-◌, ◌*◌, None, [], length, IfErr, MatchResult};
 ghost use Rattle.tp_model.specs.declared.limits.TheConstants.{MAX_STEPS};
-ghost use Rattle.tp_shared.specs.Entries.{IsTurnRefusal, TakesOf};
+ghost use Rattle.tp_shared.specs.Entries.{IsTurnRefusal, OpenedEntries};
 ghost use Rattle.tp_shared.specs.Gains.{Noted};
 ghost use Rattle.tp_shared.specs.Positions.{IsNumberedFrom};
-ghost use Rattle.tp_shared.specs.Seals.{Shows, Sealed, IsTied};
+ghost use Rattle.tp_shared.specs.Seals.{Sealed, IsTied, Shows, ShowsOpen, ShowsRun};
 ghost use Rattle.tp_shared.specs.Told.{told_of};
 ghost use Rattle.tp_shared.specs.TurnsMade.{IsBookOf};
-ghost use Rattle.tp_book.specs.Acts.{run_acts, run_entries};
 ghost use Rattle.tp_book.specs.Calls.{without_run};
 ghost use Rattle.tp_turn.specs.Moments.{Added, IsNodeOf, moment};
-ghost use Rattle.tp_turn.specs.Stages.{Opens};
+ghost use Rattle.tp_turn.specs.Opened.{OpensIn, opened_acts, opened_entries, sent_in, takes_in};
 
 use crate::hold::{begin, commit};
 use crate::naming::Naming;
@@ -30,7 +26,7 @@ use tp_book::{Book, Refusal};
 use tp_model::Entry;
 use tp_node::Ran;
 use tp_token::{Roll, Seal, agree, turn};
-use tp_turn::Stretch;
+use tp_turn::{Opened, Stretch};
 
 /// The book, the seal of each node, the roll of all entries since the opening, the seal of what the flusher was told, and the roll of what
 /// was seen of the book. Contracts see the book, the roll of entries, and from which position on entries have their positions as numbers.
@@ -103,23 +99,24 @@ impl<J: Naming> Locked<J> {
         self.book.known();
     }
 
-    /// Opens a node's turn: the node records where it is asked to, takes and closes what it may on links 0 to 3 in order, and a run of it
-    /// is reserved. Answers how many tokens it took.
+    /// Opens a node's turn in the form of the book: the node records where it is asked to, takes or receives what it may on links 0 to 3 in
+    /// order, and a turn of it is reserved. Answers how it was opened. What it received for a turn that is one entry stays on its lines, and
+    /// its seal and key say so.
     pub(crate) fn begin(
         &mut self,
         place: &mut Place,
         seat: &mut Seat<J>,
         number: u8,
-    ) -> Result<u64, Refusal>
+    ) -> Result<Opened, Refusal>
         requires there { number < length J.start.nodes }
         requires named { place.old.key.name ≡ J.node number }
-        requires shows { Shows place.old false }
+        requires shows { Shows place.old }
         ensures named { place.new.key.name ≡ place.old.key.name }
-        ensures shows { Shows place.new (is_ok result) }
+        ensures shows { MatchResult result (λ opened. ShowsOpen place.new (takes_in opened) (sent_in opened)) (λ e. Shows place.new) }
         ensures of { IsBookOf J.start self.old.book }
         ensures is { IsNodeOf self.old.book number place.old.node }
-        ensures opens { Opens number result (moment self.old.book place.old.node) (moment self.new.book place.new.node) }
-        ensures noted { Noted (TakesOf J.start number result) J.first self.old self.new seat.old seat.new }
+        ensures opens { OpensIn self.old.book.form number result (moment self.old.book place.old.node) (moment self.new.book place.new.node) }
+        ensures noted { Noted (OpenedEntries J.start number result) J.first self.old self.new seat.old seat.new }
         ensures refused { IfErr result IsTurnRefusal }
     {
         let Locked {
@@ -133,7 +130,7 @@ impl<J: Naming> Locked<J> {
         agree(&mut here.seal, key);
         let before = book.entries().len();
         let done = begin(book, node, number);
-        let now = Shown::with(node, done.is_ok());
+        let now = Shown::answered(book, node, number, &done);
         turn(&mut here.seal, key, &now);
         here.frozen = node.is_frozen();
         let Seat { slips, count, .. } = seat;
@@ -141,28 +138,27 @@ impl<J: Naming> Locked<J> {
         done
     }
 
-    /// What a node ran is journalled. Its key still shows the node before the run.
+    /// A node's turn is journalled by how it was opened, whatever the book's form is by now. Its key still shows the node as the book has
+    /// it, and what it received since.
     pub(crate) fn commit(
         &mut self,
         place: &mut Place,
         seat: &mut Seat<J>,
         number: u8,
+        opened: Opened,
         stretch: Stretch,
     ) -> Ran
         requires there { number < length J.start.nodes }
         requires named { place.old.key.name ≡ J.node number }
-        requires reserved { place.old.key.value.state.reserved ≡ true }
         requires few { stretch.ran.count ≤ MAX_STEPS }
-        requires was { IsNodeOfBytes place.old.key.value.state.node }
-        requires ran { steps t414 stretch.ran.count place.old.key.value.state.node ≡ Some (place.old.node.live, stretch.sent.items) }
-        requires kept { place.old.node.frozen ≡ place.old.key.value.state.frozen }
+        requires ran { ShowsRun place.old (takes_in opened) (sent_in opened) stretch.ran.count stretch.sent.items }
         ensures ran { result ≡ stretch.ran }
         ensures named { place.new.key.name ≡ place.old.key.name }
-        ensures shows { Shows place.new false }
+        ensures shows { Shows place.new }
         ensures of { IsBookOf J.start self.old.book }
         ensures node { place.new.node ≡ place.old.node }
-        ensures added { Added number place.old.node.live (run_acts number stretch.ran.count) (without_run self.old.book number) self.new.book }
-        ensures noted { Noted (λ entries. entries ≡ run_entries number stretch.ran.count) J.first self.old self.new seat.old seat.new }
+        ensures added { Added number place.old.node.live (opened_acts number opened stretch.ran.count) (without_run self.old.book number) self.new.book }
+        ensures noted { Noted (λ entries. entries ≡ opened_entries number opened stretch.ran.count) J.first self.old self.new seat.old seat.new }
     {
         let Locked {
             book,
@@ -174,7 +170,7 @@ impl<J: Naming> Locked<J> {
         let here = &mut seals[number as usize];
         agree(&mut here.seal, key);
         let before = book.entries().len();
-        let ran = commit(book, node, number, stretch);
+        let ran = commit(book, node, number, opened, stretch);
         let now = Shown::free(node);
         turn(&mut here.seal, key, &now);
         let Seat { slips, count, .. } = seat;

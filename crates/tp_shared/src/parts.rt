@@ -1,11 +1,11 @@
 //! What is to be put under locks.
 
-ghost use Rattle.std.specs.Prelude.{◌≡◌, ◌<◌, ℕ, [], None, Some, false, length, map, slice_get, IfOk};
+ghost use Rattle.std.specs.Prelude.{◌≡◌, ◌<◌, ℕ, [], None, Some, false, length, slice_get, IfOk};
 ghost use Rattle.tp_law_machine.specs.NodeOfBytes.{IsNodeOfBytes};
-ghost use Rattle.tp_book.specs.Opened.{IsOpened, now_of, opened_book};
 ghost use Rattle.tp_book.specs.Book.{next_number};
 ghost use Rattle.tp_node.specs.NodeContents.{NodeContents};
-ghost use Rattle.tp_shared.specs.Parted.{IsDealt};
+ghost use Rattle.tp_shared.specs.Agreement.{at_rest};
+ghost use Rattle.tp_shared.specs.Parted.{AreOfOpened, IsDealt};
 ghost use Rattle.tp_turn.specs.Moments.{IsNodeOf};
 
 use crate::dealt::Dealt;
@@ -16,7 +16,7 @@ use crate::told::Told;
 use std::alloc::{AllocError, Global};
 use std::marker::Model;
 use std::snapshot::Snapshot;
-use tp_book::{Book, NetState};
+use tp_book::Book;
 use tp_mark::Mark;
 use tp_model::Entry;
 use tp_node::Node;
@@ -49,8 +49,8 @@ impl Model for Parts {
 // A node's seal and key.
 fn ends_of(node: &Node) -> (Seal<Shown>, Key<Shown>)
     ensures names { result.0.name ≡ result.1.name }
-    ensures seal { result.0.value.state ≡ record { node = node.now.live; frozen = node.now.frozen; reserved = false } }
-    ensures key { result.1.value.state ≡ record { node = node.now.live; frozen = node.now.frozen; reserved = false } }
+    ensures seal { result.0.value.state ≡ at_rest node.now }
+    ensures key { result.1.value.state ≡ at_rest node.now }
 {
     let (mut seal, mut key) = pair::<Shown>();
     let shown = Shown::free(node);
@@ -81,20 +81,16 @@ impl Parts {
     /// The parts of the book of an opened device, and of the nodes of its network as it is.
     pub fn opened(
         alloc: Global,
-        state: &NetState,
         book: Book,
         nodes: Vec<Node>,
         mark: Mark,
     ) -> Result<Parts, AllocError>
-        requires opened { IsOpened state.now }
-        requires book { book ≡ opened_book state.now book.room }
-        requires nodes { map (λ n. n.live) nodes.items ≡ (now_of state.now).nodes }
+        requires opened { AreOfOpened book nodes.items }
         requires each { (i : ℕ) (node : NodeContents) → slice_get nodes.items i ≡ Some node → IsNodeOfBytes node.live × (node.frozen ≡ None) }
         ensures book { IfOk result (λ parts. parts.book ≡ book) }
         ensures roll { IfOk result (λ parts. (parts.first ≡ next_number book) × (parts.all ≡ [])) }
         ensures mark { IfOk result (λ parts. parts.mark ≡ mark) }
     {
-        let _state = state;
         book.known();
         Parts::new(alloc, book, nodes, mark)
     }

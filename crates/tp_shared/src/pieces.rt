@@ -23,11 +23,11 @@ impl<J: Naming> Locked<J> {
     pub(crate) fn audit_frozen(&mut self, place: &mut Place, number: u8)
         requires there { number < length J.start.nodes }
         requires named { place.old.key.name ≡ J.node number }
-        requires shows { Shows place.old false }
+        requires shows { Shows place.old }
         ensures same { self.new ≡ self.old }
         ensures node { place.new.node ≡ place.old.node }
         ensures named { place.new.key.name ≡ place.old.key.name }
-        ensures shows { Shows place.new false }
+        ensures shows { Shows place.new }
         ensures frozen { (node : NodeState) → place.old.node.frozen ≡ Some node → IsFrozenAs (world_of self.old.book) number node }
     {
         self.book.known();
@@ -39,12 +39,12 @@ impl<J: Naming> Locked<J> {
     pub(crate) fn tell_frozen(&mut self, place: &mut Place, key: &mut Key<Told>, number: u8)
         requires there { number < length J.start.nodes }
         requires named { place.old.key.name ≡ J.node number }
-        requires shows { Shows place.old false }
+        requires shows { Shows place.old }
         requires name { key.old.name ≡ J.flusher }
         ensures same { self.new ≡ self.old }
         ensures node { place.new.node ≡ place.old.node }
         ensures named { place.new.key.name ≡ place.old.key.name }
-        ensures shows { Shows place.new false }
+        ensures shows { Shows place.new }
         ensures key { (key.new.name ≡ key.old.name) × (key.new.value ≡ told_of J.before J.first self.old) }
         ensures since { Since key.old.value key.new.value }
         ensures frozen { (node : NodeState) → place.old.node.frozen ≡ Some node → IsFrozenAs key.new.value.net number node }
@@ -57,12 +57,12 @@ impl<J: Naming> Locked<J> {
     pub(crate) fn thaw(&mut self, place: &mut Place, number: u8)
         requires there { number < length J.start.nodes }
         requires named { place.old.key.name ≡ J.node number }
-        requires shows { Shows place.old false }
+        requires shows { Shows place.old }
         ensures same { self.new ≡ self.old }
         ensures live { place.new.node.live ≡ place.old.node.live }
         ensures frozen { place.new.node.frozen ≡ None }
         ensures named { place.new.key.name ≡ place.old.key.name }
-        ensures shows { Shows place.new false }
+        ensures shows { Shows place.new }
     {
         let Place { node, key } = place;
         let here = &mut self.seals[number as usize];
@@ -84,11 +84,11 @@ fn audit<J: Naming, R: Wait>(
 )
     requires there { number < length J.start.nodes }
     requires named { place.old.key.name ≡ J.node number }
-    requires shows { Shows place.old false }
+    requires shows { Shows place.old }
     requires name { key.old.name ≡ J.flusher }
     ensures node { place.new.node ≡ place.old.node }
     ensures named { place.new.key.name ≡ place.old.key.name }
-    ensures shows { Shows place.new false }
+    ensures shows { Shows place.new }
     ensures name { key.new.name ≡ key.old.name }
     ensures since { Since key.old.value key.new.value }
     ensures frozen { (node : NodeState) → place.old.node.frozen ≡ Some node → IsFrozenAs key.new.value.net number node }
@@ -108,10 +108,10 @@ pub(crate) fn head_of<J: Naming, R: Wait>(
 ) -> bool
     requires there { number < length J.start.nodes }
     requires named { place.old.key.name ≡ J.node number }
-    requires shows { Shows place.old false }
+    requires shows { Shows place.old }
     requires name { key.old.name ≡ J.flusher }
     ensures named { place.new.key.name ≡ place.old.key.name }
-    ensures shows { Shows place.new false }
+    ensures shows { Shows place.new }
     ensures name { key.new.name ≡ key.old.name }
     ensures since { Since key.old.value key.new.value }
     ensures answer { result ≡ is_some place.old.node.frozen }
@@ -138,10 +138,10 @@ pub(crate) fn page_of<J: Naming, R: Wait>(
 ) -> bool
     requires there { number < length J.start.nodes }
     requires named { place.old.key.name ≡ J.node number }
-    requires shows { Shows place.old false }
+    requires shows { Shows place.old }
     requires name { key.old.name ≡ J.flusher }
     ensures named { place.new.key.name ≡ place.old.key.name }
-    ensures shows { Shows place.new false }
+    ensures shows { Shows place.new }
     ensures name { key.new.name ≡ key.old.name }
     ensures since { Since key.old.value key.new.value }
     ensures answer { result ≡ is_some place.old.node.frozen && nat_lt (PAGE_BYTES * page) (length place.old.node.live.memory) }
@@ -165,11 +165,11 @@ pub(crate) fn drop_of<J: Naming, R: Wait>(
 )
     requires there { number < length J.start.nodes }
     requires named { place.old.key.name ≡ J.node number }
-    requires shows { Shows place.old false }
+    requires shows { Shows place.old }
     ensures live { place.new.node.live ≡ place.old.node.live }
     ensures frozen { place.new.node.frozen ≡ None }
     ensures named { place.new.key.name ≡ place.old.key.name }
-    ensures shows { Shows place.new false }
+    ensures shows { Shows place.new }
 {
     let mut held = book.lock(rt);
     held.thaw(place, number);

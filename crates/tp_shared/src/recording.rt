@@ -1,6 +1,6 @@
 //! A node records under the book's lock, while nothing runs.
 
-ghost use Rattle.std.specs.Prelude.{◌≡◌, ◌<◌, false, length};
+ghost use Rattle.std.specs.Prelude.{◌≡◌, ◌<◌, length};
 ghost use Rattle.tp_shared.specs.RecordedIn.{RecordedIn};
 ghost use Rattle.tp_shared.specs.Seals.{Shows};
 ghost use Rattle.tp_shared.specs.TurnsMade.{IsBookOf};
@@ -22,9 +22,9 @@ impl<J: Naming> Locked<J> {
     pub(crate) fn record(&mut self, place: &mut Place, number: u8) -> bool
         requires there { number < length J.start.nodes }
         requires named { place.old.key.name ≡ J.node number }
-        requires shows { Shows place.old false }
+        requires shows { Shows place.old }
         ensures named { place.new.key.name ≡ place.old.key.name }
-        ensures shows { Shows place.new false }
+        ensures shows { Shows place.new }
         ensures of { IsBookOf J.start self.old.book }
         ensures is { IsNodeOf self.old.book number place.old.node }
         ensures asked { result ≡ is_asked self.old.book.state.snapshot number }
@@ -47,9 +47,9 @@ impl<J: Naming> Locked<J> {
     pub(crate) fn record_seen(&mut self, place: &mut Place, number: u8) -> Recorded<J>
         requires there { number < length J.start.nodes }
         requires named { place.old.key.name ≡ J.node number }
-        requires shows { Shows place.old false }
+        requires shows { Shows place.old }
         ensures named { place.new.key.name ≡ place.old.key.name }
-        ensures shows { Shows place.new false }
+        ensures shows { Shows place.new }
         ensures recorded { RecordedIn J.start number result.seen result.done }
     {
         let mut seen = Sights::new();

@@ -1,6 +1,6 @@
 //! Runs of nodes while the book's lock is let go.
 
-ghost use Rattle.std.specs.Prelude.{◌≡◌, ◌≤◌, Some, true};
+ghost use Rattle.std.specs.Prelude.{◌≡◌, ◌≤◌, Some};
 ghost use Rattle.tp_law_machine.specs.NodeOfBytes.{IsNodeOfBytes};
 ghost use Rattle.tp_model.specs.Network.{steps};
 ghost use Rattle.tp_model.specs.Node.{t414};
@@ -8,16 +8,16 @@ ghost use Rattle.tp_model.specs.NodeWrites.{node_ranges, kept_behind_steps};
 ghost use Rattle.tp_model.specs.SharedPages.{LacksFrames};
 ghost use Rattle.tp_node.specs.NodeContents.{kept_of};
 ghost use Rattle.tp_node.specs.RunEnd.{IsWhy};
-ghost use Rattle.tp_shared.specs.Seals.{Shows};
+ghost use Rattle.tp_shared.specs.Seals.{IsInTurn};
 
 use crate::place::Place;
 use tp_law_machine::nodes_stay_nodes;
 use tp_turn::{Stretch, run_node};
 
 impl Place {
-    /// Lets the node run for at most `quantum` steps. Its key still shows what it was.
+    /// Lets the node run for at most `quantum` steps while a turn of it is open. Its key still shows what it was.
     pub(crate) fn run(&mut self, quantum: u16) -> Stretch
-        requires shows { Shows self.old true }
+        requires turn { IsInTurn self.old }
         ensures key { self.new.key ≡ self.old.key }
         ensures steps { steps t414 result.ran.count self.old.node.live ≡ Some (self.new.node.live, result.sent.items) }
         ensures asked { result.ran.max ≡ quantum }

@@ -1,6 +1,7 @@
 //! Seats: what was journalled, in the hand of one thread.
 
 ghost use Rattle.std.specs.Prelude.{◌≡◌, ℕ, List, [], ◌++◌};
+ghost use Rattle.tp_shared.specs.SlipCount.{IsSlipCount};
 
 use crate::naming::Naming;
 use std::marker::{Model, PhantomData};
@@ -38,6 +39,13 @@ impl<J: Naming> Seat<J> {
             count: 0,
             of: PhantomData,
         }
+    }
+
+    /// How many slips there are, or the greatest number where there are more.
+    pub fn count(&self) -> u64
+        ensures { IsSlipCount result self.now }
+    {
+        self.count
     }
 
     /// Takes all slips of `other` behind its own.

@@ -2,7 +2,7 @@
 
 ghost use Rattle.std.specs.Prelude.{◌≡◌, ◌<◌, ◌≤◌, [], length, IfErr, MatchResult};
 ghost use Rattle.tp_model.specs.declared.limits.TheConstants.{MAX_STEPS};
-ghost use Rattle.tp_shared.specs.Entries.{IsTurnRefusal, Takes, TakesOf, CountedTakes};
+ghost use Rattle.tp_shared.specs.Entries.{IsTurnRefusal, CountedTakes, Takes, TakesOf, TookAlone};
 ghost use Rattle.tp_shared.specs.Gains.{Gained};
 ghost use Rattle.tp_shared.specs.Named.{Names};
 ghost use Rattle.tp_shared.specs.RecordedIn.{RecordedIn};
@@ -119,10 +119,12 @@ impl<J: Naming> Shared<J> {
         self.ports
     }
 
-    /// A turn of the node `number`: it records where a snapshot asks it to; it takes what came in on its links 0 to 3, in order, at
-    /// most three tokens of each, a Marker among them; a run is reserved; and the node runs for at most `quantum` steps while the
-    /// book's lock is let go. `seat` gets the slips of the entries. Where no run can be reserved, or memory or the store is
-    /// wanting, nothing ran, and the slips of what was taken are in `seat`.
+    /// A turn of the node `number`, in the form that the book has as it is opened. The node records where a snapshot asks it to. In a book of
+    /// form Plain it takes what came in on its links 0 to 3, in order, at most three tokens of each, a Marker among them, each with an entry.
+    /// In one of form Turns it closes at Markers, and receives what stands in front of its lines, which stays there until the turn's one
+    /// entry. A turn is reserved, and the node runs for at most `quantum` steps while the book's lock is let go. `seat` gets the slips of
+    /// the entries. Where no turn can be reserved, or memory or the store is wanting, nothing ran, and the slips of what was taken are in
+    /// `seat`.
     pub fn turn<G: Gate, R: Wait>(
         &self,
         rt: &R,
@@ -133,7 +135,7 @@ impl<J: Naming> Shared<J> {
     ) -> Result<NodeTurn, Refusal>
         requires quantum { quantum ≤ MAX_STEPS }
         requires there { number < length J.start.nodes }
-        ensures turned { MatchResult result (λ turn. NodeTurned J.start number quantum turn seat.old seat.new) (λ e. Gained (Takes J.start number) seat.old seat.new) }
+        ensures turned { MatchResult result (λ turn. NodeTurned J.start number quantum turn seat.old seat.new) (λ e. Gained (TookAlone J.start number) seat.old seat.new) }
         ensures went { MatchResult result (λ turn. TurnMade J.start number quantum turn) (λ e. TurnBrokenOff J.start number e) }
         ensures refused { IfErr result IsTurnRefusal }
     {

@@ -1,11 +1,13 @@
 //! What two locks agree on of a node.
 
-ghost use Rattle.std.specs.Prelude.{◌≡◌, true, false};
+ghost use Rattle.std.specs.Prelude.{◌≡◌};
 ghost use Rattle.std.specs.Borrow.{ftrue};
-ghost use Rattle.tp_shared.specs.Agreement.{Agreement};
+ghost use Rattle.tp_shared.specs.Agreement.{Agreement, answered_with, at_rest};
 
 use std::marker::Model;
+use tp_book::{Book, Refusal};
 use tp_node::Node;
+use tp_turn::Opened;
 
 /// What the book's lock and a node's lock agree on of the node. It has no bytes: contracts alone see it.
 #[derive(Drop)]
@@ -26,28 +28,23 @@ impl Shown {
         Shown {}
     }
 
-    /// The node as it is, with no run reserved.
+    /// The node as it is, with no turn open.
     pub(crate) fn free(node: &Node) -> Shown
-        ensures { result.state ≡ record { node = node.now.live; frozen = node.now.frozen; reserved = false } }
+        ensures { result.state ≡ at_rest node.now }
     {
         Shown::of(node)
     }
 
-    // The node as it is, with a run reserved.
-    fn reserved(node: &Node) -> Shown
-        ensures { result.state ≡ record { node = node.now.live; frozen = node.now.frozen; reserved = true } }
+    /// What the book has of the node once the opening of its turn was answered, and what the node received by then.
+    pub(crate) fn answered(
+        book: &Book,
+        node: &Node,
+        number: u8,
+        answer: &Result<Opened, Refusal>,
+    ) -> Shown
+        ensures { result.state ≡ answered_with book.now number node.now answer.now }
     {
-        Shown::of(node)
-    }
-
-    /// The node as it is, and whether a run of it is reserved.
-    pub(crate) fn with(node: &Node, reserved: bool) -> Shown
-        ensures { result.state ≡ record { node = node.now.live; frozen = node.now.frozen; reserved = reserved } }
-    {
-        if reserved {
-            Shown::reserved(node)
-        } else {
-            Shown::free(node)
-        }
+        let lent = ((book, node), (number, answer));
+        Shown::of(&lent)
     }
 }

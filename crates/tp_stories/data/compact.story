@@ -7,7 +7,7 @@ text net.txt node a 4\nport h\nwire a.0 h\n
 image a.img
 tpnet format device net.txt . 13130
 length device
-tpnet run device --turns 4 --workers 1 --quantum 16 --every 4294967295
+tpnet run device --turns 6 --workers 1 --quantum 16 --every 4294967295
 tpnet run device --turns=0
 tpnet compact device
 tpnet show device
@@ -18,16 +18,17 @@ tpnet run device --turns=0
 length device
 
 story wedged
-# A node puts out A for ever, beside one that loops; the areas have room for 17000 entries. The port is full after 4096 rounds of
-# three turns and four entries, and only then a snapshot begins. The byte on the port's line keeps it from being whole, and the other
+# A node puts out A for ever, beside one that loops; the areas have room for 13000 entries. The port is full after 4096 rounds of
+# three turns and three entries, and only then a snapshot begins. The byte on the port's line keeps it from being whole, and the other
 # node fills the journal. Once the device is compacted, what the port holds is confirmed, and the network goes on: the byte on the line
-# comes in the first round, and one more in each. Each round but the first makes four entries: a run of each node, the byte and its Ack.
+# comes in the first round, and one more in each. Each round but the first makes three entries: the byte as the host takes it, a run of
+# the other node, and the Ack of the byte before with the next run as one turn; in the first no Ack has come.
 text net.txt node a 4\nnode b 4\nport h\nwire a.0 h\n
 image a.img 27 2F 2F 2F 2F 2F 6F 40 24 41 FE 60 03
 image b.img 60 0E
 fill full 4096 41
-tpnet format device net.txt . 561670
-tpnet run device --turns=15000 --workers=1 --quantum=16 --every=16400 >out
+tpnet format device net.txt . 433670
+tpnet run device --turns=15000 --workers=1 --quantum=16 --every=12300 >out
 equal out full
 tpnet run device --turns=0 >out
 equal out full

@@ -130,8 +130,8 @@ starts node node 63 pages 1024 halt 0 runs\n
 tpnet node device 64 2>err
 tpnet run device --turns 0 --port 7 --spare 4
 tpnet compact device
-# In a larger one each node makes a run, the odd nodes from 9 on take the letters of their neighbours before, each port takes one, and that of
-# port 7 is confirmed.
+# In a larger one each node makes an entry, in which the odd nodes from 9 on take the letters of their neighbours too, each port takes one, and
+# that of port 7 is confirmed.
 tpnet format device net.txt . 1729750
 tpnet run device --turns 65 --workers 1 --quantum 16 --port 7 --every 4294967295
 tpnet recover device --workers 3
@@ -181,7 +181,8 @@ tpnet compact device
 show device 88746 21
 tpnet run device --turns 18 --workers 1 --quantum 16 --every 4294967295
 tpnet journal device
-# In a larger one each node makes a run, node 16 takes the letter of node 0 before, the port takes that of node 16, and it is confirmed.
+# In a larger one each node makes a run, node 16 in the turn in which it takes the letter of node 0; the port takes that of node 16, and it is
+# confirmed.
 tpnet format device net.txt . 200000
 length device
 tpnet run device --turns 18 --workers 1 --quantum 16 --every 4294967295

@@ -117,14 +117,14 @@ text net.txt node a 4\nport h\nwire a.0 h\n
 image a.img
 tpnet format device net.txt . 13130
 text input ab
-tpnet run device --turns 4 --workers 1 --quantum 16 --every 4294967295
+tpnet run device --turns 6 --workers 1 --quantum 16 --every 4294967295
 tpnet run device --turns=0
 tpnet recover device
 text net.txt node a 4\nport h\nwire a.0 h\n
 image a.img
 tpnet format device net.txt . 13162
 text input ab
-tpnet run device --turns 4 --workers 1 --quantum 16
+tpnet run device --turns 6 --workers 1 --quantum 16
 
 story steps
 # Turns that end within a round, and runs of one step, of 1024 and of 4096: each run that is opened begins with node 0. No turn makes no
@@ -141,7 +141,7 @@ tpnet run device --turns 1 --workers 16 --quantum 4096
 tpnet journal device
 
 story workers
-# However many workers there are, a node that sends a letter and stops makes these five entries.
+# However many workers there are, a node that sends a letter and stops makes these four entries.
 text net.txt node a 4\nport h\nwire a.0 h\n
 image a.img 27 2F 2F 2F 2F 2F 6F 40 24 41 FE 21 F5
 tpnet format one net.txt . 16384
@@ -149,7 +149,7 @@ copy one two
 copy one sixteen
 tpnet run one --turns 5 --workers 1
 tpnet journal one
-# In each run the first two turns are of the node and of the host, in whatever order they end: so behind three runs all five are made.
+# In each run the first two turns are of the node and of the host, in whatever order they end: so behind three runs all four are made.
 tpnet run two --turns 40 >out 2>err
 tpnet run two --turns 40 >out 2>err
 tpnet run two --turns 40 >out 2>err

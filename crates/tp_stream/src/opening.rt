@@ -25,19 +25,19 @@ use tp_work::nodes_of;
 /// The parts of an opened book and its nodes, each with `spare` frames, and the raiser of their mark.
 fn parts_with(
     alloc: Global,
-    state: &NetState,
+    state: NetState,
     book: Book,
     spare: u16,
 ) -> Result<(Parts, Raiser), AllocError>
-    requires opened { IsOpened state.now }
-    requires book { book ≡ opened_book state.now book.room }
+    requires opened { IsOpened state }
+    requires book { book ≡ opened_book state book.room }
     ensures book { IfOk result (λ made. made.0.book ≡ book) }
     ensures first { IfOk result (λ made. made.0.first ≡ next_number book) }
-    ensures raiser { IfOk result (λ made. made.1 ≡ record { mark = made.0.mark; at = state.now.next }) }
+    ensures raiser { IfOk result (λ made. made.1 ≡ record { mark = made.0.mark; at = state.next }) }
 {
-    let nodes = nodes_of(alloc, state, spare as usize)?;
     let (mark, raiser, _) = Mark::start(alloc, state.next, 0)?;
-    let parts = Parts::opened(alloc, state, book, nodes, mark)?;
+    let nodes = nodes_of(alloc, state, spare as usize)?;
+    let parts = Parts::opened(alloc, book, nodes, mark)?;
     Ok((parts, raiser))
 }
 
@@ -67,7 +67,7 @@ pub(crate) fn parts_of<S: Sink, I: Source, L: Listener>(
         return Err(StreamFault::Memory);
     };
     match begin_all(&book, state.next, streams, listener) {
-        Ok(()) => match parts_with(alloc, &state, book, spare) {
+        Ok(()) => match parts_with(alloc, state, book, spare) {
             Ok(made) => Ok(made),
             Err(_) => Err(StreamFault::Memory),
         },

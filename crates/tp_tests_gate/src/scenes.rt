@@ -98,7 +98,7 @@ fn work_all<J: Naming + Send + Sync, R: Threads + Wait + Sync>(
         return false;
     };
     let worked = work_as_team(rt, net, TURNS, one, others);
-    worked.is_ok_and(|work| work.is_counted())
+    worked.is_ok_and(|work| !work.is_refused())
 }
 
 /// The same, once someone is held.

@@ -1,9 +1,6 @@
 //! Workers that make turns together, and what they journalled.
 
-ghost use Rattle.std.specs.Prelude.{◌≡◌, [], IsTrue, IfSome, Some, All, length, ℕ};
-ghost use Rattle.std.specs.Option.{ForSome};
-ghost use Rattle.tp_tests_gate.specs.Made.{IsSum};
-ghost use Rattle.tp_work.specs.Made.{made_by};
+ghost use Rattle.std.specs.Prelude.{◌≡◌, [], ◌++◌, IsTrue, Some, All, ℕ};
 ghost use Rattle.tp_token.specs.Sound.{item_of, shown};
 
 use std::alloc::AllocError;
@@ -12,31 +9,13 @@ use std::sync::atomic::{AtomicU32, Ordering};
 use std::thread::{Threads, join, map_vec, yield_now};
 use tp_host::Session;
 use tp_shared::{Gate, Locked, Naming, Receipt, Seat as Slips};
-use tp_work::{Net, Seat, Turn};
+use tp_work::{Net, Seat};
 
-/// What a worker's turns journalled: their slips, and how many there are; none where a turn was refused, whose takes nobody counts.
+/// What a worker's turns journalled: their slips, and whether a turn was refused.
 #[derive(Drop)]
 pub struct Work<J: Naming> {
     slips: Slips<J>,
-    entries: Option<u64>,
-    pub ghost counted: { ForSome entries (λ count. count ≡ length slips) },
-}
-
-/// How many entries a turn made, where that is a number.
-fn entries_of(turn: &Turn) -> Option<u64>
-    ensures { IfSome result (λ count. count ≡ made_by turn.now) }
-{
-    match &turn.ran {
-        Some(ran) if ran.count() > 0 => turn.takes.checked_add(1),
-        _ => Some(turn.takes),
-    }
-}
-
-/// The sum of two numbers that are there.
-fn sum(one: Option<u64>, other: Option<u64>) -> Option<u64>
-    ensures { IfSome result (λ count. IsSum one other count) }
-{
-    one?.checked_add(other?)
+    is_refused: bool,
 }
 
 impl<J: Naming> Work<J> {
@@ -46,37 +25,42 @@ impl<J: Naming> Work<J> {
     {
         Work {
             slips: Slips::new(),
-            entries: Some(0),
+            is_refused: false,
         }
     }
 
-    /// That of a receipt of `count` entries.
-    pub fn of_receipt(receipt: Receipt<J>, count: u64) -> Work<J>
-        requires { count ≡ length receipt.seat }
+    /// That of a receipt.
+    pub fn of_receipt(receipt: Receipt<J>) -> Work<J>
+        ensures { result.slips ≡ receipt.seat }
     {
         Work {
             slips: receipt.into_seat(),
-            entries: Some(count),
+            is_refused: false,
         }
     }
 
     /// Both together.
-    pub fn and(self, other: Work<J>) -> Work<J> {
-        let Work { mut slips, entries } = self;
+    pub fn and(self, other: Work<J>) -> Work<J>
+        ensures { result.slips ≡ self.slips ++ other.slips }
+    {
+        let Work {
+            mut slips,
+            is_refused,
+        } = self;
         let Work {
             slips: more,
-            entries: count,
+            is_refused: is_other,
         } = other;
         slips.absorb(more);
         Work {
             slips,
-            entries: sum(entries, count),
+            is_refused: is_refused || is_other,
         }
     }
 
-    /// Whether no turn was refused, and so what they made is counted.
-    pub fn is_counted(&self) -> bool {
-        self.entries.is_some()
+    /// Whether a turn was refused.
+    pub fn is_refused(&self) -> bool {
+        self.is_refused
     }
 
     /// Whether there are as many slips as entries since the opening, the first with the number `first`. Then each number has the slip
@@ -86,10 +70,13 @@ impl<J: Naming> Work<J> {
         ensures same { held.new ≡ held.old }
         ensures all { IsTrue result → (n : ℕ) → shown n self.slips ≡ item_of J.first held.old.all n }
     {
-        let Work { mut slips, entries } = self;
+        let Work {
+            mut slips,
+            is_refused,
+        } = self;
         held.known();
         held.audit(&mut slips);
-        entries == Some(held.book().next() - first)
+        !is_refused && slips.count() == held.book().next() - first
     }
 }
 
@@ -105,20 +92,17 @@ pub fn make_turns<J: Naming, G: Gate, R: Wait>(
     requires { (seat.hand ≡ Some net.now.queue) × (seat.slips ≡ []) }
 {
     let mut seat = seat;
-    let mut entries = Some(0);
+    let mut is_refused = false;
     for _ in 0..most {
         if drawn.fetch_add(1, Ordering::SeqCst) >= turns {
             break;
         }
-        entries = match net.turn(rt, &mut seat) {
-            Ok(turn) => sum(entries, entries_of(&turn)),
-            Err(_) => None,
-        };
+        is_refused = net.turn(rt, &mut seat).is_err() || is_refused;
         yield_now();
     }
     Work {
         slips: seat.into_slips(),
-        entries,
+        is_refused,
     }
 }
 
@@ -167,7 +151,7 @@ pub fn offer_pairs<J: Naming, R: Wait>(rt: &R, session: &Session<'_, J>, count: 
     let mut all = Work::new();
     for place in 0..count {
         if let Ok(receipt) = session.offer(rt, place.wrapping_mul(2), b"ab") {
-            all = all.and(Work::of_receipt(receipt, 2));
+            all = all.and(Work::of_receipt(receipt));
         }
         yield_now();
     }

@@ -8,7 +8,7 @@ use std::sync::Wait;
 use std::test::Fail;
 use std::thread::Threads;
 use tp_disk::MemDisk;
-use tp_model::{Entry, OpenFault, Token};
+use tp_model::{Entry, OpenFault, Received, Token};
 use tp_recover::Unopened;
 use tp_run::{Job, RunFault};
 
@@ -18,7 +18,7 @@ type Row = (Job, &'static [u8], &'static [u8], Result<u64, RunFault>);
 const NONE: Job = Job { turns: 0, ..FOUR };
 
 /// The node sends a letter, which is printed, confirmed, and not printed again.
-const PRINTS: &[Row] = &[(FOUR, b"", b"A", Ok(5)), (NONE, b"", b"", Ok(5))];
+const PRINTS: &[Row] = &[(FOUR, b"", b"A", Ok(4)), (NONE, b"", b"", Ok(4))];
 
 /// The same input is given again and again, and grows.
 const OFFERS: &[Row] = &[
@@ -30,7 +30,7 @@ const OFFERS: &[Row] = &[
 ];
 
 /// Input and output in one run; then more of the input.
-const TAKES: &[Row] = &[(FOUR, b"ab", b"A", Ok(8)), (NONE, b"abc", b"", Ok(9))];
+const TAKES: &[Row] = &[(FOUR, b"ab", b"A", Ok(6)), (NONE, b"abc", b"", Ok(7))];
 
 /// A port and spare frames that aren't there; the spare frames are told first.
 const REFUSED: &[Row] = &[
@@ -46,7 +46,7 @@ const REFUSED: &[Row] = &[
         b"",
         Err(RunFault::Spare),
     ),
-    (FOUR, b"", b"A", Ok(5)),
+    (FOUR, b"", b"A", Ok(4)),
 ];
 
 /// A device that isn't formatted.
@@ -60,11 +60,11 @@ const BLANK: &[Row] = &[(
 /// The journal has room for 105 entries: input of more is refused, whole. What is printed can't be confirmed where it is full.
 const FULL: &[Row] = &[
     (NONE, &[7; 106], b"", Err(RunFault::OfferRefused)),
-    (FOUR, &[], b"A", Ok(5)),
-    (NONE, &[7; 101], b"", Err(RunFault::OfferRefused)),
-    (NONE, &[7; 100], b"", Ok(105)),
-    (NONE, &[7; 101], b"", Err(RunFault::OfferRefused)),
-    (NONE, &[7; 100], b"", Ok(105)),
+    (FOUR, &[], b"A", Ok(4)),
+    (NONE, &[7; 102], b"", Err(RunFault::OfferRefused)),
+    (NONE, &[7; 101], b"", Ok(105)),
+    (NONE, &[7; 102], b"", Err(RunFault::OfferRefused)),
+    (NONE, &[7; 101], b"", Ok(105)),
 ];
 
 fn play_rows<R: Threads + Wait + Abort + Sync>(
@@ -84,25 +84,31 @@ fn play_rows<R: Threads + Wait + Abort + Sync>(
     disk
 }
 
-/// The letter as the host takes it, its acknowledge as the node takes it, and that the letter was printed.
+/// The steps in front of the letter, the letter as the host takes it, and that it was printed.
+const RUN_3: Entry = Entry::Run { node: 0, count: 3 };
+
 const LETTER: Entry = Entry::Take {
     line: 0,
     token: Token::Data(0x41),
 };
 
-const ACK: Entry = Entry::Take {
-    line: 4,
-    token: Token::Ack,
-};
-
 const CONFIRMED: Entry = Entry::Confirm { port: 0, upto: 1 };
 
-/// The steps in front of the letter, and those of a whole turn.
-const RUN_3: Entry = Entry::Run { node: 0, count: 3 };
+/// A turn in which the node takes this on its link 0 and makes so many steps.
+const fn turn(first: Received, count: u16) -> Entry {
+    Entry::Turn {
+        node: 0,
+        takes: [
+            first,
+            Received::Nothing,
+            Received::Nothing,
+            Received::Nothing,
+        ],
+        count,
+    }
+}
 
-const RUN_16: Entry = Entry::Run { node: 0, count: 16 };
-
-/// Bytes of the input, and the first of them as the node takes it.
+/// Bytes of the input.
 const INPUT_A: Entry = Entry::HostIn {
     port: 0,
     byte: b'a',
@@ -118,11 +124,6 @@ const INPUT_C: Entry = Entry::HostIn {
     byte: b'c',
 };
 
-const TAKES_A: Entry = Entry::Take {
-    line: 4,
-    token: Token::Data(b'a'),
-};
-
 /// Whether just `entries` are kept on what a crash leaves of a device.
 fn leaves(alloc: Global, disk: MemDisk, entries: &[Entry]) -> Result<bool, Fail> {
     let (_, opened) = left(alloc, disk)?;
@@ -133,12 +134,18 @@ fn leaves(alloc: Global, disk: MemDisk, entries: &[Entry]) -> Result<bool, Fail>
 fn runs_keep_what_was_worked_out(rt: HostRuntime) -> Result<(), Fail> {
     let alloc = rt.alloc();
     // The entries that are kept then.
-    let printed = [RUN_3, LETTER, ACK, RUN_16, CONFIRMED];
+    let printed = [RUN_3, LETTER, turn(Received::JustAck, 16), CONFIRMED];
     // Input is handed in once.
     let offered = [INPUT_A, INPUT_B, INPUT_C];
     // Input stands before what is done with it.
     let taken = [
-        INPUT_A, INPUT_B, TAKES_A, RUN_3, LETTER, ACK, RUN_16, CONFIRMED, INPUT_C,
+        INPUT_A,
+        INPUT_B,
+        turn(Received::JustData(b'a'), 3),
+        LETTER,
+        turn(Received::JustAck, 16),
+        CONFIRMED,
+        INPUT_C,
     ];
     let stories: [(&[Row], &[Entry]); 3] = [
         (PRINTS, &printed),

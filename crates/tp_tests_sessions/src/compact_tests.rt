@@ -13,12 +13,12 @@ use tp_tests_fixtures::letter;
 
 const COMPACT: &[&str] = &["compact", "@device"];
 
-/// Four turns that begin no snapshot.
+/// Six turns that begin no snapshot.
 const ALONE: &[&str] = &[
     "run",
     "@device",
     "--turns",
-    "4",
+    "6",
     "--workers",
     "1",
     "--quantum",

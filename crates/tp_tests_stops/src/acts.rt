@@ -12,6 +12,7 @@ use std::test::Fail;
 use tp_disk::MemDisk;
 use tp_flush::{FlushFault, Flusher};
 use tp_host::Session;
+use tp_model::{Entry, Received};
 use tp_node::Why;
 use tp_shared::{Naming, NoGate, Shared};
 use tp_tests_begun::opening::{Opening, begin_with};
@@ -45,6 +46,20 @@ impl Act {
             Act::Book(next, _) => Act::Book(next, false),
             other => other,
         }
+    }
+}
+
+/// The entry of a turn in which a node takes this on its link 0, and makes so many steps.
+pub(crate) const fn turn(node: u8, first: Received, count: u16) -> Entry {
+    Entry::Turn {
+        node,
+        takes: [
+            first,
+            Received::Nothing,
+            Received::Nothing,
+            Received::Nothing,
+        ],
+        count,
     }
 }
 

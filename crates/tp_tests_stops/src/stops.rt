@@ -1,5 +1,6 @@
 //! A script whose device fails, or stops it, at each of its calls: what the device then opens to, and how it goes on.
 
+use crate::acts::turn;
 use crate::script::{Done, Step, Told, play_in};
 use crate::unkind::{Ending, Fault, RawUnkind, Torn};
 use std::alloc::{AllocError, Global};
@@ -10,7 +11,7 @@ use std::sync::Wait;
 use std::test::Fail;
 use tp_area::format;
 use tp_disk::MemDisk;
-use tp_model::{Entry, Form, Token};
+use tp_model::{Entry, Form, Received, Token};
 use tp_net::Topology;
 use tp_recover::{Unopened, open};
 use tp_replay::FlatNetwork;
@@ -344,73 +345,100 @@ impl Script {
     }
 }
 
-/// Whether a device that was opened is what the script leaves: its first area was written anew, the last run isn't in its cut.
-fn is_last(alloc: Global, bytes: &[u8]) -> Result<bool, Fail> {
+/// Whether a device that was opened is what the script leaves: its first area was written anew, and of the `next` entries the last run alone
+/// isn't in its cut.
+fn is_last(alloc: Global, bytes: &[u8], next: u64) -> Result<bool, Fail> {
     let mut disk = MemDisk::of_bytes(Vec::from_slice(alloc, bytes)?);
     let opened = open(alloc, &mut disk)?;
     Ok(
         !opened.second()
             && opened.generation() == 3
-            && opened.base() == 9
+            && opened.base().checked_add(1) == Some(next)
             && opened.kept().len() == 1
-            && opened.next() == 10
+            && opened.next() == next
             && opened.form() == Form::Turns,
     )
 }
 
-/// Whether `entries` are what is journalled: the node takes a byte, which it holds; it sends a letter, which the host takes; it takes the
-/// acknowledge, and goes round, in its next turns too.
-fn is_journal(entries: &[Entry]) -> bool {
-    let journal = [
-        Entry::HostIn {
-            port: 0,
-            byte: b'a',
-        },
-        Entry::HostIn {
-            port: 0,
-            byte: b'b',
-        },
-        Entry::Take {
-            line: 4,
-            token: Token::Data(b'a'),
-        },
-        Entry::Run { node: 0, count: 3 },
-        Entry::Take {
-            line: 0,
-            token: Token::Data(0x41),
-        },
-        Entry::Take {
-            line: 4,
-            token: Token::Ack,
-        },
-        Entry::Run { node: 0, count: 9 },
-        Entry::Run { node: 0, count: 9 },
-        Entry::HostIn {
-            port: 0,
-            byte: b'c',
-        },
-        Entry::Run { node: 0, count: 9 },
-    ];
-    entries == journal.as_slice()
-}
+const INPUT_A: Entry = Entry::HostIn {
+    port: 0,
+    byte: b'a',
+};
 
-/// Whether it is what the script journals over a device, which then is what the script leaves.
-fn is_journalled<R: Wait>(rt: &R, alloc: Global, first: &[u8]) -> Result<bool, Fail> {
+const INPUT_B: Entry = Entry::HostIn {
+    port: 0,
+    byte: b'b',
+};
+
+const INPUT_C: Entry = Entry::HostIn {
+    port: 0,
+    byte: b'c',
+};
+
+/// The letter as the host takes it.
+const LETTER: Entry = Entry::Take {
+    line: 0,
+    token: Token::Data(0x41),
+};
+
+const RUN_9: Entry = Entry::Run { node: 0, count: 9 };
+
+/// What is journalled over a device whose areas have turns: the node takes a byte, which it holds, and makes three steps; it sends a letter,
+/// which the host takes; it takes the acknowledge, and goes round, in its next turns too.
+const JOURNAL: &[Entry] = &[
+    INPUT_A,
+    INPUT_B,
+    turn(0, Received::JustData(b'a'), 3),
+    LETTER,
+    turn(0, Received::JustAck, 9),
+    RUN_9,
+    INPUT_C,
+    RUN_9,
+];
+
+/// The same over one whose first area has none.
+const PLAIN_JOURNAL: &[Entry] = &[
+    INPUT_A,
+    INPUT_B,
+    Entry::Take {
+        line: 4,
+        token: Token::Data(b'a'),
+    },
+    Entry::Run { node: 0, count: 3 },
+    LETTER,
+    Entry::Take {
+        line: 4,
+        token: Token::Ack,
+    },
+    RUN_9,
+    RUN_9,
+    INPUT_C,
+    RUN_9,
+];
+
+/// Whether `journal` is what the script journals over a device, which then is what the script leaves.
+fn is_journalled<R: Wait>(
+    rt: &R,
+    alloc: Global,
+    first: &[u8],
+    journal: &[Entry],
+) -> Result<bool, Fail> {
     let left = run(rt, alloc, first, None, SCRIPT, untold(alloc))?;
+    let next = journal.len() as u64;
     Ok(
         left.done == Done::All
-            && left.told.mark == 10
-            && is_journal(&left.told.journal)
-            && recovered(alloc, first, &left)? == Some(10)
-            && is_last(alloc, &left.bytes)?,
+            && left.told.mark == next
+            && left.told.journal.as_slice() == journal
+            && recovered(alloc, first, &left)? == Some(next)
+            && is_last(alloc, &left.bytes, next)?,
     )
 }
 
 #[test]
 fn a_script_journals_what_it_does(rt: HostRuntime) -> Result<(), Fail> {
     let alloc = rt.alloc();
-    assert!(rt; is_journalled(&rt, alloc, &fresh(alloc)?)?);
-    assert!(rt; is_journalled(&rt, alloc, &kept(alloc)?)?);
+    assert!(rt; is_journalled(&rt, alloc, &fresh(alloc)?, JOURNAL)?);
+    assert!(rt; is_journalled(&rt, alloc, &kept(alloc)?, PLAIN_JOURNAL)?);
     Ok(())
 }
 

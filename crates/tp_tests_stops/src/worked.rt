@@ -1,14 +1,14 @@
 //! Checkpoints that were worked out by hand, from a device that is formatted to what a crash leaves of it.
 
 use crate::acts::Act::{Begin, Book, Fails, Flush, Groups, Offer, Turn};
-use crate::acts::{Act, play_in};
+use crate::acts::{Act, play_in, turn};
 use crate::small::{Network, Program, formatted_as};
 use std::alloc::Global;
 use std::sync::Wait;
 use std::test::Fail;
 use tp_book::{NetParts, NetState, Numbered};
 use tp_disk::{MemDisk, PlannedFault};
-use tp_model::{Entry, Token};
+use tp_model::{Entry, Received, Token};
 use tp_node::Why;
 use tp_recover::{Opened, open};
 use tp_tests_begun::opening::opening_with;
@@ -115,7 +115,7 @@ const UNDER_WAY_LEFT: Device = Device {
         (37_797, &[0xA5, 0, 1, 0, 0, 0, 0, 0, 1, 0, 0, 0, 0, 0, 0, 0]),
         (
             37_813,
-            &[2, 1, 0, 0, 0x58, 0, 0, 0, 1, 0, 0, 0, 0, 0, 0, 0, 0],
+            &[5, 1, 0, 0, 0x58, 0, 0, 0, 1, 0, 0, 0, 0, 0, 1, 0, 0],
         ),
     ],
     words: &[(1, 108, [0, 1, 0x58, 0])],
@@ -149,9 +149,9 @@ const LATE: Story = Story {
         Turn(1, 0, Some((4, Why::Full))),
         Turn(2, 0, None),
         Turn(0, 0, Some((4, Why::Full))),
-        Book(7, false),
+        Book(6, false),
         Begin,
-        Offer(1, b"xy"),
+        Offer(1, b"xyz"),
         Book(9, false),
         Turn(1, 0, Some((4, Why::Full))),
         Flush(false),
@@ -169,13 +169,13 @@ const LATE: Story = Story {
 const LATE_LEFT: Device = Device {
     second: true,
     generation: 2,
-    base: 7,
+    base: 6,
     next: 12,
     bytes: &[
         (
             20_992,
             &[
-                0xA5, 2, 0, 0, 0, 0, 0, 0, 0, 0x98, 0x41, 0, 0, 7, 0, 0, 0, 0, 0, 2, 0,
+                0xA5, 2, 0, 0, 0, 0, 0, 0, 0, 0x98, 0x41, 0, 0, 6, 0, 0, 0, 0, 0, 2, 0,
             ],
         ),
         // What both had counted as they recorded; the first holds the port's byte.
@@ -186,10 +186,10 @@ const LATE_LEFT: Device = Device {
         (29_549, &[0; 36]),
         (29_585, &[0; 16]),
         (29_601, &[1, 0, 0, 0, 0x77, 0]),
-        // One group of five entries, the last of them, and a closed gate.
-        (37_797, &[0xA5, 0, 5, 0, 0, 0, 0, 0, 7, 0, 0, 0, 0, 0, 0, 0]),
+        // One group of six entries, the last of them, and a closed gate.
+        (37_797, &[0xA5, 0, 6, 0, 0, 0, 0, 0, 6, 0, 0, 0, 0, 0, 0, 0]),
         (
-            37_877,
+            37_893,
             &[1, 1, 4, 0, 0, 0, 0, 0, 11, 0, 0, 0, 0, 0, 0, 0, 0],
         ),
     ],
@@ -290,12 +290,12 @@ const SWITCHED: Story = Story {
         Turn(1, 1, None),
         Turn(0, 1, Some((16, Why::Full))),
         Turn(1, 0, None),
-        Book(4, false),
+        Book(3, false),
         Flush(false),
         Begin,
         Turn(0, 0, Some((16, Why::Full))),
         Turn(1, 0, None),
-        Book(5, true),
+        Book(4, true),
         Fails,
     ],
 };
@@ -307,18 +307,18 @@ const CALLS: u64 = 100;
 const SWITCHED_LEFT: Device = Device {
     second: true,
     generation: 2,
-    base: 4,
-    next: 5,
+    base: 3,
+    next: 4,
     bytes: &[
-        (13_033, &[0xA5, 0, 4, 0, 0, 0, 0, 0, 0]),
-        (13_113, &[0xA5, 0, 1, 0, 0, 0, 0, 0, 4]),
+        (13_033, &[0xA5, 0, 3, 0, 0, 0, 0, 0, 0]),
+        (13_097, &[0xA5, 0, 1, 0, 0, 0, 0, 0, 3]),
         (
             16_897,
             &[
-                2, 0, 0, 0, 0, 0, 0, 0, 0xDC, 0x30, 0, 0, 4, 0, 0, 0, 0, 0, 2, 0,
+                2, 0, 0, 0, 0, 0, 0, 0, 0xDC, 0x30, 0, 0, 3, 0, 0, 0, 0, 0, 2, 0,
             ],
         ),
-        (29_417, &[0xA5, 0, 1, 0, 0, 0, 0, 0, 4]),
+        (29_417, &[0xA5, 0, 1, 0, 0, 0, 0, 0, 3]),
         (29_449, &[0]),
     ],
     words: &[],
@@ -329,7 +329,7 @@ const NOT_SWITCHED_LEFT: Device = Device {
     second: false,
     generation: 1,
     base: 0,
-    next: 5,
+    next: 4,
     ..SWITCHED_LEFT
 };
 
@@ -555,25 +555,26 @@ fn is_plain_too<R: Wait>(
 #[test]
 fn checkpoints_leave_what_was_worked_out(rt: HostRuntime) -> Result<(), Fail> {
     let alloc = rt.alloc();
-    let under_way: [(Entry, u64); 1] = [(
-        Entry::Take {
-            line: 0,
-            token: Token::Data(0x58),
-        },
-        1,
-    )];
-    let late: [(Entry, u64); 5] = [
+    let under_way: [(Entry, u64); 1] = [(turn(1, Received::JustData(0x58), 0), 1)];
+    let late: [(Entry, u64); 6] = [
         (
             Entry::HostIn {
                 port: 0,
                 byte: 0x78,
+            },
+            6,
+        ),
+        (
+            Entry::HostIn {
+                port: 0,
+                byte: 0x79,
             },
             7,
         ),
         (
             Entry::HostIn {
                 port: 0,
-                byte: 0x79,
+                byte: 0x7A,
             },
             8,
         ),
@@ -600,8 +601,8 @@ fn a_gate_that_is_half_written_is_open_or_it_is_not(rt: HostRuntime) -> Result<(
     let Some(call) = gate_call(&rt, alloc, &SWITCHED)? else {
         panic!(rt; "a call writes the gate")
     };
-    let switched: [(Entry, u64); 1] = [(Entry::Run { node: 0, count: 16 }, 4)];
-    let not_switched: [(Entry, u64); 5] = [
+    let switched: [(Entry, u64); 1] = [(Entry::Run { node: 0, count: 16 }, 3)];
+    let not_switched: [(Entry, u64); 4] = [
         (Entry::Run { node: 0, count: 3 }, 0),
         (
             Entry::Take {
@@ -610,15 +611,8 @@ fn a_gate_that_is_half_written_is_open_or_it_is_not(rt: HostRuntime) -> Result<(
             },
             1,
         ),
-        (
-            Entry::Take {
-                line: 4,
-                token: Token::Ack,
-            },
-            2,
-        ),
+        (turn(0, Received::JustAck, 16), 2),
         (Entry::Run { node: 0, count: 16 }, 3),
-        (Entry::Run { node: 0, count: 16 }, 4),
     ];
     let rows: [(u8, &Device, &[(Entry, u64)]); 3] = [
         (0xA5, &SWITCHED_LEFT, &switched),

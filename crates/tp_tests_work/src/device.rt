@@ -59,18 +59,18 @@ fn mark_of(alloc: Global, next: u64) -> Result<(Mark, Raiser, Pass), Fail>
 }
 
 /// The parts of a network, with a mark.
-fn parts_of(alloc: Global, state: &NetState, room: u64, mark: Mark) -> Result<Parts, Fail>
-    requires { IsOpened state.now }
+fn parts_of(alloc: Global, state: NetState, room: u64, mark: Mark) -> Result<Parts, Fail>
+    requires { IsOpened state }
     ensures { IfOk result (λ parts. parts.mark ≡ mark) }
 {
-    let book = Book::open(alloc, state, Some(room))?;
+    let book = Book::open(alloc, &state, Some(room))?;
     let nodes = nodes_of(alloc, state, 4)?;
-    Ok(Parts::opened(alloc, state, book, nodes, mark)?)
+    Ok(Parts::opened(alloc, book, nodes, mark)?)
 }
 
 /// The parts of what a device leaves, with the raiser of its mark and a pass.
-fn parts_of_state(alloc: Global, state: &NetState, room: u64) -> Result<(Parts, Raiser, Pass), Fail>
-    requires { IsOpened state.now }
+fn parts_of_state(alloc: Global, state: NetState, room: u64) -> Result<(Parts, Raiser, Pass), Fail>
+    requires { IsOpened state }
     ensures { IfOk result (λ made. (made.1.mark ≡ made.0.mark) × (made.2.mark ≡ made.0.mark)) }
 {
     let (mark, raiser, pass) = mark_of(alloc, state.next)?;
@@ -84,6 +84,5 @@ pub(crate) fn parts_of_device(alloc: Global) -> Result<(Parts, Raiser, Pass), Fa
 {
     let mut disk = device(alloc)?;
     let (state, room) = state_of(alloc, &mut disk)?;
-    let parts = parts_of_state(alloc, &state, room);
-    parts
+    parts_of_state(alloc, state, room)
 }

@@ -25,11 +25,11 @@ const TURNS: &[(u8, u64, Option<u16>)] = &[
 /// Offers one after another: their position, their bytes, and the receipt's number or the fault.
 const OFFERS: &[(u64, &[u8], Result<u64, OfferFault>)] = &[
     (1, b"b", Err(OfferFault::Gap(0))),
-    (0, b"", Ok(4)),
-    (0, b"ab", Ok(6)),
+    (0, b"", Ok(3)),
+    (0, b"ab", Ok(5)),
     (0, b"ab", Err(OfferFault::Already(2))),
     (3, b"c", Err(OfferFault::Gap(2))),
-    (2, b"", Ok(6)),
+    (2, b"", Ok(5)),
     (2, &[7; 4095], Err(OfferFault::PortFull(4094))),
 ];
 
@@ -39,7 +39,7 @@ const BROKEN_OFFERS: &[(u64, &[u8], Result<u64, OfferFault>)] = &[
     (3, b"c", Err(OfferFault::Gap(2))),
     (2, b"c", Err(OfferFault::StoreBroken)),
     (2, &[7; 4095], Err(OfferFault::StoreBroken)),
-    (2, b"", Ok(7)),
+    (2, b"", Ok(6)),
 ];
 
 fn play_offers<J: Naming, R: Wait + Abort>(
@@ -108,11 +108,11 @@ fn play_outputs<J: Naming, R: Wait + Abort>(
     let Ok(receipt) = session.confirm(rt, 1, pass) else {
         panic!(rt; "the letter is confirmed")
     };
-    assert!(rt; receipt.number() == 7);
+    assert!(rt; receipt.number() == 6);
+    assert!(rt; !session.is_stored(&receipt, pass));
+    net.shared().mark().raise(raiser, 5);
     assert!(rt; !session.is_stored(&receipt, pass));
     net.shared().mark().raise(raiser, 6);
-    assert!(rt; !session.is_stored(&receipt, pass));
-    net.shared().mark().raise(raiser, 7);
     assert!(rt; session.is_stored(&receipt, pass));
     assert!(rt; is_shown(rt, alloc, session, pass, 0, Err(ShownFault::TooOld)));
     assert!(rt; is_shown(rt, alloc, session, pass, 1, Ok(b"")));

@@ -4,11 +4,9 @@ use Rattle.std.specs.Prelude.{◌&&◌, is_some, Ok, Err}
 use Rattle.std.proofs.lemmas.Bool.{true≢false}
 use Rattle.tp_model.specs.declared.link.Token.{Token}
 use Rattle.tp_model.specs.declared.link.Token.TheVariants.{Marker}
-use Rattle.tp_model.specs.declared.link.Received.{Received}
 use Rattle.tp_model.specs.declared.link.Received.TheVariants.{Nothing}
 use Rattle.tp_model.specs.declared.entry.Entry.{Entry}
 use Rattle.tp_model.specs.declared.limits.TheConstants.{NUMBER_LIMIT}
-use Rattle.tp_model.specs.NodeState.{NodeState}
 use Rattle.tp_model.specs.Node.{node_step}
 use Rattle.tp_model.specs.NodeWrites.{node_ranges}
 use Rattle.tp_model.specs.Network.{back, is_first, on_line}
@@ -21,14 +19,14 @@ use Rattle.tp_node.proofs.Answered.{why_most, why_fewer, lacking_frozen}
 use Rattle.tp_snap.specs.Needs.{has_recorded_in, is_asked}
 use Rattle.tp_book.specs.Book.{BookValue, agreed, next_number}
 use Rattle.tp_book.specs.Dropped.{network_now}
-use Rattle.tp_book.specs.Refusals.{reserve_refusal, IsAnswer}
+use Rattle.tp_book.specs.Refusals.{IsAnswer}
 use Rattle.tp_book.specs.declared.refusal.Refusal.{Refusal}
 use Rattle.tp_book.specs.declared.refusal.Refusal.TheVariants.{Memory}
 use Rattle.tp_turn.specs.Moments.{Moment}
 use Rattle.tp_turn.specs.Receiving.{IsAtEnd, ReceivesOf, offered, offered_on}
 use Rattle.tp_turn.specs.Settled.{Records, frozen_now}
 use Rattle.tp_turn.specs.Turns.{InOrder}
-use Rattle.tp_turn.specs.Whole.{close_acts, ClosesFront, Closes, TurnsOnce, TurnsWhole, BreaksWhole, turn_refusal}
+use Rattle.tp_turn.specs.Whole.{close_acts, ClosesFront, Closes, TurnsOnce, TurnsWhole, turn_refusal}
 use Rattle.tp_turn.specs.declared.stages.Turn.{Turn}
 use Rattle.tp_turn.specs.declared.take.TheConstants.{TURN_ENTRIES}
 use Rattle.tp_turn.proofs.Ahead.{order_part}

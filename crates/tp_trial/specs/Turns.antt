@@ -17,7 +17,7 @@ use Rattle.tp_model.specs.Order.{after}
 use Rattle.tp_model.specs.Turn.{received}
 use Rattle.tp_law_cuts.specs.Reserved.{turn_entries}
 use Rattle.tp_book.specs.Refusals.{takeable_of, is_full_for}
-use Rattle.tp_turn.specs.Turns.{Then, InOrder}
+use Rattle.tp_turn.specs.Turns.{InOrder}
 use Rattle.tp_turn.specs.declared.take.TheConstants.{TAKES}
 
 -- ## Takes

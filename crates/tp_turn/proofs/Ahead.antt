@@ -197,7 +197,7 @@ rests_ahead b number takes sent n A =
 -- ## What others do
 
 -- no entry of another process is one of the node
-not_of : (b : BookValue) (number other : ℕ) → other ≢ number → (acts : List Act)
+pub not_of : (b : BookValue) (number other : ℕ) → other ≢ number → (acts : List Act)
     → AllByRecursion (λ e. process b.state.start.wires (length (agreed b.state)) e ≡ other) (entries_in acts) → AllByRecursion (IsNotOf (world_of b).live number) acts
 not_of b number other apart [] own = tt
 not_of b number other apart (Begin ∷ acts) own = (tt, not_of b number other apart acts own)
@@ -212,7 +212,7 @@ pub received_stays : (a b : BookValue) (number : ℕ) (takes : List Received) (a
 received_stays a b number takes acts did others R = received_after t414 has_four_links number takes (world_of a) (world_of b) acts did others R
 
 -- so it does where the acts are those of one other process
-stays_with : (a b : BookValue) → Keeps a.state → (number other : ℕ) (takes : List Received) (acts : List Act) → acted t414 (world_of a) acts ≡ Some (world_of b) → other ≢ number
+pub stays_with : (a b : BookValue) → Keeps a.state → (number other : ℕ) (takes : List Received) (acts : List Act) → acted t414 (world_of a) acts ≡ Some (world_of b) → other ≢ number
     → AllByRecursion (λ e. process a.state.start.wires (length a.state.start.nodes) e ≡ other) (entries_in acts) → IsReceived (world_of a).live number takes → IsReceived (world_of b).live number takes
 stays_with a b K number other takes acts did apart own R =
     received_stays a b number takes acts did

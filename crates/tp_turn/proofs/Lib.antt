@@ -15,3 +15,6 @@ pub mod Hosting
 pub mod Lining
 pub mod Staging
 pub mod Closing
+pub mod MarkActs
+pub mod Staying
+pub mod Opening

@@ -8,3 +8,4 @@ pub mod Hosted
 pub mod Over
 pub mod Receiving
 pub mod Whole
+pub mod Opened

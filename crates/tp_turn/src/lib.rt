@@ -5,6 +5,7 @@
 mod front;
 mod left;
 mod markers;
+mod opened;
 mod over;
 mod ports;
 mod receiving;
@@ -14,6 +15,7 @@ mod take;
 mod whole;
 
 pub use left::Left;
+pub use opened::{Opened, commit_opened, open_in_form};
 pub use over::close_all;
 pub use ports::host_turn;
 pub use receiving::Taken;

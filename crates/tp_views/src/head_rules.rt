@@ -6,15 +6,15 @@ use std::fmt::Write;
 use tp_layout::head_places::{AREA_PLACE, NODES_PLACE, PAGES_PLACE, PORTS_PLACE, ends_place};
 use tp_model::HeadVersion;
 use tp_model::limits::{
-    MAX_NODES, MAX_PAGES, MAX_PORTS, MIN_PAGES, NARROW_HEAD_NODES, NARROW_HEAD_PAGES, NARROW_PORT,
-    WIDE_PORT,
+    MAX_PORTS, MIN_PAGES, NARROW_HEAD_NODES, NARROW_HEAD_PAGES, NARROW_PORT, WIDE_HEAD_NODES,
+    WIDE_HEAD_PAGES, WIDE_PORT,
 };
 
 /// The most nodes that a head of a version has fields for.
 pub(crate) fn most_nodes(version: HeadVersion) -> usize {
     match version {
         HeadVersion::Narrow => NARROW_HEAD_NODES,
-        HeadVersion::Wide => MAX_NODES,
+        HeadVersion::Wide => WIDE_HEAD_NODES,
     }
 }
 
@@ -22,7 +22,7 @@ pub(crate) fn most_nodes(version: HeadVersion) -> usize {
 fn most_pages(version: HeadVersion) -> usize {
     match version {
         HeadVersion::Narrow => NARROW_HEAD_PAGES,
-        HeadVersion::Wide => MAX_PAGES,
+        HeadVersion::Wide => WIDE_HEAD_PAGES,
     }
 }
 

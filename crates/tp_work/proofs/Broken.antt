@@ -1,5 +1,5 @@
 -- Turns that were refused.
-use Rattle.std.proofs.Common.{◌≤◌, ℕ, List, Some, length}
+use Rattle.std.proofs.Common.{◌≡◌, ◌≤◌, ◌<◌, ℕ, inl, inr, List, Some, length, sym, subst}
 use Rattle.tp_model.specs.declared.entry.Entry.{Entry}
 use Rattle.tp_model.specs.NodeState.{NodeState}
 use Rattle.tp_model.specs.Network.{Network}
@@ -7,13 +7,35 @@ use Rattle.tp_book.specs.declared.refusal.Refusal.{Refusal}
 use Rattle.tp_book.specs.declared.refusal.Refusal.TheVariants as refusal
 use Rattle.tp_ready.specs.Numbers.{Numbers}
 use Rattle.tp_ready.specs.declared.answers.Answer.{Answer}
-use Rattle.tp_shared.specs.Entries.{IsTurnRefusal, Takes}
+use Rattle.tp_shared.specs.Entries.{IsTurnRefusal, Takes, TookAlone}
 use Rattle.tp_shared.specs.Gains.{Gained}
-use Rattle.tp_work.specs.Turns.{Refused, fault_of, Handed, RefusedAt, RefusedFor, RefusedBy}
+use Rattle.tp_work.specs.Turns.{Refused, fault_of, Handed, RefusedAt, RefusedFor, RefusedBy, TookBefore}
 use Rattle.tp_work.specs.declared.fault.TurnFault.{TurnFault}
 use Rattle.tp_work.specs.declared.fault.TurnFault.TheVariants.{Empty, JournalFull, StoreBroken, Memory}
 
-pub broken_off : (start : Network NodeState) (process : ℕ) (old new : List (ℕ × Entry)) (r : Refusal) → process ≤ length start.nodes → Gained (Takes start process) old new
+-- ## What was taken before
+
+gained_as : (One Other : List Entry → Type 0) (old new : List (ℕ × Entry)) → ((entries : List Entry) → One entries → Other entries) → Gained One old new → Gained Other old new
+gained_as One Other old new like G = record { next = G.next; entries = G.entries; are = like G.entries G.are; seat = G.seat; below = G.below }
+
+-- by a node
+pub node_took : (start : Network NodeState) (process : ℕ) (old new : List (ℕ × Entry)) → process < length start.nodes → Gained (TookAlone start process) old new
+    → Gained (TookBefore start process) old new
+node_took start process old new there G = gained_as (TookAlone start process) (TookBefore start process) old new (λ entries took. either entries took) G
+  where
+    either : (entries : List Entry) → TookAlone start process entries → TookBefore start process entries
+    either entries (inl apart) = inl apart
+    either entries (inr once) = inr (there, once)
+
+-- by the host
+pub host_took : (start : Network NodeState) (process : ℕ) (old new : List (ℕ × Entry)) → process ≡ length start.nodes → Gained (Takes start (length start.nodes)) old new
+    → Gained (TookBefore start process) old new
+host_took start process old new is G =
+    gained_as (Takes start (length start.nodes)) (TookBefore start process) old new (λ entries took. inl (subst (λ p. Takes start p entries) (sym is) took)) G
+
+-- ## Refused
+
+pub broken_off : (start : Network NodeState) (process : ℕ) (old new : List (ℕ × Entry)) (r : Refusal) → process ≤ length start.nodes → Gained (TookBefore start process) old new
     → Refused start (fault_of r) old new
 broken_off start process old new refusal.JournalFull there took = record { process = process; there = there; took = took }
 broken_off start process old new refusal.StoreBroken there took = record { process = process; there = there; took = took }
@@ -23,7 +45,7 @@ broken_off start process old new refusal.SnapshotRunning there took = record { p
 broken_off start process old new refusal.PortFull there took = record { process = process; there = there; took = took }
 
 -- what was told of the refusal is told of the fault
-pub refused_for : (start : Network NodeState) (process : ℕ) (old new : List (ℕ × Entry)) (r : Refusal) → IsTurnRefusal r → Gained (Takes start process) old new → RefusedAt start process r
+pub refused_for : (start : Network NodeState) (process : ℕ) (old new : List (ℕ × Entry)) (r : Refusal) → IsTurnRefusal r → Gained (TookBefore start process) old new → RefusedAt start process r
     → RefusedFor start process (fault_of r) old new
 refused_for start process old new refusal.JournalFull is took went = (took, went)
 refused_for start process old new refusal.StoreBroken is took went = (took, went)

@@ -9,7 +9,7 @@ use Rattle.tp_book.specs.declared.refusal.Refusal.TheVariants as refusal
 use Rattle.tp_ready.specs.Answered.{answer}
 use Rattle.tp_ready.specs.Numbers.{Numbers}
 use Rattle.tp_ready.specs.declared.answers.Answer.{Answer}
-use Rattle.tp_shared.specs.Entries.{Takes, CountedTakes}
+use Rattle.tp_shared.specs.Entries.{Takes, CountedTakes, TookAtOnce}
 use Rattle.tp_shared.specs.Gains.{Gained}
 use Rattle.tp_shared.specs.NodeTurned.{NodeTurned}
 use Rattle.tp_shared.specs.TurnsMade.{TurnMade, TurnBrokenOff, HostTurnMade}
@@ -28,11 +28,15 @@ TurnedAs start quantum process takes None old new =
 abbrev pub Turned : Network NodeState → ℕ → Turn → List (ℕ × Entry) → List (ℕ × Entry) → Type 0
 Turned start quantum turn old new = TurnedAs start quantum turn.process turn.takes turn.ran old new
 
--- Some process took tokens before its turn was refused, and the seat has their slips.
+-- what a process took before its turn was refused: an entry for each token; or, of a node, one for all
+abbrev pub TookBefore : Network NodeState → ℕ → List Entry → Type 0
+TookBefore start process entries = Takes start process entries ⊎ ((process < length start.nodes) × TookAtOnce process entries)
+
+-- Some process took tokens before its turn was refused, and the seat has the slips of their entries.
 pub record BrokenOff (start : Network NodeState) (old new : List (ℕ × Entry)) : Type 0 where
   pub process : ℕ
   pub there : process ≤ length start.nodes
-  pub took : Gained (Takes start process) old new
+  pub took : Gained (TookBefore start process) old new
 
 -- After `Empty` the seat is as it was; else a turn was broken off.
 abbrev pub Refused : Network NodeState → TurnFault → List (ℕ × Entry) → List (ℕ × Entry) → Type 0
@@ -69,9 +73,9 @@ abbrev pub RefusedAt : Network NodeState → ℕ → Refusal → Type 0
 RefusedAt start process reason =
     ((process < length start.nodes) × TurnBrokenOff start process reason) ⊎ ((process ≡ length start.nodes) × HostTurnMade start (Err reason))
 
--- A turn of this process was refused with this reason, and the seat has the slips of the tokens that it took before.
+-- A turn of this process was refused with this reason, and the seat has the slips of what it took before.
 abbrev pub RefusedWith : Network NodeState → ℕ → Refusal → List (ℕ × Entry) → List (ℕ × Entry) → Type 0
-RefusedWith start process reason old new = Gained (Takes start process) old new × RefusedAt start process reason
+RefusedWith start process reason old new = Gained (TookBefore start process) old new × RefusedAt start process reason
 
 abbrev pub RefusedFor : Network NodeState → ℕ → TurnFault → List (ℕ × Entry) → List (ℕ × Entry) → Type 0
 RefusedFor start process Empty old new = ⊥

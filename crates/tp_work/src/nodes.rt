@@ -9,7 +9,7 @@ ghost use Rattle.tp_node.specs.NodeContents.{NodeContents};
 ghost use Rattle.tp_work.specs.Nodes.{IsMade};
 
 use std::alloc::{AllocError, Global};
-use tp_book::NetState;
+use tp_book::{NetParts, NetState};
 use tp_law_machine::nodes_stay_nodes;
 use tp_node::Node;
 
@@ -26,16 +26,18 @@ fn node_in(alloc: Global, image: &[u8], spare: usize) -> Result<Node, AllocError
 }
 
 /// The nodes of an opened device, as the kept entries left them. Each has `spare` frames, but no more than it has pages, for pages
-/// that it writes while it is frozen.
-pub fn nodes_of(alloc: Global, state: &NetState, spare: usize) -> Result<Vec<Node>, AllocError>
-    requires { IsOpened state.now }
-    ensures live { IfOk result (λ nodes. map (λ node. node.live) nodes.items ≡ (now_of state.now).nodes) }
+/// that it writes while it is frozen. An image goes as soon as its node is made, so that the memory holds few pages twice.
+pub fn nodes_of(alloc: Global, state: NetState, spare: usize) -> Result<Vec<Node>, AllocError>
+    requires { IsOpened state }
+    ensures live { IfOk result (λ nodes. map (λ node. node.live) nodes.items ≡ (now_of state).nodes) }
     ensures each { IfOk result (λ nodes. (i : ℕ) (node : NodeContents) → slice_get nodes.items i ≡ Some node → IsNodeOfBytes node.live × (node.frozen ≡ None)) }
     ensures frames { IfOk result (λ nodes. (i : ℕ) (node : NodeContents) → slice_get nodes.items i ≡ Some node → HasFrames spare node) }
 {
+    let NetState { net, .. } = state;
+    let NetParts { images, .. } = net;
     let mut nodes = Vec::new(alloc);
-    for image in &state.net.images {
-        nodes.push(node_in(alloc, image, spare)?)?;
+    for image in images {
+        nodes.push(node_in(alloc, image.as_slice(), spare)?)?;
     }
     Ok(nodes)
 }

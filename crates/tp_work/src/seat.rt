@@ -1,6 +1,7 @@
 //! Seats of workers.
 
 ghost use Rattle.std.specs.Prelude.{◌≡◌};
+ghost use Rattle.tp_shared.specs.SlipCount.{IsSlipCount};
 
 use tp_ready::{Answers, Hand};
 use tp_shared::Naming;
@@ -15,6 +16,13 @@ pub struct Seat<J: Naming> {
 }
 
 impl<J: Naming> Seat<J> {
+    /// How many entries its turns made, or the greatest number where there were more.
+    pub fn count(&self) -> u64
+        ensures { IsSlipCount result self.now.slips }
+    {
+        self.slips.count()
+    }
+
     /// The slips of all that its turns journalled, for an audit.
     pub fn into_slips(self) -> tp_shared::Seat<J>
         ensures { result ≡ self.slips }

@@ -13,8 +13,8 @@ returns-clause-other c = λ bytes o is closed generation form base s groups now 
     other_spelt t414 t414_ends bytes o is closed generation form base s groups now (spelt_area t414 t414_ends o.head.topology (other_content o bytes) generation form base s groups now spells)
 
 pub returns-clause-switches : goal.returns-clause-switches
-returns-clause-switches c = λ w cut nodes o pieces generation rests has S.
-    checkpoint_switches w cut nodes o pieces generation rests has (spells_reads w o pieces (copy_of w.net w.base cut nodes) generation S)
+returns-clause-switches c = λ w cut nodes o pieces generation form rests has S.
+    checkpoint_switches w cut nodes o pieces generation form rests has (spells_reads w o pieces (copy_of w.net w.base cut nodes) generation form S)
 
 pub returns-clause-formatted : goal.returns-clause-formatted
 returns-clause-formatted c = first_checkpoint

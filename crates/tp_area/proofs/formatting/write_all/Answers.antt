@@ -6,7 +6,7 @@ use Rattle.tp_model.specs.StoreCalls.{Called}
 use Rattle.tp_area.specs.Formatting.{area_front, with_areas, Wrote}
 use Rattle.tp_area.specs.Puts.{ButFor}
 use Rattle.tp_area.proofs.Results.{from_ok}
-use Rattle.tp_area.proofs.FormatCalls.{wrote_all, first_leaves, second_leaves, sync_leaves, areas_leave, head_leaves}
+use Rattle.tp_area.proofs.FormatCalls.{front_size, wrote_all, first_leaves, second_leaves, sync_leaves, areas_leave, head_leaves}
 use Rattle.tp_area.proofs.formatting.write_all.Goals as goal
 
 pub returns-clause-wrote : goal.returns-clause-wrote
@@ -28,7 +28,7 @@ returns-in_err-put_first_area-clause-leaves g c k =
     let t = g.D.Disk.state c.put_first_area.new.disk in
     let complete = with_areas ((area_front c.args.lengths.cut ++ flat_map (λ image. image.items) c.args.images.now) ++ zeros c.args.lengths.rest) c.args.areas s.now.bytes in
     areas_leave c.args.areas complete s t
-    (first_leaves c.args.areas (21 + c.args.lengths.images + c.args.lengths.rest) s t c.requires.inside (c.put_first_area.ensures.leaves k))
+    (first_leaves c.args.areas (front_size + c.args.lengths.images + c.args.lengths.rest) s t c.requires.inside (c.put_first_area.ensures.leaves k))
 
 pub returns-in_err-put_piece-clause-leaves : goal.returns-in_err-put_piece-clause-leaves
 returns-in_err-put_piece-clause-leaves g c k =
@@ -37,7 +37,7 @@ returns-in_err-put_piece-clause-leaves g c k =
     let u = g.D.Disk.state c.put_piece.new.disk in
     let complete = with_areas ((area_front c.args.lengths.cut ++ flat_map (λ image. image.items) c.args.images.now) ++ zeros c.args.lengths.rest) c.args.areas s.now.bytes in
     let inside = c.requires.inside in
-    let one = first_leaves c.args.areas (21 + c.args.lengths.images + c.args.lengths.rest) s t c.requires.inside (c.put_first_area.ensures.leaves k) in
+    let one = first_leaves c.args.areas (front_size + c.args.lengths.images + c.args.lengths.rest) s t c.requires.inside (c.put_first_area.ensures.leaves k) in
     areas_leave c.args.areas complete s u (second_leaves c.args.areas s t u (omega arith) one (rw c.area_start.ensures at (c.put_piece.ensures.leaves k)))
 
 pub returns-in_err-sync-clause-leaves : goal.returns-in_err-sync-clause-leaves
@@ -48,7 +48,7 @@ returns-in_err-sync-clause-leaves g c k =
     let v = g.D.Disk.state c.sync.new.self in
     let complete = with_areas ((area_front c.args.lengths.cut ++ flat_map (λ image. image.items) c.args.images.now) ++ zeros c.args.lengths.rest) c.args.areas s.now.bytes in
     let inside = c.requires.inside in
-    let one = first_leaves c.args.areas (21 + c.args.lengths.images + c.args.lengths.rest) s t c.requires.inside (c.put_first_area.ensures.leaves k) in
+    let one = first_leaves c.args.areas (front_size + c.args.lengths.images + c.args.lengths.rest) s t c.requires.inside (c.put_first_area.ensures.leaves k) in
     let two = second_leaves c.args.areas s t u (omega arith) one (rw c.area_start.ensures at (c.put_piece.ensures.leaves k)) in
     areas_leave c.args.areas complete s v
     (sync_leaves c.sync.result s u v (ButFor c.args.areas.first (2 * c.args.areas.length) s.now) two (c.sync.ensures.goes k) (c.sync.ensures.after k) (c.sync.ensures.failed k))
@@ -62,7 +62,7 @@ returns-clause-leaves g c k =
     let w = g.D.Disk.state c.write_through.new.disk in
     let written_first = (area_front c.args.lengths.cut ++ flat_map (λ image. image.items) c.args.images.now) ++ zeros c.args.lengths.rest in
     let inside = c.requires.inside in
-    let one = first_leaves c.args.areas (21 + c.args.lengths.images + c.args.lengths.rest) s t c.requires.inside (c.put_first_area.ensures.leaves k) in
+    let one = first_leaves c.args.areas (front_size + c.args.lengths.images + c.args.lengths.rest) s t c.requires.inside (c.put_first_area.ensures.leaves k) in
     let two = second_leaves c.args.areas s t u (omega arith) one (rw c.area_start.ensures at (c.put_piece.ensures.leaves k)) in
     head_leaves written_first c.args.head.now c.args.areas s t u v w c.requires.head (c.in_ok-put_first_area.ensures.put k) (rw c.area_start.ensures at (c.in_ok-put_piece.ensures.put k)) (c.in_ok-sync.ensures.after k)
     (sync_leaves c.sync.result s u v (ButFor c.args.areas.first (2 * c.args.areas.length) s.now) two (c.sync.ensures.goes k) (c.sync.ensures.after k) (c.sync.ensures.failed k))

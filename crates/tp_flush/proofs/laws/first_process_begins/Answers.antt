@@ -5,7 +5,7 @@ use Rattle.tp_law_device.specs.FormattedWorld.{formatted_world}
 use Rattle.tp_flush.proofs.laws.first_process_begins.Goals as goal
 
 pub returns : goal.returns
-returns c = λ t areas images start bytes W left may. record {
-  reached = record { first = formatted_world start bytes; events = []; formatted = formatted_starts t414 t areas images start bytes W; run = refl };
+returns c = λ t areas form images start bytes W left may. record {
+  reached = record { first = formatted_world start bytes; events = []; formatted = formatted_starts t414 t areas form images start bytes W; run = refl };
   may = may;
 }

@@ -1,6 +1,4 @@
 use Rattle.std.proofs.Common.{◌++◌, ap, ◌∙◌, arith, length, length-take}
-use Rattle.std.specs.Prelude.{map, take}
-use Rattle.tp_model.specs.Head.{end_number, numbers_bytes}
 use Rattle.tp_net.proofs.Topologies.{has_shape, end_number-bound}
 use Rattle.tp_law_device.proofs.Heads.{keeps_nodes}
 use Rattle.tp_layout.proofs.HeadBytes.{head_bytes-put, numbers_low, numbers_room}

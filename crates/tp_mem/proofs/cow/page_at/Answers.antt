@@ -1,15 +1,16 @@
 use Rattle.std.proofs.Common.{◌*◌, length, take, drop, sym, ap, ◌∙◌, arith}
 use Rattle.std.proofs.lemmas.List.{length-drop}
+use Rattle.tp_model.specs.declared.limits.TheConstants.{PAGE_BYTES}
 use Rattle.tp_mem.proofs.Copies.{page_of-take, length-page_of, take_past}
 use Rattle.tp_mem.proofs.cow.page_at.Goals as goal
 
 pub returns-clause-value : goal.returns-clause-value
 returns-clause-value c =
     let page = c.args.page in let live = c.args.live.now in
-    c.in-Some.ensures.cases.same ∙ ap (take 1024) (take_past _ (drop (1024 * page) live) (omega (arith, length-drop (1024 * page) live))) ∙ sym (page_of-take live page)
+    c.in-Some.ensures.cases.same ∙ ap (take PAGE_BYTES) (take_past _ (drop (PAGE_BYTES * page) live) (omega (arith, length-drop (PAGE_BYTES * page) live))) ∙ sym (page_of-take live page)
 
 pub returns-clause-len : goal.returns-clause-len
 returns-clause-len c =
     let page = c.args.page in let live = c.args.live.now in
-    ap length (c.in-Some.ensures.cases.same ∙ ap (take 1024) (take_past _ (drop (1024 * page) live) (omega (arith, length-drop (1024 * page) live))) ∙ sym (page_of-take live page))
+    ap length (c.in-Some.ensures.cases.same ∙ ap (take PAGE_BYTES) (take_past _ (drop (PAGE_BYTES * page) live) (omega (arith, length-drop (PAGE_BYTES * page) live))) ∙ sym (page_of-take live page))
     ∙ length-page_of live page c.requires

@@ -1,11 +1,12 @@
 use Rattle.std.proofs.Common.{◌/◌, refl}
 use Rattle.tp_model.specs.SharedPages.{word_ranges, touches}
 use Rattle.std.specs.List.{list_any}
+use Rattle.tp_model.specs.declared.limits.TheConstants.{PAGE_BYTES}
 use Rattle.tp_mem.proofs.Touches.{or_false, words_alone}
 use Rattle.tp_mem.proofs.touch.one_page.Goals as goal
 
 pub returns-then-have_page-clause-alone : goal.returns-then-have_page-clause-alone
 returns-then-have_page-clause-alone c other differs =
-    let page = c.in_ok-page.field-0 / 1024 in
+    let page = c.in_ok-page.field-0 / PAGE_BYTES in
     or_false (touches other c.args.first) (touches other c.args.block) (list_any (touches other) (word_ranges c.args.words.now))
     (c.if-keeps_to.ensures refl other differs) (c.if-keeps_to-2.ensures refl other differs) (words_alone c.args.words.now page other (c.if-have_page.ensures refl) differs)

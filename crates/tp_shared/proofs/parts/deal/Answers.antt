@@ -28,6 +28,7 @@ loop-node-preserved c =
       recorded = λ some. agrees.recorded (subst IsSome (ap (λ (a : Agreement). a.frozen) shows) some);
       kept = λ here there h t. agrees.kept here there (ap (λ (a : Agreement). a.frozen) (sym shows) ∙ h) t;
       reserved = c.requires.free count turn.0 ∙ ap (λ (a : Agreement). Some a.reserved) (sym shows);
+      received = λ takes given. let none = ap (λ (a : Agreement). a.takes) (sym shows) ∙ given in cc;
       flag = c.is_frozen-frozen.ensures ∙ ap (λ (a : Agreement). is_some a.frozen) (sym shows);
     })
     (record { there = omega arith; named = sym c.ends_of-seal.ensures.names; shows = record { shown = c.ends_of-seal.ensures.key; image = agrees.image } }))

@@ -1,6 +1,5 @@
-use Rattle.std.proofs.Common.{◌≡◌, length, Some}
-use Rattle.std.specs.Option.{ForSome}
+use Rattle.std.proofs.Common.{◌≡◌, Some}
 use Rattle.tp_tests_gate.proofs.team.make_turns.Given as goal
 
 abbrev pub invariant-loop : goal.invariant-loop
-invariant-loop g l = (l.seat.hand ≡ Some l.net.queue) × ForSome l.entries (λ count. count ≡ length l.seat.slips)
+invariant-loop g l = l.seat.hand ≡ Some l.net.queue

@@ -1,9 +1,13 @@
-use Rattle.std.proofs.Common.{rules}
+use Rattle.std.proofs.Common.{rules, refl}
 use Rattle.tp_flush.proofs.Goings.{goes_still, goes_then, tried_then, went_still, went_then}
 use Rattle.tp_flush.proofs.flusher.Flusher.copy_images.Goals as goal
 
 pub loop-node-init : goal.loop-node-init
-loop-node-init g c = record { went = went_still c.args.self.now c.requires.rests; goes = goes_still g.D.Disk.keeps g.J.Naming.formatted g.J.Naming.before c.args.self.now c.known.ensures.disk }
+loop-node-init g c = record {
+  went = went_still c.args.self.now c.requires.rests;
+  goes = goes_still g.D.Disk.keeps g.J.Naming.formatted g.J.Naming.before c.args.self.now c.known.ensures.disk;
+  place = refl;
+}
 
 pub loop-node-preserved : goal.loop-node-preserved
 loop-node-preserved g c =
@@ -11,6 +15,7 @@ loop-node-preserved g c =
     record {
       went = went_then c.args.self.now c.loop-node.self c.copy_node.new.self I.went c.in_ok-copy_node.ensures.tried;
       goes = goes_then g.D.Disk.keeps g.J.Naming.formatted g.J.Naming.before c.args.self.now c.loop-node.self c.copy_node.new.self I.goes c.copy_node.ensures.goes;
+      place = c.image_behind-image.ensures;
     }
 
 pub copy_node-requires-clause-rests : goal.copy_node-requires-clause-rests
@@ -32,3 +37,6 @@ returns-clause-tried g c = c.loop-node.invariant.went
 
 pub returns-clause-goes : goal.returns-clause-goes
 returns-clause-goes g c = c.loop-node.invariant.goes
+
+pub copy_node-requires-clause-image : goal.copy_node-requires-clause-image
+copy_node-requires-clause-image g c = c.loop-node.invariant.place

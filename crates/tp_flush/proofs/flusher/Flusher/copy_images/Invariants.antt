@@ -1,3 +1,5 @@
+use Rattle.std.proofs.Common.{◌≡◌}
+use Rattle.tp_layout.specs.Pieces.{piece_place}
 use Rattle.tp_flush.specs.Flushing.{Goes}
 use Rattle.tp_flush.specs.Ends.{Went}
 use Rattle.tp_flush.proofs.flusher.Flusher.copy_images.Given as goal
@@ -6,4 +8,5 @@ abbrev pub invariant-loop-node : goal.invariant-loop-node
 invariant-loop-node g l = record {
   went : Went l.fn.self l.self;
   goes : Goes g.D.Disk.keeps g.J.Naming.formatted g.J.Naming.before l.fn.self l.self;
+  place : l.image ≡ piece_place l.self.topology l.node 0;
 }

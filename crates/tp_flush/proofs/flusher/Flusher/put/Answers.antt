@@ -1,16 +1,16 @@
-use Rattle.std.proofs.Common.{◌≡◌, ◌+◌, ◌<◌, ◌≤◌, [], ◌∷◌, None, false, get_or, length, refl, sym, subst, ap, ◌∙◌, ℕ, true, arith, IfOk}
+use Rattle.std.proofs.Common.{◌≡◌, ◌+◌, ◌<◌, ◌≤◌, [], ◌∷◌, None, false, get_or, length, refl, sym, subst, ap, ◌∙◌, ℕ, true, arith, IfOk, OnErr, OnOk}
 use Rattle.std.specs.Prelude.{Ok}
 use Rattle.tp_model.specs.NodeState.{NodeState}
 use Rattle.tp_model.specs.Node.{t414}
-use Rattle.tp_model.specs.Disk.{Moment}
+use Rattle.tp_model.specs.Disk.{IsWithin, Moment}
 use Rattle.tp_model.specs.DiskHistory.{State}
 use Rattle.tp_model.specs.DeviceAreas.{device_areas}
 use Rattle.tp_model.specs.Opening.{verdict}
 use Rattle.tp_model.specs.Runs.{World}
 use Rattle.tp_model.specs.Walks.{Walks}
-use Rattle.tp_model.specs.StoreCalls.{Called, put_calls}
+use Rattle.tp_model.specs.StoreCalls.{Broke, Called, put_calls}
 use Rattle.tp_model.specs.WriteOrder.{Resting}
-use Rattle.tp_area.specs.Other.{OtherIsClosed, PutBehind, other_gate, put_refusal}
+use Rattle.tp_area.specs.Other.{OtherIsClosed, PutBehind, other_gate}
 use Rattle.tp_layout.specs.Pieces.{piece_length, piece_place}
 use Rattle.tp_shared.specs.Told.{IsFirst}
 use Rattle.tp_area.specs.Tails.{content_beside}
@@ -25,7 +25,7 @@ use Rattle.tp_flush.proofs.Devices.{piece_head, put_device}
 use Rattle.tp_flush.proofs.Beside.{put_content}
 use Rattle.tp_area.specs.declared.place.Place.{Place}
 use Rattle.tp_model.specs.Disk.{written}
-use Rattle.tp_flush.proofs.Puts.{if_answered, piece_inside, Answered, after_put, on_ok, on_ok_same, piece_fits, piece_walks, put_answered, put_keeps, put_known, put_net, put_stored, put_tried, told_put}
+use Rattle.tp_flush.proofs.Puts.{if_answered, piece_inside, Answered, after_put, on_ok, on_ok_same, piece_walks, place_from, put_answered, put_keeps, put_known, put_net, put_stored, put_tried, told_put}
 use Rattle.tp_flush.proofs.Forms.{holds_at}
 use Rattle.tp_flush.proofs.flusher.Flusher.put.Given as given
 use Rattle.tp_flush.proofs.flusher.Flusher.put.Goals as goal
@@ -36,38 +36,42 @@ resting g c = ap (λ (v : Flushing). v.world.at) c.self.view_is ∙ c.requires.r
 unbroken : (g : given.Over) (c : goal.After-answer_of g) → c.self.inside.parts.store.broken ≡ false
 unbroken g c = rests_unbroken c.self.inside.parts.store.broken (sym c.self.invariant.3.at ∙ resting g c)
 
-none : (g : given.Over) (c : goal.After-answer_of g)
-    → put_refusal c.self.inside.parts.store.broken c.self.inside.parts.store.place (piece_place c.self.inside.parts.topology c.args.node c.args.piece + piece_length c.args.piece) ≡ None
-none g c =
-    let p = c.self.inside.parts in
-    piece_fits p.store.broken p.store.place p.topology c.args.node c.args.piece (unbroken g c) c.self.invariant.4.roomy
-    (subst (λ (v : Flushing). c.args.node < length v.topology.pages) (sym c.self.view_is) c.requires.node)
-    (subst (λ (v : Flushing). c.args.piece ≤ get_or v.topology.pages c.args.node 0) (sym c.self.view_is) c.requires.piece)
+at_is : (g : given.Over) (c : goal.After-answer_of g) → c.args.image + c.place_in_image.result ≡ piece_place c.self.inside.parts.topology c.args.node c.args.piece
+at_is g c =
+    place_from c.self.inside.parts.topology c.args.node c.args.piece c.args.image c.place_in_image.result
+    (subst (λ (v : Flushing). c.args.image ≡ piece_place v.topology c.args.node 0) (sym c.self.view_is) c.requires.image) c.place_in_image.ensures.value
 
 answered : (g : given.Over) (c : goal.After-answer_of g)
-    → Answered c.put_piece-done.result c.put_piece-done.new.self.broken (g.D.Disk.failures_of c.self.inside.parts.store.disk) (g.D.Disk.failures_of c.put_piece-done.new.self.disk)
+    → Answered c.put_at-done.result c.put_at-done.new.self.broken (g.D.Disk.failures_of c.self.inside.parts.store.disk) (g.D.Disk.failures_of c.put_at-done.new.self.disk)
 answered g c =
-    let a = c.put_piece-done in
-    put_answered a.result a.new.self.broken a.new.self.filled (g.D.Disk.failures_of c.self.inside.parts.store.disk) (g.D.Disk.failures_of a.new.self.disk) a.ensures.done (a.ensures.failed (none g c))
+    let a = c.put_at-done in
+    put_answered a.result a.new.self.broken a.new.self.filled (g.D.Disk.failures_of c.self.inside.parts.store.disk) (g.D.Disk.failures_of a.new.self.disk) a.ensures.done (a.ensures.failed (unbroken g c))
+
+put_to : (g : given.Over) (c : goal.After-answer_of g) → g.D.Disk.keeps
+    → OnOk c.put_at-done.result (PutBehind c.self.inside.parts.store.place (piece_place c.self.inside.parts.topology c.args.node c.args.piece) c.args.bytes.now (g.D.Disk.state c.self.inside.parts.store.disk) (g.D.Disk.state c.put_at-done.new.self.disk))
+put_to g c k =
+    subst (λ at. OnOk c.put_at-done.result (PutBehind c.self.inside.parts.store.place at c.args.bytes.now (g.D.Disk.state c.self.inside.parts.store.disk) (g.D.Disk.state c.put_at-done.new.self.disk))) (at_is g c)
+    (c.put_at-done.ensures.put k)
 
 walked : (g : given.Over) (c : goal.After-answer_of g) → g.D.Disk.keeps → Began g.J.Naming.formatted g.J.Naming.before c.self.inside.parts.whole.known.opened
     → Walks t414 device_areas c.self.inside.parts.whole.known.world
-    (after_put c.put_piece-done.new.self.broken c.self.inside.parts.whole.known.world (g.D.Disk.state c.put_piece-done.new.self.disk).now)
-    (g.D.Disk.state c.self.inside.parts.store.disk) (g.D.Disk.state c.put_piece-done.new.self.disk)
+    (after_put c.put_at-done.new.self.broken c.self.inside.parts.whole.known.world (g.D.Disk.state c.put_at-done.new.self.disk).now)
+    (g.D.Disk.state c.self.inside.parts.store.disk) (g.D.Disk.state c.put_at-done.new.self.disk)
 walked g c k began =
     let p = c.self.inside.parts in
     let w : World NodeState = p.whole.known.world in
-    let a = c.put_piece-done in
+    let a = c.put_at-done in
     let s : State = g.D.Disk.state p.store.disk in
     let new : State = g.D.Disk.state a.new.self.disk in
     let at = piece_place p.topology c.args.node c.args.piece in
     let K = c.self.invariant.3 in
     let o = opens g.J.Naming.formatted w (K.reached k began) in
     piece_walks w s new p.store.place (resting g c) (K.disk k) o.0 o.1 (other_gate p.store.place + 1 + at) c.args.bytes.now
-    (a.ensures.asked k (none g c) o.0 (subst (λ (m : Moment). verdict m.bytes ≡ Ok o.0) (K.disk k) o.1))
+    (subst (λ n. IsWithin (device_areas.spare s.now.bytes) (other_gate p.store.place + 1 + n, length c.args.bytes.now)) (at_is g c)
+    (a.ensures.asked k (unbroken g c) o.0 (subst (λ (m : Moment). verdict m.bytes ≡ Ok o.0) (K.disk k) o.1)))
     a.result a.new.self.broken (g.D.Disk.failures_of p.store.disk) (g.D.Disk.failures_of a.new.self.disk) (answered g c)
-    (on_ok a.result (PutBehind p.store.place at c.args.bytes.now s new) (Called (put_calls ((other_gate p.store.place + 1 + at, c.args.bytes.now) ∷ [])) s new) (λ P. P.called) (a.ensures.put k))
-    (a.ensures.broke k (none g c))
+    (on_ok a.result (PutBehind p.store.place at c.args.bytes.now s new) (Called (put_calls ((other_gate p.store.place + 1 + at, c.args.bytes.now) ∷ [])) s new) (λ P. P.called) (put_to g c k))
+    (subst (λ n. OnErr a.result (Broke (put_calls ((other_gate p.store.place + 1 + n, c.args.bytes.now) ∷ [])) s new)) (at_is g c) (a.ensures.broke k (unbroken g c)))
 
 inside : (g : given.Over) (c : goal.After-answer_of g) → piece_place c.self.inside.parts.topology c.args.node c.args.piece + piece_length c.args.piece < c.self.inside.parts.store.place.areas.length
 inside g c =
@@ -76,10 +80,20 @@ inside g c =
     (subst (λ (v : Flushing). c.args.node < length v.topology.pages) (sym c.self.view_is) c.requires.node)
     (subst (λ (v : Flushing). c.args.piece ≤ get_or v.topology.pages c.args.node 0) (sym c.self.view_is) c.requires.piece)
 
+pub put_at-done-requires-clause-inside : goal.put_at-done-requires-clause-inside
+put_at-done-requires-clause-inside g c =
+    let p = c.self.inside.parts in
+    let fits = piece_inside p.topology p.store.place.areas.length c.args.node c.args.piece c.self.invariant.4.roomy
+    (subst (λ (v : Flushing). c.args.node < length v.topology.pages) (sym c.self.view_is) c.requires.node)
+    (subst (λ (v : Flushing). c.args.piece ≤ get_or v.topology.pages c.args.node 0) (sym c.self.view_is) c.requires.piece) in
+    let is = place_from p.topology c.args.node c.args.piece c.args.image c.place_in_image.result
+    (subst (λ (v : Flushing). c.args.image ≡ piece_place v.topology c.args.node 0) (sym c.self.view_is) c.requires.image) c.place_in_image.ensures.value in
+    omega (arith, fits, is, c.requires.whole)
+
 pub invariant_of-self : goal.invariant_of-self
 invariant_of-self g c =
     let p = c.self.inside.parts in
-    let a = c.put_piece-done in
+    let a = c.put_at-done in
     let s : State = g.D.Disk.state p.store.disk in
     let new : State = g.D.Disk.state a.new.self.disk in
     let K = subst (λ broken. Keeps g.D.Disk.keeps g.J.Naming.formatted g.J.Naming.before p.whole.known s p.store.place broken p.raiser.at) (unbroken g c) c.self.invariant.3 in (
@@ -92,17 +106,17 @@ invariant_of-self g c =
       subst (λ (k : Known). Copies g.D.Disk.keeps k.world.net new a.new.self.place a.new.self.broken p.topology p.progress) (sym c.of-parts.ensures)
           (subst (λ net. Copies g.D.Disk.keeps net new a.new.self.place a.new.self.broken p.topology p.progress) (sym (put_net a.new.self.broken p.whole.known.world new.now))
           (put_copies g.D.Disk.keeps p.whole.known.world.net new p.store.place a.new.self.place p.topology p.progress a.result a.new.self.broken (g.D.Disk.failures_of p.store.disk) (g.D.Disk.failures_of a.new.self.disk) c.self.invariant.4.roomy (answered g c) a.ensures.place
-          (λ k. on_ok a.result (PutBehind p.store.place (piece_place p.topology c.args.node c.args.piece) c.args.bytes.now s new) (OtherIsClosed p.store.place new) (λ P. P.closed) (a.ensures.put k))
+          (λ k. on_ok a.result (PutBehind p.store.place (piece_place p.topology c.args.node c.args.piece) c.args.bytes.now s new) (OtherIsClosed p.store.place new) (λ P. P.closed) (put_to g c k))
           (λ k. on_ok a.result (PutBehind p.store.place (piece_place p.topology c.args.node c.args.piece) c.args.bytes.now s new) ((i : ℕ) → i < length p.topology.pages → is_out p.progress i ≡ true → IsPartOut p.topology p.whole.known.world.net (content_beside p.store.place new) i (get_or p.topology.pages i 0))
           (λ P. piece_images p.topology p.whole.known.world.net p.store.place s new c.args.node c.args.piece c.args.bytes.now p.progress (omega (arith, p.store.whole, g.met.D.Disk.whole k p.store.disk)) c.self.invariant.4.roomy
           (subst (λ (v : Flushing). c.args.node < length v.topology.pages) (sym c.self.view_is) c.requires.node) (subst (λ (v : Flushing). c.args.piece ≤ get_or v.topology.pages c.args.node 0) (sym c.self.view_is) c.requires.piece)
-          c.requires.whole (subst (λ (v : Flushing). is_out v.progress c.args.node ≡ false) (sym c.self.view_is) c.requires.free) P.called (c.self.invariant.4.images k (unbroken g c))) (a.ensures.put k)))),
+          c.requires.whole (subst (λ (v : Flushing). is_out v.progress c.args.node ≡ false) (sym c.self.view_is) c.requires.free) P.called (c.self.invariant.4.images k (unbroken g c))) (put_to g c k)))),
       subst (λ (k : Known). IsOfDevice g.D.Disk.keeps g.J.Naming.room k.world new a.new.self.place a.new.self.broken p.topology) (sym c.of-parts.ensures)
           (put_device g.D.Disk.keeps g.J.Naming.room p.whole.known.world s new p.store.place a.new.self.place p.topology a.result a.new.self.broken (g.D.Disk.failures_of p.store.disk) (g.D.Disk.failures_of a.new.self.disk)
           (subst (λ broken. IsOfDevice g.D.Disk.keeps g.J.Naming.room p.whole.known.world s p.store.place broken p.topology) (unbroken g c) c.self.invariant.5) (answered g c) a.ensures.place
           (λ k. on_ok a.result (PutBehind p.store.place (piece_place p.topology c.args.node c.args.piece) c.args.bytes.now s new) (HeadSays p.topology p.store.place.areas new.now.bytes)
           (λ P. piece_head p.store.place (piece_place p.topology c.args.node c.args.piece) c.args.bytes.now s new p.topology (omega (arith, p.store.whole, g.met.D.Disk.whole k p.store.disk)) (omega (arith, inside g c, c.requires.whole)) P.called
-          (c.self.invariant.5.head k (unbroken g c))) (a.ensures.put k))),
+          (c.self.invariant.5.head k (unbroken g c))) (put_to g c k))),
       subst (λ (k : Known). g.J.Naming.first ≤ k.world.stored) (sym c.of-parts.ensures) (omega (arith, put_stored a.new.self.broken p.whole.known.world new.now, c.self.invariant.6)),
       subst (λ (k : Known). p.key.value.numbered_from ≤ k.world.stored) (sym c.of-parts.ensures) (omega (arith, put_stored a.new.self.broken p.whole.known.world new.now, c.self.invariant.7)),
       holds_at p.store.place a.new.self.place p.key.value.form (ap (λ (q : Place). q.form) a.ensures.place) c.self.invariant.8,
@@ -111,7 +125,7 @@ invariant_of-self g c =
 abbrev behind : (g : given.Over) (c : goal.After-answer_of g) → Flushing
 behind g c =
     let p = c.self.inside.parts in
-    let a = c.put_piece-done in
+    let a = c.put_at-done in
     record {
       world = c.of-parts.result.known.world;
       state = g.D.Disk.state a.new.self.disk;
@@ -140,7 +154,7 @@ before g c =
 pub returns-clause-tried : goal.returns-clause-tried
 returns-clause-tried g c =
     let p = c.self.inside.parts in
-    let a = c.put_piece-done in
+    let a = c.put_at-done in
     let new : State = g.D.Disk.state a.new.self.disk in
     subst (λ (v : Flushing). Tried c.answer_of.result v (behind g c)) c.self.view_is
     (put_tried a.result c.answer_of.result c.answer_of.ensures a.new.self.broken (before g c) (behind g c) new.now (answered g c) (resting g c) (ap (λ (k : Known). k.world) c.of-parts.ensures) a.ensures.place
@@ -149,7 +163,7 @@ returns-clause-tried g c =
 pub returns-clause-goes : goal.returns-clause-goes
 returns-clause-goes g c =
     let p = c.self.inside.parts in
-    let a = c.put_piece-done in
+    let a = c.put_at-done in
     let s : State = g.D.Disk.state p.store.disk in
     let new : State = g.D.Disk.state a.new.self.disk in
     subst (λ (v : Flushing). Goes g.D.Disk.keeps g.J.Naming.formatted g.J.Naming.before v (behind g c)) c.self.view_is (record {
@@ -160,7 +174,7 @@ returns-clause-goes g c =
 pub returns-clause-same : goal.returns-clause-same
 returns-clause-same g c =
     let p = c.self.inside.parts in
-    let a = c.put_piece-done in (
+    let a = c.put_at-done in (
       ap (λ (k : Known). k.world.net) c.of-parts.ensures ∙ put_net a.new.self.broken p.whole.known.world (g.D.Disk.state a.new.self.disk).now ∙ ap (λ (v : Flushing). v.world.net) c.self.view_is,
       ap (λ (v : Flushing). v.progress) c.self.view_is,
     )
@@ -175,7 +189,7 @@ returns-clause-room g c k =
 pub returns-clause-content : goal.returns-clause-content
 returns-clause-content g c k =
     let p = c.self.inside.parts in
-    let a = c.put_piece-done in
+    let a = c.put_at-done in
     let s : State = g.D.Disk.state p.store.disk in
     let new : State = g.D.Disk.state a.new.self.disk in
     let at = piece_place p.topology c.args.node c.args.piece in
@@ -183,4 +197,4 @@ returns-clause-content g c k =
     (if_answered a.result c.answer_of.result c.answer_of.ensures (content_beside a.new.self.place new ≡ written (content_beside p.store.place s) at c.args.bytes.now)
     (on_ok a.result (PutBehind p.store.place at c.args.bytes.now s new) (content_beside a.new.self.place new ≡ written (content_beside p.store.place s) at c.args.bytes.now)
     (λ P. ap (λ (q : Place). content_beside q new) a.ensures.place
-    ∙ put_content p.store.place at c.args.bytes.now s new (omega (arith, p.store.whole, g.met.D.Disk.whole k p.store.disk)) (omega (arith, inside g c, c.requires.whole)) P.called) (a.ensures.put k)))
+    ∙ put_content p.store.place at c.args.bytes.now s new (omega (arith, p.store.whole, g.met.D.Disk.whole k p.store.disk)) (omega (arith, inside g c, c.requires.whole)) P.called) (put_to g c k)))

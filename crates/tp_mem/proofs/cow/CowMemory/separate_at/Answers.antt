@@ -1,5 +1,6 @@
-use Rattle.std.proofs.Common.{◌≡◌, ◌∷◌, [], ◌+◌, ◌/◌, ◌<◌, ◌≤◌, ◌||◌, ℕ, List, get_or, false, ap, sym, ◌∙◌, arith}
+use Rattle.std.proofs.Common.{◌≡◌, ◌∷◌, [], ◌+◌, ◌-◌, ◌/◌, ◌<◌, ◌≤◌, ◌||◌, ℕ, List, get_or, false, ap, sym, ◌∙◌, arith}
 use Rattle.std.specs.List.{list_any}
+use Rattle.tp_model.specs.declared.limits.TheConstants.{PAGE_BYTES}
 use Rattle.tp_model.specs.SharedPages.{touches}
 use Rattle.tp_mem.specs.Copies.{Paged}
 use Rattle.tp_mem.proofs.Paged.{at_page, with_shared}
@@ -19,8 +20,8 @@ pub returns-then-not-is_shared-clause-ok : goal.returns-then-not-is_shared-claus
 returns-then-not-is_shared-clause-ok c =
     let ranges : List (ℕ × ℕ) = (c.args.at, c.args.count) ∷ (0, 0) ∷ [] in
     let same : (p : ℕ) → get_or c.deref.result.now p false ≡ get_or c.args.self.now.shared p false = λ p. ap (λ pages. get_or pages p false) c.deref.ensures.value ∙ ap (λ (m : Paged). get_or m.shared p false) c.self.view_is in
-    let here : get_or c.args.self.now.shared (c.args.at / 1024) false ≡ false = grind arith in
+    let here : get_or c.args.self.now.shared (c.args.at / PAGE_BYTES) false ≡ false = grind arith in
     with_shared c.args.self.now _ (shared_from-untouched 0 c.args.self.now.shared ranges (λ i shared.
-    let none : (p : ℕ) → c.args.at / 1024 ≤ p → p < (c.args.at + c.args.count + 1023) / 1024 → get_or c.args.self.now.shared p false ≡ false = λ p begins ends. let is : c.args.at / 1024 ≡ p = omega (arith, begins, ends, c.requires.inside) in ap (λ q. get_or c.args.self.now.shared q false) (sym is) ∙ here in
+    let none : (p : ℕ) → c.args.at / PAGE_BYTES ≤ p → p < (c.args.at + c.args.count + (PAGE_BYTES - 1)) / PAGE_BYTES → get_or c.args.self.now.shared p false ≡ false = λ p begins ends. let is : c.args.at / PAGE_BYTES ≡ p = omega (arith, begins, ends, c.requires.inside) in ap (λ q. get_or c.args.self.now.shared q false) (sym is) ∙ here in
     let first = range_untouched c.args.self.now.shared c.args.at c.args.count i none shared in
     ap (λ p. list_any (touches p) ranges) (zero_plus i) ∙ ap (λ b. b || list_any (touches i) ((0, 0) ∷ [])) first))

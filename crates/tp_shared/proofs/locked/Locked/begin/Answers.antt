@@ -1,15 +1,16 @@
-use Rattle.std.proofs.Common.{◌∙◌, length, ap, sym, subst, arith, Some}
-use Rattle.std.specs.Prelude.{is_ok, is_some}
+use Rattle.std.proofs.Common.{◌∙◌, ◌<◌, length, ap, sym, subst, arith, Some}
+use Rattle.std.specs.Prelude.{is_some}
 use Rattle.std.proofs.lemmas.List.{length-set}
 use Rattle.tp_turn.specs.Moments.{IsNodeOf, moment}
-use Rattle.tp_turn.specs.Stages.{Opens}
-use Rattle.tp_shared.specs.Agreement.{Agreement}
-use Rattle.tp_shared.specs.Entries.{TakesOf}
+use Rattle.tp_turn.specs.Opened.{OpensIn}
+use Rattle.tp_shared.specs.Agreement.{Agreement, answered_with}
+use Rattle.tp_shared.specs.Entries.{OpenedEntries}
 use Rattle.tp_shared.specs.Seals.{Stage}
 use Rattle.tp_shared.specs.Gains.{Noted}
 use Rattle.tp_shared.specs.TurnsMade.{IsBookOf}
-use Rattle.tp_shared.proofs.Holding.{acted_like, takes_of_like}
-use Rattle.tp_shared.proofs.Sealing.{node_of_seal, sealed_after, noted_by}
+use Rattle.tp_shared.specs.declared.seal.NodeSeal.{NodeSeal}
+use Rattle.tp_shared.proofs.Holding.{acted_like, answered_form, opened_like}
+use Rattle.tp_shared.proofs.Sealing.{answered_seal, answered_shows, node_of_seal, noted_by, reserved_after, sealed_after}
 use Rattle.tp_shared.proofs.Thawing.{thaws_set, thawed_at, thawed_recorded}
 use Rattle.tp_shared.proofs.Writing.{as_many}
 use Rattle.tp_shared.proofs.Keeping.{seal_at, acted_written}
@@ -55,38 +56,46 @@ pub invariant_of-self : goal.invariant_of-self
 invariant_of-self g c =
     let b = c.self.inside.book in
     let inv = c.self.invariant in
+    let seals = c.self.inside.seals.items in
     let here = c.index_mut-here.result.now in
     let at = seal_at inv c.args.number here c.requires.there c.index_mut-here.ensures.value in
     let S = inv.sealed c.args.number here at in
     let new = c.begin-done.new.book in
     let node = c.begin-done.new.node in
-    let done = is_ok c.begin-done.result in
-    let Are = TakesOf b.state.start c.args.number c.begin-done.result in
+    let done = c.begin-done.result in
+    let Are = OpenedEntries b.state.start c.args.number done in
+    let a = answered_with new c.args.number node done in
     let A = c.begin-done.ensures.acted in
-    acted_written inv c.entries-before.result.now c.entries-before.ensures.entries c.entries-before.ensures.numbers A.grown (ap length A.runs ∙ length-set b.runs c.args.number _) (length-set c.self.inside.seals.items c.args.number _)
-    (sealed_after Are g.J.Naming.node c.self.inside.seals.items b new c.args.number node done
-    (record { frozen = c.is_frozen-here.result; seal = c.turn.new.seal }) inv.sealed A c.begin-done.ensures.is
-    (omega (arith, inv.seal_count, c.requires.there)) (c.turn.ensures.names.0 ∙ c.agree.ensures.names.0 ∙ S.named)
-    (ap (λ x. x.state) c.turn.ensures.seal ∙ c.with-now.ensures ∙ ap (λ r. record { node = node.live; frozen = node.frozen; reserved = r }) c.is_ok.ensures.value)
-    c.is_frozen-here.ensures)
-    (thaws_set c.self.inside.told.value c.self.inside.seals.items c.args.number (record { frozen = c.is_frozen-here.result; seal = c.turn.new.seal }) inv.thawed
+    let now : NodeSeal = record { frozen = c.is_frozen-here.result; seal = c.turn.new.seal } in
+    let below : c.args.number < length c.self.inside.seals.items = (let count = inv.seal_count in omega (arith, count, c.requires.there)) in
+    acted_written inv c.entries-before.result.now c.entries-before.ensures.entries c.entries-before.ensures.numbers A.grown (ap length A.runs ∙ length-set b.runs c.args.number _) (length-set seals c.args.number _)
+    (sealed_after Are g.J.Naming.node seals b new c.args.number a inv.sealed A below now
+    (answered_seal (g.J.Naming.node c.args.number) now new c.args.number node done c.begin-done.ensures.is
+    (λ takes given. A.grown.form ∙ answered_form b.form c.args.number done (moment b c.args.place.now.node) (moment new node) c.begin-done.ensures.opens takes given)
+    (reserved_after Are g.J.Naming.node seals b new c.args.number a inv.sealed A below)
+    (c.turn.ensures.names.0 ∙ c.agree.ensures.names.0 ∙ S.named) (ap (λ x. x.state) c.turn.ensures.seal ∙ c.answered-now.ensures) c.is_frozen-here.ensures))
+    (thaws_set c.self.inside.told.value seals c.args.number now inv.thawed
     (λ thawed.
     c.is_frozen-here.ensures
-    ∙ ap is_some (c.begin-done.ensures.stays (thawed_recorded g.J.Naming.before g.J.Naming.first c.self.inside.told.value c.self.inside.seals.items (record { book = b; all = c.self.inside.roll.items; numbered_from = c.self.inside.told.value.numbered_from }) thawed inv.since c.args.number))
+    ∙ ap is_some (c.begin-done.ensures.stays (thawed_recorded g.J.Naming.before g.J.Naming.first c.self.inside.told.value seals (record { book = b; all = c.self.inside.roll.items; numbered_from = c.self.inside.told.value.numbered_from }) thawed inv.since c.args.number))
     ∙ ap (λ (x : Agreement). is_some x.frozen) (sym (ap (λ x. x.state) c.agree.ensures.agreed ∙ c.requires.shows.shown))
     ∙ sym S.flag
-    ∙ thawed_at c.self.inside.told.value c.self.inside.seals.items c.args.number here thawed at))
+    ∙ thawed_at c.self.inside.told.value seals c.args.number here thawed at))
     c.write_new.ensures.names.0 c.write_new.ensures.first c.write_new.ensures.roll
+
+pub returns-clause-shows : goal.returns-clause-shows
+returns-clause-shows g c =
+    answered_shows (record { node = c.begin-done.new.node; key = c.turn.new.key }) c.begin-done.new.book c.args.number c.begin-done.result (ap (λ x. x.state) c.turn.ensures.key ∙ c.answered-now.ensures) c.begin-done.ensures.is
 
 pub returns-clause-noted : goal.returns-clause-noted
 returns-clause-noted g c =
     let b = c.self.inside.book in
     let new = c.begin-done.new.book in
     let inv = c.self.invariant in
-    let Are = TakesOf g.J.Naming.start c.args.number c.begin-done.result in
-    let node = c.begin-done.new.node in
-    let A = acted_like (TakesOf b.state.start c.args.number c.begin-done.result) Are c.args.number (record { node = node.live; frozen = node.frozen; reserved = is_ok c.begin-done.result }) b new
-    (λ es. takes_of_like g.J.Naming.start b.state.start c.args.number c.begin-done.result es inv.wires_are inv.count_is) c.begin-done.ensures.acted in
+    let done = c.begin-done.result in
+    let Are = OpenedEntries g.J.Naming.start c.args.number done in
+    let A = acted_like (OpenedEntries b.state.start c.args.number done) Are c.args.number (answered_with new c.args.number c.begin-done.new.node done) b new
+    (λ es. opened_like g.J.Naming.start b.state.start c.args.number done es inv.wires_are inv.count_is) c.begin-done.ensures.acted in
     let many = as_many c.entries-before.result.now b.state.entries c.entries-before.ensures.entries in
     let old_stage : Stage = record { book = b; all = c.self.inside.roll.items; numbered_from = c.self.inside.told.value.numbered_from } in
     let new_stage : Stage = record { book = new; all = c.write_new.new.roll.items; numbered_from = c.self.inside.told.value.numbered_from } in
@@ -109,7 +118,7 @@ returns-clause-is g c =
 
 pub returns-clause-opens : goal.returns-clause-opens
 returns-clause-opens g c =
-    subst (λ stage. Opens c.args.number c.begin-done.result (moment stage.book c.args.place.now.node) (moment c.begin-done.new.book c.begin-done.new.node)) c.self.view_is c.begin-done.ensures.opens
+    subst (λ stage. OpensIn stage.book.form c.args.number c.begin-done.result (moment stage.book c.args.place.now.node) (moment c.begin-done.new.book c.begin-done.new.node)) c.self.view_is c.begin-done.ensures.opens
 
 pub returns-clause-of : goal.returns-clause-of
 returns-clause-of g c = subst (λ stage. IsBookOf g.J.Naming.start stage.book) c.self.view_is (record { wires = c.self.invariant.wires_are; nodes = c.self.invariant.count_is })

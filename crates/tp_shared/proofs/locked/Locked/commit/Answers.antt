@@ -1,15 +1,18 @@
-use Rattle.std.proofs.Common.{◌≡◌, ◌∙◌, List, [], length, ap, sym, subst, arith, Some}
-use Rattle.std.specs.Prelude.{false, is_some}
+use Rattle.std.proofs.Common.{◌<◌, ◌≡◌, ◌∙◌, List, [], length, ap, refl, sym, subst, arith, Some}
+use Rattle.std.specs.Prelude.{is_some}
 use Rattle.std.proofs.lemmas.List.{length-set}
 use Rattle.tp_model.specs.declared.entry.Entry.{Entry}
 use Rattle.tp_node.specs.NodeContents.{NodeContents}
-use Rattle.tp_book.specs.Acts.{run_acts, run_entries}
 use Rattle.tp_book.specs.Calls.{without_run}
 use Rattle.tp_turn.specs.Moments.{Added}
+use Rattle.tp_turn.specs.Opened.{opened_acts, opened_entries}
+use Rattle.tp_turn.proofs.Opening.{turned_by}
+use Rattle.tp_shared.specs.Agreement.{Agreement, at_rest}
 use Rattle.tp_shared.specs.Seals.{Stage}
 use Rattle.tp_shared.specs.Gains.{Noted}
 use Rattle.tp_shared.specs.TurnsMade.{IsBookOf}
-use Rattle.tp_shared.proofs.Sealing.{node_of_seal, sealed_after, noted_by}
+use Rattle.tp_shared.specs.declared.seal.NodeSeal.{NodeSeal}
+use Rattle.tp_shared.proofs.Sealing.{node_of_seal, noted_by, reserved_after, rest_seal, sealed_after}
 use Rattle.tp_shared.proofs.Thawing.{thaws_set, thawed_at}
 use Rattle.tp_shared.proofs.Writing.{as_many}
 use Rattle.tp_shared.proofs.Keeping.{seal_at, acted_written}
@@ -33,48 +36,49 @@ turn-requires g c =
 
 pub commit-ran-requires-clause-reserved : goal.commit-ran-requires-clause-reserved
 commit-ran-requires-clause-reserved g c =
-    let b = c.self.inside.book in
     let inv = c.self.invariant in
     let here = c.index_mut-here.result.now in
     let at = seal_at inv c.args.number here c.requires.there c.index_mut-here.ensures.value in
     let S = inv.sealed c.args.number here at in
-    S.reserved ∙ ap Some (ap (λ x. x.state.reserved) c.agree.ensures.agreed ∙ c.requires.reserved)
+    S.reserved ∙ ap (λ (x : Agreement). Some x.reserved) (ap (λ x. x.state) c.agree.ensures.agreed ∙ c.requires.ran.shown)
 
-pub commit-ran-requires-clause-ran : goal.commit-ran-requires-clause-ran
-commit-ran-requires-clause-ran g c =
+pub commit-ran-requires-clause-turned : goal.commit-ran-requires-clause-turned
+commit-ran-requires-clause-turned g c =
     let b = c.self.inside.book in
     let inv = c.self.invariant in
     let here = c.index_mut-here.result.now in
     let at = seal_at inv c.args.number here c.requires.there c.index_mut-here.ensures.value in
     let S = inv.sealed c.args.number here at in
-    let before : NodeContents = record { live = c.args.place.now.key.value.state.node; frozen = c.args.place.now.key.value.state.frozen; shared = []; spare = 0 } in
-    record {
-      before = before;
-      is = node_of_seal (g.J.Naming.node c.args.number) here.seal.value.state here.frozen here.seal.name b c.args.number before S
-          (ap (λ x. x.state.node) c.agree.ensures.agreed) (ap (λ x. x.state.frozen) c.agree.ensures.agreed) c.requires.was;
-      few = c.requires.few;
-      made = c.requires.ran;
-      kept = c.requires.kept;
-    }
+    let R = c.requires.ran in
+    let node = c.args.place.now.node in
+    let shown = ap (λ x. x.state) c.agree.ensures.agreed ∙ R.shown in
+    let before : NodeContents = record { live = R.before; frozen = node.frozen; shared = []; spare = 0 } in
+    let ahead : NodeContents = record { live = R.ahead; frozen = node.frozen; shared = []; spare = 0 } in
+    turned_by b c.args.number c.args.opened c.args.stretch.ran.count c.args.stretch.sent.items before ahead node
+    (node_of_seal (g.J.Naming.node c.args.number) here.seal.value.state here.frozen here.seal.name b c.args.number before S (ap (λ (x : Agreement). x.node) shown) (ap (λ (x : Agreement). x.frozen) shown) R.was)
+    (λ takes given. let W = S.received takes (ap (λ (x : Agreement). x.takes) shown ∙ given) in (W.form, W.fronts))
+    R.took refl R.image c.requires.few R.made refl
 
 pub invariant_of-self : goal.invariant_of-self
 invariant_of-self g c =
     let b = c.self.inside.book in
     let inv = c.self.invariant in
+    let seals = c.self.inside.seals.items in
     let here = c.index_mut-here.result.now in
     let at = seal_at inv c.args.number here c.requires.there c.index_mut-here.ensures.value in
     let S = inv.sealed c.args.number here at in
     let new = c.commit-ran.new.book in
     let node = c.args.place.now.node in
-    let Are = (λ (entries : List Entry). entries ≡ run_entries c.args.number c.args.stretch.ran.count) in
+    let Are = (λ (entries : List Entry). entries ≡ opened_entries c.args.number c.args.opened c.args.stretch.ran.count) in
     let A = c.commit-ran.ensures.acted in
-    let flag = S.flag ∙ ap (λ x. is_some x.state.frozen) c.agree.ensures.agreed ∙ ap is_some (sym c.requires.kept) in
-    acted_written inv c.entries-before.result.now c.entries-before.ensures.entries c.entries-before.ensures.numbers A.grown (ap length A.runs ∙ length-set b.runs c.args.number _) (length-set c.self.inside.seals.items c.args.number _)
-    (sealed_after Are g.J.Naming.node c.self.inside.seals.items b new c.args.number node false
-    (record { frozen = here.frozen; seal = c.turn.new.seal }) inv.sealed A c.commit-ran.ensures.is
-    (omega (arith, inv.seal_count, c.requires.there)) (c.turn.ensures.names.0 ∙ c.agree.ensures.names.0 ∙ S.named) (ap (λ x. x.state) c.turn.ensures.seal ∙ c.free-now.ensures) flag)
-    (thaws_set c.self.inside.told.value c.self.inside.seals.items c.args.number (record { frozen = here.frozen; seal = c.turn.new.seal }) inv.thawed
-    (λ thawed. thawed_at c.self.inside.told.value c.self.inside.seals.items c.args.number here thawed at))
+    let now : NodeSeal = record { frozen = here.frozen; seal = c.turn.new.seal } in
+    let below : c.args.number < length c.self.inside.seals.items = (let count = inv.seal_count in omega (arith, count, c.requires.there)) in
+    let flag = S.flag ∙ ap (λ (x : Agreement). is_some x.frozen) (ap (λ x. x.state) c.agree.ensures.agreed ∙ c.requires.ran.shown) in
+    acted_written inv c.entries-before.result.now c.entries-before.ensures.entries c.entries-before.ensures.numbers A.grown (ap length A.runs ∙ length-set b.runs c.args.number _) (length-set seals c.args.number _)
+    (sealed_after Are g.J.Naming.node seals b new c.args.number (at_rest node) inv.sealed A below now
+    (rest_seal (g.J.Naming.node c.args.number) now new c.args.number node c.commit-ran.ensures.is (reserved_after Are g.J.Naming.node seals b new c.args.number (at_rest node) inv.sealed A below)
+    (c.turn.ensures.names.0 ∙ c.agree.ensures.names.0 ∙ S.named) (ap (λ x. x.state) c.turn.ensures.seal ∙ c.free-now.ensures) flag))
+    (thaws_set c.self.inside.told.value seals c.args.number now inv.thawed (λ thawed. thawed_at c.self.inside.told.value seals c.args.number here thawed at))
     c.write_new.ensures.names.0 c.write_new.ensures.first c.write_new.ensures.roll
 
 pub returns-clause-noted : goal.returns-clause-noted
@@ -82,7 +86,7 @@ returns-clause-noted g c =
     let b = c.self.inside.book in
     let new = c.commit-ran.new.book in
     let inv = c.self.invariant in
-    let Are = (λ (entries : List Entry). entries ≡ run_entries c.args.number c.args.stretch.ran.count) in
+    let Are = (λ (entries : List Entry). entries ≡ opened_entries c.args.number c.args.opened c.args.stretch.ran.count) in
     let many = as_many c.entries-before.result.now b.state.entries c.entries-before.ensures.entries in
     let old_stage : Stage = record { book = b; all = c.self.inside.roll.items; numbered_from = c.self.inside.told.value.numbered_from } in
     let new_stage : Stage = record { book = new; all = c.write_new.new.roll.items; numbered_from = c.self.inside.told.value.numbered_from } in
@@ -93,7 +97,7 @@ returns-clause-noted g c =
 
 pub returns-clause-added : goal.returns-clause-added
 returns-clause-added g c =
-    subst (λ stage. Added c.args.number c.args.place.now.node.live (run_acts c.args.number c.args.stretch.ran.count) (without_run stage.book c.args.number) c.commit-ran.new.book) c.self.view_is c.commit-ran.ensures.added
+    subst (λ stage. Added c.args.number c.args.place.now.node.live (opened_acts c.args.number c.args.opened c.args.stretch.ran.count) (without_run stage.book c.args.number) c.commit-ran.new.book) c.self.view_is c.commit-ran.ensures.added
 
 pub returns-clause-of : goal.returns-clause-of
 returns-clause-of g c = subst (λ stage. IsBookOf g.J.Naming.start stage.book) c.self.view_is (record { wires = c.self.invariant.wires_are; nodes = c.self.invariant.count_is })

@@ -1,13 +1,14 @@
-use Rattle.std.proofs.Common.{◌≡◌, ◌∙◌, false, List, [], length, ap, sym, subst, arith, Some}
+use Rattle.std.proofs.Common.{◌<◌, ◌≡◌, ◌∙◌, List, [], length, ap, sym, subst, arith, Some}
 use Rattle.std.specs.Prelude.{is_some}
 use Rattle.std.proofs.lemmas.List.{length-set}
 use Rattle.tp_model.specs.declared.entry.Entry.{Entry}
 use Rattle.tp_snap.specs.Needs.{is_asked}
 use Rattle.tp_turn.specs.Moments.{Done, IsNodeOf, moment}
 use Rattle.tp_turn.specs.Settled.{Records}
-use Rattle.tp_shared.specs.Agreement.{Agreement}
+use Rattle.tp_shared.specs.Agreement.{Agreement, at_rest}
 use Rattle.tp_shared.specs.TurnsMade.{IsBookOf}
-use Rattle.tp_shared.proofs.Sealing.{node_of_seal, sealed_after}
+use Rattle.tp_shared.specs.declared.seal.NodeSeal.{NodeSeal}
+use Rattle.tp_shared.proofs.Sealing.{node_of_seal, reserved_after, rest_seal, sealed_after}
 use Rattle.tp_shared.proofs.Thawing.{thaws_set, thawed_at, thawed_recorded}
 use Rattle.tp_shared.proofs.Keeping.{seal_at, acted_still}
 use Rattle.tp_shared.proofs.locked.Locked.record.Goals as goal
@@ -59,13 +60,13 @@ invariant_of-self g c =
     let node = c.record.new.node in
     let Are = λ (entries : List Entry). entries ≡ [] in
     let A = c.record.ensures.acted in
+    let now : NodeSeal = record { frozen = c.is_frozen-here.result; seal = c.turn.new.seal } in
+    let below : c.args.number < length c.self.inside.seals.items = (let count = inv.seal_count in omega (arith, count, c.requires.there)) in
     acted_still inv A.grown (ap length A.runs ∙ length-set b.runs c.args.number _) (length-set c.self.inside.seals.items c.args.number _)
-    (sealed_after Are g.J.Naming.node c.self.inside.seals.items b new c.args.number node false
-    (record { frozen = c.is_frozen-here.result; seal = c.turn.new.seal }) inv.sealed A c.record.ensures.is
-    (omega (arith, inv.seal_count, c.requires.there)) (c.turn.ensures.names.0 ∙ c.agree.ensures.names.0 ∙ S.named)
-    (ap (λ x. x.state) c.turn.ensures.seal ∙ c.free-now.ensures)
-    c.is_frozen-here.ensures)
-    (thaws_set c.self.inside.told.value c.self.inside.seals.items c.args.number (record { frozen = c.is_frozen-here.result; seal = c.turn.new.seal }) inv.thawed
+    (sealed_after Are g.J.Naming.node c.self.inside.seals.items b new c.args.number (at_rest node) inv.sealed A below now
+    (rest_seal (g.J.Naming.node c.args.number) now new c.args.number node c.record.ensures.is (reserved_after Are g.J.Naming.node c.self.inside.seals.items b new c.args.number (at_rest node) inv.sealed A below)
+    (c.turn.ensures.names.0 ∙ c.agree.ensures.names.0 ∙ S.named) (ap (λ x. x.state) c.turn.ensures.seal ∙ c.free-now.ensures) c.is_frozen-here.ensures))
+    (thaws_set c.self.inside.told.value c.self.inside.seals.items c.args.number now inv.thawed
     (λ thawed.
     c.is_frozen-here.ensures
     ∙ ap is_some (c.record.ensures.stays (thawed_recorded g.J.Naming.before g.J.Naming.first c.self.inside.told.value c.self.inside.seals.items (record { book = b; all = c.self.inside.roll.items; numbered_from = c.self.inside.told.value.numbered_from }) thawed inv.since c.args.number))

@@ -1,17 +1,25 @@
 -- A node that has recorded stays frozen as it is through the opening of its turn, or not frozen.
 use Rattle.std.proofs.Common.{◌≡◌, ℕ, zero, suc, ◌+◌, ◌*◌, Bool, true, false, cond, not, inl, inr, List, ap, ◌∙◌, Option, Some, None}
 use Rattle.std.specs.Prelude.{Result, Ok, Err}
+use Rattle.tp_model.specs.declared.form.Form.{Form}
+use Rattle.tp_model.specs.declared.form.Form.TheVariants.{Plain, Turns}
 use Rattle.tp_model.specs.Network.{back}
 use Rattle.tp_model.specs.Acts.{Act}
 use Rattle.tp_model.specs.Snapshot.{Snapshot}
 use Rattle.tp_snap.specs.Needs.{has_recorded_in, is_asked}
 use Rattle.tp_book.specs.declared.refusal.Refusal.{Refusal}
 use Rattle.tp_turn.specs.declared.left.Left.{Left}
+use Rattle.tp_turn.specs.declared.opened.Opened.{Opened}
+use Rattle.tp_turn.specs.declared.opened.Opened.TheVariants.{Apart, Whole}
+use Rattle.tp_turn.specs.declared.receiving.Taken.{Taken}
 use Rattle.tp_turn.specs.Turns.{InOrder}
 use Rattle.tp_turn.specs.Moments.{Moment}
 use Rattle.tp_turn.specs.Fronts.{AtFront, OnLine, OnWire, OnLink}
 use Rattle.tp_turn.specs.Settled.{Records, LeavesLink, Settles, StopsAt, frozen_now}
 use Rattle.tp_turn.specs.Stages.{Breaks, Opens}
+use Rattle.tp_turn.specs.Whole.{ClosesFront, Closes, EndsWhole, OpensWhole}
+use Rattle.tp_turn.specs.Opened.{OpensIn}
+use Rattle.tp_turn.proofs.Ahead.{receives_kept}
 
 order_stays : (part : ℕ → Moment → List Act → Moment → Type 0) → ((k : ℕ) (s t : Moment) (acts : List Act) → part k s acts t → t.node.frozen ≡ s.node.frozen)
     → (count : ℕ) (s t : Moment) (acts : List Act) → InOrder part count s acts t → t.node.frozen ≡ s.node.frozen
@@ -56,3 +64,30 @@ breaks_stay number e s t acts (inr D) recorded = settles_stay number s t acts D.
 pub opens_stay : (number : ℕ) (r : Result ℕ Refusal) (s t : Moment) → Opens number r s t → has_recorded_in s.book.state.snapshot number ≡ true → t.node.frozen ≡ s.node.frozen
 opens_stay number (Ok takes) s t O recorded = ap (λ (m : Moment). m.node.frozen) O.is ∙ settles_stay number s O.between O.settled.acts O.settled.did.did recorded
 opens_stay number (Err e) s t D recorded = breaks_stay number e s t D.acts D.did recorded
+
+-- ## Whole turns
+
+closes_stay : (number : ℕ) (s t : Moment) (acts : List Act) → Closes number s acts t → has_recorded_in s.book.state.snapshot number ≡ true → t.node.frozen ≡ s.node.frozen
+closes_stay number s t acts D recorded =
+    order_stays (λ link. ClosesFront number link) (λ k a b did C. ap (λ n. n.frozen) C.node) 4 D.between t D.second D.other_did ∙ records_stay number s D.between D.first D.one_did recorded
+
+ends_stay : (number : ℕ) (e : Refusal) (s t : Moment) (acts : List Act) → EndsWhole number e s acts t → t.node.frozen ≡ s.node.frozen
+ends_stay number e s t acts (inl D) = ap (λ (m : Moment). m.node.frozen) D.same
+ends_stay number e s t acts (inr D) = receives_kept s.book false number D.takes s.node D.sent t.node D.received
+
+pub opens_whole_stay : (number : ℕ) (r : Result Taken Refusal) (s t : Moment) → OpensWhole number r s t → has_recorded_in s.book.state.snapshot number ≡ true → t.node.frozen ≡ s.node.frozen
+opens_whole_stay number (Ok taken) s t O recorded =
+    receives_kept O.between.book true number taken.takes O.between.node taken.sent.items t.node O.received ∙ closes_stay number s O.between O.closed.acts O.closed.did recorded
+opens_whole_stay number (Err e) s t D recorded =
+    let d = D.did in
+    ends_stay number e d.between t d.second d.other_did ∙ closes_stay number s d.between d.first d.one_did recorded
+
+-- ## In the form of the book
+
+pub opens_in_stay : (form : Form) (number : ℕ) (r : Result Opened Refusal) (s t : Moment) → OpensIn form number r s t → has_recorded_in s.book.state.snapshot number ≡ true → t.node.frozen ≡ s.node.frozen
+opens_in_stay Plain number (Ok (Apart taken)) s t O recorded = opens_stay number (Ok taken) s t O recorded
+opens_in_stay Plain number (Ok (Whole taken)) s t O recorded = absurd O
+opens_in_stay Plain number (Err e) s t O recorded = opens_stay number (Err e) s t O recorded
+opens_in_stay Turns number (Ok (Apart taken)) s t O recorded = absurd O
+opens_in_stay Turns number (Ok (Whole taken)) s t O recorded = opens_whole_stay number (Ok taken) s t O recorded
+opens_in_stay Turns number (Err e) s t O recorded = opens_whole_stay number (Err e) s t O recorded

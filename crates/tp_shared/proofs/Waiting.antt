@@ -1,0 +1,40 @@
+-- What nodes received for open turns stays in front of their lines, whatever is done that is no entry of theirs.
+use Rattle.std.proofs.Common.{◌≡◌, ◌≢◌, ℕ, List, length, refl, sym, subst, ◌∙◌, Option, Some, None, slice_get}
+use Rattle.std.specs.List.{AllByRecursion}
+use Rattle.tp_model.specs.declared.entry.Entry.{Entry}
+use Rattle.tp_model.specs.declared.form.Form.TheVariants.{Turns}
+use Rattle.tp_model.specs.declared.link.Received.{Received}
+use Rattle.tp_model.specs.NodeState.{NodeState}
+use Rattle.tp_model.specs.Node.{t414}
+use Rattle.tp_model.specs.Network.{Network}
+use Rattle.tp_model.specs.Entries.{process}
+use Rattle.tp_model.specs.Order.{after}
+use Rattle.tp_model.specs.Halves.{BookState}
+use Rattle.tp_model.specs.Acts.{Act, acted}
+use Rattle.tp_law_cuts.specs.Reserved.{IsNotOf}
+use Rattle.tp_law_machine.proofs.LinkLaws.{has_four_links}
+use Rattle.tp_law_network.proofs.Reorder.{after_shape}
+use Rattle.tp_book.specs.Book.{BookValue, agreed, nodes_in, world_of}
+use Rattle.tp_turn.specs.Moments.{entries_in}
+use Rattle.tp_turn.proofs.Ahead.{not_of, received_stays}
+use Rattle.tp_shared.specs.Seals.{AreWaiting}
+
+many_after : (s : Network NodeState) (es : List Entry) (given : Option (Network NodeState)) → after t414 s es ≡ given → (i : ℕ) (n : NodeState) → slice_get (nodes_in given) i ≡ Some n → length (nodes_in given) ≡ length s.nodes
+many_after s es None e i n at = cc
+many_after s es (Some t) e i n at = (after_shape t414 has_four_links s t es e).nodes
+
+-- where a node is agreed on, so are as many as the kept cut has
+pub agreed_many : (b : BookState NodeState) (i : ℕ) (n : NodeState) → slice_get (agreed b) i ≡ Some n → length (agreed b) ≡ length b.start.nodes
+unfolding agreed
+agreed_many b i n at = many_after b.start b.entries (after t414 b.start b.entries) refl i n at
+
+pub waits_on : (a b : BookValue) (i : ℕ) (takes : List Received) (acts : List Act) → acted t414 (world_of a) acts ≡ Some (world_of b) → AllByRecursion (IsNotOf (world_of a).live i) acts → b.form ≡ Turns
+    → AreWaiting a i takes → AreWaiting b i takes
+waits_on a b i takes acts did others form W = record { form = form; fronts = received_stays a b i takes acts did others W.fronts }
+
+-- the acts are those of another process
+pub others_wait : (a b : BookValue) (i other : ℕ) (n : NodeState) (takes : List Received) (acts : List Act) → acted t414 (world_of a) acts ≡ Some (world_of b) → slice_get (agreed a.state) i ≡ Some n → other ≢ i
+    → AllByRecursion (λ e. process a.state.start.wires (length a.state.start.nodes) e ≡ other) (entries_in acts) → b.form ≡ a.form → AreWaiting a i takes → AreWaiting b i takes
+others_wait a b i other n takes acts did at apart own form W =
+    waits_on a b i takes acts did
+    (not_of a i other apart acts (subst (λ k. AllByRecursion (λ e. process a.state.start.wires k e ≡ other) (entries_in acts)) (sym (agreed_many a.state i n at)) own)) (form ∙ W.form) W

@@ -1,0 +1,75 @@
+//! A node's turn in the form of its book. It is opened in one hold of the book and committed in another, between which the form may
+//! change: so it is committed by how it was opened.
+
+ghost use Rattle.std.specs.Prelude.{◌≡◌, Some, None, true, false, slice_get};
+ghost use Rattle.tp_book.specs.Calls.{without_run};
+ghost use Rattle.tp_turn.specs.Moments.{IsNodeOf, Added, moment};
+ghost use Rattle.tp_turn.specs.Opened.{HasTurnedBy, IsOpenedIn, OpensIn, opened_acts, taken_in};
+
+use crate::receiving::Taken;
+use crate::stages::{Stretch, commit_turn, open_turn};
+use crate::whole::{commit_whole, open_whole};
+use tp_book::{Book, Refusal};
+use tp_model::Form;
+use tp_node::{Node, Ran};
+use tp_port::tokens_of;
+
+/// How a node's turn was opened.
+#[derive(Drop)]
+pub enum Opened {
+    /// Each of this many tokens that it took is an entry already.
+    Apart(u64),
+    /// It received these, which stay on their lines until the turn's one entry.
+    Whole(Taken),
+}
+
+impl Opened {
+    /// How many tokens the node took.
+    pub fn taken(&self) -> u64
+        ensures { result ≡ taken_in self.now }
+    {
+        match self {
+            Opened::Apart(taken) => *taken,
+            Opened::Whole(taken) => tokens_of(&taken.takes).len() as u64,
+        }
+    }
+}
+
+/// Opens a node's turn in the form of its book: as `open_turn` in one of form Plain, as `open_whole` in one of form Turns. A run or a
+/// turn of the node is then reserved.
+///
+/// Errors: those of `open_turn`, or of `open_whole`. What was done before stays, and nothing is reserved.
+pub fn open_in_form(book: &mut Book, node: &mut Node, number: u8) -> Result<Opened, Refusal>
+    requires free { slice_get book.old.runs number ≡ Some false }
+    requires idle { book.old.ready ≡ None }
+    requires is { IsNodeOf book.old number node.old }
+    ensures opens { OpensIn book.old.form number result (moment book.old node.old) (moment book.new node.new) }
+    ensures is { IsOpenedIn result book.new number node.new }
+{
+    match book.form() {
+        Form::Plain => Ok(Opened::Apart(open_turn(book, node, number)?)),
+        Form::Turns => Ok(Opened::Whole(open_whole(book, node, number)?)),
+    }
+}
+
+/// Journals what a node ran since its turn was opened, and what it received for it: as `commit_turn` where it took tokens apart, whatever
+/// the book's form is by now, else as `commit_whole`. The reservation ends. The book may have changed in between by what others do.
+pub fn commit_opened(
+    book: &mut Book,
+    node: &Node,
+    number: u8,
+    opened: Opened,
+    stretch: Stretch,
+) -> Ran
+    requires reserved { slice_get book.old.runs number ≡ Some true }
+    requires idle { book.old.ready ≡ None }
+    requires turned { HasTurnedBy book.old number opened stretch.ran.count stretch.sent.items node.now }
+    ensures ran { result ≡ stretch.ran }
+    ensures added { Added number node.now.live (opened_acts number opened stretch.ran.count) (without_run book.old number) book.new }
+    ensures is { IsNodeOf book.new number node.now }
+{
+    match opened {
+        Opened::Apart(_) => commit_turn(book, node, number, stretch),
+        Opened::Whole(taken) => commit_whole(book, node, number, taken, stretch),
+    }
+}
