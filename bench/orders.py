@@ -227,7 +227,7 @@ CASES = [
     case("answered", RELAYS, [(run, 1), (run, 0), (take, 0), (run, 1)], SINGLE, [1, 2]),
     case("opened", HEARER, turn(1) + turn(0) + [(open_turn, 1)], HALVES, [2, 3], 2, 1),
     case("relayed", RELAYS, turn(1) + turn(0) + turn(1), HALVES, [3, 3], 1, 1),
-    case("closed", RELAYS, turn(1) + turn(0) + turn(1) + [BEGIN], BESIDE, [2, 3], 1, 1),
+    case("closed", RELAYS, turn(1) + turn(0) + turn(1) + [(open_turn, 0)], BESIDE, [2, 3], 1, 1),
 ]
 for each in CASES:
     net = first(each["nodes"])

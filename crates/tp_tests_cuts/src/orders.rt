@@ -134,7 +134,7 @@ const RELAYED: Case = Case {
     orders: 8_157,
 };
 
-/// The same, with the host's takes and lines that are closed one at a time.
+/// The first node's turn is open, for which it received both. The host takes, too, and lines are also closed one at a time.
 const CLOSED: Case = Case {
     first: &[Task::Once(0), Task::Relay(0, 3)],
     second: &[Task::Relay(0, 0)],
@@ -145,14 +145,14 @@ const CLOSED: Case = Case {
         Commit(0),
         Open(1),
         Commit(1),
-        Begin,
+        Open(0),
     ],
     choices: &BESIDE,
     turns: [2, 3],
     begins: 1,
     trims: 1,
     room: Some(6),
-    orders: 25_547,
+    orders: 7_134,
 };
 
 /// The images of a case's nodes.
