@@ -1,8 +1,8 @@
 -- Nodes that are made of images.
-use Rattle.std.proofs.Common.{◌≡◌, ◌∙◌, ◌<◌, ◌≤◌, ◌+◌, ℕ, List, [], ◌∷◌, ◌++◌, map, length, take, take_all, Option, Some, None, zero, suc, slice_get, get_or, refl, sym, ap, subst}
+use Rattle.std.proofs.Common.{◌≡◌, ◌∙◌, ◌<◌, ℕ, List, [], ◌∷◌, ◌++◌, map, length, Option, Some, None, zero, suc, slice_get, get_or, refl, sym, ap, subst}
 use Rattle.std.specs.List.{AllZip}
 use Rattle.std.specs.Prelude.{Ok}
-use Rattle.std.proofs.lemmas.List.{get_or-map, length-map, map_more}
+use Rattle.std.proofs.lemmas.List.{get_or-map, length-map, map-append}
 use Rattle.std.proofs.lemmas.Slice.Zip.{all_zipped_more}
 use Rattle.tp_law_machine.specs.NodeOfBytes.{IsNodeOfBytes}
 use Rattle.tp_model.specs.Image.{node_at, node_of}
@@ -29,19 +29,17 @@ each_spelt f g xs i x below is all =
     ∙ ap Some (get_or-map f xs i x (f x) below ∙ ap f (sym is))
 
 -- one more
-pub made_more : {X : Type 0} (spare : ℕ) (f : X → NodeState) (xs : List X) (i : ℕ) (x : X) (node : NodeContents) (old new : List NodeContents) → i < length xs → x ≡ get_or xs i x
-    → AllZip (IsMade spare) (map f (take i xs)) old → IsMade spare (f x) node → new ≡ old ++ node ∷ [] → AllZip (IsMade spare) (map f (take (i + 1) xs)) new
-made_more spare f xs i x node old new below is made here are =
-    subst (λ ys. AllZip (IsMade spare) (map f (take (i + 1) xs)) ys) (sym are)
-    (subst (λ ys. AllZip (IsMade spare) ys (old ++ node ∷ [])) (sym (map_more f xs i x below ∙ ap (λ y. map f (take i xs) ++ f y ∷ []) (sym is)))
-    (all_zipped_more (IsMade spare) (map f (take i xs)) old (f x) node made here))
+pub made_more : {X : Type 0} (spare : ℕ) (f : X → NodeState) (xs : List X) (x : X) (node : NodeContents) (old new : List NodeContents) → AllZip (IsMade spare) (map f xs) old → IsMade spare (f x) node
+    → new ≡ old ++ node ∷ [] → AllZip (IsMade spare) (map f (xs ++ x ∷ [])) new
+made_more spare f xs x node old new made here are =
+    subst (λ ys. AllZip (IsMade spare) (map f (xs ++ x ∷ [])) ys) (sym are)
+    (subst (λ ys. AllZip (IsMade spare) ys (old ++ node ∷ [])) (sym (map-append f xs (x ∷ []))) (all_zipped_more (IsMade spare) (map f xs) old (f x) node made here))
 
 -- ## All of them
 
--- the nodes of the images in front of a place that is behind them all
-pub made_all : {X : Type 0} (spare : ℕ) (f : X → NodeState) (xs all : List X) (i : ℕ) (nodes : List NodeContents) → length xs ≤ i → xs ≡ all → AllZip (IsMade spare) (map f (take i xs)) nodes
-    → AllZip (IsMade spare) (map f all) nodes
-made_all spare f xs all i nodes past is made = subst (λ ys. AllZip (IsMade spare) (map f ys) nodes) (take_all i xs past ∙ is) made
+-- the nodes of all images
+pub made_all : {X : Type 0} (spare : ℕ) (f : X → NodeState) (xs all : List X) (nodes : List NodeContents) → xs ≡ all → AllZip (IsMade spare) (map f xs) nodes → AllZip (IsMade spare) (map f all) nodes
+made_all spare f xs all nodes is made = subst (λ ys. AllZip (IsMade spare) (map f ys) nodes) is made
 
 -- they are in the given states
 pub made_live : (spare : ℕ) (states : List NodeState) (nodes : List NodeContents) → AllZip (IsMade spare) states nodes → map (λ (node : NodeContents). node.live) nodes ≡ states

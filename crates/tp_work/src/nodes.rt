@@ -37,7 +37,7 @@ pub fn nodes_of(alloc: Global, state: NetState, spare: usize) -> Result<Vec<Node
     let NetParts { images, .. } = net;
     let mut nodes = Vec::new(alloc);
     for image in images {
-        nodes.push(node_in(alloc, image.as_slice(), spare)?)?;
+        nodes.push(node_in(alloc, &image, spare)?)?;
     }
     Ok(nodes)
 }

@@ -1,4 +1,7 @@
-use Rattle.std.proofs.Common.{◌≡◌, ℕ, List, Vec, Global, map, Some, subst, sym}
+use Rattle.std.proofs.Common.{◌∙◌, ℕ, Vec, Global, map, length, sym}
+use Rattle.std.proofs.lemmas.List.{map-id}
+use Rattle.std.proofs.lemmas.Iterator.Adapters.{YieldsList-from_vec}
+use Rattle.std.proofs.lemmas.Iterator.Consumers.{YieldsList-end, YieldsList-turn}
 use Rattle.tp_model.specs.Image.{node_at, node_of}
 use Rattle.tp_model.specs.NodeState.{NodeState}
 use Rattle.tp_work.proofs.Made.{each_spelt, made_more, made_live, made_each, made_frames, made_all}
@@ -9,28 +12,34 @@ node_behind image = node_at image.items
 
 pub node_in-requires : goal.node_in-requires
 node_in-requires c =
-    let images = c.deref-image-items.result.now in
-    let all : map (λ (image : Vec ℕ Global). node_of image.items) images ≡ map Some (map node_behind images) =
-    subst (λ (xs : List (Vec ℕ Global)). map (λ (image : Vec ℕ Global). node_of image.items) xs ≡ map Some (map node_behind xs)) (sym c.deref-image-items.ensures.value) c.requires.images in
-    let here = each_spelt node_behind (λ (image : Vec ℕ Global). node_of image.items) images c.loop-image.image-index c.image-item.result c.loop-image-test.true c.image-item.is all in
+    let images = c.args.state.net.images.items in
+    let gives = c.into_iter-image-iterator.ensures.into_iter_gives in
+    let turn = YieldsList-turn (YieldsList-from_vec {s = c.into_iter-image-iterator.result} images gives.0 (gives.1 ∙ c.args.state.net.images.ok.0)) c.loop-image.yielded c.loop-image.image-iterator c.loop-image.yielded_by c.next.result c.next.new.self c.in-Some.image c.in-Some.is c.next.ensures.steps in
+    let here = each_spelt node_behind (λ (image : Vec ℕ Global). node_of image.items) images (length c.loop-image.yielded) c.in-Some.image turn.0 turn.1 c.requires.images in
     rw c.deref.ensures.value here
 
 pub loop-image-preserved : goal.loop-image-preserved
 loop-image-preserved c =
-    made_more c.args.spare node_behind c.deref-image-items.result.now c.loop-image.image-index c.image-item.result c.in_ok-node_in.field-0 c.loop-image.nodes.items c.push.new.self.items
-    c.loop-image-test.true c.image-item.is c.loop-image.invariant (rw c.deref.ensures.value at c.in_ok-node_in.ensures) c.in_ok-push.ensures.items
+    made_more c.args.spare node_behind c.loop-image.yielded c.in-Some.image c.in_ok-node_in.field-0 c.loop-image.nodes.items c.push.new.self.items
+    c.loop-image.invariant (rw c.deref.ensures.value at c.in_ok-node_in.ensures) c.in_ok-push.ensures.items
 
 pub returns-clause-live : goal.returns-clause-live
 returns-clause-live c =
-    made_live c.args.spare (map node_behind c.args.state.now.net.images.items) c.loop-image.nodes.items
-    (made_all c.args.spare node_behind c.deref-image-items.result.now c.args.state.now.net.images.items c.loop-image.image-index c.loop-image.nodes.items c.loop-image-test.false c.deref-image-items.ensures.value c.loop-image.invariant)
+    let images = c.args.state.net.images.items in
+    let gives = c.into_iter-image-iterator.ensures.into_iter_gives in
+    let all = YieldsList-end (YieldsList-from_vec {s = c.into_iter-image-iterator.result} images gives.0 (gives.1 ∙ c.args.state.net.images.ok.0)) c.loop-image.yielded c.loop-image.image-iterator c.loop-image.yielded_by c.next.result c.next.new.self c.in-None.is c.next.ensures.steps in
+    made_live c.args.spare (map node_behind images) c.loop-image.nodes.items (made_all c.args.spare node_behind c.loop-image.yielded images c.loop-image.nodes.items (sym (map-id c.loop-image.yielded) ∙ all.0) c.loop-image.invariant)
 
 pub returns-clause-each : goal.returns-clause-each
 returns-clause-each c =
-    made_each c.args.spare (map node_behind c.args.state.now.net.images.items) c.loop-image.nodes.items
-    (made_all c.args.spare node_behind c.deref-image-items.result.now c.args.state.now.net.images.items c.loop-image.image-index c.loop-image.nodes.items c.loop-image-test.false c.deref-image-items.ensures.value c.loop-image.invariant)
+    let images = c.args.state.net.images.items in
+    let gives = c.into_iter-image-iterator.ensures.into_iter_gives in
+    let all = YieldsList-end (YieldsList-from_vec {s = c.into_iter-image-iterator.result} images gives.0 (gives.1 ∙ c.args.state.net.images.ok.0)) c.loop-image.yielded c.loop-image.image-iterator c.loop-image.yielded_by c.next.result c.next.new.self c.in-None.is c.next.ensures.steps in
+    made_each c.args.spare (map node_behind images) c.loop-image.nodes.items (made_all c.args.spare node_behind c.loop-image.yielded images c.loop-image.nodes.items (sym (map-id c.loop-image.yielded) ∙ all.0) c.loop-image.invariant)
 
 pub returns-clause-frames : goal.returns-clause-frames
 returns-clause-frames c =
-    made_frames c.args.spare (map node_behind c.args.state.now.net.images.items) c.loop-image.nodes.items
-    (made_all c.args.spare node_behind c.deref-image-items.result.now c.args.state.now.net.images.items c.loop-image.image-index c.loop-image.nodes.items c.loop-image-test.false c.deref-image-items.ensures.value c.loop-image.invariant)
+    let images = c.args.state.net.images.items in
+    let gives = c.into_iter-image-iterator.ensures.into_iter_gives in
+    let all = YieldsList-end (YieldsList-from_vec {s = c.into_iter-image-iterator.result} images gives.0 (gives.1 ∙ c.args.state.net.images.ok.0)) c.loop-image.yielded c.loop-image.image-iterator c.loop-image.yielded_by c.next.result c.next.new.self c.in-None.is c.next.ensures.steps in
+    made_frames c.args.spare (map node_behind images) c.loop-image.nodes.items (made_all c.args.spare node_behind c.loop-image.yielded images c.loop-image.nodes.items (sym (map-id c.loop-image.yielded) ∙ all.0) c.loop-image.invariant)

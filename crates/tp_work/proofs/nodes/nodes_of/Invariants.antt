@@ -1,8 +1,8 @@
-use Rattle.std.proofs.Common.{map, take}
+use Rattle.std.proofs.Common.{map}
 use Rattle.std.specs.List.{AllZip}
 use Rattle.tp_model.specs.Image.{node_at}
 use Rattle.tp_work.specs.Nodes.{IsMade}
 use Rattle.tp_work.proofs.nodes.nodes_of.Given as goal
 
 abbrev pub invariant-loop-image : goal.invariant-loop-image
-invariant-loop-image l = AllZip (IsMade l.spare) (map (λ image. node_at image.items) (take l.image-index l.image-items)) l.nodes.items
+invariant-loop-image l = AllZip (IsMade l.spare) (map (λ image. node_at image.items) l.yielded) l.nodes.items

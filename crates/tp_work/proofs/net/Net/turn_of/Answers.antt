@@ -1,4 +1,4 @@
-use Rattle.std.proofs.Common.{◌≡◌, ◌<◌, length, sym, subst, inl, inr, arith, rules}
+use Rattle.std.proofs.Common.{◌≡◌, ◌<◌, length, sym, subst, inl, inr, rules}
 use Rattle.tp_work.specs.Turns.{Refused, RefusedFor}
 use Rattle.tp_work.proofs.Broken.{broken_off, host_took, node_took, refused_for}
 use Rattle.tp_work.proofs.net.Net.turn_of.Goals as goal
