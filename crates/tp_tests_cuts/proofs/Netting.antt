@@ -45,3 +45,15 @@ stays a b nodes taken S H = record {
   form = (S 0).form H.form;
   each = λ i m u at_node at_taken. sits_on (suc i) i a b u m (S (suc i)) (λ same. omega (arith, same)) (H.each i m u at_node at_taken);
 }
+
+-- one node acts whose turn isn't open, or is looked at
+pub node_seated : (number : ℕ) (n m : NodeContents) (t : Option Taken) (a b : BookValue) (nodes : List NodeContents) (taken : List (Option Taken)) → slice_get nodes number ≡ Some n → slice_get taken number ≡ Some t
+    → Passes number a b → Sits b number t m → HasSeats a nodes taken → HasSeats b (set nodes number m) taken
+node_seated number n m t a b nodes taken at_node at_taken P S H =
+    seated number m t a b nodes (set nodes number m) taken taken (put nodes number n m at_node) (left taken number t at_taken) P S H
+
+-- and one whose turn is opened or committed
+pub both_seated : (number : ℕ) (n m : NodeContents) (t u : Option Taken) (a b : BookValue) (nodes : List NodeContents) (taken : List (Option Taken)) → slice_get nodes number ≡ Some n → slice_get taken number ≡ Some t
+    → Passes number a b → Sits b number u m → HasSeats a nodes taken → HasSeats b (set nodes number m) (set taken number u)
+both_seated number n m t u a b nodes taken at_node at_taken P S H =
+    seated number m u a b nodes (set nodes number m) taken (set taken number u) (put nodes number n m at_node) (put taken number t u at_taken) P S H

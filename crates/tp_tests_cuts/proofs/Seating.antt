@@ -107,5 +107,5 @@ has_run a r number count quantum tokens was n is N few most made same =
 
 -- nothing is kept where no turn is open
 pub is_none : (t : Option Taken) → is_some t ≡ false → t ≡ None
-is_none None no = refl
-is_none (Some taken) no = cc
+is_none None e = refl
+is_none (Some taken) e = cc

@@ -64,7 +64,9 @@ impl Plain {
             }
         }
         let counts = [self.count(0), self.count(1), self.count(HOST)];
-        let size = counts.iter().copied().fold(0u64, u64::saturating_add);
+        let size = counts[0]
+            .saturating_add(counts[1])
+            .saturating_add(counts[2]);
         cut.counts() == counts.as_slice() && cut.size() == size
     }
 

@@ -1,6 +1,6 @@
 //! Two nodes and a port, and their book, without a device.
 
-ghost use Rattle.std.specs.Prelude.{◌≡◌, ◌<◌, IfOk, Some, None, length, slice_get, true};
+ghost use Rattle.std.specs.Prelude.{◌≡◌, IfOk, Some};
 ghost use Rattle.tp_model.specs.Image.{node_at};
 ghost use Rattle.tp_model.specs.Network.{receiver};
 ghost use Rattle.tp_model.specs.declared.wire.WireEnd.TheVariants.{Link};
@@ -147,7 +147,10 @@ impl Net {
     /// A node runs for at most `quantum` steps. Answers what it did, where it made one.
     pub(crate) fn run(&mut self, number: u8, quantum: u16) -> Option<Did> {
         let place = usize::from(number);
-        if !self.is_closed(place) || usize::from(quantum) > MAX_STEPS {
+        if place >= self.nodes.len() || usize::from(quantum) > MAX_STEPS {
+            return None;
+        }
+        if place >= self.taken.len() || self.taken[place].is_some() {
             return None;
         }
         run(&mut self.book, &mut self.nodes[place], number, quantum)
@@ -182,7 +185,10 @@ impl Net {
         requires { receiver self.old.book.state.start.wires line ≡ Some (Link number link) }
     {
         let place = usize::from(number);
-        if !self.is_closed(place) {
+        if place >= self.nodes.len() {
+            return None;
+        }
+        if place >= self.taken.len() || self.taken[place].is_some() {
             return None;
         }
         take(&mut self.book, &mut self.nodes[place], number, link, line)
@@ -200,7 +206,10 @@ impl Net {
         number: u8,
     ) -> Result<Option<Vec<u8>>, AllocError> {
         let place = usize::from(number);
-        if !self.is_closed(place) {
+        if place >= self.nodes.len() {
+            return Ok(None);
+        }
+        if place >= self.taken.len() || self.taken[place].is_some() {
             return Ok(None);
         }
         record(alloc, &mut self.book, &mut self.nodes[place], number)
@@ -213,6 +222,7 @@ impl Net {
 
     /// Each line is closed whose receiver has recorded, also from behind other tokens.
     pub(crate) fn close_all(&mut self) {
+        self.book.known();
         close_all(&mut self.book);
     }
 
@@ -227,13 +237,9 @@ impl Net {
         if place >= self.nodes.len() || place >= self.taken.len() {
             return None;
         }
-        open(
-            alloc,
-            &mut self.book,
-            &mut self.nodes[place],
-            &mut self.taken[place],
-            number,
-        )
+        let node = &mut self.nodes[place];
+        let taken = &mut self.taken[place];
+        open(alloc, &mut self.book, node, taken, number)
     }
 
     /// A node whose turn is open runs for at most `quantum` steps, and its turn is journalled.
@@ -243,19 +249,13 @@ impl Net {
         if !there || usize::from(quantum) > MAX_STEPS {
             return None;
         }
-        commit(
-            &mut self.book,
-            &mut self.nodes[place],
-            &mut self.taken[place],
-            number,
-            quantum,
-        )
+        let node = &mut self.nodes[place];
+        let taken = &mut self.taken[place];
+        commit(&mut self.book, node, taken, number, quantum)
     }
 
     /// Whether there is a node whose turn isn't open.
-    pub(crate) fn is_closed(&self, place: usize) -> bool
-        ensures { result ≡ true → (place < length self.now.nodes) × (slice_get self.now.taken place ≡ Some None) }
-    {
+    pub(crate) fn is_closed(&self, place: usize) -> bool {
         place < self.nodes.len() && place < self.taken.len() && self.taken[place].is_none()
     }
 

@@ -57,10 +57,24 @@ fn process_of(entry: Entry) -> usize {
     }
 }
 
+/// Whether an end is a node's link.
+fn is_link(end: Option<WireEnd>, node: usize, link: usize) -> bool {
+    match end {
+        Some(WireEnd::Link(number, place)) => {
+            usize::from(number) == node && usize::from(place) == link
+        }
+        _ => false,
+    }
+}
+
 /// The line that comes in on a node's link, where it has a wire.
-pub(crate) fn line_to(node: usize, link: usize) -> Option<usize> {
-    let wanted = Some(WireEnd::Link(node as u8, link as u8));
-    WIRES.iter().position(|end| *end == wanted)
+fn line_to(node: usize, link: usize) -> Option<usize> {
+    for (line, end) in WIRES.iter().enumerate() {
+        if is_link(*end, node, link) {
+            return Some(line);
+        }
+    }
+    None
 }
 
 /// The first two of some tokens as what a turn takes.
@@ -116,17 +130,24 @@ impl Plain {
 
     /// What stands on a line in front of its Marker.
     pub(crate) fn waiting(&self, line: usize) -> Received {
-        let Some(tokens) = self.lines.get(line) else {
-            return Nothing;
-        };
-        let first = tokens.first().copied();
-        two_of(first, tokens.get(1).copied())
+        two_of(self.token(line, 0), self.token(line, 1))
+    }
+
+    /// The token at a place of a line.
+    fn token(&self, line: usize, at: usize) -> Option<Token> {
+        let tokens = self.lines.get(line)?;
+        tokens.get(at).copied()
     }
 
     /// Where a line's Marker stands, if it has one.
     fn marker(&self, line: usize) -> Option<usize> {
         let tokens = self.lines.get(line)?;
-        tokens.iter().position(|token| *token == Token::Marker)
+        for (at, token) in tokens.iter().enumerate() {
+            if *token == Token::Marker {
+                return Some(at);
+            }
+        }
+        None
     }
 
     /// Whether a line's Marker can be taken, also from behind other tokens.
@@ -240,7 +261,10 @@ impl Plain {
             *recorded = true;
         }
         for link in 0..4 {
-            self.push(4 * process + link, Token::Marker)?;
+            self.push(
+                process.saturating_mul(4).saturating_add(link),
+                Token::Marker,
+            )?;
         }
         Ok(())
     }
@@ -252,11 +276,7 @@ impl Plain {
         };
         let _marker = self.remove(line, marker);
         for at in 0..marker {
-            let token = self
-                .lines
-                .get(line)
-                .and_then(|tokens| tokens.get(at).copied());
-            if let Some(token) = token {
+            if let Some(token) = self.token(line, at) {
                 self.gathered.push((line, token))?;
             }
         }

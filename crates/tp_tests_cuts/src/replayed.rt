@@ -112,18 +112,28 @@ fn are_same(one: &NetParts, other: &NetParts) -> bool {
         && are_images(&one.images, &other.images)
 }
 
-/// Whether the tokens on the lines are those of the plain lists, Markers left out.
-fn are_lines(plain: &Plain, parts: &NetParts) -> bool {
-    for (line, tokens) in plain.lines.iter().enumerate() {
-        let mut plainly = tokens.iter().filter(|token| **token != Token::Marker);
-        let Some(there) = parts.lines.get(line) else {
-            return false;
-        };
-        if !there.iter().all(|token| plainly.next() == Some(token)) || plainly.next().is_some() {
-            return false;
+/// Whether `there` are the tokens of a plain list, Markers left out.
+fn are_plainly(tokens: &[Token], there: &[Token]) -> bool {
+    let mut at = 0usize;
+    for token in tokens {
+        if *token != Token::Marker {
+            if there.get(at) != Some(token) {
+                return false;
+            }
+            at = at.saturating_add(1);
         }
     }
-    true
+    there.len() == at
+}
+
+/// Whether the tokens on the lines are those of the plain lists, Markers left out.
+fn are_lines(plain: &Plain, parts: &NetParts) -> bool {
+    plain.lines.len() == parts.lines.len()
+        && plain
+            .lines
+            .iter()
+            .zip(&parts.lines)
+            .all(|(tokens, there)| are_plainly(tokens, there))
 }
 
 /// The network that the entries of the cuts with these numbers lead to, one cut's behind the other's. None where one isn't possible.

@@ -82,7 +82,9 @@ pub(crate) fn commit(
     ensures passes { Passes number book.old book.new }
 {
     book.known();
-    let received = taken.take()?;
+    let Some(received) = taken.take() else {
+        return None;
+    };
     let stretch = run_node(node, quantum);
     let sent = all_sent(received.sent.as_slice(), stretch.sent.as_slice());
     let ran = commit_whole(book, node, number, received, stretch);

@@ -14,13 +14,13 @@ commit_turn-ran-requires-clause-ran c =
     has_run c.args.book.now c.reserve_run.new.self c.args.number ran.count c.args.quantum c.run_node-stretch.result.sent.items c.args.node.now c.run_node-stretch.new.node
     c.in-Ok.ensures.ok c.requires.sits.is few c.requires.quantum c.run_node-stretch.ensures.steps c.run_node-stretch.ensures.kept
 
-pub returns-in-Ok-clause-sits : goal.returns-in-Ok-clause-sits
-returns-in-Ok-clause-sits c =
+pub returns-clause-sits : goal.returns-clause-sits
+returns-clause-sits c =
     let held = is_reserved c.args.book.now c.reserve_run.new.self c.args.number c.in-Ok.ensures.ok c.requires.sits.reserved in
     journalled c.reserve_run.new.self c.commit_turn-ran.new.book c.args.number _ c.run_node-stretch.new.node held c.commit_turn-ran.ensures.added c.commit_turn-ran.ensures.is
     (c.run_node-stretch.ensures.kept ∙ c.requires.sits.thawed)
 
-pub returns-in-Ok-clause-passes : goal.returns-in-Ok-clause-passes
-returns-in-Ok-clause-passes c =
+pub returns-clause-passes : goal.returns-clause-passes
+returns-clause-passes c =
     let held = is_reserved c.args.book.now c.reserve_run.new.self c.args.number c.in-Ok.ensures.ok c.requires.sits.reserved in
     run_passes c.args.book.now c.reserve_run.new.self c.commit_turn-ran.new.book c.args.number _ c.run_node-stretch.new.node c.in-Ok.ensures.ok held c.commit_turn-ran.ensures.added c.known.ensures.keeps

@@ -14,8 +14,8 @@ open_whole-answer-requires-clause-is c =
     let no : is_some c.args.taken.now ≡ false = search rules in
     (subst (λ t. Sits c.args.book.now c.args.number t c.args.node.now) (is_none c.args.taken.now no) c.requires.sits).is
 
-pub keep-refusal-requires-clause-none : goal.keep-refusal-requires-clause-none
-keep-refusal-requires-clause-none c =
+pub keep-refusal-requires : goal.keep-refusal-requires
+keep-refusal-requires c =
     let no : is_some c.args.taken.now ≡ false = search rules in
     is_none c.args.taken.now no
 
