@@ -17,7 +17,7 @@ open_whole-answer-requires-clause-is c =
 pub keep-refusal-requires : goal.keep-refusal-requires
 keep-refusal-requires c =
     let no : is_some c.args.taken.now ≡ false = search rules in
-    is_none c.args.taken.now no
+    record { none = is_none c.args.taken.now no }
 
 pub returns-clause-sits : goal.returns-clause-sits
 returns-clause-sits c =

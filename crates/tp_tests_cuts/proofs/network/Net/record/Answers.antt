@@ -14,7 +14,7 @@ record-requires c =
     let at_node : slice_get nodes c.args.number ≡ Some c.index_mut.result.now = slice_get_read nodes (length nodes) c.args.number c.index_mut.result.now refl in_nodes (search rules) in
     let at_taken : slice_get taken c.args.number ≡ Some c.index.result.now = slice_get_read taken (length taken) c.args.number c.index.result.now refl in_taken (search rules) in
     let closed : is_some c.index.result.now ≡ false = search rules in
-    c.self.invariant.each c.args.number c.index_mut.result.now None at_node (at_taken ∙ ap Some (is_none c.index.result.now closed))
+    record { sits = c.self.invariant.each c.args.number c.index_mut.result.now None at_node (at_taken ∙ ap Some (is_none c.index.result.now closed)) }
 
 pub invariant_of-self : goal.invariant_of-self
 invariant_of-self c =
