@@ -33,7 +33,7 @@ loop-preserved g c =
       why = c.cycle-last.ensures.why;
       looks =
           looks_then g.J.Naming.start c.args.pace.task c.loop.going.turns.made c.cycle-last.new.going.turns.made (g.P.Stop.answers c.args.stop.now)
-          (g.P.Stop.answers c.loop.stop) (g.P.Stop.answers c.cycle-last.new.stop) c.loop.last c.cycle-last.result c.in-Ok-None.is c.loop.invariant.looks c.cycle-last.ensures.why
+          (g.P.Stop.answers c.loop.stop) (g.P.Stop.answers c.cycle-last.new.stop) c.loop.last c.cycle-last.result (rw c.in-Ok-None.field-0-is at c.in-Ok-None.is) c.loop.invariant.looks c.cycle-last.ensures.why
           c.cycle-last.ensures.looks;
       rested = c.cycle-last.ensures.rested;
       begun = c.cycle-last.ensures.begun;
