@@ -20,5 +20,6 @@ mod SplitCuts
 mod TakenRows
 mod RowsAhead
 mod RowsRead
+mod Windows
 pub mod Ages
 pub mod BookRoom

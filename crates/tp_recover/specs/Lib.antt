@@ -12,3 +12,4 @@ pub mod RowsInside
 pub mod RowsRead
 pub mod Starts
 pub mod Taken
+pub mod Windows

@@ -23,6 +23,7 @@ mod state;
 mod store;
 mod taken;
 mod unopened;
+mod window;
 
 pub use ahead::read_rows;
 pub use choice::read_choice;

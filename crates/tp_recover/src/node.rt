@@ -7,7 +7,7 @@ ghost use Rattle.tp_model.specs.Journal.{image_length};
 ghost use Rattle.tp_recover.specs.Nodes.{live, AreThawed, HasImage, HaveImages};
 ghost use Rattle.tp_recover.specs.Reading.{has_read, Answers, IsKept, LeavesNothingNew};
 
-use crate::device::read_bytes;
+use crate::device::read_over;
 use crate::unopened::Unopened;
 use std::alloc::Global;
 use tp_disk::Disk;
@@ -15,7 +15,8 @@ use tp_layout::image_length;
 use tp_model::OpenFault;
 use tp_node::{ImageFault, Node};
 
-/// Decodes the node of `pages` pages from its image `bytes`, which stands at `at`.
+/// Decodes the node of `pages` pages from its image `bytes`, which stands at `at`. It has no spare frame, since nothing is replayed while it
+/// is frozen.
 fn node_in(alloc: Global, at: u64, pages: u16, bytes: &[u8]) -> Result<Node, Unopened>
     requires { length bytes.now ≡ image_length pages }
     ensures read { has_read result ≡ true }
@@ -23,15 +24,21 @@ fn node_in(alloc: Global, at: u64, pages: u16, bytes: &[u8]) -> Result<Node, Uno
     ensures image { IfOk result (λ node. HasImage pages node.live) }
     ensures is { Answers live (or_damaged at (node_with pages bytes.now)) result }
 {
-    match Node::from_image(alloc, bytes, usize::from(pages)) {
+    match Node::from_image(alloc, bytes, 0) {
         Ok(node) => Ok(node),
         Err(ImageFault::BadImage) => Err(Unopened::Fault(OpenFault::Damaged(at))),
         Err(ImageFault::Memory) => Err(Unopened::Memory),
     }
 }
 
-/// Reads the node of `pages` pages whose image stands at `at`.
-fn read_node<D: Disk>(alloc: Global, disk: &mut D, at: u64, pages: u16) -> Result<Node, Unopened>
+/// Reads the node of `pages` pages whose image stands at `at`. The image goes into `buffer`.
+fn read_node<D: Disk>(
+    alloc: Global,
+    disk: &mut D,
+    at: u64,
+    pages: u16,
+    buffer: &mut Vec<u8>,
+) -> Result<Node, Unopened>
     requires { at + image_length pages ≤ D.size_of disk.old }
     ensures counts { Counts (has_read result) (D.size_of disk.old) (D.size_of disk.new) (D.failures_of disk.old) (D.failures_of disk.new) }
     ensures kept { D.keeps → IsKept result (D.state disk.old).now (D.state disk.new).now }
@@ -40,11 +47,13 @@ fn read_node<D: Disk>(alloc: Global, disk: &mut D, at: u64, pages: u16) -> Resul
     ensures image { IfOk result (λ node. HasImage pages node.live) }
     ensures is { D.keeps → Answers live (or_damaged at (node_with pages (drop at (D.state disk.old).now.bytes))) result }
 {
-    let bytes = read_bytes(alloc, disk, at, image_length(pages))?;
-    node_in(alloc, at, pages, &bytes)
+    match read_over(disk, at, image_length(pages), buffer) {
+        Ok(()) => node_in(alloc, at, pages, buffer),
+        Err(error) => Err(error),
+    }
 }
 
-/// Reads the nodes with `pages` pages each. Their images stand from `at` on, one behind the other.
+/// Reads the nodes with `pages` pages each. Their images stand from `at` on, one behind the other; each is read in place of the one before.
 pub(crate) fn read_nodes<D: Disk>(
     alloc: Global,
     disk: &mut D,
@@ -62,9 +71,10 @@ pub(crate) fn read_nodes<D: Disk>(
     ensures is { D.keeps → Answers (λ nodes. map live nodes.items) (nodes_in at pages.now (drop at (D.state disk.old).now.bytes)) result }
 {
     let mut nodes = Vec::new(alloc);
+    let mut buffer = Vec::new(alloc);
     let mut place = at;
     for count in pages {
-        let read = read_node(alloc, disk, place, *count)?;
+        let read = read_node(alloc, disk, place, *count, &mut buffer)?;
         let Ok(()) = nodes.push(read) else {
             return Err(Unopened::Memory);
         };

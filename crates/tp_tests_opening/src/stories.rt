@@ -3,7 +3,7 @@
 use crate::checkpointed::Known;
 use crate::checkpoints::{Calls, Step, Story};
 use crate::copies::Cut;
-use crate::devices::LETTER;
+use crate::devices::{CALLS_OF_OPEN, LETTER};
 use std::alloc::{AllocError, Global};
 use std::test::Fail;
 use tp_model::Form::{Plain, Turns};
@@ -50,7 +50,7 @@ pub(crate) fn after_a_group(alloc: Global) -> Result<Known, Fail> {
             tail: &[(ROUND, 4)],
         },
         calls: Calls {
-            opening: 11,
+            opening: CALLS_OF_OPEN,
             clears: 1,
             behind: 12_553,
         },
@@ -78,7 +78,7 @@ pub(crate) fn beyond_the_groups(alloc: Global) -> Result<Known, Fail> {
             tail: &[(HANDED, 5), (HANDED, 7), (TAKEN, 9), (GO, 10), (HANDED, 11)],
         },
         calls: Calls {
-            opening: 11,
+            opening: CALLS_OF_OPEN,
             clears: 1,
             behind: 12_617,
         },
@@ -120,7 +120,7 @@ pub(crate) fn over_old_groups(alloc: Global) -> Result<Known, Fail> {
             tail: &[(GO, 44)],
         },
         calls: Calls {
-            opening: 10,
+            opening: CALLS_OF_OPEN,
             clears: 3,
             behind: 12_553,
         },
@@ -146,7 +146,7 @@ pub(crate) fn behind_kept(alloc: Global) -> Result<Known, Fail> {
             tail: &[(ROUND, 4)],
         },
         calls: Calls {
-            opening: 11,
+            opening: CALLS_OF_OPEN,
             clears: 1,
             behind: 12_553,
         },
@@ -171,7 +171,7 @@ pub(crate) fn behind_a_stop(alloc: Global) -> Result<Known, Fail> {
             tail: &[(ROUND, 5)],
         },
         calls: Calls {
-            opening: 12,
+            opening: CALLS_OF_OPEN,
             clears: 1,
             behind: 12_553,
         },
@@ -212,7 +212,7 @@ pub(crate) fn with_turns(alloc: Global) -> Result<Known, Fail> {
             tail: &[(HANDED, 4), (HANDED, 6), (handed, 8), (HANDED, 9)],
         },
         calls: Calls {
-            opening: 11,
+            opening: CALLS_OF_OPEN,
             clears: 1,
             behind: 12_601,
         },

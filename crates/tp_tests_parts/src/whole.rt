@@ -35,13 +35,14 @@ pub fn the_pair_is_whole()
 fn numbered(alloc: Global, entries: &[Entry]) -> Result<Vec<Numbered>, AllocError>
     ensures { IfOk result (λ all. bare all.items ≡ entries.now) }
 {
-    entries
-        .iter()
-        .map(|entry| Numbered {
+    let mut all = Vec::new(alloc);
+    for entry in entries {
+        all.push(Numbered {
             entry: *entry,
             number: 0,
-        })
-        .collect(alloc)
+        })?;
+    }
+    Ok(all)
 }
 
 /// Replays the pair by its parts. Answers them, with the place of the first entry that isn't possible in the pair, if there is one.

@@ -55,21 +55,28 @@ const RUN_3: Entry = Entry::Run { node: 0, count: 3 };
 const RUN_16: Entry = Entry::Run { node: 0, count: 16 };
 
 /// The node takes the acknowledge, and makes a whole turn's steps.
-const ACK_16: Entry = turn(Received::JustAck, 16);
+const ACK_16: Entry = Entry::Turn {
+    node: 0,
+    takes: [
+        Received::JustAck,
+        Received::Nothing,
+        Received::Nothing,
+        Received::Nothing,
+    ],
+    count: 16,
+};
 
-/// A turn in which the node takes this on its link 0, and makes so many steps.
-const fn turn(first: Received, count: u16) -> Entry {
-    Entry::Turn {
-        node: 0,
-        takes: [
-            first,
-            Received::Nothing,
-            Received::Nothing,
-            Received::Nothing,
-        ],
-        count,
-    }
-}
+/// It takes a byte, and makes no step.
+const BYTE_0: Entry = Entry::Turn {
+    node: 0,
+    takes: [
+        Received::JustData(7),
+        Received::Nothing,
+        Received::Nothing,
+        Received::Nothing,
+    ],
+    count: 0,
+};
 
 /// Without a spare frame: the node records, takes the acknowledge and makes a whole turn's steps, and in its next turn closes its line and
 /// makes as many, since nothing is written.
@@ -162,7 +169,7 @@ pub(crate) fn full<R: Wait + Abort>(rt: &R, alloc: Global) -> bool {
             (Step::Flush(false), 2),
         ],
         base: 0,
-        kept: &[(0, turn(Received::JustData(7), 0)), (1, RUN_3)],
+        kept: &[(0, BYTE_0), (1, RUN_3)],
     };
     plays(rt, alloc, &story)
 }

@@ -50,7 +50,7 @@ impl Act {
 }
 
 /// The entry of a turn in which a node takes this on its link 0, and makes so many steps.
-pub(crate) const fn turn(node: u8, first: Received, count: u16) -> Entry {
+pub(crate) fn turn(node: u8, first: Received, count: u16) -> Entry {
     Entry::Turn {
         node,
         takes: [

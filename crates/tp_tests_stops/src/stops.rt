@@ -1,6 +1,5 @@
 //! A script whose device fails, or stops it, at each of its calls: what the device then opens to, and how it goes on.
 
-use crate::acts::turn;
 use crate::script::{Done, Step, Told, play_in};
 use crate::unkind::{Ending, Fault, RawUnkind, Torn};
 use std::alloc::{AllocError, Global};
@@ -383,17 +382,34 @@ const LETTER: Entry = Entry::Take {
 
 const RUN_9: Entry = Entry::Run { node: 0, count: 9 };
 
+/// The node takes the first byte, and makes three steps.
+const BYTE_3: Entry = Entry::Turn {
+    node: 0,
+    takes: [
+        Received::JustData(b'a'),
+        Received::Nothing,
+        Received::Nothing,
+        Received::Nothing,
+    ],
+    count: 3,
+};
+
+/// It takes the acknowledge, and makes a whole turn's steps.
+const ACK_9: Entry = Entry::Turn {
+    node: 0,
+    takes: [
+        Received::JustAck,
+        Received::Nothing,
+        Received::Nothing,
+        Received::Nothing,
+    ],
+    count: 9,
+};
+
 /// What is journalled over a device whose areas have turns: the node takes a byte, which it holds, and makes three steps; it sends a letter,
 /// which the host takes; it takes the acknowledge, and goes round, in its next turns too.
 const JOURNAL: &[Entry] = &[
-    INPUT_A,
-    INPUT_B,
-    turn(0, Received::JustData(b'a'), 3),
-    LETTER,
-    turn(0, Received::JustAck, 9),
-    RUN_9,
-    INPUT_C,
-    RUN_9,
+    INPUT_A, INPUT_B, BYTE_3, LETTER, ACK_9, RUN_9, INPUT_C, RUN_9,
 ];
 
 /// The same over one whose first area has none.

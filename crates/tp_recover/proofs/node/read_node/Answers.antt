@@ -6,17 +6,17 @@ use Rattle.tp_recover.proofs.Nodes.{node_read}
 use Rattle.tp_recover.proofs.node.read_node.Goals as goal
 
 pub node_in-requires : goal.node_in-requires
-node_in-requires g c = ap length c.deref.ensures.value ∙ c.in_ok-bytes.ensures.len ∙ c.image_length.ensures
+node_in-requires g c = ap length c.deref.ensures.value ∙ c.in-Ok.ensures.len ∙ c.image_length.ensures
 
-pub returns-clause-counts : goal.returns-clause-counts
-returns-clause-counts g c = still_counts c.node_in.result _ _ _ _ c.node_in.ensures.read c.in_ok-bytes.ensures.counts
+pub returns-in-Ok-clause-counts : goal.returns-in-Ok-clause-counts
+returns-in-Ok-clause-counts g c = still_counts c.node_in.result _ _ _ _ c.node_in.ensures.read c.in-Ok.ensures.counts
 
-pub returns-clause-kept : goal.returns-clause-kept
-returns-clause-kept g c k = still_kept c.node_in.result _ _ (c.in_ok-bytes.ensures.kept k)
+pub returns-in-Ok-clause-kept : goal.returns-in-Ok-clause-kept
+returns-in-Ok-clause-kept g c k = still_kept c.node_in.result _ _ (c.in-Ok.ensures.kept k)
 
-pub returns-clause-is : goal.returns-clause-is
-returns-clause-is g c k =
+pub returns-in-Ok-clause-is : goal.returns-in-Ok-clause-is
+returns-in-Ok-clause-is g c k =
     subst (λ given. Answers live given c.node_in.result)
     (sym (node_read c.args.at c.args.pages (g.D.Disk.state c.args.disk.now).now.bytes c.deref.result.now
-    (c.deref.ensures.value ∙ sym (found_is _ _ (c.in_ok-bytes.ensures.bytes k)) ∙ ap (λ n. take n (drop c.args.at (g.D.Disk.state c.args.disk.now).now.bytes)) c.image_length.ensures)))
+    (c.deref.ensures.value ∙ sym (found_is _ _ (c.in-Ok.ensures.bytes k)) ∙ ap (λ n. take n (drop c.args.at (g.D.Disk.state c.args.disk.now).now.bytes)) c.image_length.ensures)))
     c.node_in.ensures.is
