@@ -8,6 +8,7 @@ pub mod SlipCount
 pub mod Gains
 pub mod Receipted
 pub mod Cells
+pub mod Holds
 pub mod NodeTurned
 pub mod TurnsMade
 pub mod RecordedIn

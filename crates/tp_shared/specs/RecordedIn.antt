@@ -7,7 +7,7 @@ use Rattle.tp_snap.specs.Needs.{is_asked}
 use Rattle.tp_book.specs.Book.{BookValue}
 use Rattle.tp_turn.specs.Moments.{Done, IsNodeOf, moment}
 use Rattle.tp_turn.specs.Settled.{Records}
-use Rattle.tp_shared.specs.TurnsMade.{IsBookOf}
+use Rattle.tp_shared.specs.Holds.{IsBookOf}
 
 -- The book was seen as it was found and as it was left. The node recorded exactly where it was asked to in the book that was found, of
 -- which it was the node; else nothing was done.

@@ -1,5 +1,5 @@
--- How turns went, in books that nobody sees: each is one of the network.
-use Rattle.std.specs.Prelude.{◌≡◌, ℕ, List, length, Some, Result, Ok, Err}
+-- How turns went, in books that were seen under their lock.
+use Rattle.std.specs.Prelude.{◌≡◌, ℕ, List, Some, Result, Ok, Err}
 use Rattle.tp_model.specs.declared.link.Token.{Token}
 use Rattle.tp_model.specs.NodeState.{NodeState}
 use Rattle.tp_model.specs.Network.{Network, steps}
@@ -15,53 +15,52 @@ use Rattle.tp_turn.specs.Hosted.{HostDone, HostTurns}
 use Rattle.tp_turn.specs.Moments.{moment, IsNodeOf, Added}
 use Rattle.tp_turn.specs.declared.opened.Opened.{Opened}
 use Rattle.tp_turn.specs.Opened.{OpensIn, opened_acts, taken_in}
+use Rattle.tp_shared.specs.Holds.{Held, InHand}
 use Rattle.tp_shared.specs.declared.node_turn.NodeTurn.{NodeTurn}
 
--- a book of the network
-pub record IsBookOf (start : Network NodeState) (b : BookValue) : Type 0 where
-  pub wires : b.state.start.wires ≡ start.wires
-  pub nodes : length b.state.start.nodes ≡ length start.nodes
-
--- A node's turn was opened, with this answer, in a book in which the node was the one that its entries make, and by that book's form: all
--- was done that may be.
-pub record TurnOpened (start : Network NodeState) (number : ℕ) (answer : Result Opened Refusal) (old new : NodeContents) : Type 0 where
+-- A node's turn was opened, with this answer, in the book that was found, in which the node was the one that its entries make, and by that
+-- book's form: all was done that may be.
+pub record TurnOpened (start : Network NodeState) (number : ℕ) (answer : Result Opened Refusal) (was is : NodeContents) (old new : InHand) : Type 0 where
   pub found : BookValue
   pub left : BookValue
-  pub of : IsBookOf start found
-  pub is : IsNodeOf found number old
-  pub opens : OpensIn found.form number answer (moment found old) (moment left new)
+  pub held : Held start found left old new
+  pub node : IsNodeOf found number was
+  pub opens : OpensIn found.form number answer (moment found was) (moment left is)
 
--- A turn that was opened so was journalled in a book, of whatever form that was by then: its run, and what it received for one entry.
-pub record TurnCommitted (start : Network NodeState) (number : ℕ) (opened : Opened) (count : ℕ) (node : NodeContents) : Type 0 where
+-- A turn that was opened so was journalled in the book that was found, of whatever form that was by then: its run, and what it received
+-- for one entry.
+pub record TurnCommitted (start : Network NodeState) (number : ℕ) (opened : Opened) (count : ℕ) (node : NodeContents) (old new : InHand) : Type 0 where
   pub found : BookValue
   pub left : BookValue
-  pub of : IsBookOf start found
+  pub held : Held start found left old new
   pub added : Added number node.live (opened_acts number opened count) (without_run found number) left
 
--- The turn of a node: it was opened, it ran as far as it may, and was journalled by how it was opened.
-pub record TurnMade (start : Network NodeState) (number quantum : ℕ) (turn : NodeTurn) : Type 0 where
+-- The turn of a node: it was opened in one hold of the book's lock, ran as far as it may, and was journalled in another by how it was
+-- opened. What it answers that it took is what its opening took: the takes that the book got then, or those of the entry that it got at last.
+pub record TurnMade (start : Network NodeState) (number quantum : ℕ) (turn : NodeTurn) (old new : InHand) : Type 0 where
   pub found : NodeContents
   pub settled : NodeContents
   pub opening : Opened
   pub many : turn.taken ≡ taken_in opening
-  pub opened : TurnOpened start number (Ok opening) found settled
+  pub between : InHand
+  pub opened : TurnOpened start number (Ok opening) found settled old between
   pub ran : NodeContents
   pub sent : List (ℕ × Token)
   pub steps : steps t414 turn.ran.count settled.live ≡ Some (ran.live, sent)
   pub why : IsWhy turn.ran.why quantum turn.ran.count (LacksFrames (kept_of ran) (node_ranges ran.live)) ran.live
   pub kept : ran.frozen ≡ settled.frozen
   pub shared : kept_of ran ≡ kept_behind_steps turn.ran.count settled.live (kept_of settled)
-  pub committed : TurnCommitted start number opening turn.ran.count ran
+  pub committed : TurnCommitted start number opening turn.ran.count ran between new
 
 -- A turn of a node was refused, where it was opened.
-pub record TurnBrokenOff (start : Network NodeState) (number : ℕ) (reason : Refusal) : Type 0 where
-  pub found : NodeContents
-  pub left : NodeContents
-  pub opened : TurnOpened start number (Err reason) found left
+pub record TurnBrokenOff (start : Network NodeState) (number : ℕ) (reason : Refusal) (old new : InHand) : Type 0 where
+  pub was : NodeContents
+  pub is : NodeContents
+  pub opened : TurnOpened start number (Err reason) was is old new
 
--- The host's turn, with this answer.
-pub record HostTurnMade (start : Network NodeState) (answer : Result ℕ Refusal) : Type 0 where
+-- The host's turn, with this answer, in the book that was found.
+pub record HostTurnMade (start : Network NodeState) (answer : Result ℕ Refusal) (old new : InHand) : Type 0 where
   pub found : BookValue
   pub left : BookValue
-  pub of : IsBookOf start found
+  pub held : Held start found left old new
   pub did : HostDone (HostTurns answer) found left

@@ -5,6 +5,7 @@ ghost use Rattle.tp_model.specs.declared.limits.TheConstants.{MAX_STEPS};
 ghost use Rattle.tp_shared.specs.Cells.{AreOfCell};
 ghost use Rattle.tp_shared.specs.Entries.{IsTurnRefusal, OpenedEntries, TookAlone};
 ghost use Rattle.tp_shared.specs.Gains.{Gained};
+ghost use Rattle.tp_shared.specs.Holds.{in_hand};
 ghost use Rattle.tp_shared.specs.Seals.{Shows, ShowsOpen, ShowsRun};
 ghost use Rattle.tp_shared.specs.NodeTurned.{NodeTurned};
 ghost use Rattle.tp_shared.specs.RecordedIn.{RecordedIn};
@@ -18,6 +19,7 @@ use crate::node_turn::NodeTurn;
 use crate::place::Place;
 use crate::recorded::Recorded;
 use crate::seat::Seat;
+use crate::sights::Sights;
 use crate::soon::lock_soon;
 use std::marker::{Model, PhantomData};
 use std::sync::{Mutex, Wait};
@@ -50,6 +52,7 @@ fn begin<J: Naming, R: Wait>(
     book: &Mutex<Locked<J>>,
     place: &mut Place,
     seat: &mut Seat<J>,
+    seen: &mut Sights<J>,
     number: u8,
 ) -> Result<Opened, Refusal>
     requires there { number < length J.start.nodes }
@@ -57,12 +60,12 @@ fn begin<J: Naming, R: Wait>(
     requires shows { Shows place.old }
     ensures named { place.new.key.name ≡ place.old.key.name }
     ensures shows { MatchResult result (λ opened. ShowsOpen place.new (takes_in opened) (sent_in opened)) (λ e. Shows place.new) }
-    ensures opened { TurnOpened J.start number result place.old.node place.new.node }
+    ensures opened { TurnOpened J.start number result place.old.node place.new.node (in_hand seen.old seat.old) (in_hand seen.new seat.new) }
     ensures gained { Gained (OpenedEntries J.start number result) seat.old seat.new }
     ensures refused { IfErr result IsTurnRefusal }
 {
     let mut held = lock_soon(rt, book);
-    held.begin(place, seat, number)
+    held.begin_seen(place, seat, seen, number)
 }
 
 // The second one.
@@ -71,6 +74,7 @@ fn commit<J: Naming, R: Wait>(
     book: &Mutex<Locked<J>>,
     place: &mut Place,
     seat: &mut Seat<J>,
+    seen: &mut Sights<J>,
     number: u8,
     opened: Opened,
     stretch: Stretch,
@@ -82,11 +86,11 @@ fn commit<J: Naming, R: Wait>(
     ensures ran { result ≡ stretch.ran }
     ensures named { place.new.key.name ≡ place.old.key.name }
     ensures shows { Shows place.new }
-    ensures committed { TurnCommitted J.start number opened stretch.ran.count place.old.node }
+    ensures committed { TurnCommitted J.start number opened stretch.ran.count place.old.node (in_hand seen.old seat.old) (in_hand seen.new seat.new) }
     ensures gained { Gained (λ entries. entries ≡ opened_entries number opened stretch.ran.count) seat.old seat.new }
 {
     let mut held = lock_soon(rt, book);
-    held.commit(place, seat, number, opened, stretch)
+    held.commit_seen(place, seat, seen, number, opened, stretch)
 }
 
 // A turn of a node whose lock is held: one hold of the book's lock to open it, one to commit it, and that lock is let go while the node runs.
@@ -96,6 +100,7 @@ fn turn_of<J: Naming, G: Gate, R: Wait>(
     book: &Mutex<Locked<J>>,
     place: &mut Place,
     seat: &mut Seat<J>,
+    seen: &mut Sights<J>,
     number: u8,
     quantum: u16,
 ) -> Result<NodeTurn, Refusal>
@@ -106,15 +111,15 @@ fn turn_of<J: Naming, G: Gate, R: Wait>(
     ensures named { place.new.key.name ≡ place.old.key.name }
     ensures shows { Shows place.new }
     ensures turned { MatchResult result (λ turn. NodeTurned J.start number quantum turn seat.old seat.new) (λ e. Gained (TookAlone J.start number) seat.old seat.new) }
-    ensures went { MatchResult result (λ turn. TurnMade J.start number quantum turn) (λ e. TurnBrokenOff J.start number e) }
+    ensures went { MatchResult result (λ turn. TurnMade J.start number quantum turn (in_hand seen.old seat.old) (in_hand seen.new seat.new)) (λ e. TurnBrokenOff J.start number e (in_hand seen.old seat.old) (in_hand seen.new seat.new)) }
     ensures refused { IfErr result IsTurnRefusal }
 {
     gate.at(number, NODE_LOCKED);
-    let opened = begin(rt, book, place, seat, number)?;
+    let opened = begin(rt, book, place, seat, seen, number)?;
     let taken = opened.taken();
     let stretch = place.run(quantum);
     gate.at(number, RUN_DONE);
-    let ran = commit(rt, book, place, seat, number, opened, stretch);
+    let ran = commit(rt, book, place, seat, seen, number, opened, stretch);
     gate.at(number, COMMITTED);
     Ok(NodeTurn { taken, ran })
 }
@@ -154,6 +159,7 @@ impl<const I: usize, J: Naming> Cell<I, J> {
         gate: &G,
         book: &Mutex<Locked<J>>,
         seat: &mut Seat<J>,
+        seen: &mut Sights<J>,
         number: u8,
         quantum: u16,
     ) -> Result<NodeTurn, Refusal>
@@ -161,12 +167,12 @@ impl<const I: usize, J: Naming> Cell<I, J> {
         requires there { number < length J.start.nodes }
         requires here { number % 4 ≡ I }
         ensures turned { MatchResult result (λ turn. NodeTurned J.start number quantum turn seat.old seat.new) (λ e. Gained (TookAlone J.start number) seat.old seat.new) }
-        ensures went { MatchResult result (λ turn. TurnMade J.start number quantum turn) (λ e. TurnBrokenOff J.start number e) }
+        ensures went { MatchResult result (λ turn. TurnMade J.start number quantum turn (in_hand seen.old seat.old) (in_hand seen.new seat.new)) (λ e. TurnBrokenOff J.start number e (in_hand seen.old seat.old) (in_hand seen.new seat.new)) }
         ensures refused { IfErr result IsTurnRefusal }
     {
         let Cell { places, .. } = self;
         let place = &mut places[number as usize / 4];
-        turn_of(rt, gate, book, place, seat, number, quantum)
+        turn_of(rt, gate, book, place, seat, seen, number, quantum)
     }
 
     /// The node `number`, which is one of the cell's, records where it is asked to.

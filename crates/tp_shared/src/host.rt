@@ -8,7 +8,7 @@ ghost use Rattle.tp_book.specs.Refusals.{IsAnswer};
 ghost use Rattle.tp_model.specs.declared.entry.Entry.TheVariants.{HostIn};
 ghost use Rattle.tp_shared.specs.Entries.{IsTurnRefusal, TakesOf};
 ghost use Rattle.tp_shared.specs.Gains.{Noted};
-ghost use Rattle.tp_shared.specs.TurnsMade.{IsBookOf};
+ghost use Rattle.tp_shared.specs.Holds.{IsBookOf};
 ghost use Rattle.tp_turn.specs.Hosted.{HostDone, HostTurns};
 
 use crate::locked::Locked;

@@ -24,6 +24,7 @@ mod recording;
 mod run;
 mod seal;
 mod seat;
+mod seeing;
 mod shared;
 mod shared_pieces;
 mod shown;

@@ -7,7 +7,7 @@ ghost use Rattle.tp_shared.specs.Gains.{Noted};
 ghost use Rattle.tp_shared.specs.Positions.{IsNumberedFrom};
 ghost use Rattle.tp_shared.specs.Seals.{Sealed, IsTied, Shows, ShowsOpen, ShowsRun};
 ghost use Rattle.tp_shared.specs.Told.{told_of};
-ghost use Rattle.tp_shared.specs.TurnsMade.{IsBookOf};
+ghost use Rattle.tp_shared.specs.Holds.{IsBookOf};
 ghost use Rattle.tp_book.specs.Calls.{without_run};
 ghost use Rattle.tp_turn.specs.Moments.{Added, IsNodeOf, moment};
 ghost use Rattle.tp_turn.specs.Opened.{OpensIn, opened_acts, opened_entries, sent_in, takes_in};

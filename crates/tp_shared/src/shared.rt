@@ -4,6 +4,7 @@ ghost use Rattle.std.specs.Prelude.{◌≡◌, ◌<◌, ◌≤◌, [], length, I
 ghost use Rattle.tp_model.specs.declared.limits.TheConstants.{MAX_STEPS};
 ghost use Rattle.tp_shared.specs.Entries.{IsTurnRefusal, CountedTakes, Takes, TakesOf, TookAlone};
 ghost use Rattle.tp_shared.specs.Gains.{Gained};
+ghost use Rattle.tp_shared.specs.Holds.{in_hand};
 ghost use Rattle.tp_shared.specs.Named.{Names};
 ghost use Rattle.tp_shared.specs.RecordedIn.{RecordedIn};
 ghost use Rattle.tp_shared.specs.Told.{told_of};
@@ -18,7 +19,7 @@ use crate::node_turn::NodeTurn;
 use crate::parts::Parts;
 use crate::recorded::Recorded;
 use crate::seat::Seat;
-use crate::sights::SightRoll;
+use crate::sights::{SightRoll, Sights};
 use crate::soon::lock_soon;
 use crate::told::Told;
 use std::sync::{Mutex, Wait};
@@ -31,13 +32,14 @@ fn host_hold<J: Naming, R: Wait>(
     rt: &R,
     book: &Mutex<Locked<J>>,
     seat: &mut Seat<J>,
+    seen: &mut Sights<J>,
 ) -> Result<u64, Refusal>
     ensures gained { Gained (TakesOf J.start (length J.start.nodes) result) seat.old seat.new }
-    ensures went { HostTurnMade J.start result }
+    ensures went { HostTurnMade J.start result (in_hand seen.old seat.old) (in_hand seen.new seat.new) }
     ensures refused { IfErr result IsTurnRefusal }
 {
     let mut held = lock_soon(rt, book);
-    held.host_turn(seat)
+    held.host_turn_seen(seat, seen)
 }
 
 /// The book under its lock, the nodes under four others, node `i` in cell `i` mod 4, and the mark. Where a thread holds two
@@ -124,38 +126,39 @@ impl<J: Naming> Shared<J> {
     /// In one of form Turns it closes at Markers, and receives what stands in front of its lines, which stays there until the turn's one
     /// entry. A turn is reserved, and the node runs for at most `quantum` steps while the book's lock is let go. `seat` gets the slips of
     /// the entries. Where no turn can be reserved, or memory or the store is wanting, nothing ran, and the slips of what was taken are in
-    /// `seat`.
+    /// `seat`. `seen` gets the book as it was found and as it was left, for each hold of its lock.
     pub fn turn<G: Gate, R: Wait>(
         &self,
         rt: &R,
         gate: &G,
         seat: &mut Seat<J>,
+        seen: &mut Sights<J>,
         number: u8,
         quantum: u16,
     ) -> Result<NodeTurn, Refusal>
         requires quantum { quantum ≤ MAX_STEPS }
         requires there { number < length J.start.nodes }
         ensures turned { MatchResult result (λ turn. NodeTurned J.start number quantum turn seat.old seat.new) (λ e. Gained (TookAlone J.start number) seat.old seat.new) }
-        ensures went { MatchResult result (λ turn. TurnMade J.start number quantum turn) (λ e. TurnBrokenOff J.start number e) }
+        ensures went { MatchResult result (λ turn. TurnMade J.start number quantum turn (in_hand seen.old seat.old) (in_hand seen.new seat.new)) (λ e. TurnBrokenOff J.start number e (in_hand seen.old seat.old) (in_hand seen.new seat.new)) }
         ensures refused { IfErr result IsTurnRefusal }
     {
         match number % 4 {
             0 => self
                 .c0
                 .lock(rt)
-                .turn(rt, gate, &self.book, seat, number, quantum),
+                .turn(rt, gate, &self.book, seat, seen, number, quantum),
             1 => self
                 .c1
                 .lock(rt)
-                .turn(rt, gate, &self.book, seat, number, quantum),
+                .turn(rt, gate, &self.book, seat, seen, number, quantum),
             2 => self
                 .c2
                 .lock(rt)
-                .turn(rt, gate, &self.book, seat, number, quantum),
+                .turn(rt, gate, &self.book, seat, seen, number, quantum),
             _ => self
                 .c3
                 .lock(rt)
-                .turn(rt, gate, &self.book, seat, number, quantum),
+                .turn(rt, gate, &self.book, seat, seen, number, quantum),
         }
     }
 
@@ -174,19 +177,20 @@ impl<J: Naming> Shared<J> {
     }
 
     /// The host's turn: each of its ports in order takes at most three tokens of the line that comes to it, a Marker among them.
-    /// `seat` gets the slips of the entries, also where the turn broke off. Answers how many tokens were taken; a Marker isn't
-    /// counted.
+    /// `seat` gets the slips of the entries, also where the turn broke off, and `seen` the book as it was found and as it was left. Answers
+    /// how many tokens were taken; a Marker isn't counted.
     pub fn host_turn<G: Gate, R: Wait>(
         &self,
         rt: &R,
         gate: &G,
         seat: &mut Seat<J>,
+        seen: &mut Sights<J>,
     ) -> Result<u64, Refusal>
         ensures turned { MatchResult result (λ takes. Gained (CountedTakes J.start (length J.start.nodes) takes) seat.old seat.new) (λ e. Gained (Takes J.start (length J.start.nodes)) seat.old seat.new) }
-        ensures went { HostTurnMade J.start result }
+        ensures went { HostTurnMade J.start result (in_hand seen.old seat.old) (in_hand seen.new seat.new) }
         ensures refused { IfErr result IsTurnRefusal }
     {
-        let done = host_hold(rt, &self.book, seat);
+        let done = host_hold(rt, &self.book, seat, seen);
         gate.at(self.nodes, COMMITTED);
         done
     }

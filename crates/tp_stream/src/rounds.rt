@@ -17,7 +17,7 @@ use std::alloc::Global;
 use std::sync::Wait;
 use tp_book::Refusal;
 use tp_node::Why;
-use tp_shared::{Locked, Naming, NoGate, NodeTurn, Seat, Shared};
+use tp_shared::{Locked, Naming, NoGate, NodeTurn, Seat, Shared, Sights};
 
 /// How many turns are made at most between two flushes.
 const ROUND: u32 = 1024;
@@ -58,7 +58,7 @@ fn node_turn<J: Naming, R: Wait>(
     requires quantum { quantum ≤ MAX_STEPS }
     ensures { IfOk result (λ did. did.nothing ≡ true → NodeRests J.start number) }
 {
-    match shared.turn(rt, &NoGate, seat, number, quantum) {
+    match shared.turn(rt, &NoGate, seat, &mut Sights::new(), number, quantum) {
         Ok(turn) => Ok(did_of(&turn)),
         Err(refusal) => Err(refusal),
     }
@@ -72,7 +72,7 @@ fn host_turn<J: Naming, R: Wait>(
 ) -> Result<Did, Refusal>
     ensures { IfOk result (λ did. did.nothing ≡ true → HostTurnMade J.start (Ok 0)) }
 {
-    match shared.host_turn(rt, &NoGate, seat) {
+    match shared.host_turn(rt, &NoGate, seat, &mut Sights::new()) {
         Ok(takes) => Ok(Did {
             nothing: takes == 0,
             halted: false,

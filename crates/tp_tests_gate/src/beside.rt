@@ -6,7 +6,7 @@ use std::sync::Wait;
 use std::thread::{Threads, join};
 use tp_disk::Disk;
 use tp_flush::Flusher;
-use tp_shared::{Gate, Naming, NoGate, Seat, Shared};
+use tp_shared::{Gate, Naming, NoGate, Seat, Shared, Sights};
 
 /// How many steps a turn has.
 const QUANTUM: u16 = 9;
@@ -17,7 +17,7 @@ fn is_run<J: Naming, G: Gate, R: Wait>(rt: &R, shared: &Shared<J>, gate: &G, num
         return false;
     }
     let mut seat = Seat::new();
-    match shared.turn(rt, gate, &mut seat, number, QUANTUM) {
+    match shared.turn(rt, gate, &mut seat, &mut Sights::new(), number, QUANTUM) {
         Ok(turn) => turn.ran.count() > 0,
         Err(_) => false,
     }

@@ -16,7 +16,7 @@ use tp_disk::MemDisk;
 use tp_flush::Flusher;
 use tp_model::Form;
 use tp_recover::{Opened, open};
-use tp_shared::{Naming, NoGate, Seat, Shared};
+use tp_shared::{Naming, NoGate, Seat, Shared, Sights};
 use tp_tests_begun::opening::{Opening, begin, opening_of};
 
 /// How many steps a node's turn has.
@@ -34,14 +34,17 @@ pub(crate) fn turn_all<J: Naming, R: Wait>(rt: &R, shared: &Shared<J>) -> bool {
     for number in 0..shared.nodes() {
         let mut seat = Seat::new();
         if shared
-            .turn(rt, &NoGate, &mut seat, number, QUANTUM)
+            .turn(rt, &NoGate, &mut seat, &mut Sights::new(), number, QUANTUM)
             .is_err()
         {
             are_made = false;
         }
     }
     let mut seat = Seat::new();
-    shared.host_turn(rt, &NoGate, &mut seat).is_ok() && are_made
+    shared
+        .host_turn(rt, &NoGate, &mut seat, &mut Sights::new())
+        .is_ok()
+        && are_made
 }
 
 /// Turns of all, and one of the flusher. Answers whether it switched.

@@ -12,7 +12,7 @@ use std::test::Fail;
 use std::thread::{Threads, join, map_vec};
 use tp_model::Entry;
 use tp_shared::gate::RUN_DONE;
-use tp_shared::{Naming, NoGate, Parts, Seat, Shared};
+use tp_shared::{Naming, NoGate, Parts, Seat, Shared, Sights};
 use tp_tests_begun::opening::{Opening, opening_of};
 
 /// The node that is held. None of `OTHERS` is under its lock.
@@ -32,7 +32,9 @@ fn is_turned<J: Naming, R: Wait>(rt: &R, shared: &Shared<J>, number: u8) -> bool
         return false;
     }
     let mut seat = Seat::new();
-    shared.turn(rt, &NoGate, &mut seat, number, QUANTUM).is_ok()
+    shared
+        .turn(rt, &NoGate, &mut seat, &mut Sights::new(), number, QUANTUM)
+        .is_ok()
 }
 
 /// The turn that is held.
@@ -41,7 +43,9 @@ fn turn_held<J: Naming, R: Wait>(rt: &R, shared: &Shared<J>, hold: &Hold) -> boo
         return false;
     }
     let mut seat = Seat::new();
-    shared.turn(rt, hold, &mut seat, HELD, QUANTUM).is_ok()
+    shared
+        .turn(rt, hold, &mut seat, &mut Sights::new(), HELD, QUANTUM)
+        .is_ok()
 }
 
 /// Turns of other nodes, each in a thread of its own, while one is held, which is let go then. Answers whether it was there, and all

@@ -16,7 +16,7 @@ use tp_disk::MemDisk;
 use tp_flush::Flusher;
 use tp_model::{Entry, Form, Received, Token};
 use tp_shared::gate::RUN_DONE;
-use tp_shared::{Gate, Naming, NoGate, Seat, Shared};
+use tp_shared::{Gate, Naming, NoGate, Seat, Shared, Sights};
 use tp_tests_begun::opening::{Opening, begin, opening_of};
 
 /// The node that sends a letter, and whose turn is open.
@@ -39,7 +39,9 @@ fn is_turned<J: Naming, G: Gate, R: Wait>(
         return false;
     }
     let mut seat = Seat::new();
-    shared.turn(rt, gate, &mut seat, number, QUANTUM).is_ok()
+    shared
+        .turn(rt, gate, &mut seat, &mut Sights::new(), number, QUANTUM)
+        .is_ok()
 }
 
 /// A turn of each node.
@@ -77,7 +79,9 @@ fn comes_whole<J: Naming, R: Wait>(
     let are_recorded = are_turned(rt, shared);
     let is_copied = switches(rt, alloc, shared, flusher) == Some(false);
     let mut seat = Seat::new();
-    let is_taken = shared.host_turn(rt, &NoGate, &mut seat).is_ok();
+    let is_taken = shared
+        .host_turn(rt, &NoGate, &mut seat, &mut Sights::new())
+        .is_ok();
     is_sent && is_begun && are_recorded && is_copied && is_taken
 }
 

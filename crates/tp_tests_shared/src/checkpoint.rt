@@ -7,7 +7,7 @@ use std::alloc::{AllocError, Global};
 use std::marker::Brand;
 use std::sync::Wait;
 use tp_model::limits::{IMAGE_HEAD_BYTES, PAGE_BYTES};
-use tp_shared::{Naming, NoGate, Parts, Seat, Shared, TailCopy, Told};
+use tp_shared::{Naming, NoGate, Parts, Seat, Shared, Sights, TailCopy, Told};
 use tp_token::Key;
 
 /// What came of a snapshot: whether it ran, whether there was a copy before the pages were let go, whether there were pages afterwards, and
@@ -47,7 +47,7 @@ fn is_running<J: Naming, R: Wait>(rt: &R, shared: &Shared<J>) -> bool {
 fn make_turn<J: Naming, R: Wait>(rt: &R, shared: &Shared<J>, seat: &mut Seat<J>, number: u8)
     requires { number < length J.start.nodes }
 {
-    let _done = shared.turn(rt, &NoGate, seat, number, 9);
+    let _done = shared.turn(rt, &NoGate, seat, &mut Sights::new(), number, 9);
 }
 
 fn copy<J: Naming, R: Wait>(

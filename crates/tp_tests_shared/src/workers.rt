@@ -8,7 +8,7 @@ ghost use Rattle.tp_token.specs.Sound.{shown, item_of};
 use std::marker::Brand;
 use std::sync::Wait;
 use std::thread::{Threads, join};
-use tp_shared::{Locked, Naming, NoGate, Parts, Seat, Shared};
+use tp_shared::{Locked, Naming, NoGate, Parts, Seat, Shared, Sights};
 
 /// What turns did: the slips of their entries, how many tokens were taken and how many steps made, and whether one was refused.
 #[derive(Drop)]
@@ -37,7 +37,14 @@ pub fn make_turns<J: Naming, R: Wait>(
         is_refused: false,
     };
     for _ in 0..count {
-        match shared.turn(rt, &NoGate, &mut work.seat, number, quantum) {
+        match shared.turn(
+            rt,
+            &NoGate,
+            &mut work.seat,
+            &mut Sights::new(),
+            number,
+            quantum,
+        ) {
             Ok(turn) => {
                 work.taken = work.taken.saturating_add(turn.taken);
                 work.steps = work.steps.saturating_add(u32::from(turn.ran.count()));

@@ -9,6 +9,7 @@ use Rattle.tp_ready.specs.Numbers.{Numbers}
 use Rattle.tp_ready.specs.declared.answers.Answer.{Answer}
 use Rattle.tp_shared.specs.Entries.{IsTurnRefusal, Takes, TookAlone}
 use Rattle.tp_shared.specs.Gains.{Gained}
+use Rattle.tp_shared.specs.Holds.{InHand}
 use Rattle.tp_work.specs.Turns.{Refused, fault_of, Handed, RefusedAt, RefusedFor, RefusedBy, TookBefore}
 use Rattle.tp_work.specs.declared.fault.TurnFault.{TurnFault}
 use Rattle.tp_work.specs.declared.fault.TurnFault.TheVariants.{Empty, JournalFull, StoreBroken, Memory}
@@ -45,8 +46,8 @@ broken_off start process old new refusal.SnapshotRunning there took = record { p
 broken_off start process old new refusal.PortFull there took = record { process = process; there = there; took = took }
 
 -- what was told of the refusal is told of the fault
-pub refused_for : (start : Network NodeState) (process : ℕ) (old new : List (ℕ × Entry)) (r : Refusal) → IsTurnRefusal r → Gained (TookBefore start process) old new → RefusedAt start process r
-    → RefusedFor start process (fault_of r) old new
+pub refused_for : (start : Network NodeState) (process : ℕ) (old new : InHand) (r : Refusal) → IsTurnRefusal r → Gained (TookBefore start process) old.slips new.slips
+    → RefusedAt start process r old new → RefusedFor start process (fault_of r) old new
 refused_for start process old new refusal.JournalFull is took went = (took, went)
 refused_for start process old new refusal.StoreBroken is took went = (took, went)
 refused_for start process old new refusal.Memory is took went = (took, went)
@@ -55,7 +56,7 @@ refused_for start process old new refusal.SnapshotRunning is took went = absurd 
 refused_for start process old new refusal.PortFull is took went = absurd is
 
 -- the process is the one that the queue handed out
-pub refused_by : (start : Network NodeState) (queue : Numbers) (process : ℕ) (fault : TurnFault) (asked_old asked_new : List Answer) (old new : List (ℕ × Entry))
+pub refused_by : (start : Network NodeState) (queue : Numbers) (process : ℕ) (fault : TurnFault) (asked_old asked_new : List Answer) (old new : InHand)
     → Handed queue (Some process) asked_old asked_new → RefusedFor start process fault old new → RefusedBy start queue fault asked_old asked_new old new
 refused_by start queue process Empty asked_old asked_new old new handed was = absurd was
 refused_by start queue process JournalFull asked_old asked_new old new handed was = (process, handed, was)

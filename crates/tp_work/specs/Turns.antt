@@ -11,6 +11,7 @@ use Rattle.tp_ready.specs.Numbers.{Numbers}
 use Rattle.tp_ready.specs.declared.answers.Answer.{Answer}
 use Rattle.tp_shared.specs.Entries.{Takes, CountedTakes, TookAtOnce}
 use Rattle.tp_shared.specs.Gains.{Gained}
+use Rattle.tp_shared.specs.Holds.{InHand}
 use Rattle.tp_shared.specs.NodeTurned.{NodeTurned}
 use Rattle.tp_shared.specs.TurnsMade.{TurnMade, TurnBrokenOff, HostTurnMade}
 use Rattle.tp_work.specs.declared.fault.TurnFault.{TurnFault}
@@ -60,36 +61,36 @@ fault_of refusal.PortFull = Memory
 abbrev pub Handed : Numbers → Option ℕ → List Answer → List Answer → Type 0
 Handed queue number old new = new ≡ old ++ answer queue number ∷ []
 
--- how a turn went, as the call that made it tells: a node's, which ran, or the host's
-abbrev pub WentAs : Network NodeState → ℕ → ℕ → ℕ → Option RunEnd → Type 0
-WentAs start quantum process takes (Some ran) = TurnMade start process quantum (record { taken = takes; ran = ran })
-WentAs start quantum process takes None = HostTurnMade start (Ok takes)
+-- how a turn went, in the books that were seen: a node's, which ran, or the host's
+abbrev pub WentAs : Network NodeState → ℕ → ℕ → ℕ → Option RunEnd → InHand → InHand → Type 0
+WentAs start quantum process takes (Some ran) old new = TurnMade start process quantum (record { taken = takes; ran = ran }) old new
+WentAs start quantum process takes None old new = HostTurnMade start (Ok takes) old new
 
-abbrev pub Went : Network NodeState → ℕ → Turn → Type 0
-Went start quantum turn = WentAs start quantum turn.process turn.takes turn.ran
+abbrev pub Went : Network NodeState → ℕ → Turn → InHand → InHand → Type 0
+Went start quantum turn old new = WentAs start quantum turn.process turn.takes turn.ran old new
 
--- how a turn of this process was refused, as the call tells
-abbrev pub RefusedAt : Network NodeState → ℕ → Refusal → Type 0
-RefusedAt start process reason =
-    ((process < length start.nodes) × TurnBrokenOff start process reason) ⊎ ((process ≡ length start.nodes) × HostTurnMade start (Err reason))
+-- how a turn of this process was refused, in the book that was seen
+abbrev pub RefusedAt : Network NodeState → ℕ → Refusal → InHand → InHand → Type 0
+RefusedAt start process reason old new =
+    ((process < length start.nodes) × TurnBrokenOff start process reason old new) ⊎ ((process ≡ length start.nodes) × HostTurnMade start (Err reason) old new)
 
 -- A turn of this process was refused with this reason, and the seat has the slips of what it took before.
-abbrev pub RefusedWith : Network NodeState → ℕ → Refusal → List (ℕ × Entry) → List (ℕ × Entry) → Type 0
-RefusedWith start process reason old new = Gained (TookBefore start process) old new × RefusedAt start process reason
+abbrev pub RefusedWith : Network NodeState → ℕ → Refusal → InHand → InHand → Type 0
+RefusedWith start process reason old new = Gained (TookBefore start process) old.slips new.slips × RefusedAt start process reason old new
 
-abbrev pub RefusedFor : Network NodeState → ℕ → TurnFault → List (ℕ × Entry) → List (ℕ × Entry) → Type 0
+abbrev pub RefusedFor : Network NodeState → ℕ → TurnFault → InHand → InHand → Type 0
 RefusedFor start process Empty old new = ⊥
 RefusedFor start process JournalFull old new = RefusedWith start process refusal.JournalFull old new
 RefusedFor start process StoreBroken old new = RefusedWith start process refusal.StoreBroken old new
 RefusedFor start process Memory old new = RefusedWith start process refusal.Memory old new
 
 -- The process that was refused is the one whose number the queue handed out.
-abbrev pub RefusedOne : Network NodeState → Numbers → TurnFault → List Answer → List Answer → List (ℕ × Entry) → List (ℕ × Entry) → Type 0
+abbrev pub RefusedOne : Network NodeState → Numbers → TurnFault → List Answer → List Answer → InHand → InHand → Type 0
 RefusedOne start queue fault asked_old asked_new old new = (process : ℕ) × Handed queue (Some process) asked_old asked_new × RefusedFor start process fault old new
 
--- `Empty` is the queue's own answer, and comes only where there are more seats than processes.
-abbrev pub RefusedBy : Network NodeState → Numbers → TurnFault → List Answer → List Answer → List (ℕ × Entry) → List (ℕ × Entry) → Type 0
-RefusedBy start queue Empty asked_old asked_new old new = Handed queue None asked_old asked_new × (queue.count < queue.hands)
+-- `Empty` is the queue's own answer, and comes only where there are more seats than processes. Nothing was seen then.
+abbrev pub RefusedBy : Network NodeState → Numbers → TurnFault → List Answer → List Answer → InHand → InHand → Type 0
+RefusedBy start queue Empty asked_old asked_new old new = Handed queue None asked_old asked_new × (queue.count < queue.hands) × (new.seen ≡ old.seen)
 RefusedBy start queue JournalFull asked_old asked_new old new = RefusedOne start queue JournalFull asked_old asked_new old new
 RefusedBy start queue StoreBroken asked_old asked_new old new = RefusedOne start queue StoreBroken asked_old asked_new old new
 RefusedBy start queue Memory asked_old asked_new old new = RefusedOne start queue Memory asked_old asked_new old new

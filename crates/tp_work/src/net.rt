@@ -2,6 +2,7 @@
 
 ghost use Rattle.std.specs.Prelude.{◌≡◌, ◌≤◌, ◌+◌, Some, length, IfOk, MatchResult};
 ghost use Rattle.tp_model.specs.declared.limits.TheConstants.{MAX_STEPS};
+ghost use Rattle.tp_shared.specs.Holds.{in_hand};
 ghost use Rattle.tp_work.specs.Turns.{Turned, Refused, Handed, Went, RefusedFor, RefusedBy};
 
 use crate::fault::TurnFault;
@@ -10,7 +11,7 @@ use crate::turn::Turn;
 use std::sync::Wait;
 use tp_ready::ReadyQueue;
 use tp_shared::gate::NUMBER_TAKEN;
-use tp_shared::{Gate, Naming, NodeTurn, Shared};
+use tp_shared::{Gate, Naming, NodeTurn, Shared, Sights};
 
 /// What threads share, the ready queue of all processes, how many steps a node's turn may have, and the gate that each turn
 /// passes.
@@ -31,25 +32,26 @@ impl<J: Naming, G: Gate> Net<J, G> {
     }
 
     /// A turn of the process that waits longest: the one whose number the ready queue hands out, as `seat` keeps. It goes to the end of
-    /// the queue, whatever its turn did, and `seat` gets the slips of what was journalled. `Empty` is the queue's own answer,
-    /// and comes only where there are more seats than processes.
+    /// the queue, whatever its turn did, and `seat` gets the slips of what was journalled, and what was seen of the book. `Empty` is the
+    /// queue's own answer, and comes only where there are more seats than processes.
     pub fn turn<R: Wait>(&self, rt: &R, seat: &mut Seat<J>) -> Result<Turn, TurnFault>
         requires queue { seat.old.hand ≡ Some self.now.queue }
         ensures queue { seat.new.hand ≡ Some self.now.queue }
         ensures turned { MatchResult result (λ turn. Turned J.start self.now.quantum turn seat.old.slips seat.new.slips) (λ fault. Refused J.start fault seat.old.slips seat.new.slips) }
-        ensures handed { MatchResult result (λ turn. Handed self.now.queue (Some turn.process) seat.old.answers seat.new.answers) (λ fault. RefusedBy J.start self.now.queue fault seat.old.answers seat.new.answers seat.old.slips seat.new.slips) }
-        ensures went { IfOk result (Went J.start self.now.quantum) }
+        ensures handed { MatchResult result (λ turn. Handed self.now.queue (Some turn.process) seat.old.answers seat.new.answers) (λ fault. RefusedBy J.start self.now.queue fault seat.old.answers seat.new.answers (in_hand seat.old.seen seat.old.slips) (in_hand seat.new.seen seat.new.slips)) }
+        ensures went { IfOk result (λ turn. Went J.start self.now.quantum turn (in_hand seat.old.seen seat.old.slips) (in_hand seat.new.seen seat.new.slips)) }
     {
         let Seat {
             hand,
             answers,
             slips,
+            seen,
         } = seat;
         let Some(taken) = self.queue.take(rt, hand, answers) else {
             return Err(TurnFault::Empty);
         };
         self.gate.at(taken.number(), NUMBER_TAKEN);
-        let done = self.turn_of(rt, slips, taken.number());
+        let done = self.turn_of(rt, slips, seen, taken.number());
         self.queue.put_back(rt, hand, taken);
         done
     }
@@ -59,15 +61,16 @@ impl<J: Naming, G: Gate> Net<J, G> {
         &self,
         rt: &R,
         slips: &mut tp_shared::Seat<J>,
+        seen: &mut Sights<J>,
         process: u8,
     ) -> Result<Turn, TurnFault>
         requires there { process ≤ length J.start.nodes }
         ensures process { IfOk result (λ turn. turn.process ≡ process) }
         ensures turned { MatchResult result (λ turn. Turned J.start self.now.quantum turn slips.old slips.new) (λ fault. Refused J.start fault slips.old slips.new) }
-        ensures went { MatchResult result (Went J.start self.now.quantum) (λ fault. RefusedFor J.start process fault slips.old slips.new) }
+        ensures went { MatchResult result (λ turn. Went J.start self.now.quantum turn (in_hand seen.old slips.old) (in_hand seen.new slips.new)) (λ fault. RefusedFor J.start process fault (in_hand seen.old slips.old) (in_hand seen.new slips.new)) }
     {
         if process == self.shared.nodes() {
-            return match self.shared.host_turn(rt, &self.gate, slips) {
+            return match self.shared.host_turn(rt, &self.gate, slips, seen) {
                 Ok(takes) => Ok(Turn {
                     process,
                     takes,
@@ -78,7 +81,7 @@ impl<J: Naming, G: Gate> Net<J, G> {
         }
         match self
             .shared
-            .turn(rt, &self.gate, slips, process, self.quantum)
+            .turn(rt, &self.gate, slips, seen, process, self.quantum)
         {
             Ok(NodeTurn { taken, ran }) => Ok(Turn {
                 process,

@@ -11,7 +11,7 @@ use crate::seat::Seat;
 use std::alloc::{AllocError, Global};
 use std::sync::Wait;
 use tp_ready::{Answers, Hand, ReadyQueue};
-use tp_shared::{Gate, Naming, Parts, Shared, Told};
+use tp_shared::{Gate, Naming, Parts, Shared, Sights, Told};
 use tp_token::Key;
 
 /// The most seats of a network.
@@ -32,6 +32,7 @@ fn seats_of<J: Naming>(alloc: Global, hands: Vec<Hand>) -> Result<Vec<Seat<J>>, 
             hand,
             answers: Answers::new(),
             slips: tp_shared::Seat::new(),
+            seen: Sights::new(),
         })?;
     }
     Ok(seats)

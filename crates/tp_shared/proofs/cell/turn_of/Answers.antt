@@ -4,6 +4,7 @@ use Rattle.tp_node.specs.RunEnd.{RunEnd}
 use Rattle.tp_book.specs.declared.refusal.Refusal.{Refusal}
 use Rattle.tp_turn.specs.Opened.{sent_in, takes_in}
 use Rattle.tp_shared.specs.declared.node_turn.NodeTurn.{NodeTurn}
+use Rattle.tp_shared.specs.Holds.{in_hand}
 use Rattle.tp_shared.specs.NodeTurned.{NodeTurned}
 use Rattle.tp_shared.specs.TurnsMade.{TurnBrokenOff, TurnMade}
 use Rattle.tp_shared.proofs.Gaining.{node_turned}
@@ -29,8 +30,10 @@ commit-ran-requires-clause-ran g c =
 pub returns-in_err-opened-clause-went : goal.returns-in_err-opened-clause-went
 returns-in_err-opened-clause-went g c =
     let is : c.from_residual.result ≡ Err c.in_err-opened.field-0.0 = search rules in
-    subst (λ (r : Result NodeTurn Refusal). MatchResult r (λ turn. TurnMade g.J.Naming.start c.args.number c.args.quantum turn) (λ e. TurnBrokenOff g.J.Naming.start c.args.number e)) (sym is)
-    (record { found = c.args.place.now.node; left = c.begin.new.place.node; opened = c.in_err-opened.ensures.opened })
+    let old = in_hand c.args.seen.now c.args.seat.now in
+    let new = in_hand c.begin.new.seen c.begin.new.seat in
+    subst (λ (r : Result NodeTurn Refusal). MatchResult r (λ turn. TurnMade g.J.Naming.start c.args.number c.args.quantum turn old new) (λ e. TurnBrokenOff g.J.Naming.start c.args.number e old new)) (sym is)
+    (record { was = c.args.place.now.node; is = c.begin.new.place.node; opened = c.in_err-opened.ensures.opened })
 
 pub returns-clause-turned : goal.returns-clause-turned
 returns-clause-turned g c =
@@ -40,12 +43,15 @@ returns-clause-turned g c =
 
 pub returns-clause-went : goal.returns-clause-went
 returns-clause-went g c =
-    subst (λ (r : RunEnd). TurnMade g.J.Naming.start c.args.number c.args.quantum (record { taken = c.taken-taken.result; ran = r })) (sym c.commit-ran.ensures.ran)
+    let old = in_hand c.args.seen.now c.args.seat.now in
+    let new = in_hand c.commit-ran.new.seen c.commit-ran.new.seat in
+    subst (λ (r : RunEnd). TurnMade g.J.Naming.start c.args.number c.args.quantum (record { taken = c.taken-taken.result; ran = r }) old new) (sym c.commit-ran.ensures.ran)
     (record {
       found = c.args.place.now.node;
       settled = c.begin.new.place.node;
       opening = c.in_ok-opened.opened;
       many = c.taken-taken.ensures;
+      between = in_hand c.begin.new.seen c.begin.new.seat;
       opened = c.in_ok-opened.ensures.opened;
       ran = c.run-stretch.new.self.node;
       sent = c.run-stretch.result.sent.items;

@@ -7,7 +7,7 @@ use Rattle.tp_shared.specs.Agreement.{Agreement, answered_with}
 use Rattle.tp_shared.specs.Entries.{OpenedEntries}
 use Rattle.tp_shared.specs.Seals.{Stage}
 use Rattle.tp_shared.specs.Gains.{Noted}
-use Rattle.tp_shared.specs.TurnsMade.{IsBookOf}
+use Rattle.tp_shared.specs.Holds.{IsBookOf}
 use Rattle.tp_shared.specs.declared.seal.NodeSeal.{NodeSeal}
 use Rattle.tp_shared.proofs.Holding.{acted_like, answered_form, opened_like}
 use Rattle.tp_shared.proofs.Sealing.{answered_seal, answered_shows, node_of_seal, noted_by, reserved_after, sealed_after}

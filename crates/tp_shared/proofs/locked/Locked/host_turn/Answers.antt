@@ -4,7 +4,7 @@ use Rattle.tp_shared.specs.BookActs.{HostActed}
 use Rattle.tp_shared.specs.Entries.{TakesOf}
 use Rattle.tp_shared.specs.Seals.{Stage}
 use Rattle.tp_shared.specs.Gains.{Noted}
-use Rattle.tp_shared.specs.TurnsMade.{IsBookOf}
+use Rattle.tp_shared.specs.Holds.{IsBookOf}
 use Rattle.tp_shared.proofs.Holding.{grown_like, takes_of_like}
 use Rattle.tp_shared.proofs.Hosting.{hosted_turn, host_refused}
 use Rattle.tp_shared.proofs.Sealing.{noted_by}

@@ -6,7 +6,7 @@ use Rattle.tp_snap.specs.Needs.{is_asked}
 use Rattle.tp_turn.specs.Moments.{Done, IsNodeOf, moment}
 use Rattle.tp_turn.specs.Settled.{Records}
 use Rattle.tp_shared.specs.Agreement.{Agreement, at_rest}
-use Rattle.tp_shared.specs.TurnsMade.{IsBookOf}
+use Rattle.tp_shared.specs.Holds.{IsBookOf}
 use Rattle.tp_shared.specs.declared.seal.NodeSeal.{NodeSeal}
 use Rattle.tp_shared.proofs.Sealing.{node_of_seal, reserved_after, rest_seal, sealed_after}
 use Rattle.tp_shared.proofs.Thawing.{thaws_set, thawed_at, thawed_recorded}
