@@ -12,7 +12,8 @@ use Rattle.tp_node.specs.NodeContents.{kept_of}
 use Rattle.tp_node.specs.RunEnd.{IsWhy}
 use Rattle.tp_node.specs.declared.run.Why.{Why}
 use Rattle.tp_node.specs.declared.run.Why.TheVariants.{Full, Idle, NoFrame, Halted as Stopped}
-use Rattle.tp_shared.specs.TurnsMade.{TurnMade}
+use Rattle.tp_shared.specs.Holds.{InHand}
+use Rattle.tp_shared.specs.TurnsMade.{HostTurnMade, TurnMade}
 use Rattle.tp_shared.specs.declared.node_turn.NodeTurn.{NodeTurn}
 use Rattle.tp_stream.specs.declared.task.Task.{Task}
 use Rattle.tp_stream_ends.specs.declared.ending.Ended.{Ended}
@@ -22,7 +23,7 @@ use Rattle.tp_stream.specs.declared.fault.StreamFault.{StreamFault}
 use Rattle.tp_stream.specs.declared.pumping.Pumped.{Pumped}
 use Rattle.tp_stream.specs.declared.turns.Turns.{Turns as TurnsValue}
 use Rattle.tp_stream.specs.Endings.{IsEnding}
-use Rattle.tp_stream.specs.Quiet.{AreQuiet, HasNoStep, HaveRested, IsAsked, IsWhyEnded, NodeRests, Rested}
+use Rattle.tp_stream.specs.Quiet.{AreQuiet, HasNoStep, HaveRested, HostRests, IsAsked, IsWhyEnded, NodeRests, Rested}
 
 halted_rests : (node : NodeState) → IsSome node.cpu.halt → node_step node ≡ None
 unfolding node_step step_of
@@ -35,16 +36,21 @@ no_step Idle max count cause now is none = is.1
 no_step NoFrame max count cause now is none = absurd none
 no_step Stopped max count cause now is none = halted_rests now is.1
 
-pub node_rests : (start : Network NodeState) (number quantum : ℕ) (turn : NodeTurn) → TurnMade start number quantum turn → turn.taken ≡ 0 → turn.ran.count ≡ 0
+pub node_rests : (start : Network NodeState) (number quantum : ℕ) (turn : NodeTurn) (old new : InHand) → TurnMade start number quantum turn old new → turn.taken ≡ 0 → turn.ran.count ≡ 0
     → HasNoStep turn.ran.why → NodeRests start number
-node_rests start number quantum turn went taken count none = record {
+node_rests start number quantum turn old new went taken count none = record {
   quantum = quantum;
   turn = turn;
+  old = old;
+  new = new;
   went = went;
   taken = taken;
   count = count;
   rests = no_step turn.ran.why quantum turn.ran.count (LacksFrames (kept_of went.ran) (node_ranges went.ran.live)) went.ran.live went.why none;
 }
+
+pub host_rests : (start : Network NodeState) (takes : ℕ) (old new : InHand) → HostTurnMade start (Ok takes) old new → takes ≡ 0 → HostRests start
+host_rests start takes old new went none = record { old = old; new = new; went = subst (λ n. HostTurnMade start (Ok n) old new) none went }
 
 -- ## Turns in a row
 

@@ -8,6 +8,7 @@ use Rattle.tp_node.specs.declared.run.Why.TheVariants.{Full, Idle, NoFrame, Halt
 use Rattle.tp_snap.specs.Needs.{has_recorded_in}
 use Rattle.tp_book.specs.Book.{BookValue, node_count}
 use Rattle.tp_shared.specs.declared.node_turn.NodeTurn.{NodeTurn}
+use Rattle.tp_shared.specs.Holds.{InHand}
 use Rattle.tp_shared.specs.TurnsMade.{HostTurnMade, TurnMade}
 use Rattle.tp_stream.specs.declared.task.Task.{Task}
 use Rattle.tp_stream_ends.specs.declared.ending.Ending.{Ending}
@@ -31,15 +32,23 @@ HasNoStep Stopped = Unit {0}
 pub record NodeRests (start : Network NodeState) (number : ℕ) : Type 0 where
   pub quantum : ℕ
   pub turn : NodeTurn
-  pub went : TurnMade start number quantum turn
+  pub old : InHand
+  pub new : InHand
+  pub went : TurnMade start number quantum turn old new
   pub taken : turn.taken ≡ 0
   pub count : turn.ran.count ≡ 0
   pub rests : node_step went.ran.live ≡ None
 
+-- A turn of the host took no token.
+pub record HostRests (start : Network NodeState) : Type 0 where
+  pub old : InHand
+  pub new : InHand
+  pub went : HostTurnMade start (Ok 0) old new
+
 -- A turn of a process had nothing to do: one of a node; or the host took no token.
 pub record HadNothing (start : Network NodeState) (process : ℕ) : Type 0 where
   pub node : process < length start.nodes → NodeRests start process
-  pub host : length start.nodes ≤ process → HostTurnMade start (Ok 0)
+  pub host : length start.nodes ≤ process → HostRests start
 
 -- so while no snapshot ran
 pub record Rested (start : Network NodeState) (process : ℕ) : Type 0 where

@@ -3,9 +3,8 @@
 ghost use Rattle.std.specs.Prelude.{◌≡◌, ◌<◌, ◌≤◌, length, true, false, Ok, IfOk, IfErr, OnOk};
 ghost use Rattle.tp_model.specs.declared.limits.TheConstants.{MAX_STEPS};
 ghost use Rattle.tp_book.specs.Marked.{after_begin};
-ghost use Rattle.tp_shared.specs.TurnsMade.{HostTurnMade};
 ghost use Rattle.tp_flush.specs.Due.{is_due};
-ghost use Rattle.tp_stream.specs.Quiet.{HadNothing, HasNoStep, HaveRested, IsStill, NodeRests};
+ghost use Rattle.tp_stream.specs.Quiet.{HadNothing, HasNoStep, HaveRested, HostRests, IsStill, NodeRests};
 ghost use Rattle.tp_stream.specs.Rooms.{HavePlace};
 ghost use Rattle.tp_stream.specs.Streamed.{IsBegun};
 
@@ -70,7 +69,7 @@ fn host_turn<J: Naming, R: Wait>(
     shared: &Shared<J>,
     seat: &mut Seat<J>,
 ) -> Result<Did, Refusal>
-    ensures { IfOk result (λ did. did.nothing ≡ true → HostTurnMade J.start (Ok 0)) }
+    ensures { IfOk result (λ did. did.nothing ≡ true → HostRests J.start) }
 {
     match shared.host_turn(rt, &NoGate, seat, &mut Sights::new()) {
         Ok(takes) => Ok(Did {
