@@ -18,4 +18,4 @@ pub mod Closing
 pub mod Positioned
 pub mod Keeping
 pub mod Gaining
-pub mod Seeing
+pub mod Seen

@@ -1,7 +1,7 @@
 use Rattle.std.proofs.Common.{◌++◌, ◌∷◌, [], ap, sym, ◌∙◌}
 use Rattle.tp_shared.specs.Entries.{OpenedEntries}
 use Rattle.tp_shared.specs.Seals.{Stage}
-use Rattle.tp_shared.proofs.Seeing.{gained_by, held_by}
+use Rattle.tp_shared.proofs.Seen.{gained_by, held_by}
 use Rattle.tp_shared.proofs.locked.Locked.begin_seen.Goals as goal
 
 pub returns-clause-opened : goal.returns-clause-opened

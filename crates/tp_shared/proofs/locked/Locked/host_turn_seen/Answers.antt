@@ -1,7 +1,7 @@
 use Rattle.std.proofs.Common.{◌++◌, ◌∷◌, [], length, ap, sym, ◌∙◌}
 use Rattle.tp_shared.specs.Entries.{TakesOf}
 use Rattle.tp_shared.specs.Seals.{Stage}
-use Rattle.tp_shared.proofs.Seeing.{gained_by, held_by}
+use Rattle.tp_shared.proofs.Seen.{gained_by, held_by}
 use Rattle.tp_shared.proofs.locked.Locked.host_turn_seen.Goals as goal
 
 pub returns-clause-went : goal.returns-clause-went
