@@ -5,7 +5,7 @@ use Rattle.tp_ready.specs.Numbers.{Numbers}
 use Rattle.tp_ready.specs.Past.{Past, Did}
 use Rattle.tp_ready.specs.declared.answers.Answer.{Answer}
 use Rattle.tp_ready.specs.declared.call.Step.TheVariants.{Took, Put}
-use Rattle.tp_work.specs.PutBack.{PutBack, PutBackBehind}
+use Rattle.tp_work.specs.PutBack.{PutBackBehind}
 use Rattle.tp_work.specs.declared.fault.TurnFault.{TurnFault}
 use Rattle.tp_work.specs.declared.fault.TurnFault.TheVariants.{Empty, JournalFull, StoreBroken, Memory}
 
