@@ -1,2 +1,3 @@
+pub mod Calling
 pub mod Dealing
 pub mod Weights

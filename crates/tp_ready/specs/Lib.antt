@@ -1,4 +1,5 @@
 pub mod Answered
 pub mod Holding
 pub mod Numbers
+pub mod Past
 pub mod View

@@ -2,6 +2,7 @@
 #![tactic(auto)]
 
 mod answers;
+mod call;
 mod hand;
 mod queue;
 mod rule;
@@ -9,6 +10,7 @@ mod turn;
 mod view;
 
 pub use answers::{Answer, Answers};
+pub use call::{Call, Claim, Step};
 pub use hand::Hand;
 pub use queue::ReadyQueue;
 pub use turn::Turn;

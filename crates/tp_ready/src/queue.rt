@@ -2,11 +2,15 @@
 ghost use Rattle.std.specs.Prelude.{◌≡◌, ◌≢◌, ◌<◌, ◌+◌, [], vec_len, All, IfOk, IfSome, MatchOption, Some, None, ◌∷◌, ◌++◌, option_map, ⊤};
 ghost use Rattle.crossbeam_queue.specs.Passes.{view, IsSamePass, IsPassOf, ruled_capacity};
 ghost use Rattle.tp_ready.specs.Answered.{answer};
+ghost use Rattle.tp_ready.specs.Past.{Did, IsNew};
 ghost use Rattle.tp_ready.specs.View.{maker};
+ghost use Rattle.tp_ready.specs.declared.call.Step.TheVariants.{Took, Put};
 
 use crate::answers::Answers;
 use crate::hand::Hand;
-use crate::rule::{Distinct, Gathers, Gives, Grows, Line, Makes, Parts, Port, PutsBack, Takes};
+use crate::rule::{
+    Distinct, Gathers, Gives, Grows, Lends, Line, Makes, Parts, Port, PutsBack, Takes,
+};
 use crate::turn::Turn;
 use std::alloc::{AllocError, Global};
 use std::marker::Model;
@@ -39,7 +43,8 @@ impl ReadyQueue {
     ) -> Result<(ReadyQueue, Vec<Hand>), AllocError>
         ensures queue { IfOk result (λ s. (s.0.count ≡ last + 1) × (s.0.hands ≡ hands)) }
         ensures count { IfOk result (λ s. vec_len s.1 ≡ hands) }
-        ensures hands { IfOk result (λ s. All (λ hand. hand ≡ Some s.0) s.1.items) }
+        ensures hands { IfOk result (λ s. All (λ hand. hand.of ≡ Some s.0) s.1.items) }
+        ensures new { IfOk result (λ s. All (λ hand. IsNew hand.past) s.1.items) }
     {
         let (line, mut port) = Line::ruled(alloc, usize::from(last) + 1)?;
         fill(rt, &line, &mut port);
@@ -52,12 +57,14 @@ impl ReadyQueue {
         Ok((ReadyQueue { line, hands }, all))
     }
 
-    /// Takes the number that waits longest. `None` comes only where the queue was empty at some moment of the call, so that there are
-    /// more hands than numbers, and then `hand` is free as before. The answer is added to `answers`.
+    /// Takes the number that waits longest: after all calls of all hands in front of this one it stands first. `None` comes only where the
+    /// queue was empty at some moment of the call, so that there are more hands than numbers, and then `hand` is free as before, and called
+    /// nothing. The answer is added to `answers`.
     pub fn take<R: Wait>(&self, rt: &R, hand: &mut Hand, answers: &mut Answers) -> Option<Turn>
-        requires { hand.old ≡ Some self.now }
-        ensures hand { MatchOption result (hand.new ≡ Some self.now) (λ turn. hand.new ≡ None) }
+        requires { hand.old.of ≡ Some self.now }
+        ensures hand { MatchOption result ((hand.new.of ≡ Some self.now) × (hand.new.past ≡ hand.old.past)) (λ turn. hand.new.of ≡ None) }
         ensures turn { IfSome result (λ turn. (turn.of ≡ self.now) × (turn.number < self.now.count)) }
+        ensures next { IfSome result (λ turn. Did self.now.count self.now.hands (Took turn.number) hand.old.past turn.past) }
         ensures few { MatchOption result (self.now.count < self.now.hands) (λ turn. ⊤) }
         ensures answer { answers.new ≡ answers.old ++ answer self.now (option_map (λ turn. turn.number) result) ∷ [] }
     {
@@ -79,9 +86,10 @@ impl ReadyQueue {
 
     /// Puts the number of `turn` behind all that wait, and frees `hand`.
     pub fn put_back<R: Wait>(&self, rt: &R, hand: &mut Hand, turn: Turn)
-        requires hand { hand.old ≡ None }
+        requires hand { hand.old.of ≡ None }
         requires turn { turn.of ≡ self.now }
-        ensures { hand.new ≡ Some self.now }
+        ensures hand { hand.new.of ≡ Some self.now }
+        ensures last { Did self.now.count self.now.hands (Put turn.number) turn.past hand.new.past }
     {
         let Turn { number, mut port } = turn;
         let put = self.line.push_as::<PutsBack, R>(rt, &mut port, number);
@@ -97,10 +105,11 @@ impl ReadyQueue {
         ensures same { (one.new ≡ one.old) × (two.new ≡ two.old) }
         ensures apart { one.old.number ≢ two.old.number }
     {
-        let theirs = self.line.another::<Gives>(&mut two.port);
+        let theirs = self.line.another::<Lends>(&mut two.port);
         self.line.absorb::<Gathers>(&mut one.port, theirs);
         self.line.learn_as::<Distinct>(&mut one.port);
-        two.port = self.line.another::<Parts>(&mut one.port);
+        let back = self.line.another::<Parts>(&mut one.port);
+        self.line.absorb::<Gathers>(&mut two.port, back);
     }
 }
 

@@ -1,6 +1,8 @@
 //! The rule of the queue, and what each step tells. Its types are for the proofs alone.
-ghost use Rattle.std.specs.Prelude.{◌≡◌, ◌<◌, ◌+◌, ◌-◌, [], ◌++◌, ◌∷◌, take, drop};
-ghost use Rattle.tp_ready.specs.View.{maker, holder, nobody, Dealt, AreDistinct, AreFew};
+ghost use Rattle.std.specs.Prelude.{◌≡◌, ◌<◌, ◌+◌, [], ◌++◌, ◌∷◌, length, take, drop};
+ghost use Rattle.tp_ready.specs.Past.{Did};
+ghost use Rattle.tp_ready.specs.View.{maker, holder, nobody, past_of, Dealt, AreDistinct, AreFew};
+ghost use Rattle.tp_ready.specs.declared.call.Step.TheVariants.{Took, Put};
 
 use crate::view::View;
 use crossbeam_queue::protocol::{Join, Lesson, Outcome, Protocol, Split};
@@ -30,11 +32,11 @@ impl Lesson<u8, View> for Makes {
     ghost fact = { AreFew };
 }
 
-/// A pass gets a number from the queue.
+/// A pass that is one hand gets a number from the queue.
 pub struct Takes;
 
 impl Outcome<u8, View> for Takes {
-    ghost then = { λ v x w. (w ≡ holder v.count v.hands v.may (v.held ++ x ∷ [])) × (x < v.count) };
+    ghost then = { λ v x w. (w ≡ holder v.count v.hands w.claims (v.held ++ x ∷ []) w.seen) × (length w.claims ≡ 1) × (x < v.count) × Did v.count v.hands (Took x) (past_of v) (past_of w) };
 }
 
 impl Lesson<u8, View> for Takes {
@@ -45,7 +47,7 @@ impl Lesson<u8, View> for Takes {
 pub struct PutsBack;
 
 impl Outcome<u8, View> for PutsBack {
-    ghost then = { λ v x w. w ≡ holder v.count v.hands v.may [] };
+    ghost then = { λ v x w. (w ≡ holder v.count v.hands w.claims [] w.seen) × (length w.claims ≡ 1) × Did v.count v.hands (Put x) (past_of v) (past_of w) };
 }
 
 impl Lesson<u8, View> for PutsBack {
@@ -61,29 +63,38 @@ impl Split<View> for Grows {
     ghost right = { λ v. nobody };
 }
 
-/// A new pass gets all that is held, and may hold one number.
+/// A new pass is the first hand, and gets all that is held. It has seen what the old one has.
 pub struct Gives;
 
 impl Split<View> for Gives {
-    ghost left = { λ v. holder v.count v.hands (v.may - 1) [] };
+    ghost left = { λ v. holder v.count v.hands (drop 1 v.claims) [] v.seen };
 
-    ghost right = { λ v. holder v.count v.hands 1 v.held };
+    ghost right = { λ v. holder v.count v.hands (take 1 v.claims) v.held v.seen };
 }
 
-/// A new pass gets all that is held but the first, which the old one keeps.
+/// A new pass is the hand that the old one was, and gets what it held.
+pub struct Lends;
+
+impl Split<View> for Lends {
+    ghost left = { λ v. holder v.count v.hands [] [] v.seen };
+
+    ghost right = { λ v. holder v.count v.hands v.claims v.held v.seen };
+}
+
+/// A new pass is all hands but the first, and gets all that is held but the first number. The old one keeps these.
 pub struct Parts;
 
 impl Split<View> for Parts {
-    ghost left = { λ v. holder v.count v.hands 1 (take 1 v.held) };
+    ghost left = { λ v. holder v.count v.hands (take 1 v.claims) (take 1 v.held) v.seen };
 
-    ghost right = { λ v. holder v.count v.hands (v.may - 1) (drop 1 v.held) };
+    ghost right = { λ v. holder v.count v.hands (drop 1 v.claims) (drop 1 v.held) v.seen };
 }
 
-/// What two passes hold, one holds.
+/// One pass is the hands that two were, and holds what they held.
 pub struct Gathers;
 
 impl Join<View> for Gathers {
-    ghost both = { λ v w. holder v.count v.hands (v.may + w.may) (v.held ++ w.held) };
+    ghost both = { λ v w. holder v.count v.hands (v.claims ++ w.claims) (v.held ++ w.held) v.seen };
 
     ghost spent = { nobody };
 }

@@ -13,11 +13,11 @@ pub struct Turn {
 impl Model for Turn {
     ghost use Rattle.std.specs.Prelude.{◌∷◌, []};
     ghost use Rattle.tp_ready.specs.Numbers.{TurnValue};
-    ghost use Rattle.tp_ready.specs.Holding.{numbers_of, Holds};
+    ghost use Rattle.tp_ready.specs.Holding.{numbers_of, past_at, Holds};
 
     ghost Value = { TurnValue };
 
-    ghost view = { λ t. record { of = numbers_of t.port; number = t.number } };
+    ghost view = { λ t. record { of = numbers_of t.port; number = t.number; past = past_at t.port } };
 
     ghost invariant = { λ t. Holds (t.number ∷ []) t.port };
 }

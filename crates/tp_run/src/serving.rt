@@ -107,7 +107,7 @@ fn work<J: Naming + Send + Sync, D: Disk + Send + Drop, R: Threads + Wait + Sync
     watch: Watch,
     flusher: Flusher<J, D>,
 ) -> (Flusher<J, D>, Vec<Seat<J>>)
-    requires seats { All (λ seat. (seat.hand ≡ Some net.now.queue) × Worked J.start net.now.quantum seat.slips) seats.items }
+    requires seats { All (λ seat. (seat.hand.of ≡ Some net.now.queue) × Worked J.start net.now.quantum seat.slips) seats.items }
     ensures walks { D.keeps → Began J.formatted J.before flusher.opened → Walked flusher result.0 }
     ensures process { IsSameProcess flusher result.0 }
     ensures count { vec_len result.1 ≡ vec_len seats }
@@ -121,7 +121,7 @@ fn work<J: Naming + Send + Sync, D: Disk + Send + Drop, R: Threads + Wait + Sync
             ensures { (D.keeps → Began J.formatted J.before flusher.opened → Walked flusher result) × IsSameProcess flusher result }
         { flush_meanwhile(rt, alloc, shared, watching, flusher) },
         move || -> Vec<Seat<J>>
-            requires { All (λ seat. (seat.hand ≡ Some net.now.queue) × Worked J.start net.now.quantum seat.slips) seats.items }
+            requires { All (λ seat. (seat.hand.of ≡ Some net.now.queue) × Worked J.start net.now.quantum seat.slips) seats.items }
             ensures { (vec_len result ≡ vec_len seats) × All (λ seat. Worked J.start net.entry.now.quantum seat.slips) result.items }
         {
             let mut seats = seats;
@@ -237,7 +237,7 @@ pub(crate) fn serve<
     requires there { outset.port < length J.start.ports }
     requires first { outset.next ≡ J.first }
     requires quantum { net.now.quantum ≡ job.quantum }
-    requires seats { All (λ seat. (seat.hand ≡ Some net.now.queue) × (seat.slips ≡ [])) seats.items }
+    requires seats { All (λ seat. (seat.hand.of ≡ Some net.now.queue) × (seat.slips ≡ [])) seats.items }
     requires count { vec_len seats ≡ job.workers }
     ensures walks { D.keeps → Began J.formatted J.before flusher.opened → Walked flusher result.0 }
     ensures process { IsSameProcess flusher result.0 }

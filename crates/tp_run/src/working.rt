@@ -42,7 +42,7 @@ fn work<J: Naming, R: Wait>(
     watch: &Watch,
     seat: &mut Seat<J>,
 )
-    requires hand { seat.old.hand ≡ Some net.now.queue }
+    requires hand { seat.old.hand.of ≡ Some net.now.queue }
     requires worked { Worked J.start net.now.quantum seat.old.slips }
     ensures worked { Worked J.start net.now.quantum seat.new.slips }
 {
@@ -69,7 +69,7 @@ pub(crate) fn work_all<J: Naming + Send + Sync, R: Threads + Wait + Sync>(
     watch: &Watch,
     seats: &mut [Seat<J>],
 )
-    requires seats { All (λ seat. (seat.hand ≡ Some net.now.queue) × Worked J.start net.now.quantum seat.slips) seats.old }
+    requires seats { All (λ seat. (seat.hand.of ≡ Some net.now.queue) × Worked J.start net.now.quantum seat.slips) seats.old }
     ensures count { length seats.new ≡ length seats.old }
     ensures seats { All (λ seat. Worked J.start net.now.quantum seat.slips) seats.new }
 {
@@ -79,7 +79,7 @@ pub(crate) fn work_all<J: Naming + Send + Sync, R: Threads + Wait + Sync>(
         seats,
         threads,
         &|_, seat: &mut Seat<J>|
-            requires { (seat.now.hand ≡ Some net.now.queue) × Worked J.start net.now.quantum seat.now.slips }
+            requires { (seat.now.hand.of ≡ Some net.now.queue) × Worked J.start net.now.quantum seat.now.slips }
             ensures { Worked J.start net.entry.now.quantum seat.exit.now.slips }
         { work(rt, alloc, net, watch, seat) },
     );

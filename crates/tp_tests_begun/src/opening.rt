@@ -114,7 +114,7 @@ pub fn begin<J: Naming, D: Disk + Drop, G: Gate + Drop, R: Wait>(
     requires names { Names J.roll J.first J.start J.node J.mark J.flusher J.sights J.room opening.parts }
     requires spelt { IsSpelt opening.opened.value }
     requires workers { (0 < workers) × (workers ≤ MAX_SEATS) }
-    ensures seats { IfOk result (λ begun. All (λ seat. (seat.hand ≡ Some begun.0.queue) × (seat.slips ≡ [])) begun.1.items) }
+    ensures seats { IfOk result (λ begun. All (λ seat. (seat.hand.of ≡ Some begun.0.queue) × (seat.slips ≡ [])) begun.1.items) }
     ensures pass { IfOk result (λ begun. begun.3.mark ≡ J.mark) }
 {
     begin_with(rt, alloc, opening, QUANTUM, workers, gate)
@@ -133,7 +133,7 @@ pub fn begin_with<J: Naming, D: Disk + Drop, G: Gate + Drop, R: Wait>(
     requires spelt { IsSpelt opening.opened.value }
     requires quantum { (0 < quantum) × (quantum ≤ MAX_STEPS) }
     requires workers { (0 < workers) × (workers ≤ MAX_SEATS) }
-    ensures seats { IfOk result (λ begun. All (λ seat. (seat.hand ≡ Some begun.0.queue) × (seat.slips ≡ [])) begun.1.items) }
+    ensures seats { IfOk result (λ begun. All (λ seat. (seat.hand.of ≡ Some begun.0.queue) × (seat.slips ≡ [])) begun.1.items) }
     ensures pass { IfOk result (λ begun. begun.3.mark ≡ J.mark) }
 {
     let Opening {

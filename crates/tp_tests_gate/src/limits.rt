@@ -40,8 +40,8 @@ fn is_made<J: Naming, R: Wait>(
     number: u8,
     quantum: u16,
 ) -> bool
-    requires { seat.old.hand ≡ Some net.now.queue }
-    ensures { seat.new.hand ≡ Some net.now.queue }
+    requires { seat.old.hand.of ≡ Some net.now.queue }
+    ensures { seat.new.hand.of ≡ Some net.now.queue }
 {
     match net.turn(rt, seat) {
         Ok(turn) => is_whole(&turn, number, quantum),
@@ -51,9 +51,9 @@ fn is_made<J: Naming, R: Wait>(
 
 /// One of the seats that are left.
 fn next_seat<J: Naming>(net: &Net<J, NoGate>, seats: &mut Vec<Seat<J>>) -> Option<Seat<J>>
-    requires { All (λ seat. (seat.hand ≡ Some net.now.queue) × (seat.slips ≡ [])) seats.old.items }
-    ensures seat { IfSome result (λ seat. seat.hand ≡ Some net.now.queue) }
-    ensures others { All (λ seat. (seat.hand ≡ Some net.now.queue) × (seat.slips ≡ [])) seats.new.items }
+    requires { All (λ seat. (seat.hand.of ≡ Some net.now.queue) × (seat.slips ≡ [])) seats.old.items }
+    ensures seat { IfSome result (λ seat. seat.hand.of ≡ Some net.now.queue) }
+    ensures others { All (λ seat. (seat.hand.of ≡ Some net.now.queue) × (seat.slips ≡ [])) seats.new.items }
 {
     let _net = net;
     seats.pop()
@@ -67,7 +67,7 @@ fn are_made<J: Naming, R: Wait>(
     count: u8,
     quantum: u16,
 ) -> bool
-    requires { All (λ seat. (seat.hand ≡ Some net.now.queue) × (seat.slips ≡ [])) seats.items }
+    requires { All (λ seat. (seat.hand.of ≡ Some net.now.queue) × (seat.slips ≡ [])) seats.items }
 {
     let mut seats = seats;
     for place in 0..count {

@@ -92,7 +92,7 @@ fn work_all<J: Naming + Send + Sync, R: Threads + Wait + Sync>(
     net: &Net<J, Paced<'_>>,
     seats: Vec<Seat<J>>,
 ) -> bool
-    requires { All (λ seat. (seat.hand ≡ Some net.now.queue) × (seat.slips ≡ [])) seats.items }
+    requires { All (λ seat. (seat.hand.of ≡ Some net.now.queue) × (seat.slips ≡ [])) seats.items }
 {
     let Some((one, others)) = parted(net, seats) else {
         return false;
@@ -108,7 +108,7 @@ fn work_once_held<J: Naming + Send + Sync, R: Threads + Wait + Sync>(
     seats: Vec<Seat<J>>,
     gate: &Hold,
 ) -> bool
-    requires { All (λ seat. (seat.hand ≡ Some net.now.queue) × (seat.slips ≡ [])) seats.items }
+    requires { All (λ seat. (seat.hand.of ≡ Some net.now.queue) × (seat.slips ≡ [])) seats.items }
 {
     let came = gate.wait();
     work_all(rt, net, seats) && came
@@ -123,14 +123,14 @@ fn go_on_beside<J: Naming + Send + Sync, D: Disk + Drop, R: Threads + Wait + Syn
     seats: Vec<Seat<J>>,
     flusher: Flusher<J, D>,
 ) -> (Flusher<J, D>, bool)
-    requires { All (λ seat. (seat.hand ≡ Some net.now.queue) × (seat.slips ≡ [])) seats.items }
+    requires { All (λ seat. (seat.hand.of ≡ Some net.now.queue) × (seat.slips ≡ [])) seats.items }
 {
     let hold = held.gate();
     let gate = &hold;
     let (worked, (flusher, is_so)) = join(
         rt,
         move || -> bool
-            requires { All (λ seat. (seat.hand ≡ Some net.now.queue) × (seat.slips ≡ [])) seats.items }
+            requires { All (λ seat. (seat.hand.of ≡ Some net.now.queue) × (seat.slips ≡ [])) seats.items }
         { work_once_held(rt, net, seats, gate) },
         move || go_on(rt, alloc, held, net.shared(), flusher, gate),
     );
@@ -147,13 +147,13 @@ fn are_stored_beside<J: Naming + Send + Sync, D: Disk + Drop, R: Threads + Wait 
     count: u64,
     pass: Pass,
 ) -> (Flusher<J, D>, bool)
-    requires seats { All (λ seat. (seat.hand ≡ Some net.now.queue) × (seat.slips ≡ [])) seats.items }
+    requires seats { All (λ seat. (seat.hand.of ≡ Some net.now.queue) × (seat.slips ≡ [])) seats.items }
     requires pass { pass.mark ≡ J.mark }
 {
     let (worked, (flusher, is_so)) = join(
         rt,
         move || -> bool
-            requires { All (λ seat. (seat.hand ≡ Some net.now.queue) × (seat.slips ≡ [])) seats.items }
+            requires { All (λ seat. (seat.hand.of ≡ Some net.now.queue) × (seat.slips ≡ [])) seats.items }
         { work_all(rt, net, seats) },
         move || -> (Flusher<J, D>, bool)
             requires { pass.mark ≡ J.mark }
@@ -174,7 +174,7 @@ fn act<J: Naming + Send + Sync, D: Disk + Drop, R: Threads + Wait + Sync>(
     pass: Pass,
     pace: &Pace,
 ) -> (Flusher<J, D>, bool)
-    requires seats { All (λ seat. (seat.hand ≡ Some net.now.queue) × (seat.slips ≡ [])) seats.items }
+    requires seats { All (λ seat. (seat.hand.of ≡ Some net.now.queue) × (seat.slips ≡ [])) seats.items }
     requires first { first ≡ J.first }
     requires pass { pass.mark ≡ J.mark }
 {

@@ -89,7 +89,7 @@ pub fn make_turns<J: Naming, G: Gate, R: Wait>(
     most: u32,
     seat: Seat<J>,
 ) -> Work<J>
-    requires { (seat.hand ≡ Some net.now.queue) × (seat.slips ≡ []) }
+    requires { (seat.hand.of ≡ Some net.now.queue) × (seat.slips ≡ []) }
 {
     let mut seat = seat;
     let mut is_refused = false;
@@ -123,18 +123,18 @@ pub fn work_as_team<J: Naming + Send + Sync, G: Gate + Send + Sync, R: Threads +
     first: Seat<J>,
     others: Vec<Seat<J>>,
 ) -> Result<Work<J>, AllocError>
-    requires first { (first.hand ≡ Some net.now.queue) × (first.slips ≡ []) }
-    requires others { All (λ seat. (seat.hand ≡ Some net.now.queue) × (seat.slips ≡ [])) others.items }
+    requires first { (first.hand.of ≡ Some net.now.queue) × (first.slips ≡ []) }
+    requires others { All (λ seat. (seat.hand.of ≡ Some net.now.queue) × (seat.slips ≡ [])) others.items }
 {
     let drawn = AtomicU32::new(0);
     let lent = &drawn;
     let (first, others) = join(
         rt,
         move || -> Work<J>
-            requires { (first.hand ≡ Some net.now.queue) × (first.slips ≡ []) }
+            requires { (first.hand.of ≡ Some net.now.queue) × (first.slips ≡ []) }
         { make_turns(rt, net, lent, turns, 1, first) },
         move || -> Result<Vec<Work<J>>, AllocError>
-            requires { All (λ seat. (seat.hand ≡ Some net.now.queue) × (seat.slips ≡ [])) others.items }
+            requires { All (λ seat. (seat.hand.of ≡ Some net.now.queue) × (seat.slips ≡ [])) others.items }
         {
             map_vec(
                 rt,

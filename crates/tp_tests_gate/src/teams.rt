@@ -22,9 +22,9 @@ pub(crate) fn parted<J: Naming, G: Gate>(
     net: &Net<J, G>,
     seats: Vec<Seat<J>>,
 ) -> Option<(Seat<J>, Vec<Seat<J>>)>
-    requires { All (λ seat. (seat.hand ≡ Some net.now.queue) × (seat.slips ≡ [])) seats.items }
-    ensures first { IfSome result (λ both. (both.0.hand ≡ Some net.now.queue) × (both.0.slips ≡ [])) }
-    ensures others { IfSome result (λ both. All (λ seat. (seat.hand ≡ Some net.now.queue) × (seat.slips ≡ [])) both.1.items) }
+    requires { All (λ seat. (seat.hand.of ≡ Some net.now.queue) × (seat.slips ≡ [])) seats.items }
+    ensures first { IfSome result (λ both. (both.0.hand.of ≡ Some net.now.queue) × (both.0.slips ≡ [])) }
+    ensures others { IfSome result (λ both. All (λ seat. (seat.hand.of ≡ Some net.now.queue) × (seat.slips ≡ [])) both.1.items) }
 {
     let _net = net;
     let mut seats = seats;
@@ -42,14 +42,14 @@ fn work_and_end<J: Naming + Send + Sync, G: Gate + Send + Sync, R: Threads + Wai
     others: Vec<Seat<J>>,
     ended: &AtomicBool,
 ) -> Result<Work<J>, AllocError>
-    requires one { (one.hand ≡ Some net.now.queue) × (one.slips ≡ []) }
-    requires others { All (λ seat. (seat.hand ≡ Some net.now.queue) × (seat.slips ≡ [])) others.items }
+    requires one { (one.hand.of ≡ Some net.now.queue) × (one.slips ≡ []) }
+    requires others { All (λ seat. (seat.hand.of ≡ Some net.now.queue) × (seat.slips ≡ [])) others.items }
 {
     let (offered, worked) = join(
         rt,
         move || offer_pairs(rt, session, PAIRS),
         move || -> Result<Work<J>, AllocError>
-            requires { (one.hand ≡ Some net.now.queue) × (one.slips ≡ []) × All (λ seat. (seat.hand ≡ Some net.now.queue) × (seat.slips ≡ [])) others.items }
+            requires { (one.hand.of ≡ Some net.now.queue) × (one.slips ≡ []) × All (λ seat. (seat.hand.of ≡ Some net.now.queue) × (seat.slips ≡ [])) others.items }
         { work_as_team(rt, net, turns, one, others) },
     );
     ended.store(true, Ordering::SeqCst);
@@ -72,8 +72,8 @@ fn work_beside<
     flusher: Flusher<J, D>,
     gate: &G,
 ) -> (Flusher<J, D>, Option<Work<J>>)
-    requires one { (one.hand ≡ Some net.now.queue) × (one.slips ≡ []) }
-    requires others { All (λ seat. (seat.hand ≡ Some net.now.queue) × (seat.slips ≡ [])) others.items }
+    requires one { (one.hand.of ≡ Some net.now.queue) × (one.slips ≡ []) }
+    requires others { All (λ seat. (seat.hand.of ≡ Some net.now.queue) × (seat.slips ≡ [])) others.items }
 {
     let Some(session) = Session::new(net.shared(), 0) else {
         return (flusher, None);
@@ -83,7 +83,7 @@ fn work_beside<
     let (worked, (flusher, is_done)) = join(
         rt,
         move || -> Result<Work<J>, AllocError>
-            requires { (one.hand ≡ Some net.now.queue) × (one.slips ≡ []) × All (λ seat. (seat.hand ≡ Some net.now.queue) × (seat.slips ≡ [])) others.items }
+            requires { (one.hand.of ≡ Some net.now.queue) × (one.slips ≡ []) × All (λ seat. (seat.hand.of ≡ Some net.now.queue) × (seat.slips ≡ [])) others.items }
         { work_and_end(rt, net, host, turns, one, others, told) },
         move || flush_meanwhile(rt, alloc, net.shared(), flusher, gate, told),
     );
@@ -107,7 +107,7 @@ pub fn are_all_beside<
     flusher: Flusher<J, D>,
     gate: &G,
 ) -> (Flusher<J, D>, bool)
-    requires seats { All (λ seat. (seat.hand ≡ Some net.now.queue) × (seat.slips ≡ [])) seats.items }
+    requires seats { All (λ seat. (seat.hand.of ≡ Some net.now.queue) × (seat.slips ≡ [])) seats.items }
     requires first { first ≡ J.first }
 {
     let Some((one, others)) = parted(net, seats) else {

@@ -17,8 +17,8 @@ fn work<R: Wait>(
     mut hand: Hand,
     taken: &[AtomicBool],
 ) -> (Hand, bool, u32)
-    requires { (hand ≡ Some queue.now) × (length taken.now ≡ queue.now.count) }
-    ensures { result.0 ≡ Some queue.now }
+    requires { (hand.of ≡ Some queue.now) × (length taken.now ≡ queue.now.count) }
+    ensures { result.0.of ≡ Some queue.now }
 {
     let mut alone = true;
     let mut made = 0;
@@ -37,8 +37,8 @@ fn work<R: Wait>(
 
 // The next number, which is there.
 fn taken<R: Wait + Abort>(rt: &R, queue: &ReadyQueue, hand: &mut Hand) -> Turn
-    requires { hand.old ≡ Some queue.now }
-    ensures hand { hand.new ≡ None }
+    requires { hand.old.of ≡ Some queue.now }
+    ensures hand { hand.new.of ≡ None }
     ensures turn { (result.of ≡ queue.now) × (result.number < queue.now.count) }
 {
     let Some(turn) = queue.take(rt, hand, &mut Answers::new()) else {
@@ -49,8 +49,8 @@ fn taken<R: Wait + Abort>(rt: &R, queue: &ReadyQueue, hand: &mut Hand) -> Turn
 
 // Whether the queue has no number.
 fn is_empty<R: Wait>(rt: &R, queue: &ReadyQueue, hand: &mut Hand) -> bool
-    requires { hand.old ≡ Some queue.now }
-    ensures { hand.new ≡ Some queue.now }
+    requires { hand.old.of ≡ Some queue.now }
+    ensures { hand.new.of ≡ Some queue.now }
 {
     let Some(turn) = queue.take(rt, hand, &mut Answers::new()) else {
         return true;
@@ -68,10 +68,10 @@ fn all_in_order<R: Wait + Abort>(
     third: &mut Hand,
     spare: &mut Hand,
 ) -> [u8; 3]
-    requires hands { (first.old ≡ Some queue.now) × (second.old ≡ Some queue.now) }
-    requires others { (third.old ≡ Some queue.now) × (spare.old ≡ Some queue.now) }
-    ensures hands { (first.new ≡ Some queue.now) × (second.new ≡ Some queue.now) }
-    ensures others { (third.new ≡ Some queue.now) × (spare.new ≡ Some queue.now) }
+    requires hands { (first.old.of ≡ Some queue.now) × (second.old.of ≡ Some queue.now) }
+    requires others { (third.old.of ≡ Some queue.now) × (spare.old.of ≡ Some queue.now) }
+    ensures hands { (first.new.of ≡ Some queue.now) × (second.new.of ≡ Some queue.now) }
+    ensures others { (third.new.of ≡ Some queue.now) × (spare.new.of ≡ Some queue.now) }
 {
     let mut zero = taken(rt, queue, first);
     let mut one = taken(rt, queue, second);
@@ -86,9 +86,9 @@ fn all_in_order<R: Wait + Abort>(
 }
 
 fn next_hand(queue: &ReadyQueue, hands: &mut Vec<Hand>) -> Option<Hand>
-    requires { All (λ hand. hand ≡ Some queue.now) hands.old.items }
-    ensures rest { All (λ hand. hand ≡ Some queue.now) hands.new.items }
-    ensures hand { IfSome result (λ hand. hand ≡ Some queue.now) }
+    requires { All (λ hand. hand.of ≡ Some queue.now) hands.old.items }
+    ensures rest { All (λ hand. hand.of ≡ Some queue.now) hands.new.items }
+    ensures hand { IfSome result (λ hand. hand.of ≡ Some queue.now) }
 {
     let _queue = queue;
     hands.pop()
@@ -101,7 +101,7 @@ fn come_in_order<R: Wait + Abort>(
     hand: &mut Hand,
     wanted: &[u8],
 ) -> bool
-    requires { hand.old ≡ Some queue.now }
+    requires { hand.old.of ≡ Some queue.now }
 {
     let mut as_wanted = true;
     for number in wanted {
@@ -114,7 +114,7 @@ fn come_in_order<R: Wait + Abort>(
 
 // The numbers below 5 that one hand takes, five times in turn.
 fn all_come<R: Wait + Abort>(rt: &R, queue: &ReadyQueue, hand: &mut Hand) -> [bool; 5]
-    requires { (hand.old ≡ Some queue.now) × (queue.now.count ≡ 5) }
+    requires { (hand.old.of ≡ Some queue.now) × (queue.now.count ≡ 5) }
 {
     let mut seen = [false; 5];
     for _ in 0..5 {
@@ -148,19 +148,19 @@ fn race<R: Threads + Wait + Sync>(
     second: Hand,
     taken: &[AtomicBool],
 ) -> (Hand, Hand, bool)
-    requires hands { (first ≡ Some queue.now) × (second ≡ Some queue.now) }
+    requires hands { (first.of ≡ Some queue.now) × (second.of ≡ Some queue.now) }
     requires places { length taken.now ≡ queue.now.count }
-    ensures { (result.0 ≡ Some queue.now) × (result.1 ≡ Some queue.now) }
+    ensures { (result.0.of ≡ Some queue.now) × (result.1.of ≡ Some queue.now) }
 {
     let ((first, first_alone, first_made), (second, second_alone, second_made)) = join(
         rt,
         move || -> (Hand, bool, u32)
-            requires { (first ≡ Some queue.now) × (length taken.now ≡ queue.now.count) }
-            ensures { result.0 ≡ Some queue.entry.now }
+            requires { (first.of ≡ Some queue.now) × (length taken.now ≡ queue.now.count) }
+            ensures { result.0.of ≡ Some queue.entry.now }
         { work(rt, queue, first, taken) },
         move || -> (Hand, bool, u32)
-            requires { (second ≡ Some queue.now) × (length taken.now ≡ queue.now.count) }
-            ensures { result.0 ≡ Some queue.entry.now }
+            requires { (second.of ≡ Some queue.now) × (length taken.now ≡ queue.now.count) }
+            ensures { result.0.of ≡ Some queue.entry.now }
         { work(rt, queue, second, taken) },
     );
     let alone = first_alone && second_alone && first_made == ROUNDS && second_made == ROUNDS;

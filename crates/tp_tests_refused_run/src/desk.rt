@@ -34,14 +34,14 @@ pub(crate) struct Desk<J: Naming> {
     seat: Seat<J>,
     flusher: Flusher<J, MemDisk>,
     pass: Pass,
-    pub ghost seated: { seat.hand ≡ Some net.queue },
+    pub ghost seated: { seat.hand.of ≡ Some net.queue },
     pub ghost passes: { pass.mark ≡ J.mark },
 }
 
 /// One of the seats.
 fn seat_of<J: Naming>(net: &Net<J, NoGate>, seats: Vec<Seat<J>>) -> Option<Seat<J>>
-    requires { All (λ seat. (seat.hand ≡ Some net.now.queue) × (seat.slips ≡ [])) seats.items }
-    ensures { IfSome result (λ seat. seat.hand ≡ Some net.now.queue) }
+    requires { All (λ seat. (seat.hand.of ≡ Some net.now.queue) × (seat.slips ≡ [])) seats.items }
+    ensures { IfSome result (λ seat. seat.hand.of ≡ Some net.now.queue) }
 {
     let _net = net;
     let mut seats = seats;

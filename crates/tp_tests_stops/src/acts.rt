@@ -78,8 +78,8 @@ fn is_turned<J: Naming, R: Wait>(
     takes: u64,
     ran: Option<(u16, Why)>,
 ) -> bool
-    requires { seat.old.hand ≡ Some net.now.queue }
-    ensures { seat.new.hand ≡ Some net.now.queue }
+    requires { seat.old.hand.of ≡ Some net.now.queue }
+    ensures { seat.new.hand.of ≡ Some net.now.queue }
 {
     match net.turn(rt, seat) {
         Ok(turn) => is_as_told(&turn, number, takes, ran),
@@ -122,8 +122,8 @@ fn are_groups<J: Naming, R: Wait>(
     flusher: &mut Flusher<J, MemDisk>,
     count: u8,
 ) -> bool
-    requires { seat.old.hand ≡ Some net.now.queue }
-    ensures { seat.new.hand ≡ Some net.now.queue }
+    requires { seat.old.hand.of ≡ Some net.now.queue }
+    ensures { seat.new.hand.of ≡ Some net.now.queue }
 {
     for _ in 0..count {
         let is_ran = net.turn(rt, seat).is_ok();
@@ -145,8 +145,8 @@ fn does<J: Naming, R: Wait>(
     flusher: &mut Flusher<J, MemDisk>,
     act: Act,
 ) -> bool
-    requires { seat.old.hand ≡ Some net.now.queue }
-    ensures { seat.new.hand ≡ Some net.now.queue }
+    requires { seat.old.hand.of ≡ Some net.now.queue }
+    ensures { seat.new.hand.of ≡ Some net.now.queue }
 {
     let shared = net.shared();
     match act {
@@ -174,8 +174,8 @@ fn do_all<J: Naming, R: Wait>(
     acts: &[Act],
     is_plain: bool,
 ) -> bool
-    requires { seat.old.hand ≡ Some net.now.queue }
-    ensures { seat.new.hand ≡ Some net.now.queue }
+    requires { seat.old.hand.of ≡ Some net.now.queue }
+    ensures { seat.new.hand.of ≡ Some net.now.queue }
 {
     for act in acts {
         let act = if is_plain { act.plain() } else { *act };
@@ -188,8 +188,8 @@ fn do_all<J: Naming, R: Wait>(
 
 /// The only seat.
 fn only_seat<J: Naming>(net: &Net<J, NoGate>, seats: Vec<Seat<J>>) -> Option<Seat<J>>
-    requires { All (λ seat. (seat.hand ≡ Some net.now.queue) × (seat.slips ≡ [])) seats.items }
-    ensures { IfSome result (λ seat. seat.hand ≡ Some net.now.queue) }
+    requires { All (λ seat. (seat.hand.of ≡ Some net.now.queue) × (seat.slips ≡ [])) seats.items }
+    ensures { IfSome result (λ seat. seat.hand.of ≡ Some net.now.queue) }
 {
     let _net = net;
     let mut seats = seats;
@@ -206,7 +206,7 @@ fn are_done<J: Naming, R: Wait>(
     acts: &[Act],
     is_plain: bool,
 ) -> bool
-    requires { All (λ seat. (seat.hand ≡ Some net.now.queue) × (seat.slips ≡ [])) seats.items }
+    requires { All (λ seat. (seat.hand.of ≡ Some net.now.queue) × (seat.slips ≡ [])) seats.items }
 {
     let Some(mut seat) = only_seat(net, seats) else {
         return false;

@@ -75,8 +75,8 @@ fn is_shown<J: Naming, R: Wait>(
 }
 
 fn play_turns<J: Naming, R: Wait + Abort>(rt: &R, net: &Net<J, NoGate>, seat: &mut Seat<J>)
-    requires { seat.old.hand ≡ Some net.now.queue }
-    ensures { seat.new.hand ≡ Some net.now.queue }
+    requires { seat.old.hand.of ≡ Some net.now.queue }
+    ensures { seat.new.hand.of ≡ Some net.now.queue }
 {
     for (process, takes, steps) in TURNS {
         match net.turn(rt, seat) {
@@ -157,7 +157,7 @@ fn play_broken<J: Naming, R: Wait + Abort>(
     seat: &mut Seat<J>,
     pass: &mut Pass,
 )
-    requires seat { seat.old.hand ≡ Some net.now.queue }
+    requires seat { seat.old.hand.of ≡ Some net.now.queue }
     requires pass { pass.old.mark ≡ J.mark }
 {
     net.shared().book().lock(rt).break_store();
@@ -170,8 +170,8 @@ fn play_broken<J: Naming, R: Wait + Abort>(
 }
 
 fn next_seat<J: Naming>(net: &Net<J, NoGate>, seats: &mut Vec<Seat<J>>) -> Option<Seat<J>>
-    requires { All (λ seat. (seat.hand ≡ Some net.now.queue) × (seat.slips ≡ [])) seats.old.items }
-    ensures { IfSome result (λ seat. seat.hand ≡ Some net.now.queue) }
+    requires { All (λ seat. (seat.hand.of ≡ Some net.now.queue) × (seat.slips ≡ [])) seats.old.items }
+    ensures { IfSome result (λ seat. seat.hand.of ≡ Some net.now.queue) }
 {
     let _net = net;
     seats.pop()

@@ -3,6 +3,7 @@
 ghost use Rattle.std.specs.Prelude.{◌≡◌, ◌≤◌, ◌+◌, Some, length, IfOk, MatchResult};
 ghost use Rattle.tp_model.specs.declared.limits.TheConstants.{MAX_STEPS};
 ghost use Rattle.tp_shared.specs.Holds.{in_hand};
+ghost use Rattle.tp_work.specs.PutBack.{PutBack, PutBackBehind};
 ghost use Rattle.tp_work.specs.Turns.{Turned, Refused, Handed, Went, RefusedFor, RefusedBy};
 
 use crate::fault::TurnFault;
@@ -32,11 +33,12 @@ impl<J: Naming, G: Gate> Net<J, G> {
     }
 
     /// A turn of the process that waits longest: the one whose number the ready queue hands out, as `seat` keeps. It goes to the end of
-    /// the queue, whatever its turn did, and `seat` gets the slips of what was journalled, and what was seen of the book. `Empty` is the
-    /// queue's own answer, and comes only where there are more seats than processes.
+    /// the queue, whatever its turn did, and the hand of `seat` makes no other call. `seat` gets the slips of what was journalled, and what
+    /// was seen of the book. `Empty` is the queue's own answer, and comes only where there are more seats than processes.
     pub fn turn<R: Wait>(&self, rt: &R, seat: &mut Seat<J>) -> Result<Turn, TurnFault>
-        requires queue { seat.old.hand ≡ Some self.now.queue }
-        ensures queue { seat.new.hand ≡ Some self.now.queue }
+        requires queue { seat.old.hand.of ≡ Some self.now.queue }
+        ensures queue { seat.new.hand.of ≡ Some self.now.queue }
+        ensures back { MatchResult result (λ turn. PutBack self.now.queue turn.process seat.old.hand.past seat.new.hand.past) (λ fault. PutBackBehind self.now.queue fault seat.old.answers seat.new.answers seat.old.hand.past seat.new.hand.past) }
         ensures turned { MatchResult result (λ turn. Turned J.start self.now.quantum turn seat.old.slips seat.new.slips) (λ fault. Refused J.start fault seat.old.slips seat.new.slips) }
         ensures handed { MatchResult result (λ turn. Handed self.now.queue (Some turn.process) seat.old.answers seat.new.answers) (λ fault. RefusedBy J.start self.now.queue fault seat.old.answers seat.new.answers (in_hand seat.old.seen seat.old.slips) (in_hand seat.new.seen seat.new.slips)) }
         ensures went { IfOk result (λ turn. Went J.start self.now.quantum turn (in_hand seat.old.seen seat.old.slips) (in_hand seat.new.seen seat.new.slips)) }

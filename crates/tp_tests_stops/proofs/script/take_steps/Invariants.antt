@@ -2,4 +2,4 @@ use Rattle.std.proofs.Common.{◌≡◌, Some}
 use Rattle.tp_tests_stops.proofs.script.take_steps.Given as goal
 
 abbrev pub invariant-loop-step : goal.invariant-loop-step
-invariant-loop-step g l = (l.seat.hand ≡ Some l.net.queue) × (l.pass.mark ≡ g.J.Naming.mark)
+invariant-loop-step g l = (l.seat.hand.of ≡ Some l.net.queue) × (l.pass.mark ≡ g.J.Naming.mark)
