@@ -1,4 +1,3 @@
-pub mod Behind
 pub mod Broken
 pub mod Made
 pub mod Seated
