@@ -1,4 +1,4 @@
-use Rattle.std.proofs.Common.{refl, sym, subst, ◌∙◌, arith}
+use Rattle.std.proofs.Common.{Ok, refl, sym, ap, subst, ◌∙◌, arith}
 use Rattle.tp_flush.specs.Known.{Began}
 use Rattle.tp_flush.proofs.Turns.{walked_nowhere, walked_then}
 use Rattle.tp_stream.proofs.Looks.{looks_then, none_looked}
@@ -33,7 +33,7 @@ loop-preserved g c =
       why = c.cycle-last.ensures.why;
       looks =
           looks_then g.J.Naming.start c.args.pace.task c.loop.going.turns.made c.cycle-last.new.going.turns.made (g.P.Stop.answers c.args.stop.now)
-          (g.P.Stop.answers c.loop.stop) (g.P.Stop.answers c.cycle-last.new.stop) c.loop.last c.cycle-last.result c.in-Ok.is c.loop.invariant.looks c.cycle-last.ensures.why
+          (g.P.Stop.answers c.loop.stop) (g.P.Stop.answers c.cycle-last.new.stop) c.loop.last c.cycle-last.result (c.in-Ok-None.is ∙ ap Ok (rw c.in-Ok-None.is at c.in-Ok-None.field-0-is)) c.loop.invariant.looks c.cycle-last.ensures.why
           c.cycle-last.ensures.looks;
       rested = c.cycle-last.ensures.rested;
       begun = c.cycle-last.ensures.begun;
