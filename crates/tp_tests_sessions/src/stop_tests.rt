@@ -22,23 +22,34 @@ fn letters(alloc: Global) -> Result<Vec<u8>, Fail> {
     Ok(image)
 }
 
-/// The path of the file that ends the streams of this test.
+/// The path of the file that ends streams.
 const STOP: &str = "scratch/stream_stop/stop";
 
 /// The words of a stream that ends by it alone.
 const WORDS: &[&str] = &["--out", "0=-", "--stop-file", STOP];
 
-/// A standard output that keeps what it is given, and then makes the file that ends the stream.
+/// A standard output that keeps what it is given, and then makes a file.
 #[derive(Drop)]
-struct Asking<'a, R> {
+struct Making<'a, R> {
     rt: &'a R,
+    path: &'a str,
     bytes: Vec<u8>,
 }
 
-impl<'a, R: Files> Write for Asking<'a, R> {
+impl<'a, R: Files + AllocGlobal> Making<'a, R> {
+    fn new(rt: &'a R, path: &'a str) -> Making<'a, R> {
+        Making {
+            rt,
+            path,
+            bytes: Vec::new(rt.alloc()),
+        }
+    }
+}
+
+impl<'a, R: Files> Write for Making<'a, R> {
     fn write(&mut self, buf: &[u8]) -> io::Result<usize> {
         self.bytes.extend_from_slice(buf)?;
-        fs::write(self.rt, STOP, b"")?;
+        fs::write(self.rt, self.path, b"")?;
         Ok(buf.len())
     }
 
@@ -47,18 +58,21 @@ impl<'a, R: Files> Write for Asking<'a, R> {
     }
 }
 
-/// Whether a stream whose reader makes the file at its first bytes ends by it, with all that was written confirmed.
-fn is_stopped<R: Files<File = F> + AllocGlobal + Wait, F: FileExt + OpenFile + Drop>(
-    rt: &R,
+/// Whether a stream that this reader reads says that it ended so, with status 0, and all that the reader was given, from the first stream on, is
+/// confirmed.
+fn ends_so<'a, R: Files<File = F> + AllocGlobal + Wait, F: FileExt + OpenFile + Drop>(
+    rt: &'a R,
     scratch: &Scratch,
+    words: &[&str],
+    reader: &mut Making<'a, R>,
+    why: &str,
 ) -> Result<bool, Fail> {
-    let bytes = Vec::new(rt.alloc());
-    let mut out = Asking { rt, bytes };
-    let (status, err) = stream_to(rt, scratch, WORDS, b"", &mut out)?;
-    let count = out.bytes.len();
-    let end = format!(in rt.alloc(); " written {count} confirmed {count} stopped\n")?;
-    let are_letters = out.bytes.iter().all(|byte| *byte == b'A');
-    Ok(status == 0 && count > 0 && are_letters && err.as_slice().ends_with(end.as_bytes()))
+    let before = reader.bytes.len();
+    let (status, err) = stream_to(rt, scratch, words, b"", reader)?;
+    let count = reader.bytes.len();
+    let end = format!(in rt.alloc(); " written {count} confirmed {count} {why}\n")?;
+    let are_letters = reader.bytes.iter().all(|byte| *byte == b'A');
+    Ok(status == 0 && count > before && are_letters && err.as_slice().ends_with(end.as_bytes()))
 }
 
 /// Whether the next stream is refused, as the file is still there, and the device is as it was.
@@ -77,9 +91,32 @@ fn is_refused<R: Files<File = F> + AllocGlobal + Wait, F: FileExt + OpenFile + D
 #[test]
 fn a_file_that_comes_ends_a_stream(rt: HostRuntime) -> Result<(), Fail> {
     let scratch = device(&rt, "stream_stop", letters(rt.alloc())?.as_slice(), "65536")?;
-    assert!(rt; is_stopped(&rt, &scratch)?);
+    let mut reader = Making::new(&rt, STOP);
+    assert!(rt; ends_so(&rt, &scratch, WORDS, &mut reader, "stopped")?);
     assert!(rt; is_refused(&rt, &scratch)?);
     fs::remove_file(&rt, STOP)?;
-    assert!(rt; is_stopped(&rt, &scratch)?);
+    assert!(rt; ends_so(&rt, &scratch, WORDS, &mut reader, "stopped")?);
+    scratch.remove(&rt)
+}
+
+/// A folder's path, at which a file comes to be while a stream runs.
+const FOLDER: &str = "scratch/stream_unseen/folder";
+
+/// The path of the file that ends a stream, and why a stream that is bound to 4,000 turns ends then.
+const UNSEEN: &[(&str, &str)] = &[
+    ("scratch/stream_unseen/folder/stop", "turns"),
+    ("scratch/stream_unseen/folder", "stopped"),
+];
+
+/// A path that can't be looked at any more is no stop: the stream goes on, and ends as it does without.
+#[test]
+fn a_look_that_fails_stops_nothing(rt: HostRuntime) -> Result<(), Fail> {
+    let scratch = device(&rt, "stream_unseen", letters(rt.alloc())?.as_slice(), "65536")?;
+    let mut reader = Making::new(&rt, FOLDER);
+    for (stop, why) in UNSEEN {
+        let words: &[&str] = &["--turns=4000", "--out", "0=-", "--stop-file", *stop];
+        assert!(rt; ends_so(&rt, &scratch, words, &mut reader, *why)?);
+        fs::remove_file(&rt, FOLDER)?;
+    }
     scratch.remove(&rt)
 }
