@@ -1,3 +1,4 @@
+pub mod Ends
 pub mod Histories
 mod Statuses
 mod Stayed

@@ -1,5 +1,5 @@
 -- What `run --stream` does.
-use Rattle.std.specs.Prelude.{◌≡◌, ℕ, Result, Ok, Err, if◌then◌else◌, min}
+use Rattle.std.specs.Prelude.{◌≡◌, ℕ, Result, Ok, Err, if◌then◌else◌, is_some, min}
 use Rattle.tp_model.specs.NodeState.{NodeState}
 use Rattle.tp_model.specs.Network.{Network}
 use Rattle.tp_model.specs.DiskHistory.{State}
@@ -8,14 +8,14 @@ use Rattle.tp_recover.specs.declared.unopened.Unopened.{Unopened}
 use Rattle.tp_stream.specs.Streamed.{IsUnbegun, Streamed}
 use Rattle.tp_stream_ends.specs.declared.ending.Ended.{Ended}
 use Rattle.tp_stream_ends.specs.declared.ending.Ending.{Ending}
-use Rattle.tp_stream_ends.specs.declared.ending.Ending.TheVariants.{Quiet, Turns, Gone as AllGone, Halted}
+use Rattle.tp_stream_ends.specs.declared.ending.Ending.TheVariants.{Quiet, Turns, Gone as AllGone, Halted, Stopped}
 use Rattle.tp_stream.specs.declared.fault.StreamFault.{StreamFault}
 use Rattle.tp_stream.specs.declared.fault.StreamFault.TheVariants.{Opening, Spare, Port, Unnamed, Short, Long, Gone, NotShown, ShortInput, InputFailed, OutputFailed, FlushFailed, JournalFull, Memory}
 use Rattle.tp_stream.specs.declared.task.Task.{Task}
 use Rattle.tp_stream_files.specs.declared.ends.EndFault.{EndFault}
 use Rattle.tp_stream_files.specs.declared.ends.EndFault.TheVariants.{ReadFailed, DeviceFailed, SameFile, Twice, Memory as NoMemory}
 use Rattle.tp_program.specs.declared.streaming.FilesFault.{FilesFault}
-use Rattle.tp_program.specs.declared.streaming.FilesFault.TheVariants.{End, Stream}
+use Rattle.tp_program.specs.declared.streaming.FilesFault.TheVariants.{End, Stop, Stream}
 use Rattle.tp_words.specs.declared.stream_args.StreamRun.{StreamRun}
 
 -- what a network is asked: a number of frames that no node has is the greatest of its kind
@@ -24,6 +24,7 @@ task_of run = record {
   turns = run.turns;
   until_quiet = run.until_quiet;
   stop_on_halt = run.stop_on_halt;
+  until_asked = is_some run.stop_file;
   quantum = run.quantum;
   spare = min run.spare 65535;
   every = run.every;
@@ -61,27 +62,38 @@ ending_status Quiet = 0
 ending_status Turns = 0
 ending_status AllGone = 0
 ending_status Halted = 3
+ending_status Stopped = 0
 
 -- the status that a stream ends with
 abbrev pub stream_status : Result Ended FilesFault → ℕ
 stream_status (Ok ended) = ending_status ended.why
 stream_status (Err (End fault)) = end_status fault
+stream_status (Err (Stop fault)) = 2
 stream_status (Err (Stream fault)) = fault_status fault
 
 -- What a stream leaves; or the device is as it was.
 abbrev pub StreamedOn : Network NodeState → Result Ended FilesFault → State → State → Type 0
 StreamedOn start (Ok ended) old new = Streamed start (Ok ended) old new
 StreamedOn start (Err (End fault)) old new = new ≡ old
+StreamedOn start (Err (Stop fault)) old new = new ≡ old
 StreamedOn start (Err (Stream fault)) old new = Streamed start (Err fault) old new
 
 -- A stream that was not begun finds nothing on the device that it made.
 abbrev pub IsUnwritten : Result Ended FilesFault → State → State → Type 0
 IsUnwritten (Ok ended) old new = Unit {0}
 IsUnwritten (Err (End fault)) old new = new ≡ old
+IsUnwritten (Err (Stop fault)) old new = new ≡ old
 IsUnwritten (Err (Stream fault)) old new = IsUnbegun {A = Ended} (Err fault) → LeavesNothingNew old new
+
+-- a fault that comes before the device is read
+abbrev pub IsOfEnds : FilesFault → Type 0
+IsOfEnds (End fault) = Unit {0}
+IsOfEnds (Stop fault) = Unit {0}
+IsOfEnds (Stream fault) = ⊥
 
 -- A device that doesn't open is refused so, where all ends are opened.
 abbrev pub IsUnopened : Result Ended FilesFault → Type 0
 IsUnopened (Ok ended) = ⊥
 IsUnopened (Err (End fault)) = Unit {0}
+IsUnopened (Err (Stop fault)) = Unit {0}
 IsUnopened (Err (Stream fault)) = (unopened : Unopened) × (fault ≡ Opening unopened)

@@ -11,6 +11,7 @@ mod formatting;
 mod in_use;
 mod program;
 mod running;
+mod stop_file;
 mod stream_explain;
 mod stream_program;
 mod streaming;
@@ -22,6 +23,7 @@ pub use formatting::format_on;
 pub use in_use::refuse_in_use;
 pub use program::{answer, answer_watching};
 pub use running::run_on;
+pub use stop_file::StopFault;
 pub use stream_program::answer_stream;
 pub use streaming::{FilesFault, Streamed, stream_on};
 pub use tp_views::{

@@ -245,6 +245,7 @@ fn explanation<R: Files<File = F> + AllocGlobal, F: FileExt + OpenFile + Drop>(
     }
     match fault {
         Some(FilesFault::End(fault)) => push_end_fault(rt, &mut text, asked, fault)?,
+        Some(FilesFault::Stop(_)) => {}
         Some(FilesFault::Stream(fault)) => push_stream_fault(rt, &mut text, asked, fault)?,
         None if system.is_none() => {
             push_opening(rt, &mut text, asked.device.as_str())?;

@@ -1,16 +1,18 @@
 //! `tpnet run --stream`, over any device.
 
-ghost use Rattle.std.specs.Prelude.{◌≡◌, ◌≤◌, Err, IsErr};
+ghost use Rattle.std.specs.Prelude.{◌≡◌, ◌≤◌, Err, IfErr, IfOk, IsErr};
 ghost use Rattle.tp_flush.specs.Known.{Began};
 ghost use Rattle.tp_model.specs.Opening.{verdict};
 ghost use Rattle.tp_model.specs.declared.limits.TheConstants.{MAX_STEPS};
 ghost use Rattle.tp_recover.specs.Reading.{LeavesNothingNew};
 ghost use Rattle.tp_recover.specs.declared.unopened.Unopened.{Unopened};
 ghost use Rattle.tp_run.specs.Ran.{History};
+ghost use Rattle.tp_stream.specs.Quiet.{IsAsked};
 ghost use Rattle.tp_stream.specs.Streamed.{IsUnbegun, Streamed as StreamLeft};
-ghost use Rattle.tp_program.specs.Streaming.{IsUnopened, IsUnwritten, StreamedOn, end_status, ending_status, fault_status, stream_status, task_of};
+ghost use Rattle.tp_program.specs.Streaming.{IsOfEnds, IsUnopened, IsUnwritten, StreamedOn, end_status, ending_status, fault_status, stream_status, task_of};
 ghost use Rattle.tp_words.specs.StreamArgs.{IsStreamRun};
 
+use crate::stop_file::{StopFault, StopFile, report_stop, stop_fault};
 use std::fs::{Files, OpenFile};
 use std::io::Write;
 use std::os::unix::fs::FileExt;
@@ -18,7 +20,9 @@ use std::sync::Wait;
 use thiserror::Error;
 use tp_disk::Disk;
 use tp_stream::{Ended, Ending, Sink, Source, StreamFault, Streams, Task, stream};
-use tp_stream_files::{EndFault, Ends, Feed, Teller, open_ends, say_end};
+use tp_stream_files::{
+    AnySink, AnySource, EndFault, Feed, OutsideFile, Teller, open_ends, say_end,
+};
 use tp_words::StreamRun;
 
 /// After how many turns it is said again how far a stream has come.
@@ -30,6 +34,9 @@ pub enum FilesFault {
     /// An end isn't opened. The device is as it was.
     #[error(transparent)]
     End(EndFault),
+    /// The file that is to end it isn't taken. The device is as it was.
+    #[error(transparent)]
+    Stop(StopFault),
     /// The stream ended early.
     #[error(transparent)]
     Stream(StreamFault),
@@ -54,6 +61,7 @@ fn task_of(asked: &StreamRun) -> Task
         turns: asked.turns,
         until_quiet: asked.until_quiet,
         stop_on_halt: asked.stop_on_halt,
+        until_asked: asked.stop_file.is_some(),
         quantum: asked.quantum,
         spare: asked.spare.min(u16::MAX as u64) as u16,
         every: asked.every,
@@ -128,7 +136,7 @@ fn ending_status(why: Ending) -> u8
     ensures few { result ≤ 3 }
 {
     match why {
-        Ending::Quiet | Ending::Turns | Ending::Gone => 0,
+        Ending::Quiet | Ending::Turns | Ending::Gone | Ending::Stopped => 0,
         Ending::Halted => 3,
     }
 }
@@ -141,6 +149,7 @@ fn report<E: Write>(err: &mut E, done: Result<Ended, FilesFault>) -> u8
     match done {
         Ok(ended) => ending_status(ended.why),
         Err(FilesFault::End(fault)) => report_end(err, fault),
+        Err(FilesFault::Stop(fault)) => report_stop(err, fault),
         Err(FilesFault::Stream(fault)) => report_fault(err, fault),
     }
 }
@@ -148,29 +157,60 @@ fn report<E: Write>(err: &mut E, done: Result<Ended, FilesFault>) -> u8
 /// Streams a device's network on ends that are open. What is said of it goes to `err`: where standard output and standard input begin,
 /// how far it has come, at the end each node that has stopped, and `next M`, with how much standard output was given and how much of
 /// that is confirmed, and why it ended.
-fn stream_opened<R: AllocGlobal + Wait, D: Disk + Drop, S: Sink, I: Source, E: Write>(
+fn stream_opened<R: Files + AllocGlobal + Wait, D: Disk + Drop, S: Sink, I: Source, E: Write>(
     rt: &R,
-    task: Task,
+    asked: &StreamRun,
     disk: D,
-    ends: &Ends,
     streams: &mut Streams<S, I>,
     err: &mut E,
 ) -> (D, Result<Ended, StreamFault>)
     ghost history: { History }
-    requires { task.quantum ≤ MAX_STEPS }
+    requires { IsStreamRun asked.now }
     ensures size { D.size_of result.0 ≡ D.size_of disk }
     ensures streamed { D.keeps → Began history.formatted history.before (D.state disk).now.bytes
         → StreamLeft history.formatted result.1 (D.state disk) (D.state result.0) }
     ensures unwritten { D.keeps → IsUnbegun result.1 → LeavesNothingNew (D.state disk) (D.state result.0) }
     ensures unopened { D.keeps → IsErr (verdict (D.state disk).now.bytes) → (unopened : Unopened) × (result.1 ≡ Err (StreamFault.Opening unopened)) }
+    ensures why { IfOk result.1 (λ ended. IsAsked (task_of asked.now) ended.why) }
 {
-    let standard_out = ends.standard_out();
-    let mut teller = Teller::new(err, standard_out, ends.standard_in());
-    let (disk, done) = stream(rt, rt.alloc(), task, disk, streams, &mut teller);
+    let task = task_of(asked);
+    let standard_out = asked.ends.standard_out();
+    let mut teller = Teller::new(err, standard_out, asked.ends.standard_in());
+    let mut stop = StopFile::new(rt, &asked.stop_file);
+    let (disk, done) = stream(rt, rt.alloc(), task, disk, streams, &mut teller, &mut stop);
     if let Ok(ended) = done {
         say_end(err, ended, standard_out, &streams.outputs);
     }
     (disk, done)
+}
+
+/// Opens the ends of a device's ports. The file that is to end the stream is looked at before, and behind, since it may be one of them that
+/// was made meanwhile.
+fn open_ports<
+    'a,
+    R: Files<File = F> + AllocGlobal,
+    F: FileExt + OpenFile + Drop,
+    I: Feed,
+    O: Write,
+>(
+    rt: &R,
+    asked: &StreamRun,
+    feed: &'a mut I,
+    out: &'a mut O,
+) -> Result<Streams<AnySink<'a, OutsideFile<F>, O>, AnySource<'a, OutsideFile<F>, I>>, FilesFault>
+    ensures { IfErr result IsOfEnds }
+{
+    if let Some(fault) = stop_fault(rt, asked) {
+        return Err(FilesFault::Stop(fault));
+    }
+    let streams = match open_ends(rt, asked.device.as_str(), &asked.ends, feed, out) {
+        Ok(streams) => streams,
+        Err(fault) => return Err(FilesFault::End(fault)),
+    };
+    match stop_fault(rt, asked) {
+        Some(fault) => Err(FilesFault::Stop(fault)),
+        None => Ok(streams),
+    }
 }
 
 /// Opens the ends of a device's ports, and streams its network on them.
@@ -196,13 +236,13 @@ fn stream_files<
         → StreamedOn history.formatted result.1 (D.state disk) (D.state result.0) }
     ensures unwritten { D.keeps → IsUnwritten result.1 (D.state disk) (D.state result.0) }
     ensures unopened { D.keeps → IsErr (verdict (D.state disk).now.bytes) → IsUnopened result.1 }
+    ensures why { IfOk result.1 (λ ended. IsAsked (task_of asked.now) ended.why) }
 {
-    let mut streams = match open_ends(rt, asked.device.as_str(), &asked.ends, feed, out) {
+    let mut streams = match open_ports(rt, asked, feed, out) {
         Ok(streams) => streams,
-        Err(fault) => return (disk, Err(FilesFault::End(fault))),
+        Err(fault) => return (disk, Err(fault)),
     };
-    let task = task_of(asked);
-    let (disk, done) = stream_opened(rt, task, disk, &asked.ends, &mut streams, err);
+    let (disk, done) = stream_opened(rt, asked, disk, &mut streams, err);
     match done {
         Ok(ended) => (disk, Ok(ended)),
         Err(fault) => (disk, Err(FilesFault::Stream(fault))),
@@ -210,7 +250,7 @@ fn stream_files<
 }
 
 /// `tpnet run --stream`, on a device: opens the ends of its ports, lets its network run, and puts, makes safe and confirms what ports
-/// show as it comes. Answers the device, the program's status and what came of it.
+/// show as it comes, until it is over as it was asked to be. Answers the device, the program's status and what came of it.
 pub fn stream_on<
     R: Files<File = F> + AllocGlobal + Wait,
     F: FileExt + OpenFile + Drop,
@@ -228,6 +268,7 @@ pub fn stream_on<
         → StreamedOn history.formatted result.1.done (D.state disk) (D.state result.0) }
     ensures unwritten { D.keeps → IsUnwritten result.1.done (D.state disk) (D.state result.0) }
     ensures unopened { D.keeps → IsErr (verdict (D.state disk).now.bytes) → IsUnopened result.1.done }
+    ensures why { IfOk result.1.done (λ ended. IsAsked (task_of asked.now) ended.why) }
 {
     let (disk, done) = stream_files(rt, asked, disk, feed, out, err);
     let status = report(err, done);

@@ -312,3 +312,58 @@ cut in 4096
 tpnet run device --stream --until-quiet --discard 0 --discard 1 --in 1=in
 cut in 4095
 tpnet run device --stream --until-quiet --discard 0 --discard 1 --in 1=in
+
+story stop_file
+# A stream that a file is to end isn't begun where something is at its path already, where it is a file of the stream, also one that is
+# made for it, and where its path can't be looked at: the device stays as it is. Where nothing is there it goes as without.
+text net.txt node a 4\nport h\nwire a.0 h\n
+image a.img 11 24 F2 54 41 F7 11 24 F2 41 FB 60 03
+tpnet format device net.txt . 16384
+text given ab
+text stop x
+folder there
+keep device given stop
+tpnet run device --stream --quantum=64 --out 0=out --in 0=given --stop-file stop
+tpnet run device --stream --quantum=64 --out 0=out --in 0=given --stop-file there
+tpnet run device --stream --quantum=64 --out 0=out --in 0=given --stop-file ./device
+tpnet run device --stream --quantum=64 --out 0=out --in 0=given --stop-file ./given
+tpnet run device --stream --quantum=64 --out 0=out --in 0=given --stop-file out
+tpnet run device --stream --quantum=64 --out 0=out --in 0=given --stop-file given/stop
+tpnet run device --stream --quantum=64 --out 0=out --in 0=given --stop-file ''
+there out
+tpnet run device --stream --quantum=64 --out 0=out --in 0=given --stop-file ./out
+empty out
+stand stderr=stop
+tpnet run device --stream --quantum=64 --out 0=out --in 0=given --stop-file stop
+stand
+stay
+remove stop
+tpnet run device --stream --quantum=64 --out 0=out --in 0=given --stop-file stop 2>err
+ends err gone\n
+equal out given
+there stop
+
+story stopped_by_a_file
+# A stream is stopped by a file that its reader makes once the first bytes have come: it ends at status 0 long before all have come, says so, and has
+# confirmed what was written. The next one is refused until the file has gone, and then goes on there: each byte has come once at the end.
+text net.txt node a 4\nport h\nwire a.0 h\n
+image a.img 11 24 F2 54 41 F7 11 24 F2 41 FB 60 03
+tpnet format device net.txt . 16384
+fill given 10000 61
+reader-makes stop
+tpnet run device --stream --quantum=64 --out 0=- --in 0=given --stop-file stop >front 2>err
+ends err  stopped\n
+begins given front
+equal given front
+empty front
+there stop
+keep device given
+tpnet run device --stream --quantum=64 --out 0=- --in 0=given --stop-file stop
+stay
+remove stop
+reader-makes
+tpnet run device --stream --quantum=64 --out 0=- --in 0=given --stop-file stop >rest 2>err
+ends err  written 10000 confirmed 10000 gone\n
+begins given rest
+equal given rest
+there stop

@@ -127,6 +127,7 @@ tpnet run device --turns 4 --out=0=x
 tpnet run device --turns 4 --have 0=1
 tpnet run device --turns 4 --discard=0
 tpnet run device --turns 4 --until-quiet
+tpnet run device --turns 4 --stop-file=stop
 tpnet run device --turns 4 --progress
 
 story greatest

@@ -70,19 +70,61 @@ struct Done {
     err: Vec<u8>,
 }
 
+/// The reader of a stream's standard output: it keeps what comes, and then makes a file, where it is to.
+#[derive(Drop)]
+struct Reader<'a, R> {
+    rt: &'a R,
+    made: &'a Option<String>,
+    bytes: Vec<u8>,
+}
+
+impl<'a, R: Files> Write for Reader<'a, R> {
+    fn write(&mut self, buf: &[u8]) -> io::Result<usize> {
+        self.bytes.extend_from_slice(buf)?;
+        if let Some(file) = self.made {
+            fs::write(self.rt, file.as_str(), b"")?;
+        }
+        Ok(buf.len())
+    }
+
+    fn flush(&mut self) -> io::Result<()> {
+        Ok(())
+    }
+}
+
+/// Streams as a command asks.
+fn stream<R: Files<File = F> + AllocGlobal + Wait, F: FileExt + OpenFile + Drop>(
+    rt: &R,
+    stage: &Stage,
+    words: &[String],
+    input: &[u8],
+) -> Done {
+    let files = Standing::new(rt, stage.streams.as_slice());
+    let mut feed = Plain::new(if wants_input(words) { input } else { &[] });
+    let mut err = Vec::new(rt.alloc());
+    let mut out = Reader {
+        rt,
+        made: &stage.made,
+        bytes: Vec::new(rt.alloc()),
+    };
+    let status = answer_stream(&files, words, &mut feed, &mut out, &mut err);
+    Done {
+        status,
+        out: out.bytes,
+        err,
+    }
+}
+
 /// Does what a command asks for, as the program does. Standard streams that are files are seen by a stream alone.
 fn carry_out<
     R: Files<File = F> + AllocGlobal + Threads + Wait + Sync,
     F: FileExt + OpenFile + Drop + Send,
 >(rt: &R, stage: &Stage, words: &[String], input: &[u8]) -> Done {
+    if is_stream(words) {
+        return stream(rt, stage, words, input);
+    }
     let (mut out, mut err) = (Vec::new(rt.alloc()), Vec::new(rt.alloc()));
-    let status = if is_stream(words) {
-        let files = Standing::new(rt, stage.streams.as_slice());
-        let mut feed = Plain::new(if wants_input(words) { input } else { &[] });
-        answer_stream(&files, words, &mut feed, &mut out, &mut err)
-    } else {
-        answer(rt, words, &mut out, &mut err)
-    };
+    let status = answer(rt, words, &mut out, &mut err);
     Done { status, out, err }
 }
 

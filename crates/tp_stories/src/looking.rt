@@ -87,6 +87,7 @@ pub(crate) fn look<R: Files<File = F> + AllocGlobal, F: FileExt + Drop>(
         }
         "empty" => print_answer(&mut stage.transcript, fs::metadata(rt, file)?.len() == 0),
         "stand" => stage.stand(rt.alloc(), words),
+        "reader-makes" => stage.reader_makes(rt.alloc(), words),
         "keep" => keep(rt, stage, words),
         "stay" => stay(rt, stage),
         _ => Err(malformed()),

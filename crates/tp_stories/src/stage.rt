@@ -16,6 +16,8 @@ pub(crate) struct Stage {
     pub(crate) transcript: Vec<u8>,
     /// Standard streams that are files of the story, as `/dev/stdout`, and the path of each.
     pub(crate) streams: Vec<(&'static str, String)>,
+    /// The file that the reader of a stream's standard output makes once something has come, where it makes one.
+    pub(crate) made: Option<String>,
     /// What files were.
     pub(crate) kept: Vec<Kept>,
 }
@@ -27,6 +29,7 @@ impl Stage {
             folder: None,
             transcript: Vec::new(alloc),
             streams: Vec::new(alloc),
+            made: None,
             kept: Vec::new(alloc),
         }
     }
@@ -66,9 +69,19 @@ impl Stage {
         Ok(())
     }
 
+    /// Says which file the reader of standard output makes in the streams behind this line; with no word none.
+    pub(crate) fn reader_makes(&mut self, alloc: Global, words: &str) -> io::Result<()> {
+        self.made = match words {
+            "" => None,
+            file => Some(String::from_str(alloc, file)?),
+        };
+        Ok(())
+    }
+
     /// Ends the story that has begun, and removes its folder.
     pub(crate) fn close<R: Files + Env + AllocGlobal>(&mut self, rt: &R) -> io::Result<()> {
         self.streams.clear();
+        self.made = None;
         self.kept.clear();
         let Some(folder) = self.folder.take() else {
             return Ok(());

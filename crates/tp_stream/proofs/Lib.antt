@@ -1,4 +1,5 @@
 pub mod Kept
+pub mod Looks
 pub mod Puts
 pub mod Quiets
 pub mod Runs

@@ -1,5 +1,5 @@
 -- Turns that had nothing to do.
-use Rattle.std.proofs.Common.{◌≡◌, ℕ, ◌+◌, ◌≤◌, ◌<◌, inl, inr, Bool, length, None, IsSome, Result, Ok, Err, refl, sym, ap, subst, ◌∙◌, arith, below_more}
+use Rattle.std.proofs.Common.{◌≡◌, ℕ, ◌+◌, ◌≤◌, ◌<◌, inl, inr, Bool, true, length, None, IsSome, Result, Ok, Err, refl, sym, ap, subst, ◌∙◌, arith, below_more}
 use Rattle.std.proofs.lemmas.Bool.{cases_lt, lt-ltb, le-ltb}
 use Rattle.std.specs.Prelude.{nat_lt, if◌then◌else◌, IfOk}
 use Rattle.tp_model.specs.NodeState.{NodeState}
@@ -18,7 +18,7 @@ use Rattle.tp_shared.specs.declared.node_turn.NodeTurn.{NodeTurn}
 use Rattle.tp_stream.specs.declared.task.Task.{Task}
 use Rattle.tp_stream_ends.specs.declared.ending.Ended.{Ended}
 use Rattle.tp_stream_ends.specs.declared.ending.Ending.{Ending}
-use Rattle.tp_stream_ends.specs.declared.ending.Ending.TheVariants.{Quiet, Turns, Gone, Halted}
+use Rattle.tp_stream_ends.specs.declared.ending.Ending.TheVariants.{Quiet, Turns, Gone, Halted, Stopped as AskedTo}
 use Rattle.tp_stream.specs.declared.fault.StreamFault.{StreamFault}
 use Rattle.tp_stream.specs.declared.pumping.Pumped.{Pumped}
 use Rattle.tp_stream.specs.declared.turns.Turns.{Turns as TurnsValue}
@@ -129,16 +129,18 @@ asked start task Quiet is = is.0
 asked start task Turns is = is
 asked start task Gone is = is
 asked start task Halted is = is
+asked start task AskedTo is = is
 
 pub all_asked : (start : Network NodeState) (task : Task) (r : Result Ended StreamFault) → IfOk r (λ ended. IsWhyEnded start task ended.why) → IfOk r (λ ended. IsAsked task ended.why)
 all_asked start task (Ok ended) is = asked start task ended.why is
 all_asked start task (Err fault) is = is
 
 -- where its turns are such
-pub ended_why : (start : Network NodeState) (task : Task) (turns : TurnsValue) (nodes : ℕ) (pumped : Pumped) (over : Bool) (why : Ending) → nodes ≡ length start.nodes
-    → HaveRested start turns.whose turns.idle → IsEnding task turns nodes pumped over why → IsWhyEnded start task why
-ended_why start task turns nodes pumped over Quiet many H is =
+pub ended_why : (start : Network NodeState) (task : Task) (turns : TurnsValue) (nodes : ℕ) (asked : Bool) (pumped : Pumped) (over : Bool) (why : Ending) → nodes ≡ length start.nodes
+    → HaveRested start turns.whose turns.idle → (asked ≡ true → task.until_asked ≡ true) → IsEnding task turns nodes asked pumped over why → IsWhyEnded start task why
+ended_why start task turns nodes asked pumped over Quiet many H until is =
     let more = is.1.turns_are in (is.0, all_rested start turns.whose turns.idle H (omega (arith, many, more)))
-ended_why start task turns nodes pumped over Turns many H is = rw is.1 refl
-ended_why start task turns nodes pumped over Gone many H is = tt
-ended_why start task turns nodes pumped over Halted many H is = is.0
+ended_why start task turns nodes asked pumped over Turns many H until is = rw is.1 refl
+ended_why start task turns nodes asked pumped over Gone many H until is = tt
+ended_why start task turns nodes asked pumped over Halted many H until is = is.0
+ended_why start task turns nodes asked pumped over AskedTo many H until is = until is

@@ -5,7 +5,7 @@ use Rattle.tp_stream.specs.declared.turns.Turns.{Turns}
 use Rattle.tp_stream.specs.declared.pumping.Pumped.{Pumped}
 use Rattle.tp_stream.specs.declared.pumping.Pumped.TheVariants.{Nothing, Gone as TakerGone}
 use Rattle.tp_stream_ends.specs.declared.ending.Ending.{Ending}
-use Rattle.tp_stream_ends.specs.declared.ending.Ending.TheVariants.{Quiet, Turns as BoundReached, Gone, Halted}
+use Rattle.tp_stream_ends.specs.declared.ending.Ending.TheVariants.{Quiet, Turns as BoundReached, Gone, Halted, Stopped}
 
 -- Nothing is left to do: more of the last turns in a row than there are nodes had nothing to do, no stream has moved, and no input is
 -- left that its port may take.
@@ -18,9 +18,10 @@ pub record IsNothingLeft (turns : Turns) (nodes : ℕ) (pumped : Pumped) (over :
 abbrev pub IsBoundReached : Task → Turns → Type 0
 IsBoundReached task turns = (most : ℕ) × (task.turns ≡ Some most) × (most ≤ turns.made)
 
--- Why it is over.
-abbrev pub IsEnding : Task → Turns → ℕ → Pumped → Bool → Ending → Type 0
-IsEnding task turns nodes pumped over Quiet = (task.until_quiet ≡ true) × IsNothingLeft turns nodes pumped over
-IsEnding task turns nodes pumped over BoundReached = IsBoundReached task turns
-IsEnding task turns nodes pumped over Gone = (pumped ≡ TakerGone) ⊎ ((task.turns ≡ None) × (task.until_quiet ≡ false) × IsNothingLeft turns nodes pumped over)
-IsEnding task turns nodes pumped over Halted = (task.stop_on_halt ≡ true) × (turns.has_halted ≡ true)
+-- Why it is over, where it was `asked` to stop or wasn't.
+abbrev pub IsEnding : Task → Turns → ℕ → Bool → Pumped → Bool → Ending → Type 0
+IsEnding task turns nodes asked pumped over Quiet = (task.until_quiet ≡ true) × IsNothingLeft turns nodes pumped over
+IsEnding task turns nodes asked pumped over BoundReached = IsBoundReached task turns
+IsEnding task turns nodes asked pumped over Gone = (pumped ≡ TakerGone) ⊎ ((task.turns ≡ None) × (task.until_quiet ≡ false) × IsNothingLeft turns nodes pumped over)
+IsEnding task turns nodes asked pumped over Halted = (task.stop_on_halt ≡ true) × (turns.has_halted ≡ true)
+IsEnding task turns nodes asked pumped over Stopped = asked ≡ true

@@ -1,4 +1,5 @@
 pub mod Endings
+pub mod Looks
 pub mod Offered
 pub mod Outcomes
 pub mod Put

@@ -12,7 +12,7 @@ use Rattle.tp_shared.specs.Holds.{InHand}
 use Rattle.tp_shared.specs.TurnsMade.{HostTurnMade, TurnMade}
 use Rattle.tp_stream.specs.declared.task.Task.{Task}
 use Rattle.tp_stream_ends.specs.declared.ending.Ending.{Ending}
-use Rattle.tp_stream_ends.specs.declared.ending.Ending.TheVariants.{Quiet, Turns, Gone, Halted}
+use Rattle.tp_stream_ends.specs.declared.ending.Ending.TheVariants.{Quiet, Turns, Gone, Halted, Stopped as AskedTo}
 
 -- A book of the network, with as many nodes and ports, was seen in which no snapshot runs.
 pub record IsStill (start : Network NodeState) : Type 0 where
@@ -74,11 +74,13 @@ IsWhyEnded start task Quiet = (task.until_quiet ≡ true) × AreQuiet start
 IsWhyEnded start task Turns = IsSome task.turns
 IsWhyEnded start task Gone = Unit {0}
 IsWhyEnded start task Halted = task.stop_on_halt ≡ true
+IsWhyEnded start task AskedTo = task.until_asked ≡ true
 
 -- It was asked to end so: without a bound on turns it is over only by quiet where that was asked for, by a halt where that was asked
--- for, or since its ends are gone.
+-- for, since its ends are gone, or since it was asked to stop where it was to end so.
 abbrev pub IsAsked : Task → Ending → Type 0
 IsAsked task Quiet = task.until_quiet ≡ true
 IsAsked task Turns = IsSome task.turns
 IsAsked task Gone = Unit {0}
 IsAsked task Halted = task.stop_on_halt ≡ true
+IsAsked task AskedTo = task.until_asked ≡ true

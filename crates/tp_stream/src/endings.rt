@@ -1,38 +1,51 @@
 //! When a stream is over.
 
-ghost use Rattle.std.specs.Prelude.{◌≡◌, true, nat_lt, IfSome};
+ghost use Rattle.std.specs.Prelude.{◌≡◌, ◌++◌, true, nat_lt, IfSome};
 ghost use Rattle.tp_stream.specs.Endings.{IsEnding};
+ghost use Rattle.tp_stream.specs.Looks.{is_stopped, looked};
 
 use crate::pumping::Pumped;
 use crate::task::Task;
 use crate::turns::Turns;
-use tp_stream_ends::{Ending, Input, Source};
+use tp_stream_ends::{Ending, Input, Source, Stop};
 
 /// Whether no input is left that its port may take.
 pub(crate) fn are_over<I: Source>(inputs: &[Input<I>]) -> bool {
     inputs.iter().all(|input| input.is_over())
 }
 
-/// Whether input may be waited for: another turn may be made, and nothing is left to do.
+/// Whether a step of an input may wait: another turn may be made, nothing is left to do, and the stream isn't asked to stop meanwhile.
 pub(crate) fn may_wait(task: Task, turns: &Turns, nodes: u8) -> bool
     ensures { result ≡ true → nat_lt nodes turns.now.idle ≡ true }
 {
-    !turns.are_out(task) && !turns.is_stopped(task) && turns.is_quiet(nodes)
+    !task.until_asked && !turns.are_out(task) && !turns.is_stopped(task) && turns.is_quiet(nodes)
 }
 
-/// Why the stream is over, where it is: as its turns stand, and what the steps of its streams came to behind them. `over` says whether
-/// no input is left that its port may take.
+/// Whether the stream is asked to stop, where it is to end so: it is looked once, and else not at all.
+pub(crate) fn is_asked<P: Stop>(task: Task, stop: &mut P) -> bool
+    ensures looked { P.answers stop.new ≡ P.answers stop.old ++ looked task result }
+    ensures asked { result ≡ true → task.until_asked ≡ true }
+{
+    task.until_asked && stop.is_asked()
+}
+
+/// Why the stream is over, where it is: as its turns stand, and what the steps of its streams came to behind them. `asked` says whether it
+/// is asked to stop, which comes first, and `over` whether no input is left that its port may take.
 pub(crate) fn ending(
     task: Task,
     turns: &Turns,
     nodes: u8,
+    asked: bool,
     pumped: Pumped,
     over: bool,
 ) -> Option<Ending>
-    ensures { IfSome result (IsEnding task turns.now nodes pumped over) }
+    ensures why { IfSome result (IsEnding task turns.now nodes asked pumped over) }
+    ensures stopped { is_stopped result ≡ asked }
 {
     let is_quiet = turns.is_quiet(nodes) && pumped == Pumped::Nothing && over;
-    if turns.is_stopped(task) {
+    if asked {
+        Some(Ending::Stopped)
+    } else if turns.is_stopped(task) {
         Some(Ending::Halted)
     } else if pumped == Pumped::Gone {
         Some(Ending::Gone)

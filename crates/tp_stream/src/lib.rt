@@ -24,6 +24,6 @@ pub use fault::StreamFault;
 pub use streaming::stream;
 pub use task::Task;
 pub use tp_stream_ends::{
-    Ended, Ending, Input, Listener, MemSink, Output, Progress, Sink, SinkFault, Source,
-    SourceFailed, Stopped, Streams,
+    Ended, Ending, Input, Listener, MemSink, Noted, Output, Progress, Sink, SinkFault, Source,
+    SourceFailed, Stop, Stopped, Streams,
 };

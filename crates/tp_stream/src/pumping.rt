@@ -10,11 +10,16 @@ use crate::fault::StreamFault;
 use crate::output::StepFault;
 use crate::pace::Pace;
 use std::sync::Wait;
+use std::sync::atomic::AtomicU64;
+use std::time::Duration;
 use tp_disk::Disk;
 use tp_flush::Flusher;
 use tp_model::limits::MAX_HELD;
 use tp_shared::{Locked, Naming, Shared};
 use tp_stream_ends::{Input, Output, Sink, Source, Streams};
+
+/// How many milliseconds input is waited for until it is looked again whether the stream is asked to stop.
+const REST: u64 = 20;
 
 /// What steps of streams came to.
 #[derive(Clone, Copy, Debug, PartialEq, Eq)]
@@ -158,6 +163,32 @@ fn step_input<J: Naming, I: Source, R: Wait>(
         piece,
         free.saturating_sub(u64::from(pace.need)),
     )
+}
+
+/// Whether the bytes of an input haven't come yet for which the journal has room.
+pub(crate) fn are_awaited<J: Naming, I: Source, R: Wait>(
+    rt: &R,
+    shared: &Shared<J>,
+    pace: Pace,
+    inputs: &mut [Input<I>],
+) -> bool {
+    let held = shared.book().lock(rt);
+    held.known();
+    if pace.rooms.free(held.book()) <= u64::from(pace.need) {
+        return false;
+    }
+    for next in inputs.iter_mut() {
+        let port = next.port();
+        if port < shared.ports() && next.would_wait(held.book().accepted(port)) {
+            return true;
+        }
+    }
+    false
+}
+
+/// Waits for [`REST`] milliseconds, or less.
+pub(crate) fn rest<R: Wait>(rt: &R) {
+    AtomicU64::new(0).park_timeout(rt, 0, Duration::from_millis(REST));
 }
 
 /// A step of each input.

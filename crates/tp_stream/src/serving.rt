@@ -1,17 +1,18 @@
 //! What a stream does with a network, and its flusher.
 
-ghost use Rattle.std.specs.Prelude.{◌≡◌, ◌≤◌, length, IfOk, IfSome, IfErr, OnOk};
+ghost use Rattle.std.specs.Prelude.{◌≡◌, ◌≤◌, length, Some, IfOk, IfSome, IfErr, OnOk};
 ghost use Rattle.tp_flush.specs.Known.{Began};
 ghost use Rattle.tp_flush.specs.Flushing.{IsSameProcess, Walked};
+ghost use Rattle.tp_stream.specs.Looks.{HaveLooked, LooksOnce};
 ghost use Rattle.tp_stream.specs.Quiet.{HaveRested, IsWhyEnded};
 ghost use Rattle.tp_stream.specs.Steps.{AllStepped};
 ghost use Rattle.tp_stream.specs.Streamed.{IsBegun};
 
-use crate::endings::{are_over, ending, may_wait};
+use crate::endings::{are_over, ending, is_asked, may_wait};
 use crate::fault::StreamFault;
 use crate::flushing::{finish, flush};
 use crate::pace::Pace;
-use crate::pumping::{Pumped, can_confirm, pump};
+use crate::pumping::{Pumped, are_awaited, can_confirm, pump, rest};
 use crate::rounds::round;
 use crate::settling::settle;
 use crate::stopping::{find_halted, tell_stopped};
@@ -22,7 +23,9 @@ use tp_disk::Disk;
 use tp_flush::Flusher;
 use tp_model::limits::MAX_PORTS;
 use tp_shared::{Naming, Seat, Shared};
-use tp_stream_ends::{Ended, Ending, Listener, Output, Progress, Sink, Source, Streams};
+use tp_stream_ends::{
+    Ended, Ending, Input, Listener, Output, Progress, Sink, Source, Stop, Streams,
+};
 
 /// How a stream goes on: its turns, the slips of what they journalled, and at how many turns it is told again how far it has come.
 #[derive(Drop)]
@@ -73,13 +76,14 @@ fn tell<J: Naming, S: Sink, L: Listener, R: Wait>(
 }
 
 /// Turns; or, where the journal has no room for one, or nothing is left to do but an input for which it has no room, a snapshot is
-/// brought to its end.
-fn make_turns<J: Naming, R: Wait>(
+/// brought to its end. Where it may be asked to stop, and nothing is left to do but an input whose bytes haven't come yet, it rests.
+fn make_turns<J: Naming, I: Source, R: Wait>(
     rt: &R,
     alloc: Global,
     shared: &Shared<J>,
     pace: Pace,
     going: &mut Going<J>,
+    inputs: &mut [Input<I>],
     pumped: Pumped,
     over: bool,
 ) -> Result<(), StreamFault>
@@ -88,21 +92,26 @@ fn make_turns<J: Naming, R: Wait>(
     ensures begun { IfErr result IsBegun }
 {
     let Going { turns, seat, .. } = going;
-    let lacks_room = pumped == Pumped::Nothing && turns.is_quiet(shared.nodes()) && !over;
+    let lacks_input = pumped == Pumped::Nothing && turns.is_quiet(shared.nodes()) && !over;
     if pumped == Pumped::Moved {
         turns.moved();
     }
-    if turns.is_full || lacks_room {
+    if lacks_input && pace.task.until_asked && are_awaited(rt, shared, pace, inputs) {
+        rest(rt);
+        return Ok(());
+    }
+    if turns.is_full || lacks_input {
         settle(rt, alloc, shared, seat, turns)?;
         return Ok(());
     }
     round(rt, alloc, shared, pace, seat, turns)
 }
 
-/// A step of each stream, which waits for input where nothing else is left to do, and then turns. Where the journal has no room for the
-/// confirms, a snapshot is brought to its end before one is made. Answers why it is over, where it is.
+/// A look whether it is asked to stop, a step of each stream, which waits for input where nothing else is left to do, and then turns. Where
+/// the journal has no room for the confirms, a snapshot is brought to its end before all that. Answers why it is over, where it is: then no
+/// turn was made.
 #[tactic(auto, using(crate::proofs::Stepping::all_still))]
-fn go_on<J: Naming, D: Disk, S: Sink, I: Source, L: Listener, R: Wait>(
+fn go_on<J: Naming, D: Disk, S: Sink, I: Source, L: Listener, P: Stop, R: Wait>(
     rt: &R,
     alloc: Global,
     shared: &Shared<J>,
@@ -111,12 +120,15 @@ fn go_on<J: Naming, D: Disk, S: Sink, I: Source, L: Listener, R: Wait>(
     flusher: &mut Flusher<J, D>,
     streams: &mut Streams<S, I>,
     listener: &mut L,
+    stop: &mut P,
 ) -> Result<Option<Ending>, StreamFault>
     requires { HaveRested J.start going.old.turns.whose going.old.turns.idle }
     ensures same { flusher.new ≡ flusher.old }
     ensures put { D.keeps → Began J.formatted J.before flusher.old.opened
         → AllStepped J.formatted flusher.old flusher.old streams.old.outputs.items streams.new.outputs.items }
     ensures why { IfOk result (λ ended. IfSome ended (IsWhyEnded J.start pace.task)) }
+    ensures looks { IfOk result (LooksOnce pace.task going.old.turns.made going.new.turns.made (P.answers stop.old) (P.answers stop.new)) }
+    ensures over { IfOk result (λ ended. IfSome ended (λ why. going.new ≡ going.old)) }
     ensures rested { OnOk result (HaveRested J.start going.new.turns.whose going.new.turns.idle) }
     ensures begun { IfErr result IsBegun }
 {
@@ -124,21 +136,31 @@ fn go_on<J: Naming, D: Disk, S: Sink, I: Source, L: Listener, R: Wait>(
         settle(rt, alloc, shared, &mut going.seat, &mut going.turns)?;
         return Ok(None);
     }
+    let asked = is_asked(pace.task, stop);
     let may_wait = may_wait(pace.task, &going.turns, shared.nodes());
     let pumped = pump(rt, shared, pace, flusher, may_wait, streams)?;
     let over = are_over(&streams.inputs);
-    if let Some(why) = ending(pace.task, &going.turns, shared.nodes(), pumped, over) {
+    if let Some(why) = ending(pace.task, &going.turns, shared.nodes(), asked, pumped, over) {
         return Ok(Some(why));
     }
     let mark = flusher.mark();
     tell(rt, shared, pace, going, mark, &streams.outputs, listener);
-    make_turns(rt, alloc, shared, pace, going, pumped, over)?;
+    make_turns(
+        rt,
+        alloc,
+        shared,
+        pace,
+        going,
+        &mut streams.inputs,
+        pumped,
+        over,
+    )?;
     Ok(None)
 }
 
 /// A flush, and all that comes behind it before the next one.
 #[tactic(auto, using(crate::proofs::Stepping::all_still))]
-fn cycle<J: Naming, D: Disk, S: Sink, I: Source, L: Listener, R: Wait>(
+fn cycle<J: Naming, D: Disk, S: Sink, I: Source, L: Listener, P: Stop, R: Wait>(
     rt: &R,
     alloc: Global,
     shared: &Shared<J>,
@@ -147,6 +169,7 @@ fn cycle<J: Naming, D: Disk, S: Sink, I: Source, L: Listener, R: Wait>(
     flusher: &mut Flusher<J, D>,
     streams: &mut Streams<S, I>,
     listener: &mut L,
+    stop: &mut P,
 ) -> Result<Option<Ending>, StreamFault>
     requires { HaveRested J.start going.old.turns.whose going.old.turns.idle }
     ensures walks { D.keeps → Began J.formatted J.before flusher.old.opened → Walked flusher.old flusher.new }
@@ -154,15 +177,19 @@ fn cycle<J: Naming, D: Disk, S: Sink, I: Source, L: Listener, R: Wait>(
     ensures put { D.keeps → Began J.formatted J.before flusher.old.opened
         → AllStepped J.formatted flusher.old flusher.new streams.old.outputs.items streams.new.outputs.items }
     ensures why { IfOk result (λ ended. IfSome ended (IsWhyEnded J.start pace.task)) }
+    ensures looks { IfOk result (LooksOnce pace.task going.old.turns.made going.new.turns.made (P.answers stop.old) (P.answers stop.new)) }
+    ensures over { IfOk result (λ ended. IfSome ended (λ why. going.new ≡ going.old)) }
     ensures rested { OnOk result (HaveRested J.start going.new.turns.whose going.new.turns.idle) }
     ensures begun { IfErr result IsBegun }
 {
     flush(rt, alloc, shared, flusher)?;
-    go_on(rt, alloc, shared, pace, going, flusher, streams, listener)
+    go_on(
+        rt, alloc, shared, pace, going, flusher, streams, listener, stop,
+    )
 }
 
 /// All cycles, until nothing more is to be done or one is refused; and whether each process had nothing to do in its last turn.
-fn cycles<J: Naming, D: Disk, S: Sink, I: Source, L: Listener, R: Wait>(
+fn cycles<J: Naming, D: Disk, S: Sink, I: Source, L: Listener, P: Stop, R: Wait>(
     rt: &R,
     alloc: Global,
     shared: &Shared<J>,
@@ -170,12 +197,14 @@ fn cycles<J: Naming, D: Disk, S: Sink, I: Source, L: Listener, R: Wait>(
     first: Flusher<J, D>,
     streams: &mut Streams<S, I>,
     listener: &mut L,
+    stop: &mut P,
 ) -> (Flusher<J, D>, Result<Option<Ending>, StreamFault>, bool)
     ensures walks { D.keeps → Began J.formatted J.before first.opened → Walked first result.0 }
     ensures process { IsSameProcess first result.0 }
     ensures put { D.keeps → Began J.formatted J.before first.opened
         → AllStepped J.formatted first result.0 streams.old.outputs.items streams.new.outputs.items }
     ensures why { IfOk result.1 (λ ended. IfSome ended (IsWhyEnded J.start pace.task)) }
+    ensures looks { IfOk result.1 (HaveLooked pace.task (P.answers stop.old) (P.answers stop.new)) }
     ensures begun { IfErr result.1 IsBegun }
 {
     first.known();
@@ -200,6 +229,7 @@ fn cycles<J: Naming, D: Disk, S: Sink, I: Source, L: Listener, R: Wait>(
             &mut flusher,
             streams,
             listener,
+            stop,
         );
     }
     let rests = going.turns.is_quiet(shared.nodes());
@@ -208,7 +238,7 @@ fn cycles<J: Naming, D: Disk, S: Sink, I: Source, L: Listener, R: Wait>(
 
 /// Makes turns, and lets each stream make its steps, until that ends. Answers the number that the next entry gets, all below
 /// being stored, and why it is over; which nodes have stopped is told before.
-pub(crate) fn serve<J: Naming, D: Disk, S: Sink, I: Source, L: Listener, R: Wait>(
+pub(crate) fn serve<J: Naming, D: Disk, S: Sink, I: Source, L: Listener, P: Stop, R: Wait>(
     rt: &R,
     alloc: Global,
     shared: &Shared<J>,
@@ -216,17 +246,21 @@ pub(crate) fn serve<J: Naming, D: Disk, S: Sink, I: Source, L: Listener, R: Wait
     flusher: Flusher<J, D>,
     streams: &mut Streams<S, I>,
     listener: &mut L,
+    stop: &mut P,
 ) -> (Flusher<J, D>, Result<Ended, StreamFault>)
     ensures walks { D.keeps → Began J.formatted J.before flusher.opened → Walked flusher result.0 }
     ensures process { IsSameProcess flusher result.0 }
     ensures put { D.keeps → Began J.formatted J.before flusher.opened
         → AllStepped J.formatted flusher result.0 streams.old.outputs.items streams.new.outputs.items }
     ensures why { IfOk result.1 (λ ended. IsWhyEnded J.start pace.task ended.why) }
+    ensures looks { IfOk result.1 (λ ended. HaveLooked pace.task (P.answers stop.old) (P.answers stop.new) (Some ended.why)) }
     ensures stored { IfOk result.1 (λ ended. ended.next ≤ result.0.world.mark) }
     ensures last { D.keeps → Began J.formatted J.before flusher.opened → IfOk result.1 (λ ended. ended.next ≡ length result.0.world.journal) }
     ensures begun { IfErr result.1 IsBegun }
 {
-    let (mut there, last, rests) = cycles(rt, alloc, shared, pace, flusher, streams, listener);
+    let (mut there, last, rests) = cycles(
+        rt, alloc, shared, pace, flusher, streams, listener, stop,
+    );
     let why = match last {
         Ok(Some(why)) => why,
         // The loop goes on as long as nothing is answered.

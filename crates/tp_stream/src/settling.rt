@@ -48,6 +48,7 @@ pub(crate) fn settle<J: Naming, R: Wait>(
 ) -> Result<(), StreamFault>
     ensures whose { turns.new.whose ≡ turns.old.whose }
     ensures idle { OnOk result (turns.new.idle ≡ 0) }
+    ensures made { turns.new.made ≡ turns.old.made }
     ensures begun { IfErr result IsBegun }
 {
     if !turns.may_settle() {

@@ -39,7 +39,7 @@ fn is_stuck<J: Naming, R: Wait>(rt: &R, shared: &Shared<J>, why: Ending, rests: 
             let held = shared.book().lock(rt);
             has_pending(held.book())
         }
-        Ending::Quiet | Ending::Gone | Ending::Turns | Ending::Halted => false,
+        Ending::Quiet | Ending::Gone | Ending::Turns | Ending::Halted | Ending::Stopped => false,
     }
 }
 

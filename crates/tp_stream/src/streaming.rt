@@ -18,6 +18,7 @@ ghost use Rattle.tp_shared.specs.Named.{Names};
 ghost use Rattle.tp_stream_ends.specs.Inputs.{given_input};
 ghost use Rattle.tp_stream_ends.specs.Outputs.{given_of};
 ghost use Rattle.tp_stream.specs.Put.{ServedInto, StreamedInto};
+ghost use Rattle.tp_stream.specs.Looks.{HaveLooked};
 ghost use Rattle.tp_stream.specs.Quiet.{IsAsked};
 ghost use Rattle.tp_stream.specs.Standing.{AllHaveAccepted, AllMayBegin, IsFirstRefused, IsFirstShort, OfInput, OfOutput, accepted_opened, stands_opened};
 ghost use Rattle.tp_stream.specs.Streamed.{IsBegun, IsUnbegun, Streamed};
@@ -41,7 +42,7 @@ use tp_mark::Raiser;
 use tp_net::Topology;
 use tp_recover::{Opened, open};
 use tp_shared::{Naming, Parts, Shared};
-use tp_stream_ends::{Ended, Listener, Sink, Source, Streams};
+use tp_stream_ends::{Ended, Listener, Sink, Source, Stop, Streams};
 use tp_turn::{TAKES, TURN_ENTRIES};
 
 /// How turns are made on a device of this topology. Each needs room for a node's turn, or for the host's with [`TAKES`] entries a port,
@@ -62,7 +63,7 @@ fn pace_of(task: Task, topology: &Topology, area: u64) -> Pace
 }
 
 /// A stream over the store of a device that was opened, with the parts that were made of it.
-fn stream_parts<J: Naming, D: Disk + Drop, S: Sink, I: Source, L: Listener, R: Wait>(
+fn stream_parts<J: Naming, D: Disk + Drop, S: Sink, I: Source, L: Listener, P: Stop, R: Wait>(
     rt: &R,
     alloc: Global,
     task: Task,
@@ -73,6 +74,7 @@ fn stream_parts<J: Naming, D: Disk + Drop, S: Sink, I: Source, L: Listener, R: W
     store: Store<D>,
     streams: &mut Streams<S, I>,
     listener: &mut L,
+    stop: &mut P,
 ) -> (D, Result<Ended, StreamFault>)
     requires quantum { task.quantum ≤ MAX_STEPS }
     requires names { Names J.roll J.first J.start J.node J.mark J.flusher J.sights J.room parts }
@@ -90,13 +92,14 @@ fn stream_parts<J: Naming, D: Disk + Drop, S: Sink, I: Source, L: Listener, R: W
     ensures streamed { D.keeps → Began J.formatted J.before (D.state store.disk).now.bytes
         → ServedInto J.formatted result.1 streams.old.outputs.items streams.new.outputs.items (D.state store.disk) (D.state result.0) }
     ensures why { IfOk result.1 (λ ended. IsAsked task ended.why) }
+    ensures looks { IfOk result.1 (λ ended. HaveLooked task (P.answers stop.old) (P.answers stop.new) (Some ended.why)) }
     ensures begun { IfErr result.1 IsBegun }
 {
     let (shared, key) = Shared::<J>::start(parts);
     let pace = pace_of(task, &topology, store.place.areas.length);
     let flusher = Flusher::over(opened, topology, store, key, raiser);
     flusher.known();
-    let (flusher, done) = serve(rt, alloc, &shared, pace, flusher, streams, listener);
+    let (flusher, done) = serve(rt, alloc, &shared, pace, flusher, streams, listener, stop);
     (flusher.into_disk(), done)
 }
 
@@ -106,14 +109,16 @@ fn stream_parts<J: Naming, D: Disk + Drop, S: Sink, I: Source, L: Listener, R: W
 /// Whatever a crash leaves at any moment of the call is what one just before might have left, or opens to where a prefix of the journal
 /// leads, with all that the device had. After a stream that was done it has each entry below the number that is answered, which are all
 /// of the journal. What a sink got, however the stream ends, are outputs of its port where entries of that journal lead that whatever a
-/// crash leaves from then on has. That all that was put is safe, and no more is confirmed, is said by `Output`, of each moment.
-pub fn stream<D: Disk + Drop, S: Sink, I: Source, L: Listener, R: Wait>(
+/// crash leaves from then on has. That all that was put is safe, and no more is confirmed, is said by `Output`, of each moment. It ends as
+/// stopped just where the last look whether it is asked to stop has answered yes, and no look before that has.
+pub fn stream<D: Disk + Drop, S: Sink, I: Source, L: Listener, P: Stop, R: Wait>(
     rt: &R,
     alloc: Global,
     task: Task,
     disk: D,
     streams: &mut Streams<S, I>,
     listener: &mut L,
+    stop: &mut P,
 ) -> (D, Result<Ended, StreamFault>)
     ghost history: { History }
     requires { task.quantum ≤ MAX_STEPS }
@@ -135,6 +140,7 @@ pub fn stream<D: Disk + Drop, S: Sink, I: Source, L: Listener, R: Wait>(
     ensures kept { D.keeps → (opened : OpenedValue) → verdict (D.state disk).now.bytes ≡ Ok opened
         → (map given_of streams.new.outputs.items ≡ map given_of streams.old.outputs.items) ⊎ AllMayBegin (stands_opened opened) (map given_of streams.old.outputs.items) }
     ensures why { IfOk result.1 (λ ended. IsAsked task ended.why) }
+    ensures looks { IfOk result.1 (λ ended. HaveLooked task (P.answers stop.old) (P.answers stop.new) (Some ended.why)) }
     ensures untouched { IsUnbegun result.1 → map given_of streams.new.outputs.items ≡ map given_of streams.old.outputs.items }
 {
     let mut disk = disk;
@@ -154,7 +160,7 @@ pub fn stream<D: Disk + Drop, S: Sink, I: Source, L: Listener, R: Wait>(
         Ok(made) => made,
         Err(fault) => return (store.into_disk(), Err(fault)),
     };
-    stream_parts::<Brand, D, S, I, L, R>(
-        rt, alloc, task, known, topology, parts, raiser, store, streams, listener,
+    stream_parts::<Brand, D, S, I, L, P, R>(
+        rt, alloc, task, known, topology, parts, raiser, store, streams, listener, stop,
     )
 }

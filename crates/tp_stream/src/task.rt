@@ -10,6 +10,8 @@ pub struct Task {
     pub until_quiet: bool,
     /// Whether it ends once a node has halted.
     pub stop_on_halt: bool,
+    /// Whether it ends once it is asked to stop. It is looked for that behind each flush, and while input is waited for.
+    pub until_asked: bool,
     /// How many steps a turn may run, 1 to 4,096.
     pub quantum: u16,
     /// How many spare frames each node has, at most its pages, for pages that it writes while it is frozen.

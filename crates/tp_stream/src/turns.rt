@@ -87,6 +87,7 @@ impl Turns {
     pub(crate) fn settle(&mut self)
         ensures whose { self.new.whose ≡ self.old.whose }
         ensures idle { self.new.idle ≡ 0 }
+        ensures made { self.new.made ≡ self.old.made }
     {
         self.idle = 0;
         self.is_full = false;

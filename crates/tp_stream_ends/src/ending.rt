@@ -13,6 +13,8 @@ pub enum Ending {
     Gone,
     /// It was to end where a node halts, and one has halted.
     Halted,
+    /// It was to end where it is asked to stop, and it was.
+    Stopped,
 }
 
 impl Ending {
@@ -23,6 +25,7 @@ impl Ending {
             Ending::Turns => "turns",
             Ending::Gone => "gone",
             Ending::Halted => "halted",
+            Ending::Stopped => "stopped",
         }
     }
 }

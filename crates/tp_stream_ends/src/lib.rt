@@ -1,4 +1,4 @@
-//! The ends of a stream: what takes a port's output, where its input comes from, and who is told.
+//! The ends of a stream: what takes a port's output, where its input comes from, who is told, and who may ask it to stop.
 #![tactic(auto)]
 
 mod ending;
@@ -8,6 +8,7 @@ mod memory;
 mod output;
 mod sink;
 mod source;
+mod stop;
 mod streams;
 
 pub use ending::{Ended, Ending, Stopped};
@@ -17,4 +18,5 @@ pub use memory::MemSink;
 pub use output::Output;
 pub use sink::{Sink, SinkFault};
 pub use source::{Source, SourceFailed};
+pub use stop::{Noted, Stop};
 pub use streams::Streams;

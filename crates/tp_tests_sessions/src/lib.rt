@@ -8,4 +8,6 @@ mod program;
 #[cfg(test)]
 mod run_tests;
 #[cfg(test)]
+mod stop_tests;
+#[cfg(test)]
 mod stream_tests;

@@ -16,7 +16,7 @@ use tp_tests_files::scratch::{Output, Scratch};
 const STREAM: &[&str] = &["run", "@device", "--stream", "--quantum=64"];
 
 /// What the program does for the words of a stream, those of `STREAM` first, with these bytes as standard input.
-fn stream<R: Files<File = F> + AllocGlobal + Wait, F: FileExt + OpenFile + Drop>(
+pub(crate) fn stream<R: Files<File = F> + AllocGlobal + Wait, F: FileExt + OpenFile + Drop>(
     rt: &R,
     scratch: &Scratch,
     words: &[&str],
@@ -29,7 +29,11 @@ fn stream<R: Files<File = F> + AllocGlobal + Wait, F: FileExt + OpenFile + Drop>
 }
 
 /// The status that a stream ends with, and what it wrote on standard error, with this writer as standard output.
-fn stream_to<R: Files<File = F> + AllocGlobal + Wait, F: FileExt + OpenFile + Drop, O: Write>(
+pub(crate) fn stream_to<
+    R: Files<File = F> + AllocGlobal + Wait,
+    F: FileExt + OpenFile + Drop,
+    O: Write,
+>(
     rt: &R,
     scratch: &Scratch,
     words: &[&str],

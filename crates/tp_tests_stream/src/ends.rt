@@ -3,7 +3,7 @@
 ghost use Rattle.std.specs.Prelude.{None};
 
 use crate::devices::{ECHO, LETTERS, ONE, TWO, formatted};
-use crate::players::{Desk, Pieces, QUIET, nobody, play};
+use crate::players::{Asks, Desk, Pieces, QUIET, nobody, play};
 use crate::steps::{Bytes, PLAIN, Step, are_steps};
 use std::alloc::{AllocError, Global};
 use std::process::Abort;
@@ -170,7 +170,15 @@ where
         ..QUIET
     };
     let mut streams = two_leaving(alloc, pieces, u32::MAX)?;
-    let done = play(rt, alloc, task, device, &mut streams, &mut nobody());
+    let done = play(
+        rt,
+        alloc,
+        task,
+        device,
+        &mut streams,
+        &mut nobody(),
+        &mut Asks::behind(None),
+    );
     let ends = (ends_of(&streams, 0), ends_of(&streams, 1));
     let is_over = matches!(done, Ok(ended) if ended.why == Ending::Gone);
     Ok(match ends {
@@ -197,7 +205,15 @@ where
         turns: Some(30),
         ..QUIET
     };
-    let done = play(rt, alloc, few, device, &mut streams, &mut nobody());
+    let done = play(
+        rt,
+        alloc,
+        few,
+        device,
+        &mut streams,
+        &mut nobody(),
+        &mut Asks::behind(None),
+    );
     let is_more = matches!(ends_of(&streams, 0), Some(ends) if ends.0 > gone);
     Ok(done.is_ok() && is_more)
 }

@@ -1,7 +1,9 @@
 //! Nodes that write more pages than they have spare frames for.
 
 use crate::devices::{ECHO_WRITES, LARGE, WRITES, formatted};
-use crate::players::{Asked, Desk, NO_INPUT, QUIET, nobody, numbered, play, play_desk, source_of};
+use crate::players::{
+    Asked, Asks, Desk, NO_INPUT, QUIET, nobody, numbered, play, play_desk, source_of,
+};
 use crate::waiting::{Answered, Asking};
 use std::alloc::{AllocError, Global};
 use std::cell::Cell;
@@ -81,7 +83,15 @@ where
         every: Some(1),
         ..QUIET
     };
-    let done = play(rt, alloc, task, device, &mut streams, &mut nobody());
+    let done = play(
+        rt,
+        alloc,
+        task,
+        device,
+        &mut streams,
+        &mut nobody(),
+        &mut Asks::behind(None),
+    );
     let wanted = if turns.is_none() {
         Ending::Gone
     } else {

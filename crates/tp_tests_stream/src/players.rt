@@ -12,8 +12,8 @@ use std::test::Fail;
 use tp_disk::{Disk, MemDisk};
 use tp_recover::open;
 use tp_stream::{
-    Ended, Ending, Input, Listener, MemSink, Output, Progress, Sink, Source, SourceFailed, Stopped,
-    StreamFault, Streams, Task, stream,
+    Ended, Ending, Input, Listener, MemSink, Noted, Output, Progress, Sink, Source, SourceFailed,
+    Stop, Stopped, StreamFault, Streams, Task, stream,
 };
 
 /// A task that ends once nothing is left to do.
@@ -21,6 +21,7 @@ pub(crate) const QUIET: Task = Task {
     turns: Some(1_000_000),
     until_quiet: true,
     stop_on_halt: false,
+    until_asked: false,
     quantum: 64,
     spare: 4,
     every: None,
@@ -104,6 +105,35 @@ pub(crate) fn nobody() -> Told {
     }
 }
 
+/// Who asks a stream to stop: behind so many looks that found nothing, and from then on; `None`: nobody does.
+#[derive(Drop)]
+pub(crate) struct Asks {
+    behind: Option<u32>,
+    noted: Noted,
+}
+
+impl Asks {
+    pub(crate) fn behind(looks: Option<u32>) -> Asks {
+        Asks {
+            behind: looks,
+            noted: Noted::new(),
+        }
+    }
+}
+
+impl Stop for Asks {
+    ghost answers = { λ asks. asks.noted.told };
+
+    fn is_asked(&mut self) -> bool {
+        let answer = self.behind == Some(0);
+        if let Some(looks) = self.behind {
+            self.behind = Some(looks.saturating_sub(1));
+        }
+        self.noted = self.noted.answered(answer);
+        answer
+    }
+}
+
 /// The byte behind another, where each differs from its neighbours.
 fn number_after(number: u8) -> u8 {
     if number == 250 {
@@ -166,10 +196,11 @@ fn play_within<D: Disk + Drop, S: Sink, I: Source, R: Wait>(
     disk: D,
     streams: &mut Streams<S, I>,
     told: &mut Told,
+    asks: &mut Asks,
 ) -> (D, Result<Ended, StreamFault>)
     requires { task.quantum ≤ MAX_STEPS }
 {
-    stream(rt, alloc, task, disk, streams, told)
+    stream(rt, alloc, task, disk, streams, told, asks)
 }
 
 /// A stream on the device with these bytes, which are then what a crash leaves.
@@ -180,10 +211,11 @@ pub(crate) fn play<S: Sink, I: Source, R: Wait + Abort>(
     device: &mut Vec<u8>,
     streams: &mut Streams<S, I>,
     told: &mut Told,
+    asks: &mut Asks,
 ) -> Result<Ended, StreamFault> {
     assert!(rt; task.quantum <= 4096);
     let disk = MemDisk::of_bytes(mem::replace(device, Vec::new(alloc)));
-    let (disk, done) = play_within(rt, alloc, task, disk, streams, told);
+    let (disk, done) = play_within(rt, alloc, task, disk, streams, told, asks);
     *device = disk.crash();
     done
 }
@@ -233,7 +265,8 @@ impl Desk {
 }
 
 /// What a stream on a desk is asked: its task, what its sink's reader has, behind how many calls of the sink one fails, how many numbered
-/// bytes its source has and how many come at a time, and what the source says of how many they are.
+/// bytes its source has and how many come at a time, how many reads come before they do, and what the source says of how many they are; and
+/// behind how many looks it is asked to stop.
 #[derive(Clone, Copy)]
 pub(crate) struct Asked {
     pub(crate) task: Task,
@@ -241,7 +274,9 @@ pub(crate) struct Asked {
     pub(crate) fails: Option<u32>,
     pub(crate) input: usize,
     pub(crate) most: usize,
+    pub(crate) late: u32,
     pub(crate) length: Option<u64>,
+    pub(crate) looks: Option<u32>,
 }
 
 /// No input, until nothing is left to do.
@@ -251,7 +286,9 @@ pub(crate) const NO_INPUT: Asked = Asked {
     fails: None,
     input: 0,
     most: 1,
+    late: 1,
     length: None,
+    looks: None,
 };
 
 /// What came of a stream on a desk: how it ended, up to where its output was put, and what was told.
@@ -309,6 +346,7 @@ where
 {
     let alloc = rt.alloc();
     let mut source = source_of(numbered(alloc, asked.input)?, asked.most);
+    source.late = asked.late;
     source.length = asked.length;
     let sink = mem::replace(&mut desk.sink, MemSink::empty(alloc));
     let sink = failing(sink, asked.fails);
@@ -321,6 +359,7 @@ where
         &mut desk.device,
         &mut streams,
         &mut told,
+        &mut Asks::behind(asked.looks),
     );
     let (put, sink) = sink_of(alloc, streams);
     desk.sink = sink;

@@ -2,7 +2,7 @@
 
 use crate::devices::{ECHO, LETTERS, ONE};
 use crate::players::{
-    Asked, Desk, NO_INPUT, Pieces, QUIET, are_numbered, look, nobody, play, play_desk,
+    Asked, Asks, Desk, NO_INPUT, Pieces, QUIET, are_numbered, look, nobody, play, play_desk,
 };
 use crate::steps::{Bytes, PLAIN, Step, are_steps};
 use std::process::Abort;
@@ -149,7 +149,15 @@ where
         outputs: Vec::new(alloc),
         inputs: Vec::new(alloc),
     };
-    let done = play(rt, alloc, QUIET, device, &mut none, &mut nobody());
+    let done = play(
+        rt,
+        alloc,
+        QUIET,
+        device,
+        &mut none,
+        &mut nobody(),
+        &mut Asks::behind(None),
+    );
     done == Err(StreamFault::Unnamed(0))
 }
 

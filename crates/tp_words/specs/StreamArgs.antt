@@ -28,10 +28,12 @@ abbrev pub IsStreamInRange : StreamAsked → Type 0
 IsStreamInRange (Help text) = Unit {0}
 IsStreamInRange (Run run) = IsStreamRun run × AreEnds run.ends
 
--- Each number of a stream is what was typed for it, and else what docs/PROGRAM.md says; its turns have a bound just where one was typed.
+-- Each number of a stream is what was typed for it, and else what docs/PROGRAM.md says; its turns have a bound, and it ends by a file, just
+-- where one was typed.
 abbrev pub IsTypedStream : List (String Global) → StreamRun → Type 0
 IsTypedStream words run = (has_word (string_bytes run.device) words ≡ true)
     × (given (codes "turns") words ≡ option_map decimal run.turns)
+    × (given (codes "stop-file") words ≡ option_map string_bytes run.stop_file)
     × IsGivenOr QUANTUM run.quantum (given (codes "quantum") words)
     × IsGivenOr 4 run.spare (given (codes "spare") words)
     × (given (codes "every") words ≡ option_map decimal run.every)

@@ -7,7 +7,7 @@ ghost use Rattle.tp_words.specs.Given.{given};
 ghost use Rattle.tp_words.specs.StreamArgs.{IsBound, IsStreamInRange, WasStreamTyped};
 
 use crate::args::{ArgFault, MAX_TURNS, MAX_WORDS, QUANTUM, every_of, wait_of};
-use crate::found::{option_number, option_or, text_of};
+use crate::found::{option_number, option_or, option_string, text_of};
 use crate::numbers::has_word;
 use crate::stream_ends::{EndsFault, ends_of};
 use crate::stream_words::stream_command;
@@ -36,6 +36,8 @@ pub struct StreamRun {
     pub until_quiet: bool,
     /// Whether it ends once a node halts.
     pub stop_on_halt: bool,
+    /// The path at which it is looked for a file that ends it; `None`: it isn't looked.
+    pub stop_file: Option<String>,
     /// Whether it says how far it has come.
     pub has_progress: bool,
     /// The most steps of a turn.
@@ -131,6 +133,7 @@ fn run_of(
         turns: turns_of(alloc, words, found)?,
         until_quiet: found.get_flag("until-quiet"),
         stop_on_halt: found.get_flag("stop-on-halt"),
+        stop_file: option_string(alloc, words, found, "stop-file")?,
         has_progress: found.get_flag("progress"),
         quantum: option_or(alloc, words, found, "quantum", 1, steps, QUANTUM as u64)? as u16,
         spare: option_or(alloc, words, found, "spare", 0, u64::MAX, 4)?,
@@ -141,7 +144,7 @@ fn run_of(
 }
 
 /// Reads the words of a command line with `--stream`, the program's name first. Each number is the decimal that was typed, and in its
-/// range, and the device is one of the words.
+/// range, the path of a file that ends it is what was typed for it, and the device is one of the words.
 pub fn read_stream_args(alloc: Global, words: &[String]) -> Result<StreamAsked, StreamArgFault>
     ensures range { IfOk result IsStreamInRange }
     ensures typed { IfOk result (WasStreamTyped words.now) }

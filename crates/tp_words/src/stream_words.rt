@@ -9,7 +9,7 @@ const STREAM_REFUSALS: &str =
     "P is a port's number, as in tpnet show. Byte number q of port P stands at offset q of its FILE.
 Each port with a wire needs an --out or a --discard.
 Without --turns and --until-quiet it runs until its ends are gone: whoever reads standard output has ended, or all input has come
-and nothing is left to do. The last line on standard error is next M, and why it ended: quiet, turns, gone or halted (status 3).
+and nothing is left to do. The last line on standard error is next M, and why it ended: quiet, turns, gone, stopped or halted (status 3).
 Before it stands each node that has halted, as halted 1 BadAddress at 80000107, or that waits though there is input, as waits 2.
 Refusals (status 1):
   InUse         another tpnet runs, formats or compacts DEVICE: wait for it (--wait-lock), or end it
@@ -29,7 +29,8 @@ Refusals (status 1):
   JournalFull   DEVICE has no room for further entries: tpnet compact DEVICE, then the same command again
   Memory        there is no memory left
 A fault of the words ends with status 2; so do, once DEVICE is open, an output that goes into the file of DEVICE, an input, another
-output or standard error, a --spare above a node's pages, a port that isn't there, and a port with a wire for whose output nothing was said.";
+output or standard error, a --spare above a node's pages, a port that isn't there, a port with a wire for whose output nothing was said,
+and a --stop-file at whose PATH something is already, or can't be looked for, or which is a file of the stream.";
 
 /// The options that `run` has with `--stream` alone.
 const STREAM_OPTIONS: &[&str] = &[
@@ -38,6 +39,7 @@ const STREAM_OPTIONS: &[&str] = &[
     "discard",
     "until-quiet",
     "stop-on-halt",
+    "stop-file",
     "progress",
 ];
 
@@ -94,6 +96,8 @@ fn with_turns<'a>(alloc: Global, command: Command<'a>) -> Result<Command<'a>, Al
     let quiet =
         "end once no node has a step, no line a token that can be taken, and no input is left";
     let halt = "end once a node halts, with status 3";
+    let stop =
+        "end once something is at PATH, which has to be free at first: looked behind each flush; what was shown is confirmed";
     let progress = "say on standard error how far it has come, each 10000 turns";
     let quantum = "steps that a turn may run, 1 to 4096 (1024)";
     let spare =
@@ -104,6 +108,7 @@ fn with_turns<'a>(alloc: Global, command: Command<'a>) -> Result<Command<'a>, Al
         .arg(option(alloc, "turns", "N", turns))?
         .arg(flag(alloc, "until-quiet", quiet))?
         .arg(flag(alloc, "stop-on-halt", halt))?
+        .arg(option(alloc, "stop-file", "PATH", stop))?
         .arg(flag(alloc, "progress", progress))?
         .arg(option(alloc, "quantum", "Q", quantum))?
         .arg(option(alloc, "spare", "S", spare))?

@@ -5,6 +5,7 @@ use Rattle.tp_stream_ends.specs.declared.ending.Ended.{Ended}
 use Rattle.tp_stream.specs.declared.fault.StreamFault.{StreamFault}
 use Rattle.tp_stream.specs.declared.fault.StreamFault.TheVariants.{Opening}
 use Rattle.tp_stream.specs.Streamed.{Streamed as StreamLeft}
+use Rattle.tp_program.proofs.Ends.{ends_streamed, ends_unopened, ends_unwritten}
 use Rattle.tp_program.proofs.streaming.stream_files.Goals as goal
 
 -- the fault of a stream that ended early
@@ -36,7 +37,16 @@ stream_opened-disk-requires g c κs within =
     let pipe = ⊑_meet μ _ _ (⊑_meet μ _ _ within.0.1.0 feed) nothing in
     let piped = ⊑_meet μ _ _ (⊑_meet μ _ _ (⊑_meet μ _ _ (⊑_meet μ _ _ feed nothing) pipe) nothing) nothing in
     let sources = ⊑_meet μ _ _ (⊑_meet μ _ _ given (⊑_meet μ _ _ feed nothing)) (⊑_meet μ _ _ (⊑_meet μ _ _ given nothing) piped) in
-    (within.1.0, (within.1.1.0, (sinks, (sources, (within.1.1.1.1.1.1.1.0, c.task_of-task.ensures.quantum)))))
+    (within.1.0, (within.1.1.0, (sinks, (sources, (within.1.1.1.1.1.1.1.0, c.requires)))))
+
+pub returns-in-Err-clause-streamed : goal.returns-in-Err-clause-streamed
+returns-in-Err-clause-streamed g c keeps began = ends_streamed g.history.formatted c.in-Err.fault (g.D.Disk.state c.args.disk) c.in-Err.ensures
+
+pub returns-in-Err-clause-unwritten : goal.returns-in-Err-clause-unwritten
+returns-in-Err-clause-unwritten g c keeps = ends_unwritten c.in-Err.fault (g.D.Disk.state c.args.disk) c.in-Err.ensures
+
+pub returns-in-Err-clause-unopened : goal.returns-in-Err-clause-unopened
+returns-in-Err-clause-unopened g c keeps refused = ends_unopened c.in-Err.fault c.in-Err.ensures
 
 pub returns-clause-unopened : goal.returns-clause-unopened
 returns-clause-unopened g c keeps refused =

@@ -21,3 +21,6 @@ returns-clause-put g c k began =
     let now = c.go_on.new.streams.outputs.items in
     subst (λ (f : Flushing). AllStepped start c.args.flusher.now f was now) (sym c.go_on.ensures.same)
     (all_since start c.args.flusher.now c.flush.new.flusher c.flush.new.flusher W (walked_nowhere c.flush.new.flusher W.now) was now (c.go_on.ensures.put k there))
+
+pub returns-clause-over : goal.returns-clause-over
+returns-clause-over g c = c.go_on.ensures.over

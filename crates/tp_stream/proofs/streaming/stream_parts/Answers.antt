@@ -1,9 +1,10 @@
-use Rattle.std.proofs.Common.{◌≡◌, Ok, sym, subst}
+use Rattle.std.proofs.Common.{◌≡◌, Ok, Some, sym, subst}
 use Rattle.std.specs.Prelude.{IfOk}
 use Rattle.tp_model.specs.DiskHistory.{State}
 use Rattle.tp_model.specs.Opening.{held_of, verdict}
 use Rattle.tp_model.specs.Runs.{reopened}
 use Rattle.tp_flush.specs.Known.{Began}
+use Rattle.tp_stream.specs.Looks.{HaveLooked}
 use Rattle.tp_stream.specs.Put.{ServedInto}
 use Rattle.tp_stream.specs.Quiet.{IsWhyEnded}
 use Rattle.tp_stream.proofs.Quiets.{all_asked}
@@ -34,3 +35,9 @@ pub returns-clause-why : goal.returns-clause-why
 returns-clause-why g c =
     all_asked g.J.Naming.start c.args.task c.serve-flusher.result.1
     (subst (λ task. IfOk c.serve-flusher.result.1 (λ ended. IsWhyEnded g.J.Naming.start task ended.why)) c.pace_of-pace.ensures c.serve-flusher.ensures.why)
+
+pub returns-clause-looks : goal.returns-clause-looks
+returns-clause-looks g c =
+    let old = g.P.Stop.answers c.args.stop.now in
+    let new = g.P.Stop.answers c.serve-flusher.new.stop in
+    subst (λ task. IfOk c.serve-flusher.result.1 (λ ended. HaveLooked task old new (Some ended.why))) c.pace_of-pace.ensures c.serve-flusher.ensures.looks

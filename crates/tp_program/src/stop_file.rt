@@ -1,0 +1,129 @@
+//! A file that ends a stream.
+
+ghost use Rattle.std.specs.Prelude.{◌≡◌, None};
+
+use std::fs;
+use std::fs::Files;
+use std::io::{ErrorKind, Write};
+use thiserror::Error;
+use tp_stream::{Noted, Stop};
+use tp_stream_files::{PortFile, is_one_file};
+use tp_words::StreamRun;
+
+/// What the system calls the standard streams.
+const STANDARD: &[&str] = &["/dev/stdin", "/dev/stdout", "/dev/stderr"];
+
+/// Why a stream isn't begun that a file is to end. The device is as it was.
+#[derive(Clone, Copy, Debug, PartialEq, Eq, Error)]
+pub enum StopFault {
+    /// It is the file of the device, of an end of a port, or of a standard stream.
+    #[error("SameFile")]
+    SameFile,
+    /// Something is at its path already.
+    #[error("There")]
+    There,
+    /// It can't be said whether something is at its path.
+    #[error("Unseen")]
+    Unseen,
+}
+
+/// Says that a stream is asked to stop where something is at a path. It is looked anew each time; where there is no path, nobody asks.
+#[derive(Drop)]
+pub(crate) struct StopFile<'a, R> {
+    rt: &'a R,
+    path: &'a Option<String>,
+    noted: Noted,
+}
+
+impl<'a, R> StopFile<'a, R> {
+    /// No look was made.
+    pub(crate) fn new(rt: &'a R, path: &'a Option<String>) -> StopFile<'a, R> {
+        StopFile {
+            rt,
+            path,
+            noted: Noted::new(),
+        }
+    }
+}
+
+/// Whether something is at a path. Where that can't be said, nothing is.
+fn is_there<R: Files>(rt: &R, path: &Option<String>) -> bool {
+    match path {
+        Some(path) => fs::metadata(rt, path.as_str()).is_ok(),
+        None => false,
+    }
+}
+
+impl<'a, R: Files> Stop for StopFile<'a, R> {
+    ghost answers = { λ stop. stop.noted.told };
+
+    fn is_asked(&mut self) -> bool {
+        let answer = is_there(self.rt, self.path);
+        self.noted = self.noted.answered(answer);
+        answer
+    }
+}
+
+/// Whether a path names the file of one of these ends.
+fn is_end<R: Files>(rt: &R, path: &str, files: &[PortFile]) -> bool {
+    for file in files {
+        if !file.is_standard() && is_one_file(rt, path, file.path.as_str()) {
+            return true;
+        }
+    }
+    false
+}
+
+/// Whether a path names the file of a standard stream.
+fn is_standard<R: Files>(rt: &R, path: &str) -> bool {
+    for name in STANDARD {
+        if is_one_file(rt, path, name) {
+            return true;
+        }
+    }
+    false
+}
+
+/// Whether a path names the file of the device, of an end of a port, or of a standard stream.
+fn is_part<R: Files>(rt: &R, asked: &StreamRun, path: &str) -> bool {
+    is_one_file(rt, path, asked.device.as_str())
+        || is_end(rt, path, &asked.ends.outs)
+        || is_end(rt, path, &asked.ends.ins)
+        || is_standard(rt, path)
+}
+
+/// Why a stream isn't begun because of the file that is to end it, where it isn't: as things stand now.
+pub(crate) fn stop_fault<R: Files>(rt: &R, asked: &StreamRun) -> Option<StopFault>
+    ensures { asked.now.stop_file ≡ None → result ≡ None }
+{
+    let path = asked.stop_file.as_ref()?.as_str();
+    if is_part(rt, asked, path) {
+        return Some(StopFault::SameFile);
+    }
+    match fs::metadata(rt, path) {
+        Ok(_) => Some(StopFault::There),
+        Err(error) if error.kind() == ErrorKind::NotFound && !path.is_empty() => None,
+        Err(_) => Some(StopFault::Unseen),
+    }
+}
+
+/// Says why a stream isn't begun because of the file that is to end it. Answers the status. A failed write is let go.
+pub(crate) fn report_stop<E: Write>(err: &mut E, fault: StopFault) -> u8
+    ensures { result ≡ 2 }
+{
+    let _ = match fault {
+        StopFault::SameFile => write!(
+            err,
+            "tpnet: --stop-file is the file of the device, of an end of a port or of a standard stream: give it one of its own\n"
+        ),
+        StopFault::There => write!(
+            err,
+            "tpnet: there is something at the path of --stop-file already: remove it, if an earlier stop left it, and give the same command again\n"
+        ),
+        StopFault::Unseen => write!(
+            err,
+            "tpnet: the path of --stop-file can't be looked at: name one in a folder that you may search\n"
+        ),
+    };
+    2
+}

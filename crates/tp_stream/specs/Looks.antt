@@ -1,0 +1,35 @@
+-- Looks whether a stream is asked to stop, and what they have answered.
+use Rattle.std.specs.Prelude.{◌≡◌, ◌⊎◌, ℕ, Bool, true, false, List, [], ◌∷◌, ◌++◌, All, Option, Some, None, if◌then◌else◌}
+use Rattle.tp_stream.specs.declared.task.Task.{Task}
+use Rattle.tp_stream_ends.specs.declared.ending.Ending.{Ending}
+use Rattle.tp_stream_ends.specs.declared.ending.Ending.TheVariants.{Quiet, Turns, Gone, Halted, Stopped}
+
+-- whether it is over since it was asked to stop
+abbrev pub is_stopped : Option Ending → Bool
+is_stopped None = false
+is_stopped (Some Quiet) = false
+is_stopped (Some Turns) = false
+is_stopped (Some Gone) = false
+is_stopped (Some Halted) = false
+is_stopped (Some Stopped) = true
+
+-- the answer of a look, which is made only where the task says so
+abbrev pub looked : Task → Bool → List Bool
+looked task answer = if task.until_asked then answer ∷ [] else []
+
+-- the last answer, where it is over since it was asked to stop
+abbrev pub last_yes : Option Ending → List Bool
+last_yes ended = if is_stopped ended then true ∷ [] else []
+
+-- It was looked once, and that answered yes just where it is over since it was asked to stop; or it isn't over, it wasn't looked, and no
+-- turn that counts was made: there were `made` before, and `later` behind.
+abbrev pub LooksOnce : Task → ℕ → ℕ → List Bool → List Bool → Option Ending → Type 0
+LooksOnce task made later old new ended = (new ≡ old ++ looked task (is_stopped ended)) ⊎ ((ended ≡ None) × (new ≡ old) × (later ≡ made))
+
+-- Each look answered no, but for the last one where it is over since it was asked to stop: that one answered yes. None was made where the
+-- task doesn't say so.
+pub record HaveLooked (task : Task) (old new : List Bool) (ended : Option Ending) : Type 0 where
+  pub noes : List Bool
+  pub each : All (λ answer. answer ≡ false) noes
+  pub are : new ≡ old ++ (noes ++ last_yes ended)
+  pub unasked : task.until_asked ≡ false → noes ≡ []

@@ -1,0 +1,176 @@
+//! Streams that are asked to stop.
+
+use crate::devices::{DEAF, ECHO, LETTERS, ONE};
+use crate::players::{Asked, Desk, NO_INPUT, Played, QUIET, look, play_desk};
+use std::process::Abort;
+use std::sync::Wait;
+use std::test::Fail;
+use tp_stream::{Ending, Task};
+
+/// A stream that ends once it is asked to, and else not.
+const ASKED: Asked = Asked {
+    task: Task {
+        turns: None,
+        until_quiet: false,
+        until_asked: true,
+        ..QUIET
+    },
+    looks: Some(0),
+    ..NO_INPUT
+};
+
+/// How many turns are made between two looks.
+const ROUND: u32 = 1024;
+
+/// A stream on a device that is freshly formatted, and the number of the next entry that the device opens with.
+#[derive(Clone, Copy)]
+struct Seen {
+    played: Played,
+    next: u64,
+    generation: u64,
+    put: usize,
+}
+
+fn see_on<R: Wait + Abort>(rt: &R, asked: Asked, desk: &mut Desk) -> Result<Seen, Fail>
+where
+    R: AllocGlobal,
+{
+    let played = play_desk(rt, asked, desk)?;
+    let left = look(rt.alloc(), &mut desk.device)?;
+    Ok(Seen {
+        played,
+        next: left.next,
+        generation: left.generation,
+        put: desk.sink.bytes().len(),
+    })
+}
+
+fn see<R: Wait + Abort>(rt: &R, code: &[u8], asked: Asked) -> Result<Seen, Fail>
+where
+    R: AllocGlobal,
+{
+    let mut desk = Desk::fresh(rt.alloc(), ONE, code, 1_048_576)?;
+    let seen = see_on(rt, asked, &mut desk);
+    seen
+}
+
+/// Where something is there at the first look, no turn is made.
+#[test]
+fn a_stream_that_is_asked_at_once_makes_no_turn(rt: HostRuntime) -> Result<(), Fail> {
+    let seen = see(&rt, LETTERS, ASKED)?;
+    assert!(rt; seen.played.why() == Some(Ending::Stopped));
+    assert!(rt; seen.next == 0 && seen.put == 0);
+    Ok(())
+}
+
+/// Whether a stream that is asked behind `looks` looks leaves what one leaves that makes as many rounds of turns.
+fn is_stopped_behind<R: Wait + Abort>(rt: &R, looks: u32) -> Result<bool, Fail>
+where
+    R: AllocGlobal,
+{
+    let asked = see(
+        rt,
+        LETTERS,
+        Asked {
+            looks: Some(looks),
+            ..ASKED
+        },
+    )?;
+    let bounded = Asked {
+        task: Task {
+            turns: Some(looks.saturating_mul(ROUND)),
+            ..QUIET
+        },
+        ..NO_INPUT
+    };
+    let wanted = see(rt, LETTERS, bounded)?;
+    let is_same = asked.next == wanted.next && asked.put == wanted.put;
+    let is_stored = asked.played.next() == Some(asked.next);
+    let is_told = asked.played.why() == Some(Ending::Stopped)
+        && wanted.played.why() == Some(Ending::Turns);
+    Ok(asked.put > 100 && is_same && is_stored && is_told)
+}
+
+/// Behind a look that answers yes no turn is made, and all that was made is stored, put and confirmed, as behind the last turn of a bound.
+#[test]
+fn no_turn_is_made_behind_a_yes(rt: HostRuntime) -> Result<(), Fail> {
+    for looks in [1u32, 2, 3] {
+        assert!(rt; is_stopped_behind(&rt, looks)?);
+    }
+    Ok(())
+}
+
+/// Whether all that was put by a stream that was asked to stop is confirmed, and the next one goes on behind it.
+fn goes_on<R: Wait + Abort>(rt: &R, desk: &mut Desk) -> Result<bool, Fail>
+where
+    R: AllocGlobal,
+{
+    let stopped = see_on(
+        rt,
+        Asked {
+            looks: Some(2),
+            ..ASKED
+        },
+        desk,
+    )?;
+    let again = see_on(
+        rt,
+        Asked {
+            looks: Some(1),
+            ..ASKED
+        },
+        desk,
+    )?;
+    let is_confirmed = again.played.told.output == Some(stopped.played.put);
+    Ok(stopped.put as u64 == stopped.played.put && is_confirmed && again.put > stopped.put)
+}
+
+fn goes_on_behind<R: Wait + Abort>(rt: &R) -> Result<bool, Fail>
+where
+    R: AllocGlobal,
+{
+    let mut desk = Desk::fresh(rt.alloc(), ONE, LETTERS, 262_144)?;
+    let told = goes_on(rt, &mut desk);
+    told
+}
+
+#[test]
+fn what_was_put_before_a_stop_is_confirmed(rt: HostRuntime) -> Result<(), Fail> {
+    assert!(rt; goes_on_behind(&rt)?);
+    Ok(())
+}
+
+/// A stream that waits for input is asked, too: nothing is settled meanwhile, and the node's turns are those until it waits.
+#[test]
+fn a_stream_that_waits_for_input_stops(rt: HostRuntime) -> Result<(), Fail> {
+    for (code, looks) in [(ECHO, 5u32), (DEAF, 9)] {
+        let asked = Asked {
+            input: 3,
+            late: u32::MAX,
+            looks: Some(looks),
+            ..ASKED
+        };
+        let seen = see(&rt, code, asked)?;
+        assert!(rt; seen.played.why() == Some(Ending::Stopped));
+        assert!(rt; seen.next < 10 && seen.generation == 1 && seen.put == 0);
+    }
+    Ok(())
+}
+
+/// A stream that isn't to end so isn't asked, and one that is asked to stop says so, whatever else would have ended it.
+#[test]
+fn a_stop_is_told_where_it_was_to_end_so(rt: HostRuntime) -> Result<(), Fail> {
+    for (until_asked, why) in [(false, Ending::Turns), (true, Ending::Stopped)] {
+        let asked = Asked {
+            task: Task {
+                turns: Some(0),
+                until_asked,
+                ..QUIET
+            },
+            looks: Some(0),
+            ..NO_INPUT
+        };
+        assert!(rt; see(&rt, LETTERS, asked)?.played.why() == Some(why));
+    }
+    Ok(())
+}
