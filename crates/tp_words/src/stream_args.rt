@@ -127,7 +127,6 @@ fn run_of(
 {
     let steps = MAX_STEPS as u64;
     Ok(StreamAsked::Run(StreamRun {
-        device: text_of(alloc, words, found, "DEVICE")?,
         turns: turns_of(alloc, words, found)?,
         until_quiet: found.get_flag("until-quiet"),
         stop_on_halt: found.get_flag("stop-on-halt"),
@@ -137,6 +136,7 @@ fn run_of(
         every: every_of(alloc, words, found)?,
         ends: ends_of(alloc, found)?,
         wait_lock: wait_of(alloc, words, found)?,
+        device: text_of(alloc, words, found, "DEVICE")?,
     }))
 }
 
