@@ -116,35 +116,51 @@ pub enum ArgFault {
     Memory,
 }
 
+/// Says which numbers an option takes.
+fn say_bounds<W: fmt::Write>(
+    f: &mut fmt::Formatter<W>,
+    id: &str,
+    least: u64,
+    most: u64,
+) -> fmt::Result {
+    match id {
+        "spare" => f.write_str("from 0 to the pages of the smallest node"),
+        "port" => f.write_str("from 0 to 7, a port of the device"),
+        "from" => f.write_str("below 2^64"),
+        _ => write!(f, "from {least} to {most}"),
+    }
+}
+
+/// Says what an option takes.
+fn say_range<W: fmt::Write>(
+    f: &mut fmt::Formatter<W>,
+    id: &str,
+    least: u64,
+    most: u64,
+) -> fmt::Result {
+    write!(f, "tpnet: --{id} takes a decimal ")?;
+    say_bounds(f, id, least, most)?;
+    f.write_str(", without a sign or leading zeros\n")
+}
+
 impl fmt::Display for ArgFault {
     fn fmt<W: fmt::Write>(&self, f: &mut fmt::Formatter<W>) -> fmt::Result {
         match self {
             ArgFault::Words(error) => write!(f, "{error}"),
-            ArgFault::Range { id, least, most } => {
-                write!(f, "tpnet: --{id} takes a decimal ")?;
-                match *id {
-                    "spare" => write!(f, "from 0 to the pages of the smallest node"),
-                    "port" => write!(f, "from 0 to 7, a port of the device"),
-                    "from" => write!(f, "below 2^64"),
-                    _ => write!(f, "from {least} to {most}"),
-                }?;
-                write!(f, ", without a sign or leading zeros\n")
-            }
-            ArgFault::Area => write!(
-                f,
-                "tpnet: AREA takes a decimal from 0 to 1099511627776, without a sign or leading zeros\n"
+            ArgFault::Range { id, least, most } => say_range(f, id, *least, *most),
+            ArgFault::Area => f.write_str(
+                "tpnet: AREA takes a decimal from 0 to 1099511627776, without a sign or leading zeros\n",
             ),
-            ArgFault::Number => write!(
-                f,
-                "tpnet: a number of a node or a port is a decimal below 2^64, without a sign or leading zeros\n"
+            ArgFault::Number => f.write_str(
+                "tpnet: a number of a node or a port is a decimal below 2^64, without a sign or leading zeros\n",
             ),
             ArgFault::Many => write!(f, "tpnet: there are more than {MAX_WORDS} words\n"),
             ArgFault::Stream(id) => write!(
                 f,
                 "tpnet: --{id} goes with --stream; see tpnet run --stream --help\n"
             ),
-            ArgFault::Missing => write!(f, "tpnet: a word is missing; see tpnet --help\n"),
-            ArgFault::Memory => write!(f, "tpnet: Memory\n"),
+            ArgFault::Missing => f.write_str("tpnet: a word is missing; see tpnet --help\n"),
+            ArgFault::Memory => f.write_str("tpnet: Memory\n"),
         }
     }
 }
@@ -172,8 +188,8 @@ fn asked_try(alloc: Global, words: &[String], found: &ArgMatches) -> Result<Aske
     ensures typed { IfOk result (WasTyped words.now) }
 {
     Ok(Asked::Try {
-        image: text_of(alloc, words, found, "IMAGE")?,
         turns: turns_of(alloc, words, found)?,
+        image: text_of(alloc, words, found, "IMAGE")?,
     })
 }
 
@@ -182,12 +198,12 @@ fn asked_format(alloc: Global, words: &[String], found: &ArgMatches) -> Result<A
     ensures typed { IfOk result (WasTyped words.now) }
 {
     Ok(Asked::Format(NewDevice {
-        device: text_of(alloc, words, found, "DEVICE")?,
-        topology: text_of(alloc, words, found, "TOPOLOGY")?,
-        images: text_of(alloc, words, found, "DIR")?,
         area: area_of(alloc, words, found)?,
         only_new: found.get_flag("new"),
         wait_lock: wait_of(alloc, words, found)?,
+        device: text_of(alloc, words, found, "DEVICE")?,
+        topology: text_of(alloc, words, found, "TOPOLOGY")?,
+        images: text_of(alloc, words, found, "DIR")?,
     }))
 }
 
@@ -221,15 +237,15 @@ fn asked_run(alloc: Global, words: &[String], found: &ArgMatches) -> Result<Aske
 {
     let (workers, steps) = (MAX_WORKERS as u64, MAX_STEPS as u64);
     Ok(Asked::Run(Run {
-        device: text_of(alloc, words, found, "DEVICE")?,
         turns: turns_of(alloc, words, found)?,
         workers: option_or(alloc, words, found, "workers", 1, workers, 2)? as u8,
         quantum: option_or(alloc, words, found, "quantum", 1, steps, QUANTUM as u64)? as u16,
         spare: option_or(alloc, words, found, "spare", 0, u64::MAX, 4)?,
         every: every_of(alloc, words, found)?,
         port: option_or(alloc, words, found, "port", 0, u64::MAX, 0)?,
-        input: option_string(alloc, words, found, "in")?,
         wait_lock: wait_of(alloc, words, found)?,
+        input: option_string(alloc, words, found, "in")?,
+        device: text_of(alloc, words, found, "DEVICE")?,
     }))
 }
 
@@ -239,8 +255,8 @@ fn asked_recover(alloc: Global, words: &[String], found: &ArgMatches) -> Result<
 {
     let workers = MAX_WORKERS as u64;
     Ok(Asked::Recover {
-        device: text_of(alloc, words, found, "DEVICE")?,
         workers: option_or(alloc, words, found, "workers", 1, workers, 1)? as u8,
+        device: text_of(alloc, words, found, "DEVICE")?,
     })
 }
 
@@ -286,9 +302,92 @@ fn asked_status(alloc: Global, words: &[String], found: &ArgMatches) -> Result<A
     ensures typed { IfOk result (WasTyped words.now) }
 {
     Ok(Asked::Status {
-        device: text_of(alloc, words, found, "DEVICE")?,
         every: every_of(alloc, words, found)?,
+        device: text_of(alloc, words, found, "DEVICE")?,
     })
+}
+
+fn asked_check(alloc: Global, words: &[String], found: &ArgMatches) -> Result<Asked, ArgFault>
+    ensures range { IfOk result IsInRange }
+    ensures typed { IfOk result (WasTyped words.now) }
+{
+    Ok(Asked::Check {
+        topology: text_of(alloc, words, found, "TOPOLOGY")?,
+        images: text_of(alloc, words, found, "DIR")?,
+    })
+}
+
+fn asked_compact(alloc: Global, words: &[String], found: &ArgMatches) -> Result<Asked, ArgFault>
+    ensures range { IfOk result IsInRange }
+    ensures typed { IfOk result (WasTyped words.now) }
+{
+    let wait_lock = wait_of(alloc, words, found)?;
+    Ok(Asked::Compact {
+        device: text_of(alloc, words, found, "DEVICE")?,
+        wait_lock,
+    })
+}
+
+fn asked_show(alloc: Global, words: &[String], found: &ArgMatches) -> Result<Asked, ArgFault>
+    ensures range { IfOk result IsInRange }
+    ensures typed { IfOk result (WasTyped words.now) }
+{
+    Ok(Asked::Show {
+        device: text_of(alloc, words, found, "DEVICE")?,
+    })
+}
+
+fn asked_view(
+    alloc: Global,
+    words: &[String],
+    name: &str,
+    found: &ArgMatches,
+) -> Result<Asked, ArgFault>
+    ensures range { IfOk result IsInRange }
+    ensures typed { IfOk result (WasTyped words.now) }
+{
+    Ok(Asked::View {
+        view: view_of(alloc, words, name, found)?,
+        device: text_of(alloc, words, found, "DEVICE")?,
+    })
+}
+
+/// What a command of that name asks for that only reads a device.
+fn asked_to_read(
+    alloc: Global,
+    words: &[String],
+    name: &str,
+    found: &ArgMatches,
+) -> Result<Asked, ArgFault>
+    ensures range { IfOk result IsInRange }
+    ensures typed { IfOk result (WasTyped words.now) }
+{
+    match name {
+        "recover" => asked_recover(alloc, words, found),
+        "show" => asked_show(alloc, words, found),
+        "status" => asked_status(alloc, words, found),
+        _ => asked_view(alloc, words, name, found),
+    }
+}
+
+/// What a command of that name asks for.
+fn asked_by(
+    alloc: Global,
+    words: &[String],
+    name: &str,
+    found: &ArgMatches,
+) -> Result<Asked, ArgFault>
+    ensures range { IfOk result IsInRange }
+    ensures typed { IfOk result (WasTyped words.now) }
+{
+    match name {
+        "try" => asked_try(alloc, words, found),
+        "format" => asked_format(alloc, words, found),
+        "run" => asked_run(alloc, words, found),
+        "check" => asked_check(alloc, words, found),
+        "compact" => asked_compact(alloc, words, found),
+        _ => asked_to_read(alloc, words, name, found),
+    }
 }
 
 /// What a command line asks for that names a command.
@@ -297,26 +396,7 @@ fn asked_in(alloc: Global, words: &[String], matches: &ArgMatches) -> Result<Ask
     ensures typed { IfOk result (WasTyped words.now) }
 {
     match matches.subcommand() {
-        Some(("try", found)) => asked_try(alloc, words, found),
-        Some(("format", found)) => asked_format(alloc, words, found),
-        Some(("run", found)) => asked_run(alloc, words, found),
-        Some(("check", found)) => Ok(Asked::Check {
-            topology: text_of(alloc, words, found, "TOPOLOGY")?,
-            images: text_of(alloc, words, found, "DIR")?,
-        }),
-        Some(("compact", found)) => Ok(Asked::Compact {
-            device: text_of(alloc, words, found, "DEVICE")?,
-            wait_lock: wait_of(alloc, words, found)?,
-        }),
-        Some(("recover", found)) => asked_recover(alloc, words, found),
-        Some(("show", found)) => Ok(Asked::Show {
-            device: text_of(alloc, words, found, "DEVICE")?,
-        }),
-        Some(("status", found)) => asked_status(alloc, words, found),
-        Some((name, found)) => Ok(Asked::View {
-            device: text_of(alloc, words, found, "DEVICE")?,
-            view: view_of(alloc, words, name, found)?,
-        }),
+        Some((name, found)) => asked_by(alloc, words, name, found),
         None => Err(ArgFault::Missing),
     }
 }

@@ -129,7 +129,6 @@ fn run_of(
 {
     let steps = MAX_STEPS as u64;
     Ok(StreamAsked::Run(StreamRun {
-        device: text_of(alloc, words, found, "DEVICE")?,
         turns: turns_of(alloc, words, found)?,
         until_quiet: found.get_flag("until-quiet"),
         stop_on_halt: found.get_flag("stop-on-halt"),
@@ -140,6 +139,7 @@ fn run_of(
         every: every_of(alloc, words, found)?,
         ends: ends_of(alloc, found)?,
         wait_lock: wait_of(alloc, words, found)?,
+        device: text_of(alloc, words, found, "DEVICE")?,
     }))
 }
 

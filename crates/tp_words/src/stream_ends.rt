@@ -38,11 +38,10 @@ impl fmt::Display for EndsFault {
                 f,
                 "tpnet: with --stream --{id} takes P=FILE or P=-, P a port from 0 to 7; as --{id} 0=bytes\n"
             ),
-            EndsFault::Have => write!(
-                f,
-                "tpnet: --have takes P=Z, P a port from 0 to 7 and Z a decimal; as --have 0=4096\n"
+            EndsFault::Have => f.write_str(
+                "tpnet: --have takes P=Z, P a port from 0 to 7 and Z a decimal; as --have 0=4096\n",
             ),
-            EndsFault::Discard => write!(f, "tpnet: --discard takes a port from 0 to 7\n"),
+            EndsFault::Discard => f.write_str("tpnet: --discard takes a port from 0 to 7\n"),
             EndsFault::TwoOutputs(port) => write!(
                 f,
                 "tpnet: port {port} has two places for its output: leave one --out {port} or --discard {port}\n"
@@ -61,7 +60,7 @@ impl fmt::Display for EndsFault {
                 f,
                 "tpnet: --have {port} goes with --out {port}=-, once: a file's reader needs none\n"
             ),
-            EndsFault::Memory => write!(f, "tpnet: Memory\n"),
+            EndsFault::Memory => f.write_str("tpnet: Memory\n"),
         }
     }
 }

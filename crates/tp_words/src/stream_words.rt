@@ -1,7 +1,7 @@
 //! The words that `clap` takes with `run --stream`.
 
-use crate::words::{explained, flag, option, wait_lock, word};
-use clap::{Arg, ArgAction, Command};
+use crate::words::{EXPLAIN, Form, WAIT_LOCK, WRITTEN, Word, command_of, program};
+use clap::Command;
 use std::alloc::{AllocError, Global};
 
 /// What `tpnet run --stream` refuses.
@@ -65,70 +65,69 @@ pub fn stream_option(words: &[String]) -> Option<&'static str> {
     None
 }
 
-/// An option that may be there for several ports.
-fn many<'a>(alloc: Global, id: &'a str, value: &'a str, help: &'a str) -> Arg<'a> {
-    Arg::new(alloc, id)
-        .long(id)
-        .action(ArgAction::Append)
-        .value_name(value)
-        .help(help)
-}
-
-/// Where the bytes of ports go and come from.
-fn with_ends<'a>(alloc: Global, command: Command<'a>) -> Result<Command<'a>, AllocError> {
-    let out =
-        "where port P's output goes: a file, which is made where it isn't there and never emptied, or standard output (-)";
-    let have =
-        "what the reader of standard output has of port P already, in bytes from position 0; what a reader leaves in a pipe is lost";
-    let discard = "port P's output is let go";
-    let input =
-        "port P's whole input, from position 0: a file, or standard input (-); what was accepted before is passed over";
-    command
-        .arg(many(alloc, "out", "P=FILE", out))?
-        .arg(many(alloc, "have", "P=Z", have))?
-        .arg(many(alloc, "discard", "P", discard))?
-        .arg(many(alloc, "in", "P=FILE", input))
-}
-
-/// How turns are made, and when the stream ends.
-fn with_turns<'a>(alloc: Global, command: Command<'a>) -> Result<Command<'a>, AllocError> {
-    let turns = "turns that are made at most, 0 to 4294967295 (no bound)";
-    let quiet =
-        "end once no node has a step, no line a token that can be taken, and no input is left";
-    let halt = "end once a node halts, with status 3";
-    let stop =
-        "end once something is at PATH, which has to be free at first: looked behind each flush; what was shown is confirmed";
-    let progress = "say on standard error how far it has come, each 10000 turns";
-    let quantum = "steps that a turn may run, 1 to 4096 (1024)";
-    let spare =
-        "spare frames of each node, for writes while pages are frozen, 0 to the pages of the smallest node (4)";
-    let every =
-        "entries since the kept cut after which a snapshot begins, 1 to 4294967295 (where the journal is half full, at the latest)";
-    command
-        .arg(option(alloc, "turns", "N", turns))?
-        .arg(flag(alloc, "until-quiet", quiet))?
-        .arg(flag(alloc, "stop-on-halt", halt))?
-        .arg(option(alloc, "stop-file", "PATH", stop))?
-        .arg(flag(alloc, "progress", progress))?
-        .arg(option(alloc, "quantum", "Q", quantum))?
-        .arg(option(alloc, "spare", "S", spare))?
-        .arg(option(alloc, "every", "E", every))
-}
+/// `run` with `--stream`: where the bytes of ports go and come from, how turns are made, and when the stream ends.
+const STREAM: Form = Form {
+    name: "run",
+    about: "Opens a device and runs its network, whose ports live on files, standard input and standard output for as long as it runs",
+    words: &[
+        EXPLAIN,
+        WRITTEN,
+        Word::Mark("stream", "ports live on streams"),
+        WAIT_LOCK,
+        Word::Many(
+            "out",
+            "P=FILE",
+            "where port P's output goes: a file, which is made where it isn't there and never emptied, or standard output (-)",
+        ),
+        Word::Many(
+            "have",
+            "P=Z",
+            "what the reader of standard output has of port P already, in bytes from position 0; what a reader leaves in a pipe is lost",
+        ),
+        Word::Many("discard", "P", "port P's output is let go"),
+        Word::Many(
+            "in",
+            "P=FILE",
+            "port P's whole input, from position 0: a file, or standard input (-); what was accepted before is passed over",
+        ),
+        Word::Value(
+            "turns",
+            "N",
+            "turns that are made at most, 0 to 4294967295 (no bound)",
+        ),
+        Word::Flag(
+            "until-quiet",
+            "end once no node has a step, no line a token that can be taken, and no input is left",
+        ),
+        Word::Flag("stop-on-halt", "end once a node halts, with status 3"),
+        Word::Value(
+            "stop-file",
+            "PATH",
+            "end once something is at PATH, which has to be free at first: looked behind each flush; what was shown is confirmed",
+        ),
+        Word::Flag(
+            "progress",
+            "say on standard error how far it has come, each 10000 turns",
+        ),
+        Word::Value(
+            "quantum",
+            "Q",
+            "steps that a turn may run, 1 to 4096 (1024)",
+        ),
+        Word::Value(
+            "spare",
+            "S",
+            "spare frames of each node, for writes while pages are frozen, 0 to the pages of the smallest node (4)",
+        ),
+        Word::Value(
+            "every",
+            "E",
+            "entries since the kept cut after which a snapshot begins, 1 to 4294967295 (where the journal is half full, at the latest)",
+        ),
+    ],
+};
 
 /// The words that the program takes with `run --stream`.
 pub fn stream_command<'a>(alloc: Global) -> Result<Command<'a>, AllocError> {
-    let run = explained(
-        alloc,
-        "run",
-        "Opens a device and runs its network, whose ports live on files, standard input and standard output for as long as it runs",
-        STREAM_REFUSALS,
-    )?
-    .arg(word(alloc, "DEVICE", "the device's file, which is written"))?
-    .arg(flag(alloc, "stream", "ports live on streams").required(true))?
-    .arg(wait_lock(alloc))?;
-    let run = with_turns(alloc, with_ends(alloc, run)?)?;
-    Command::new(alloc, "tpnet")
-        .bin_name("tpnet")?
-        .subcommand_required(true)
-        .subcommand(run)
+    program(alloc)?.subcommand(command_of(alloc, &STREAM, STREAM_REFUSALS)?)
 }
