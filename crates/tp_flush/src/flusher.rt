@@ -26,7 +26,7 @@ use tp_shared::{Naming, Told};
 use tp_token::Key;
 
 /// The flusher's store, what it was told of the book, the mark's raiser, the device's topology, how far the copy of the snapshot that
-/// runs has come, and the world as the flusher knows it.
+/// runs has come, how many pages a turn copies before it begins no further image, and the world as the flusher knows it.
 #[derive(Drop)]
 pub(crate) struct Parts<D: Disk> {
     pub(crate) store: Store<D>,
@@ -34,6 +34,7 @@ pub(crate) struct Parts<D: Disk> {
     pub(crate) raiser: Raiser,
     pub(crate) topology: Topology,
     pub(crate) progress: Progress,
+    pub(crate) pages_a_turn: usize,
     pub(crate) whole: Whole,
 }
 
@@ -130,6 +131,7 @@ impl<J: Naming, D: Disk> Flusher<J, D> {
                 raiser,
                 topology,
                 progress: Progress::new(),
+                pages_a_turn: usize::MAX,
                 whole,
             },
             of: PhantomData,

@@ -138,7 +138,7 @@ impl<J: Naming, D: Disk> Flusher<J, D> {
     }
 
     /// Copies the frozen image of a node that has recorded and isn't out yet, which begins at `image`, and lets its frozen pages go
-    /// behind the last one.
+    /// behind the last one. Answers how many they were.
     fn copy_node<R: Wait, G: Gate>(
         &mut self,
         rt: &R,
@@ -147,7 +147,7 @@ impl<J: Naming, D: Disk> Flusher<J, D> {
         look: &Look,
         node: u8,
         image: u64,
-    ) -> Result<(), FlushFault>
+    ) -> Result<usize, FlushFault>
         requires rests { self.old.world.at ≡ Resting }
         requires cleared { self.old.progress.cleared ≡ true }
         requires node { node < length self.old.topology.pages }
@@ -158,17 +158,26 @@ impl<J: Naming, D: Disk> Flusher<J, D> {
     {
         self.known();
         if self.is_out(node as usize) || !look.recorded[node as usize] {
-            return Ok(());
+            return Ok(0);
         }
         if !self.copy_image(rt, shared, gate, node, image)? {
-            return Ok(());
+            return Ok(0);
         }
         self.let_go(rt, shared, node);
-        Ok(())
+        Ok(self.pages_of(node as usize))
     }
 
-    /// Copies the frozen images of all that have recorded, without waiting for the others. Where each begins in the other area is known
-    /// from where the one before did, so no page asks for a sum over the images before.
+    /// From now on a turn begins no further image once it has copied `pages` pages of frozen images, and the next turn goes on: what is
+    /// journalled meanwhile needn't wait for all of them. Where this was never said a turn copies all that it may.
+    pub fn copy_at_most(&mut self, pages: usize)
+        ensures { self.new ≡ self.old }
+    {
+        let Flusher { parts, .. } = self;
+        parts.pages_a_turn = pages.max(1);
+    }
+
+    /// Copies the frozen images of all that have recorded, without waiting for the others, until enough pages were copied for a turn. Where
+    /// each begins in the other area is known from where the one before did, so no page asks for a sum over the images before.
     pub(crate) fn copy_images<R: Wait, G: Gate>(
         &mut self,
         rt: &R,
@@ -184,8 +193,13 @@ impl<J: Naming, D: Disk> Flusher<J, D> {
         self.known();
         let count = self.nodes().min(shared.nodes() as usize);
         let mut image = FIELDS_BYTES as u64;
+        let mut left = self.parts.pages_a_turn;
         for node in 0..count {
-            self.copy_node(rt, shared, gate, look, node as u8, image)?;
+            if left == 0 {
+                return Ok(());
+            }
+            let pages = self.copy_node(rt, shared, gate, look, node as u8, image)?;
+            left = left.saturating_sub(pages);
             image = self.image_behind(node, image);
         }
         Ok(())
