@@ -13,10 +13,14 @@ use std::sync::Wait;
 use tp_disk::Disk;
 use tp_shared::{Gate, Look, Naming, Shared};
 
-/// A look at the snapshot under the book's lock.
-fn look<J: Naming, R: Wait>(rt: &R, shared: &Shared<J>) -> Look {
+/// A look at the snapshot under the book's lock. None where no snapshot runs: then no node is looked at.
+fn look<J: Naming, R: Wait>(rt: &R, shared: &Shared<J>) -> Option<Look> {
     let held = shared.book().lock(rt);
-    held.look()
+    let book = held.book();
+    if !book.recorded(book.nodes()) {
+        return None;
+    }
+    Some(held.look())
 }
 
 impl<J: Naming, D: Disk> Flusher<J, D> {
@@ -34,10 +38,9 @@ impl<J: Naming, D: Disk> Flusher<J, D> {
         ensures goes { Goes D.keeps J.formatted J.before self.old self.new }
     {
         self.known();
-        let look = look(rt, shared);
-        if !look.running {
+        let Some(look) = look(rt, shared) else {
             return Ok(false);
-        }
+        };
         self.clear()?;
         self.copy_images(rt, shared, gate, &look)?;
         self.switch(rt, alloc, shared)
