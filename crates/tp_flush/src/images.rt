@@ -8,10 +8,12 @@ ghost use Rattle.tp_layout.specs.Pieces.{piece_place};
 ghost use Rattle.tp_flush.specs.Copying.{IsPartOut};
 ghost use Rattle.tp_flush.specs.Progress.{is_out};
 ghost use Rattle.tp_flush.specs.Flushing.{Goes};
+ghost use Rattle.tp_flush.specs.Images.{Imaged, NodeImaged, StayOut};
 ghost use Rattle.tp_flush.specs.Ends.{Tried};
 
 use crate::fault::FlushFault;
 use crate::flusher::Flusher;
+use crate::imaged::{Image, Images};
 use crate::turn::FLUSHER;
 use std::sync::Wait;
 use tp_disk::Disk;
@@ -70,7 +72,7 @@ impl<J: Naming, D: Disk> Flusher<J, D> {
         if !self.read_head(rt, shared, node, &mut head) {
             return Ok(false);
         }
-        self.put(node as usize, image, 0, &head)?;
+        self.put(rt, shared, node as usize, image, 0, &head)?;
         Ok(true)
     }
 
@@ -103,7 +105,7 @@ impl<J: Naming, D: Disk> Flusher<J, D> {
             return Ok(false);
         }
         gate.at(FLUSHER, PAGE_COPIED);
-        self.put(node as usize, image, page + 1, &bytes)?;
+        self.put(rt, shared, node as usize, image, page + 1, &bytes)?;
         Ok(true)
     }
 
@@ -123,6 +125,7 @@ impl<J: Naming, D: Disk> Flusher<J, D> {
         requires there { node < length J.start.nodes }
         requires free { is_out self.old.progress node ≡ false }
         ensures tried { Tried result self.old self.new }
+        ensures same { self.new.progress ≡ self.old.progress }
         ensures stands { D.keeps → IfOk result (λ found. found ≡ true → IsPartOut self.new.topology self.new.world.net (content_beside self.new.place self.new.state) node (get_or self.new.topology.pages node 0)) }
         ensures goes { Goes D.keeps J.formatted J.before self.old self.new }
     {
@@ -138,7 +141,7 @@ impl<J: Naming, D: Disk> Flusher<J, D> {
     }
 
     /// Copies the frozen image of a node that has recorded and isn't out yet, which begins at `image`, and lets its frozen pages go
-    /// behind the last one. Answers how many they were.
+    /// behind the last one.
     fn copy_node<R: Wait, G: Gate>(
         &mut self,
         rt: &R,
@@ -147,24 +150,29 @@ impl<J: Naming, D: Disk> Flusher<J, D> {
         look: &Look,
         node: u8,
         image: u64,
-    ) -> Result<usize, FlushFault>
+    ) -> Result<Image, FlushFault>
         requires rests { self.old.world.at ≡ Resting }
         requires cleared { self.old.progress.cleared ≡ true }
         requires node { node < length self.old.topology.pages }
         requires image { image ≡ piece_place self.old.topology node 0 }
         requires there { node < length J.start.nodes }
         ensures tried { Tried result self.old self.new }
+        ensures imaged { IfOk result (λ done. NodeImaged done (get_or look.now.recorded node false) node self.old.progress self.new.progress) }
+        ensures stay { StayOut self.old.progress self.new.progress }
         ensures goes { Goes D.keeps J.formatted J.before self.old self.new }
     {
         self.known();
-        if self.is_out(node as usize) || !look.recorded[node as usize] {
-            return Ok(0);
+        if self.is_out(node as usize) {
+            return Ok(Image::WasOut);
+        }
+        if !look.recorded[node as usize] {
+            return Ok(Image::Unrecorded);
         }
         if !self.copy_image(rt, shared, gate, node, image)? {
-            return Ok(0);
+            return Ok(Image::Lacking);
         }
         self.let_go(rt, shared, node);
-        Ok(self.pages_of(node as usize))
+        Ok(Image::Copied(self.pages_of(node as usize)))
     }
 
     /// From now on a turn begins no further image once it has copied `pages` pages of frozen images, and the next turn goes on: what is
@@ -184,10 +192,11 @@ impl<J: Naming, D: Disk> Flusher<J, D> {
         shared: &Shared<J>,
         gate: &G,
         look: &Look,
-    ) -> Result<(), FlushFault>
+    ) -> Result<Images, FlushFault>
         requires rests { self.old.world.at ≡ Resting }
         requires cleared { self.old.progress.cleared ≡ true }
         ensures tried { Tried result self.old self.new }
+        ensures imaged { IfOk result (λ images. Imaged true (λ i. get_or look.now.recorded i false) (length J.start.nodes) (length self.new.topology.pages) images self.old.progress self.new.progress) }
         ensures goes { Goes D.keeps J.formatted J.before self.old self.new }
     {
         self.known();
@@ -195,13 +204,13 @@ impl<J: Naming, D: Disk> Flusher<J, D> {
         let mut image = FIELDS_BYTES as u64;
         let mut left = self.parts.pages_a_turn;
         for node in 0..count {
-            if left == 0 {
-                return Ok(());
+            let done = self.copy_node(rt, shared, gate, look, node as u8, image)?;
+            match done.left(node as u8, left) {
+                Ok(rest) => left = rest,
+                Err(images) => return Ok(images),
             }
-            let pages = self.copy_node(rt, shared, gate, look, node as u8, image)?;
-            left = left.saturating_sub(pages);
             image = self.image_behind(node, image);
         }
-        Ok(())
+        Ok(Images::Out)
     }
 }
