@@ -37,8 +37,8 @@ imaged_on Lacking recorded node old new is on here = absurd on
 imaged_on (Copied pages) recorded node old new is on here = is.1
 
 isnt : (b : Bool) → (b ≡ true → false ≡ true) → b ≡ false
-isnt false no = refl
-isnt true no = absurd (true≢false (sym (no refl)))
+isnt false never = refl
+isnt true never = absurd (true≢false (sym (never refl)))
 
 -- it ends with it
 pub imaged_end : (done : Image) (node : ℕ) (images : Images) (recorded : ℕ → Bool) (nodes all : ℕ) (first old new : Progress) → EndsSo done node images → StayOut first old

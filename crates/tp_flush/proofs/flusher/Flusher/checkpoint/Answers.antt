@@ -42,14 +42,14 @@ returns-clause-goes g c =
     (goes_then g.D.Disk.keeps g.J.Naming.formatted g.J.Naming.before c.args.self.now c.clear.new.self c.copy_images.new.self c.clear.ensures.goes c.copy_images.ensures.goes) c.switch.ensures.goes
 
 pub returns-in_default-clause-imaged : goal.returns-in_default-clause-imaged
-returns-in_default-clause-imaged g c no =
+returns-in_default-clause-imaged g c stays =
     let L = c.look-look.ensures in
     record { found = L.found; shown = L.shown; did = L.is }
 
 pub returns-clause-imaged : goal.returns-clause-imaged
-returns-clause-imaged g c no =
+returns-clause-imaged g c stays =
     let L = c.look-look.ensures in
-    let same = c.in_ok-switched.ensures.waits no in
+    let same = c.in_ok-switched.ensures.waits stays in
     record {
       found = L.found;
       shown = L.shown;

@@ -57,3 +57,9 @@ returns-clause-tried g c = c.loop-node.invariant.went
 
 pub returns-clause-goes : goal.returns-clause-goes
 returns-clause-goes g c = c.loop-node.invariant.goes
+
+-- ## The copying ends with a node
+
+pub returns-in-Err-clause-goes : goal.returns-in-Err-clause-goes
+returns-in-Err-clause-goes g c =
+    goes_then g.D.Disk.keeps g.J.Naming.formatted g.J.Naming.before c.args.self.now c.loop-node.self c.copy_node.new.self c.loop-node.invariant.goes c.copy_node.ensures.goes

@@ -109,8 +109,8 @@ pub returns-clause-copied : goal.returns-clause-copied
 returns-clause-copied g c = subst (λ before. CopiedIn c.in-Ok.copied.upto before c.copy_under.new.seen) c.new-seen.ensures c.in-Ok.ensures.seen
 
 pub returns-clause-imaged : goal.returns-clause-imaged
-returns-clause-imaged g c no =
+returns-clause-imaged g c stays =
     imaged_between (length g.J.Naming.start.nodes) c.in_ok-done.done.images _ [] c.checkpoint.new.looked c.args.self.now c.raise.new.self c.checkpoint.new.self c.raise-mark.new.self
-    (c.in_ok-done.ensures.imaged no) c.new-looked.ensures
+    (c.in_ok-done.ensures.imaged stays) c.new-looked.ensures
     (c.raise.ensures.looked.progress ∙ c.append_all.ensures.progress ∙ c.copy_under.ensures.looked.progress)
     c.raise-mark.ensures.looked.progress c.raise-mark.ensures.looked.topology
