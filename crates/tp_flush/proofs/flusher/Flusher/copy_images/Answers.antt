@@ -1,9 +1,8 @@
-use Rattle.std.proofs.Common.{◌≡◌, ◌<◌, ◌≤◌, inl, inr, ℕ, true, false, length, get_or, rules, refl, sym, subst, ap, arith}
+use Rattle.std.proofs.Common.{◌≡◌, inl, inr, ℕ, true, false, get_or, rules, refl, sym, subst, arith}
 use Rattle.std.proofs.lemmas.Bool.{cases_lt}
-use Rattle.tp_model.specs.Topology.{Topology}
 use Rattle.tp_flush.specs.Progress.{is_out}
 use Rattle.tp_flush.proofs.Goings.{goes_still, goes_then, tried_then, went_still, went_then}
-use Rattle.tp_flush.proofs.Imaging.{imaged_end, imaged_on, stay_then}
+use Rattle.tp_flush.proofs.Imaging.{imaged_on, stay_then}
 use Rattle.tp_flush.proofs.flusher.Flusher.copy_images.Goals as goal
 
 pub loop-node-init : goal.loop-node-init

@@ -1,4 +1,3 @@
-use Rattle.std.proofs.Common.{sym, ◌∙◌}
 use Rattle.tp_flush.proofs.Goings.{goes_then, went_then}
 use Rattle.tp_flush.proofs.Imaging.{stay_same, stay_then, stay_with}
 use Rattle.tp_flush.proofs.flusher.Flusher.copy_node.Goals as goal

@@ -1,4 +1,4 @@
-use Rattle.std.proofs.Common.{◌≡◌, ◌+◌, ◌<◌, ◌≤◌, [], ◌∷◌, None, false, get_or, length, refl, sym, subst, ap, ◌∙◌, ℕ, true, arith, IfOk, OnErr, OnOk}
+use Rattle.std.proofs.Common.{◌≡◌, ◌+◌, ◌<◌, ◌≤◌, [], ◌∷◌, false, get_or, length, refl, sym, subst, ap, ◌∙◌, ℕ, true, arith, IfOk, OnErr, OnOk}
 use Rattle.std.specs.Prelude.{Ok}
 use Rattle.tp_model.specs.NodeState.{NodeState}
 use Rattle.tp_model.specs.Node.{t414}
