@@ -1,5 +1,5 @@
 -- How groups, and turns, ended.
-use Rattle.std.proofs.Common.{◌≡◌, ℕ, ◌+◌, List, length, inl, refl, sym, ap, subst, ◌∙◌, Bool, Option, Result, Ok, Err, IfOk, MatchResult, arith}
+use Rattle.std.proofs.Common.{◌≡◌, ℕ, ◌+◌, List, length, inl, refl, sym, ap, subst, ◌∙◌, Bool, true, false, Option, Result, Ok, Err, IfOk, MatchResult, arith}
 use Rattle.std.specs.Prelude.{◌-◌, drop}
 use Rattle.tp_model.specs.declared.entry.Entry.{Entry}
 use Rattle.tp_model.specs.NodeState.{NodeState}
@@ -10,7 +10,7 @@ use Rattle.tp_area.specs.declared.place.Place.{Place}
 use Rattle.tp_area.specs.declared.fault.StoreFault.{StoreFault}
 use Rattle.tp_flush.specs.declared.fault.FlushFault.{FlushFault}
 use Rattle.tp_flush.specs.declared.fault.FlushFault.TheVariants.{AreaFull, DeviceFailed, Memory, StoreBroken}
-use Rattle.tp_flush.specs.Flushing.{Flushing, Looked}
+use Rattle.tp_flush.specs.Flushing.{Flushing, Looked, position}
 use Rattle.tp_flush.specs.Ends.{Ended, Failed, Stored, Waits}
 use Rattle.tp_flush.proofs.Appends.{Answered, after_group, appended, failed_at}
 
@@ -21,6 +21,11 @@ if_ok_three P Q R S (Err e) three p q r = tt
 -- what rests isn't broken
 pub never_both : {P : Type 0} (pos : Position NodeState) → pos ≡ Resting → pos ≡ Broken → P
 never_both pos rests broken = cc
+
+-- a position is that of a failure only where one failed
+pub broken_at : (failed : Bool) → position failed ≡ Broken → failed ≡ true
+broken_at true is = refl
+broken_at false is = never_both (position false) refl is
 
 pub waits_still : (a : Flushing) → a.world.at ≡ Resting → Waits a a
 waits_still a rests = record { rested = record { began = rests; rests = rests; failures = refl }; mark = refl; generation = refl }

@@ -141,6 +141,10 @@ checkpointed_before B q fault is a b c first then = subst (λ (x : Result Bool F
     by Memory then = absurd then
     by AreaFull then = absurd then
 
+-- a fault behind what went on
+pub checkpointed_behind : (q : Result Bool FlushFault) (fault : FlushFault) → q ≡ Err fault → (a b c : Flushing) → Went a b → Checkpointed (Err fault) b c → Checkpointed q a c
+checkpointed_behind q fault is a b c first then = subst (λ (x : Result Bool FlushFault). Checkpointed x a c) (sym is) (checkpointed_on (Err fault) a b c first then)
+
 -- what a switch, or none, leaves
 pub went_on_rested : (switched : Bool) (a b : Flushing) → WentOn switched a b → Rested a b
 went_on_rested true a b on = on.rested

@@ -7,6 +7,7 @@ mod Begins
 pub mod Turns
 mod Endings
 mod Goings
+mod Imaging
 mod Puts
 mod Closed
 mod Devices

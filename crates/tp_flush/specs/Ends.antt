@@ -5,6 +5,7 @@ use Rattle.tp_model.specs.FrozenAs.{IsFrozenAs}
 use Rattle.tp_model.specs.WriteOrder.{Resting, Broken}
 use Rattle.tp_flush.specs.declared.fault.FlushFault.{FlushFault}
 use Rattle.tp_flush.specs.declared.fault.FlushFault.TheVariants.{AreaFull, DeviceFailed, Memory, StoreBroken}
+use Rattle.tp_flush.specs.declared.checkpoint.Checkpoint.{Checkpoint}
 use Rattle.tp_flush.specs.Flushing.{Flushing, Looked}
 
 -- No call of the device has failed.
@@ -111,3 +112,8 @@ Checkpointed (Err DeviceFailed) old new = Failed old new × (new.world.stored �
 Checkpointed (Err StoreBroken) old new = ⊥
 Checkpointed (Err Memory) old new = Went old new
 Checkpointed (Err AreaFull) old new = ⊥
+
+-- whether the store switched, beside what became of images
+abbrev pub switched_of : Result Checkpoint FlushFault → Result Bool FlushFault
+switched_of (Ok done) = Ok done.switched
+switched_of (Err fault) = Err fault

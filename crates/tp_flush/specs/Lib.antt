@@ -1,6 +1,8 @@
 pub mod Progress
 pub mod Copying
 pub mod CopiedIn
+pub mod WasTold
+pub mod Images
 pub mod Known
 pub mod Flushing
 pub mod Ends

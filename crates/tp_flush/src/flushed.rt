@@ -1,14 +1,17 @@
 //! What a turn of the flusher did.
 
+use crate::imaged::Images;
 use tp_book::Copied;
 use tp_shared::{Naming, Sights};
 
-/// The mark, which is the number that the turn raised it to; up to which number the book's entries were copied, and that book; and
-/// whether the store switched to its other area.
+/// The mark, which is the number that the turn raised it to; up to which number the book's entries were copied, and that book; what became
+/// of the images of the snapshot that ran, and the book in which it was found; and whether the store switched to its other area.
 #[derive(Drop)]
 pub struct Flushed<J: Naming> {
     pub mark: u64,
     pub copied: Copied,
     pub seen: Sights<J>,
+    pub images: Images,
+    pub looked: Sights<J>,
     pub switched: bool,
 }

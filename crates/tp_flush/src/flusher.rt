@@ -15,18 +15,18 @@ ghost use Rattle.tp_flush.specs.Flushing.{position};
 
 use crate::progress::Progress;
 use crate::whole::Whole;
-use std::marker::{Model, PhantomData};
+use std::marker::Model;
 use std::snapshot::Snapshot;
 use tp_area::Store;
 use tp_disk::Disk;
 use tp_mark::Raiser;
 use tp_net::Topology;
 use tp_recover::Opened;
-use tp_shared::{Naming, Told};
+use tp_shared::{Naming, Sights, Told};
 use tp_token::Key;
 
 /// The flusher's store, what it was told of the book, the mark's raiser, the device's topology, how far the copy of the snapshot that
-/// runs has come, and the world as the flusher knows it.
+/// runs has come, how many pages a turn copies before it begins no further image, and the world as the flusher knows it.
 #[derive(Drop)]
 pub(crate) struct Parts<D: Disk> {
     pub(crate) store: Store<D>,
@@ -34,27 +34,30 @@ pub(crate) struct Parts<D: Disk> {
     pub(crate) raiser: Raiser,
     pub(crate) topology: Topology,
     pub(crate) progress: Progress,
+    pub(crate) pages_a_turn: usize,
     pub(crate) whole: Whole,
 }
 
-/// What brings the book's entries to the device of one process, and raises its mark. Contracts see the world as it knows it, what
-/// has become of its device, and the bytes that the process opened.
+/// What brings the book's entries to the device of one process, and raises its mark; and what was seen of the book as it was told that a
+/// call of the device had failed. Contracts see the world as it knows it, what has become of its device, and the bytes that the process
+/// opened.
 #[derive(Drop)]
 pub struct Flusher<J: Naming, D: Disk> {
     pub(crate) parts: Parts<D>,
-    of: PhantomData<J>,
+    pub(crate) told: Sights<J>,
 }
 
 impl<J: Naming, D: Disk> Model for Flusher<J, D> {
     ghost use Rattle.std.specs.Prelude.{◌≡◌, ◌≤◌};
     ghost use Rattle.tp_shared.specs.Told.{IsFirst};
     ghost use Rattle.tp_flush.specs.Flushing.{Copies, Flushing, HoldsAllOf, IsOfDevice, Keeps};
+    ghost use Rattle.tp_flush.specs.WasTold.{ToldWhere};
 
     ghost Value = { Flushing };
 
     ghost view = { λ f. record { world = f.parts.whole.known.world; state = D.state f.parts.store.disk; size = D.size_of f.parts.store.disk; failures = D.failures_of f.parts.store.disk; opened = f.parts.whole.known.opened; place = f.parts.store.place; topology = f.parts.topology; progress = f.parts.progress } };
 
-    ghost invariant = { λ f. (f.parts.key.name ≡ J.flusher) × (f.parts.raiser.mark ≡ J.mark) × IsFirst f.parts.key.value f.parts.whole.known.world × Keeps D.keeps J.formatted J.before f.parts.whole.known (D.state f.parts.store.disk) f.parts.store.place f.parts.store.broken f.parts.raiser.at × Copies D.keeps f.parts.whole.known.world.net (D.state f.parts.store.disk) f.parts.store.place f.parts.store.broken f.parts.topology f.parts.progress × IsOfDevice D.keeps J.room f.parts.whole.known.world (D.state f.parts.store.disk) f.parts.store.place f.parts.store.broken f.parts.topology × (J.first ≤ f.parts.whole.known.world.stored) × (f.parts.key.value.numbered_from ≤ f.parts.whole.known.world.stored) × HoldsAllOf f.parts.store.place.form f.parts.key.value.form };
+    ghost invariant = { λ f. (f.parts.key.name ≡ J.flusher) × (f.parts.raiser.mark ≡ J.mark) × IsFirst f.parts.key.value f.parts.whole.known.world × Keeps D.keeps J.formatted J.before f.parts.whole.known (D.state f.parts.store.disk) f.parts.store.place f.parts.store.broken f.parts.raiser.at × Copies D.keeps f.parts.whole.known.world.net (D.state f.parts.store.disk) f.parts.store.place f.parts.store.broken f.parts.topology f.parts.progress × IsOfDevice D.keeps J.room f.parts.whole.known.world (D.state f.parts.store.disk) f.parts.store.place f.parts.store.broken f.parts.topology × (J.first ≤ f.parts.whole.known.world.stored) × (f.parts.key.value.numbered_from ≤ f.parts.whole.known.world.stored) × HoldsAllOf f.parts.store.place.form f.parts.key.value.form × ToldWhere f.parts.store.broken f.told };
 }
 
 impl<J: Naming, D: Disk> Flusher<J, D> {
@@ -130,9 +133,10 @@ impl<J: Naming, D: Disk> Flusher<J, D> {
                 raiser,
                 topology,
                 progress: Progress::new(),
+                pages_a_turn: usize::MAX,
                 whole,
             },
-            of: PhantomData,
+            told: Sights::new(),
         }
     }
 

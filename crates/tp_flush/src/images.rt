@@ -8,10 +8,12 @@ ghost use Rattle.tp_layout.specs.Pieces.{piece_place};
 ghost use Rattle.tp_flush.specs.Copying.{IsPartOut};
 ghost use Rattle.tp_flush.specs.Progress.{is_out};
 ghost use Rattle.tp_flush.specs.Flushing.{Goes};
+ghost use Rattle.tp_flush.specs.Images.{Imaged, NodeImaged, StayOut};
 ghost use Rattle.tp_flush.specs.Ends.{Tried};
 
 use crate::fault::FlushFault;
 use crate::flusher::Flusher;
+use crate::imaged::{Image, Images};
 use crate::turn::FLUSHER;
 use std::sync::Wait;
 use tp_disk::Disk;
@@ -70,7 +72,7 @@ impl<J: Naming, D: Disk> Flusher<J, D> {
         if !self.read_head(rt, shared, node, &mut head) {
             return Ok(false);
         }
-        self.put(node as usize, image, 0, &head)?;
+        self.put(rt, shared, node as usize, image, 0, &head)?;
         Ok(true)
     }
 
@@ -103,7 +105,7 @@ impl<J: Naming, D: Disk> Flusher<J, D> {
             return Ok(false);
         }
         gate.at(FLUSHER, PAGE_COPIED);
-        self.put(node as usize, image, page + 1, &bytes)?;
+        self.put(rt, shared, node as usize, image, page + 1, &bytes)?;
         Ok(true)
     }
 
@@ -123,6 +125,7 @@ impl<J: Naming, D: Disk> Flusher<J, D> {
         requires there { node < length J.start.nodes }
         requires free { is_out self.old.progress node ≡ false }
         ensures tried { Tried result self.old self.new }
+        ensures same { self.new.progress ≡ self.old.progress }
         ensures stands { D.keeps → IfOk result (λ found. found ≡ true → IsPartOut self.new.topology self.new.world.net (content_beside self.new.place self.new.state) node (get_or self.new.topology.pages node 0)) }
         ensures goes { Goes D.keeps J.formatted J.before self.old self.new }
     {
@@ -147,47 +150,67 @@ impl<J: Naming, D: Disk> Flusher<J, D> {
         look: &Look,
         node: u8,
         image: u64,
-    ) -> Result<(), FlushFault>
+    ) -> Result<Image, FlushFault>
         requires rests { self.old.world.at ≡ Resting }
         requires cleared { self.old.progress.cleared ≡ true }
         requires node { node < length self.old.topology.pages }
         requires image { image ≡ piece_place self.old.topology node 0 }
         requires there { node < length J.start.nodes }
         ensures tried { Tried result self.old self.new }
+        ensures imaged { IfOk result (λ done. NodeImaged done (get_or look.now.recorded node false) node self.old.progress self.new.progress) }
+        ensures stay { StayOut self.old.progress self.new.progress }
         ensures goes { Goes D.keeps J.formatted J.before self.old self.new }
     {
         self.known();
-        if self.is_out(node as usize) || !look.recorded[node as usize] {
-            return Ok(());
+        if self.is_out(node as usize) {
+            return Ok(Image::WasOut);
+        }
+        if !look.recorded[node as usize] {
+            return Ok(Image::Unrecorded);
         }
         if !self.copy_image(rt, shared, gate, node, image)? {
-            return Ok(());
+            return Ok(Image::Lacking);
         }
         self.let_go(rt, shared, node);
-        Ok(())
+        Ok(Image::Copied(self.pages_of(node as usize)))
     }
 
-    /// Copies the frozen images of all that have recorded, without waiting for the others. Where each begins in the other area is known
-    /// from where the one before did, so no page asks for a sum over the images before.
+    /// From now on a turn begins no further image once it has copied `pages` pages of frozen images, and the next turn goes on: what is
+    /// journalled meanwhile needn't wait for all of them. Where this was never said a turn copies all that it may.
+    pub fn copy_at_most(&mut self, pages: usize)
+        ensures { self.new ≡ self.old }
+    {
+        let Flusher { parts, .. } = self;
+        parts.pages_a_turn = pages.max(1);
+    }
+
+    /// Copies the frozen images of all that have recorded, without waiting for the others, until enough pages were copied for a turn. Where
+    /// each begins in the other area is known from where the one before did, so no page asks for a sum over the images before.
     pub(crate) fn copy_images<R: Wait, G: Gate>(
         &mut self,
         rt: &R,
         shared: &Shared<J>,
         gate: &G,
         look: &Look,
-    ) -> Result<(), FlushFault>
+    ) -> Result<Images, FlushFault>
         requires rests { self.old.world.at ≡ Resting }
         requires cleared { self.old.progress.cleared ≡ true }
         ensures tried { Tried result self.old self.new }
+        ensures imaged { IfOk result (λ images. Imaged true (λ i. get_or look.now.recorded i false) (length J.start.nodes) (length self.new.topology.pages) images self.old.progress self.new.progress) }
         ensures goes { Goes D.keeps J.formatted J.before self.old self.new }
     {
         self.known();
         let count = self.nodes().min(shared.nodes() as usize);
         let mut image = FIELDS_BYTES as u64;
+        let mut left = self.parts.pages_a_turn;
         for node in 0..count {
-            self.copy_node(rt, shared, gate, look, node as u8, image)?;
+            let done = self.copy_node(rt, shared, gate, look, node as u8, image)?;
+            match done.left(node as u8, left) {
+                Ok(rest) => left = rest,
+                Err(images) => return Ok(images),
+            }
             image = self.image_behind(node, image);
         }
-        Ok(())
+        Ok(Images::Out)
     }
 }

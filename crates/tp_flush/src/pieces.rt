@@ -16,6 +16,7 @@ use crate::appending::answer_of;
 use crate::fault::FlushFault;
 use crate::flusher::Flusher;
 use crate::places::place_in_image;
+use crate::telling::tell_where;
 use crate::whole::Whole;
 use std::sync::Wait;
 use tp_disk::Disk;
@@ -23,27 +24,32 @@ use tp_model::limits::{IMAGE_HEAD_BYTES, PAGE_BYTES};
 use tp_shared::{Naming, Shared};
 
 impl<J: Naming, D: Disk> Flusher<J, D> {
-    /// Closes the other area's gate where it is open, once for a snapshot.
-    pub(crate) fn clear(&mut self) -> Result<(), FlushFault>
+    /// Closes the other area's gate where it is open, once for a snapshot. Where a call of the device fails, the book is told.
+    pub(crate) fn clear<R: Wait>(&mut self, rt: &R, shared: &Shared<J>) -> Result<(), FlushFault>
         requires rests { self.old.world.at ≡ Resting }
         ensures tried { Tried result self.old self.new }
         ensures goes { Goes D.keeps J.formatted J.before self.old self.new }
         ensures cleared { self.new.progress.cleared ≡ true }
+        ensures out { self.new.progress.out ≡ self.old.progress.out }
     {
         self.known();
-        let Flusher { parts, .. } = self;
+        let Flusher { parts, told } = self;
         if parts.progress.cleared {
             return Ok(());
         }
         let done = parts.store.clear_other();
         parts.progress.cleared = true;
         parts.whole = Whole::of(&*parts);
+        tell_where(rt, shared, parts.store.broken, told);
         answer_of(done)
     }
 
-    /// Puts a piece of the frozen image of `node` into the other area, where that image begins at `image`.
-    pub(crate) fn put(
+    /// Puts a piece of the frozen image of `node` into the other area, where that image begins at `image`. Where a call of the device fails,
+    /// the book is told.
+    pub(crate) fn put<R: Wait>(
         &mut self,
+        rt: &R,
+        shared: &Shared<J>,
         node: usize,
         image: u64,
         piece: usize,
@@ -65,9 +71,10 @@ impl<J: Naming, D: Disk> Flusher<J, D> {
     {
         self.known();
         let _node = node;
-        let Flusher { parts, .. } = self;
+        let Flusher { parts, told } = self;
         let done = parts.store.put_at(image + place_in_image(piece), bytes);
         parts.whole = Whole::of(&*parts);
+        tell_where(rt, shared, parts.store.broken, told);
         answer_of(done)
     }
 
@@ -123,6 +130,7 @@ impl<J: Naming, D: Disk> Flusher<J, D> {
         requires stands { D.keeps → IsPartOut self.old.topology self.old.world.net (content_beside self.old.place self.old.state) node (get_or self.old.topology.pages node 0) }
         ensures went { Went self.old self.new }
         ensures out { self.new.progress ≡ with_out self.old.progress node }
+        ensures is { is_out self.new.progress node ≡ true }
         ensures goes { Goes D.keeps J.formatted J.before self.old self.new }
     {
         self.known();

@@ -1,6 +1,6 @@
 //! How far the copy of a snapshot has come.
 
-ghost use Rattle.std.specs.Prelude.{◌≡◌, ◌<◌};
+ghost use Rattle.std.specs.Prelude.{◌≡◌, ◌<◌, true};
 ghost use Rattle.tp_model.specs.declared.limits.TheConstants.{MAX_NODES};
 ghost use Rattle.tp_flush.specs.Progress.{is_out, not_begun, with_out};
 
@@ -36,7 +36,8 @@ impl Progress {
     /// The image of `node` is out.
     pub(crate) fn put_out(&mut self, node: usize)
         requires { node < MAX_NODES }
-        ensures { self.new ≡ with_out self.old node }
+        ensures with { self.new ≡ with_out self.old node }
+        ensures is { is_out self.new node ≡ true }
     {
         self.out[node] = true;
     }

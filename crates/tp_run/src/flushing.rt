@@ -11,6 +11,7 @@ use std::alloc::Global;
 use std::sync::Wait;
 use tp_disk::Disk;
 use tp_flush::{FlushFault, Flushed, Flusher};
+use tp_model::limits::MAX_PAGES;
 use tp_shared::{Naming, Shared};
 
 /// Tells that the entries since the kept cut are others, where a turn of the flusher switched the areas.
@@ -22,7 +23,8 @@ fn tell_of<J: Naming>(watch: &Watch, done: &Result<Flushed<J>, FlushFault>) {
 
 /// Makes the flusher's turns while workers make theirs, each once something may have been journalled, until they have ended;
 /// it sleeps until it is woken where nothing was. Where a turn
-/// wants memory, the next one does all; once a call of the device has failed, a turn does nothing.
+/// wants memory, the next one does all; once a call of the device has failed, a turn does nothing. A turn copies about one frozen image of
+/// the largest nodes, so that what is journalled needn't wait for all of them; once the workers have ended, a turn copies all that it may.
 pub(crate) fn flush_meanwhile<J: Naming, D: Disk, R: Wait>(
     rt: &R,
     alloc: Global,
@@ -35,6 +37,7 @@ pub(crate) fn flush_meanwhile<J: Naming, D: Disk, R: Wait>(
 {
     first.known();
     let mut flusher = first;
+    flusher.copy_at_most(MAX_PAGES);
     let mut seen = 0;
     for _ in rt.forever() {
         let Some(news) = watch.wait(rt, seen) else {
@@ -44,6 +47,7 @@ pub(crate) fn flush_meanwhile<J: Naming, D: Disk, R: Wait>(
         let done = flusher.turn(rt, alloc, shared);
         tell_of(watch, &done);
     }
+    flusher.copy_at_most(usize::MAX);
     flusher
 }
 

@@ -1,10 +1,18 @@
-use Rattle.std.proofs.Common.{refl, sym, subst, ◌∙◌}
+use Rattle.std.proofs.Common.{refl, sym, subst, ap, ◌∙◌}
 use Rattle.tp_flush.specs.Known.{Began}
+use Rattle.tp_flush.specs.Flushing.{Flushing, IsSameProcess, Walked}
 use Rattle.tp_flush.proofs.Turns.{walked_nowhere, walked_then}
 use Rattle.tp_run.proofs.flushing.flush_meanwhile.Goals as goal
 
 pub loop-init : goal.loop-init
-loop-init g c = record { process = record { opened = refl; size = refl; topology = refl }; walks = λ k began. walked_nowhere c.args.first (c.known.ensures.disk k) }
+loop-init g c = record {
+  process = record {
+    opened = ap (λ (v : Flushing). v.opened) c.copy_at_most.ensures;
+    size = ap (λ (v : Flushing). v.size) c.copy_at_most.ensures;
+    topology = ap (λ (v : Flushing). v.topology) c.copy_at_most.ensures;
+  };
+  walks = λ k began. subst (λ (v : Flushing). Walked c.args.first v) (sym c.copy_at_most.ensures) (walked_nowhere c.args.first (c.known.ensures.disk k));
+}
 
 pub loop-preserved : goal.loop-preserved
 loop-preserved g c =
@@ -16,3 +24,9 @@ loop-preserved g c =
           walked_then c.args.first c.loop.flusher c.turn-done.new.self (c.loop.invariant.walks k began)
           (c.turn-done.ensures.walks k (subst (Began g.J.Naming.formatted g.J.Naming.before) (sym P.opened) began));
     }
+
+pub returns-clause-walks : goal.returns-clause-walks
+returns-clause-walks g c k began = subst (λ (v : Flushing). Walked c.args.first v) (sym c.copy_at_most-2.ensures) (c.loop.invariant.walks k began)
+
+pub returns-clause-process : goal.returns-clause-process
+returns-clause-process g c = subst (λ (v : Flushing). IsSameProcess c.args.first v) (sym c.copy_at_most-2.ensures) c.loop.invariant.process

@@ -91,6 +91,7 @@ invariant_of-self-2 g c =
       subst (λ (k : Known). g.J.Naming.first ≤ k.world.stored) (sym c.of-parts.ensures) (omega (arith, put_stored a.new.self.broken p.whole.known.world new.now, c.self.invariant.6)),
       subst (λ (k : Known). p.key.value.numbered_from ≤ k.world.stored) (sym c.of-parts.ensures) (omega (arith, put_stored a.new.self.broken p.whole.known.world new.now, c.self.invariant.7)),
       holds_at p.store.place a.new.self.place p.key.value.form (ap (λ (q : Place). q.form) a.ensures.place) c.self.invariant.8,
+      c.tell_where.ensures,
     )
 
 abbrev behind : (g : given.Over) (c : goal.After-answer_of g) → Flushing
@@ -141,3 +142,6 @@ returns-clause-goes g c =
       walks = λ k began. subst (λ (x : Known). Walks t414 device_areas p.whole.known.world x.world s new) (sym c.of-parts.ensures) (walked g c k began);
       process = record { opened = ap (λ (k : Known). k.opened) c.of-parts.ensures; size = a.ensures.size; topology = refl };
     })
+
+pub returns-clause-out : goal.returns-clause-out
+returns-clause-out g c = ap (λ (v : Flushing). v.progress.out) c.self.view_is

@@ -11,7 +11,7 @@ pub loop-page-init : goal.loop-page-init
 loop-page-init g c = record {
   went = c.in_ok-copy_head.ensures.tried;
   goes = c.copy_head.ensures.goes;
-  free = ap (λ (p : Progress). is_out p c.args.node) c.copy_head.ensures.same ∙ c.requires.free;
+  same = c.copy_head.ensures.same;
   stands = λ k. c.in_ok-copy_head.ensures.stands k c.if-not-branch.false;
 }
 
@@ -21,7 +21,7 @@ loop-page-preserved g c =
     record {
       went = went_then c.args.self.now c.loop-page.self c.copy_page.new.self I.went c.in_ok-copy_page.ensures.tried;
       goes = goes_then g.D.Disk.keeps g.J.Naming.formatted g.J.Naming.before c.args.self.now c.loop-page.self c.copy_page.new.self I.goes c.copy_page.ensures.goes;
-      free = ap (λ (p : Progress). is_out p c.args.node) c.copy_page.ensures.same ∙ I.free;
+      same = c.copy_page.ensures.same ∙ I.same;
       stands = λ k. c.in_ok-copy_page.ensures.stands k c.if-not-branch-2.false;
     }
 
@@ -50,7 +50,7 @@ returns-then-not-branch-2-clause-goes g c =
     goes_then g.D.Disk.keeps g.J.Naming.formatted g.J.Naming.before c.args.self.now c.loop-page.self c.copy_page.new.self c.loop-page.invariant.goes c.copy_page.ensures.goes
 
 pub copy_page-requires-clause-free : goal.copy_page-requires-clause-free
-copy_page-requires-clause-free g c = c.loop-page.invariant.free
+copy_page-requires-clause-free g c = ap (λ (p : Progress). is_out p c.args.node) c.loop-page.invariant.same ∙ c.requires.free
 
 pub copy_page-requires-clause-stands : goal.copy_page-requires-clause-stands
 copy_page-requires-clause-stands g c = c.loop-page.invariant.stands
@@ -62,3 +62,12 @@ returns-clause-stands g c k = λ found.
     let P = c.copy_head.ensures.goes.process in
     let all : c.loop-page.page ≡ get_or v.topology.pages c.args.node 0 = omega (arith, c.pages_of-page-end.ensures.is, ap (λ (t : Topology). get_or t.pages c.args.node 0) (I.goes.process.topology ∙ sym P.topology)) in
     subst (IsPartOut v.topology v.world.net (content_beside v.place v.state) c.args.node) all (I.stands k)
+
+pub returns-clause-same : goal.returns-clause-same
+returns-clause-same g c = c.loop-page.invariant.same
+
+pub returns-in_err-copy_page-clause-same : goal.returns-in_err-copy_page-clause-same
+returns-in_err-copy_page-clause-same g c = c.copy_page.ensures.same ∙ c.loop-page.invariant.same
+
+pub returns-then-not-branch-2-clause-same : goal.returns-then-not-branch-2-clause-same
+returns-then-not-branch-2-clause-same g c = c.copy_page.ensures.same ∙ c.loop-page.invariant.same

@@ -1,4 +1,5 @@
-use Rattle.std.proofs.Common.{inl, subst, sym, arith, rules}
+use Rattle.std.proofs.Common.{[], length, inl, subst, sym, ◌∙◌, arith, rules}
+use Rattle.tp_flush.proofs.Imaging.{imaged_between}
 use Rattle.tp_flush.specs.CopiedIn.{CopiedIn}
 use Rattle.tp_flush.specs.Flushing.{Goes}
 use Rattle.tp_flush.specs.Ends.{WaitsBehind}
@@ -22,67 +23,67 @@ returns-in_default-clause-ended g c =
 
 -- ## The store answered a fault
 
-pub returns-in_err-store-clause-goes : goal.returns-in_err-store-clause-goes
-returns-in_err-store-clause-goes g c =
-    goes_then g.D.Disk.keeps g.J.Naming.formatted g.J.Naming.before c.args.self.now c.copy_under.new.self c.store.new.self
+pub returns-in_err-append_all-clause-goes : goal.returns-in_err-append_all-clause-goes
+returns-in_err-append_all-clause-goes g c =
+    goes_then g.D.Disk.keeps g.J.Naming.formatted g.J.Naming.before c.args.self.now c.copy_under.new.self c.append_all.new.self
     (goes_looked g.D.Disk.keeps g.J.Naming.formatted g.J.Naming.before c.args.self.now c.copy_under.new.self c.known.ensures.disk c.copy_under.ensures.looked)
-    (record { walks = c.store.ensures.walks; process = c.store.ensures.process })
+    (record { walks = c.append_all.ensures.walks; process = c.append_all.ensures.process })
 
-pub returns-in_err-store-clause-ended : goal.returns-in_err-store-clause-ended
-returns-in_err-store-clause-ended g c =
-    stored_ended c.from_residual.result c.in_err-store.field-0.0 (search rules) _ c.args.self.now c.copy_under.new.self c.store.new.self
-    (looked_waits c.args.self.now c.copy_under.new.self c.requires.rests c.copy_under.ensures.looked c.copy_under.ensures.mark) c.in_err-store.ensures.stored
+pub returns-in_err-append_all-clause-ended : goal.returns-in_err-append_all-clause-ended
+returns-in_err-append_all-clause-ended g c =
+    stored_ended c.from_residual.result c.in_err-append_all.field-0.0 (search rules) _ c.args.self.now c.copy_under.new.self c.append_all.new.self
+    (looked_waits c.args.self.now c.copy_under.new.self c.requires.rests c.copy_under.ensures.looked c.copy_under.ensures.mark) c.in_err-append_all.ensures.stored
 
-pub returns-in_err-store-clause-room : goal.returns-in_err-store-clause-room
-returns-in_err-store-clause-room g c k began =
-    not_full_on (Unit {0}) c.from_residual.result c.in_err-store.field-0.0 (search rules) (c.in_err-store.ensures.room k (subst (Began g.J.Naming.formatted g.J.Naming.before) (sym c.copy_under.ensures.looked.opened) began))
+pub returns-in_err-append_all-clause-room : goal.returns-in_err-append_all-clause-room
+returns-in_err-append_all-clause-room g c k began =
+    not_full_on (Unit {0}) c.from_residual.result c.in_err-append_all.field-0.0 (search rules) (c.in_err-append_all.ensures.room k (subst (Began g.J.Naming.formatted g.J.Naming.before) (sym c.copy_under.ensures.looked.opened) began))
 
 -- ## The mark was raised, and a call failed behind it
 
-raised_failed : (g : given.Over) (c : goal.After-drop-backlog-in_err-switched g) → WaitsBehind c.args.self.now c.raise.new.self
+raised_failed : (g : given.Over) (c : goal.After-drop-backlog-in_err-done g) → WaitsBehind c.args.self.now c.raise.new.self
 raised_failed g c =
-    let S = c.in_ok-store.ensures.stored in
+    let S = c.in_ok-append_all.ensures.stored in
     let R = c.raise.ensures in
-    raised_behind c.args.self.now c.store.new.self c.raise.new.self
-    (waits_then c.args.self.now c.copy_under.new.self c.store.new.self (looked_waits c.args.self.now c.copy_under.new.self c.requires.rests c.copy_under.ensures.looked c.copy_under.ensures.mark) S.0)
+    raised_behind c.args.self.now c.append_all.new.self c.raise.new.self
+    (waits_then c.args.self.now c.copy_under.new.self c.append_all.new.self (looked_waits c.args.self.now c.copy_under.new.self c.requires.rests c.copy_under.ensures.looked c.copy_under.ensures.mark) S.0)
     R.looked (omega (arith, R.up, R.mark)) (omega (arith, R.reaches, R.mark))
 
-went_on_failed : (g : given.Over) (c : goal.After-drop-backlog-in_err-switched g) → Goes g.D.Disk.keeps g.J.Naming.formatted g.J.Naming.before c.args.self.now c.raise.new.self
+went_on_failed : (g : given.Over) (c : goal.After-drop-backlog-in_err-done g) → Goes g.D.Disk.keeps g.J.Naming.formatted g.J.Naming.before c.args.self.now c.raise.new.self
 went_on_failed g c =
-    goes_then g.D.Disk.keeps g.J.Naming.formatted g.J.Naming.before c.args.self.now c.store.new.self c.raise.new.self
-    (goes_then g.D.Disk.keeps g.J.Naming.formatted g.J.Naming.before c.args.self.now c.copy_under.new.self c.store.new.self
+    goes_then g.D.Disk.keeps g.J.Naming.formatted g.J.Naming.before c.args.self.now c.append_all.new.self c.raise.new.self
+    (goes_then g.D.Disk.keeps g.J.Naming.formatted g.J.Naming.before c.args.self.now c.copy_under.new.self c.append_all.new.self
     (goes_looked g.D.Disk.keeps g.J.Naming.formatted g.J.Naming.before c.args.self.now c.copy_under.new.self c.known.ensures.disk c.copy_under.ensures.looked)
-    (record { walks = c.store.ensures.walks; process = c.store.ensures.process }))
+    (record { walks = c.append_all.ensures.walks; process = c.append_all.ensures.process }))
     c.raise.ensures.goes
 
-pub returns-in_err-switched-clause-goes : goal.returns-in_err-switched-clause-goes
-returns-in_err-switched-clause-goes g c =
+pub returns-in_err-done-clause-goes : goal.returns-in_err-done-clause-goes
+returns-in_err-done-clause-goes g c =
     goes_then g.D.Disk.keeps g.J.Naming.formatted g.J.Naming.before c.args.self.now c.raise.new.self c.checkpoint.new.self (went_on_failed g c) c.checkpoint.ensures.goes
 
-pub returns-in_err-switched-clause-ended : goal.returns-in_err-switched-clause-ended
-returns-in_err-switched-clause-ended g c =
-    behind_ended c.from_residual-in_err-switched.result c.in_err-switched.field-0.0 (search rules) c.args.self.now c.raise.new.self c.checkpoint.new.self (raised_failed g c) c.in_err-switched.ensures.checkpointed
+pub returns-in_err-done-clause-ended : goal.returns-in_err-done-clause-ended
+returns-in_err-done-clause-ended g c =
+    behind_ended c.from_residual-in_err-done.result c.in_err-done.field-0.0 (search rules) c.args.self.now c.raise.new.self c.checkpoint.new.self (raised_failed g c) c.in_err-done.ensures.checkpointed
 
-pub returns-in_err-switched-clause-room : goal.returns-in_err-switched-clause-room
-returns-in_err-switched-clause-room g c k began =
-    checkpoint_not_full c.from_residual-in_err-switched.result c.in_err-switched.field-0.0 (search rules) c.raise.new.self c.checkpoint.new.self c.in_err-switched.ensures.checkpointed
+pub returns-in_err-done-clause-room : goal.returns-in_err-done-clause-room
+returns-in_err-done-clause-room g c k began =
+    checkpoint_not_full c.from_residual-in_err-done.result c.in_err-done.field-0.0 (search rules) c.raise.new.self c.checkpoint.new.self c.in_err-done.ensures.checkpointed
 
 -- ## All was done
 
 raised : (g : given.Over) (c : goal.After-drop-backlog-2 g) → WaitsBehind c.args.self.now c.raise.new.self
 raised g c =
-    let S = c.in_ok-store.ensures.stored in
+    let S = c.in_ok-append_all.ensures.stored in
     let R = c.raise.ensures in
-    raised_behind c.args.self.now c.store.new.self c.raise.new.self
-    (waits_then c.args.self.now c.copy_under.new.self c.store.new.self (looked_waits c.args.self.now c.copy_under.new.self c.requires.rests c.copy_under.ensures.looked c.copy_under.ensures.mark) S.0)
+    raised_behind c.args.self.now c.append_all.new.self c.raise.new.self
+    (waits_then c.args.self.now c.copy_under.new.self c.append_all.new.self (looked_waits c.args.self.now c.copy_under.new.self c.requires.rests c.copy_under.ensures.looked c.copy_under.ensures.mark) S.0)
     R.looked (omega (arith, R.up, R.mark)) (omega (arith, R.reaches, R.mark))
 
 went_on : (g : given.Over) (c : goal.After-drop-backlog-2 g) → Goes g.D.Disk.keeps g.J.Naming.formatted g.J.Naming.before c.args.self.now c.raise.new.self
 went_on g c =
-    goes_then g.D.Disk.keeps g.J.Naming.formatted g.J.Naming.before c.args.self.now c.store.new.self c.raise.new.self
-    (goes_then g.D.Disk.keeps g.J.Naming.formatted g.J.Naming.before c.args.self.now c.copy_under.new.self c.store.new.self
+    goes_then g.D.Disk.keeps g.J.Naming.formatted g.J.Naming.before c.args.self.now c.append_all.new.self c.raise.new.self
+    (goes_then g.D.Disk.keeps g.J.Naming.formatted g.J.Naming.before c.args.self.now c.copy_under.new.self c.append_all.new.self
     (goes_looked g.D.Disk.keeps g.J.Naming.formatted g.J.Naming.before c.args.self.now c.copy_under.new.self c.known.ensures.disk c.copy_under.ensures.looked)
-    (record { walks = c.store.ensures.walks; process = c.store.ensures.process }))
+    (record { walks = c.append_all.ensures.walks; process = c.append_all.ensures.process }))
     c.raise.ensures.goes
 
 pub returns-clause-goes : goal.returns-clause-goes
@@ -92,17 +93,24 @@ returns-clause-goes g c =
 
 pub returns-clause-ended : goal.returns-clause-ended
 returns-clause-ended g c =
-    done_rested c.in_ok-switched.switched c.args.self.now c.raise.new.self c.checkpoint.new.self c.raise-mark.new.self (raised g c) c.in_ok-switched.ensures.checkpointed c.raise-mark.ensures.looked
+    done_rested c.in_ok-done.done.switched c.args.self.now c.raise.new.self c.checkpoint.new.self c.raise-mark.new.self (raised g c) c.in_ok-done.ensures.checkpointed c.raise-mark.ensures.looked
 
 pub returns-clause-switched : goal.returns-clause-switched
 returns-clause-switched g c =
-    done_generation c.in_ok-switched.switched c.args.self.now c.raise.new.self c.checkpoint.new.self c.raise-mark.new.self (raised g c) c.in_ok-switched.ensures.checkpointed c.raise-mark.ensures.looked
+    done_generation c.in_ok-done.done.switched c.args.self.now c.raise.new.self c.checkpoint.new.self c.raise-mark.new.self (raised g c) c.in_ok-done.ensures.checkpointed c.raise-mark.ensures.looked
 
 pub returns-clause-mark : goal.returns-clause-mark
 returns-clause-mark g c =
-    let S = c.in_ok-store.ensures.stored in
+    let S = c.in_ok-append_all.ensures.stored in
     let C = c.in-Ok.ensures.copied in
-    (c.raise-mark.ensures.mark, omega (arith, C.reaches, S.1, c.raise.ensures.reaches, c.raise.ensures.mark, went_on_mark c.in_ok-switched.switched c.raise.new.self c.checkpoint.new.self c.in_ok-switched.ensures.checkpointed, c.raise-mark.ensures.up))
+    (c.raise-mark.ensures.mark, omega (arith, C.reaches, S.1, c.raise.ensures.reaches, c.raise.ensures.mark, went_on_mark c.in_ok-done.done.switched c.raise.new.self c.checkpoint.new.self c.in_ok-done.ensures.checkpointed, c.raise-mark.ensures.up))
 
 pub returns-clause-copied : goal.returns-clause-copied
 returns-clause-copied g c = subst (λ before. CopiedIn c.in-Ok.copied.upto before c.copy_under.new.seen) c.new-seen.ensures c.in-Ok.ensures.seen
+
+pub returns-clause-imaged : goal.returns-clause-imaged
+returns-clause-imaged g c stays =
+    imaged_between (length g.J.Naming.start.nodes) c.in_ok-done.done.images _ [] c.checkpoint.new.looked c.args.self.now c.raise.new.self c.checkpoint.new.self c.raise-mark.new.self
+    (c.in_ok-done.ensures.imaged stays) c.new-looked.ensures
+    (c.raise.ensures.looked.progress ∙ c.append_all.ensures.progress ∙ c.copy_under.ensures.looked.progress)
+    c.raise-mark.ensures.looked.progress c.raise-mark.ensures.looked.topology

@@ -39,6 +39,7 @@ invariant_of-result g c =
       subst (λ (k : Known). g.J.Naming.first ≤ k.world.stored) (sym c.of-whole.ensures) (omega (arith, c.requires.first, c.requires.next)),
       subst (λ (k : Known). key.numbered_from ≤ k.world.stored) (sym c.of-whole.ensures) (omega (arith, c.requires.numbered, c.requires.first, c.requires.next)),
       holds_same place.form key.form c.requires.form,
+      (λ failed. absurd (true≢false (sym failed ∙ c.requires.unbroken))),
     )
 
 pub returns-clause-world : goal.returns-clause-world

@@ -1,4 +1,4 @@
-use Rattle.std.proofs.Common.{◌≡◌, ◌+◌, ◌<◌, ◌≤◌, [], ◌∷◌, None, false, get_or, length, refl, sym, subst, ap, ◌∙◌, ℕ, true, arith, IfOk, OnErr, OnOk}
+use Rattle.std.proofs.Common.{◌≡◌, ◌+◌, ◌<◌, ◌≤◌, [], ◌∷◌, false, get_or, length, refl, sym, subst, ap, ◌∙◌, ℕ, true, arith, IfOk, OnErr, OnOk}
 use Rattle.std.specs.Prelude.{Ok}
 use Rattle.tp_model.specs.NodeState.{NodeState}
 use Rattle.tp_model.specs.Node.{t414}
@@ -120,6 +120,7 @@ invariant_of-self g c =
       subst (λ (k : Known). g.J.Naming.first ≤ k.world.stored) (sym c.of-parts.ensures) (omega (arith, put_stored a.new.self.broken p.whole.known.world new.now, c.self.invariant.6)),
       subst (λ (k : Known). p.key.value.numbered_from ≤ k.world.stored) (sym c.of-parts.ensures) (omega (arith, put_stored a.new.self.broken p.whole.known.world new.now, c.self.invariant.7)),
       holds_at p.store.place a.new.self.place p.key.value.form (ap (λ (q : Place). q.form) a.ensures.place) c.self.invariant.8,
+      c.tell_where.ensures,
     )
 
 abbrev behind : (g : given.Over) (c : goal.After-answer_of g) → Flushing

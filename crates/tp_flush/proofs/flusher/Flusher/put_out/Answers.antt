@@ -19,11 +19,12 @@ invariant_of-self g c =
       c.self.invariant.1,
       c.self.invariant.2,
       c.self.invariant.3,
-      subst (λ (q : Progress). Copies g.D.Disk.keeps p.whole.known.world.net (g.D.Disk.state p.store.disk) p.store.place p.store.broken p.topology q) (sym c.put_out.ensures)
+      subst (λ (q : Progress). Copies g.D.Disk.keeps p.whole.known.world.net (g.D.Disk.state p.store.disk) p.store.place p.store.broken p.topology q) (sym c.put_out.ensures.with)
           (out_more g.D.Disk.keeps p.whole.known.world.net (g.D.Disk.state p.store.disk) p.store.place p.store.broken p.topology p.progress c.args.node c.self.invariant.4
           (λ k. subst (λ (v : Flushing). IsPartOut v.topology v.world.net (content_beside v.place v.state) c.args.node (get_or v.topology.pages c.args.node 0)) (sym c.self.view_is) (c.requires.stands k))),
       c.self.invariant.5,
       c.self.invariant.6,
       c.self.invariant.7,
       c.self.invariant.8,
+      c.self.invariant.9,
     )

@@ -42,6 +42,7 @@ invariant_of-self g c =
       subst (λ (k : Known). g.J.Naming.first ≤ k.world.stored) (sym c.of-parts.ensures) c.self.invariant.6,
       subst (λ (k : Known). p.key.value.numbered_from ≤ k.world.stored) (sym c.of-parts.ensures) c.self.invariant.7,
       c.self.invariant.8,
+      c.self.invariant.9,
     )
 
 pub returns-clause-mark : goal.returns-clause-mark

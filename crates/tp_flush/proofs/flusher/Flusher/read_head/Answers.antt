@@ -30,6 +30,7 @@ invariant_of-self g c =
       subst (λ (k : Known). g.J.Naming.first ≤ k.world.stored) (sym c.of-parts.ensures) c.self.invariant.6,
       subst (λ (k : Known). now.numbered_from ≤ k.world.stored) (sym c.of-parts.ensures) (omega (arith, c.frozen_head-found.ensures.since.numbered, c.self.invariant.7)),
       holds_since p.store.place.form p.key.value now c.frozen_head-found.ensures.since c.self.invariant.8,
+      c.self.invariant.9,
     )
 
 abbrev flushing : (g : given.Over) (c : goal.After-parts-2-1 g) → Known → Flushing

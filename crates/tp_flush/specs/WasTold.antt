@@ -1,0 +1,14 @@
+-- That the book was told of a call of the device that failed.
+use Rattle.std.specs.Prelude.{◌≡◌, Bool, true, List, [], ◌∷◌, ◌++◌}
+use Rattle.tp_book.specs.Book.{BookValue}
+
+-- Of the books that were seen the last one is broken: it refuses what is to be journalled.
+pub record WasTold (seen : List BookValue) : Type 0 where
+  pub before : List BookValue
+  pub found : BookValue
+  pub shown : seen ≡ before ++ found ∷ []
+  pub broken : found.broken ≡ true
+
+-- so it is where a call failed
+abbrev pub ToldWhere : Bool → List BookValue → Type 0
+ToldWhere failed seen = failed ≡ true → WasTold seen
