@@ -7,6 +7,7 @@ pub mod Status
 pub mod NodeText
 pub mod Entries
 pub mod Views
+pub mod Checked
 pub mod Looks
 pub mod Steady
 pub mod Attempt

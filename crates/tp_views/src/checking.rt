@@ -1,7 +1,11 @@
 //! `tpnet check`: a topology and its images, and how large an area has to be.
 
-ghost use Rattle.std.specs.Prelude.{◌≡◌, ◌≤◌, ◌<◌, ◌^◌, true};
+ghost use Rattle.std.specs.Prelude.{◌≡◌, ◌⊎◌, ◌≤◌, ◌++◌, IfOk, IsErr, IsSome, None, OnOk, map, string_bytes, true};
+ghost use Rattle.std.specs.Io.KnownBytes.{Appends};
+ghost use Rattle.tp_model.specs.Format.{start_of};
 ghost use Rattle.tp_model.specs.Topology.{is_topology};
+ghost use Rattle.tp_views.specs.Checked.{area_for, area_line, area_lines, checked_text, least_line, shape_line};
+ghost use Rattle.tp_views.specs.Front.{AppendsFront};
 
 use crate::commands::{put, refuse};
 use crate::formats::{form_name, version_number};
@@ -18,6 +22,7 @@ use tp_net::Topology;
 /// Whether a device may be formatted with the images: it is tried on one that has no bytes.
 fn check_images(alloc: Global, topology: &Topology, images: &[Vec<u8>]) -> Result<(), Refusal>
     requires { is_topology topology.now ≡ true }
+    ensures { OnOk result (IsSome (start_of topology.now (map (λ image. image.items) images.now))) }
 {
     let mut nothing = MemDisk::of_bytes(Vec::new(alloc));
     match format(alloc, &mut nothing, topology, images, 0) {
@@ -30,25 +35,69 @@ fn check_images(alloc: Global, topology: &Topology, images: &[Vec<u8>]) -> Resul
 /// How many entries the journals have room for, whose areas are told.
 const JOURNALS: [u32; 3] = [4_096, 65_536, 1_048_576];
 
+/// Appends how many nodes and ports there are, which version of the head would be written, and the form of the areas.
+fn push_shape(text: &mut String, nodes: usize, ports: usize, version: u8) -> Result<(), AllocError>
+    ensures { OnOk result (string_bytes text.new ≡ string_bytes text.old ++ shape_line nodes ports version) }
+{
+    let form = form_name(Form::Turns);
+    write!(
+        text,
+        "nodes {nodes} ports {ports} version {version} form {form}\n"
+    )
+}
+
+/// Appends how large an area has to be at least.
+fn push_least(text: &mut String, topology: &Topology) -> Result<(), AllocError>
+    requires { is_topology topology.now ≡ true }
+    ensures { OnOk result (string_bytes text.new ≡ string_bytes text.old ++ least_line (area_for topology.now 1)) }
+{
+    let least = area_for(topology, 1);
+    write!(text, "least area {least}\n")
+}
+
+/// Appends how large an area has to be whose journal has room for `entries`.
+fn push_area(text: &mut String, topology: &Topology, entries: u32) -> Result<(), AllocError>
+    requires { is_topology topology.now ≡ true }
+    ensures { OnOk result (string_bytes text.new ≡ string_bytes text.old ++ area_line entries (area_for topology.now entries)) }
+{
+    let area = area_for(topology, u64::from(entries));
+    write!(text, "entries {entries} area {area}\n")
+}
+
+/// Appends a line for each of several journals.
+fn push_areas(text: &mut String, topology: &Topology, journals: &[u32]) -> Result<(), AllocError>
+    requires { is_topology topology.now ≡ true }
+    ensures { OnOk result (string_bytes text.new ≡ string_bytes text.old ++ area_lines topology.now journals.now) }
+{
+    for entries in journals {
+        push_area(text, topology, *entries)?;
+    }
+    Ok(())
+}
+
 fn checked_text(alloc: Global, topology: &Topology) -> Result<String, AllocError>
     requires { is_topology topology.now ≡ true }
+    ensures { IfOk result (λ text. string_bytes text ≡ checked_text topology.now) }
 {
     let (nodes, ports) = (topology.pages().len(), topology.port_count());
-    let (version, form) = (
-        version_number(version_for(topology)),
-        form_name(Form::Turns),
-    );
-    let least = area_for(topology, 1);
+    let version = version_number(version_for(topology));
     let mut text = String::new(alloc);
-    write!(
-        &mut text,
-        "nodes {nodes} ports {ports} version {version} form {form}\nleast area {least}\n"
-    )?;
-    for entries in JOURNALS {
-        let area = area_for(topology, u64::from(entries));
-        write!(&mut text, "entries {entries} area {area}\n")?;
-    }
+    push_shape(&mut text, nodes, ports, version)?;
+    push_least(&mut text, topology)?;
+    push_areas(&mut text, topology, &JOURNALS)?;
     Ok(text)
+}
+
+/// Prints what is said of a topology.
+fn put_checked<O: Write>(alloc: Global, topology: &Topology, out: &mut O) -> Result<(), Refusal>
+    requires { is_topology topology.now ≡ true }
+    ensures printed { OnOk result (Appends (O.contents out.old) (O.contents out.new) (checked_text topology.now)) }
+    ensures front { (O.contents out.new ≡ O.contents out.old) ⊎ AppendsFront (O.contents out.old) (O.contents out.new) (checked_text topology.now) }
+{
+    let Ok(text) = checked_text(alloc, topology) else {
+        return Err(Refusal::Memory);
+    };
+    put(out, text.as_bytes())
 }
 
 fn check<O: Write>(
@@ -58,15 +107,19 @@ fn check<O: Write>(
     out: &mut O,
 ) -> Result<(), Refusal>
     requires { is_topology topology.now ≡ true }
+    ensures fit { OnOk result (IsSome (start_of topology.now (map (λ image. image.items) images.now))) }
+    ensures printed { OnOk result (Appends (O.contents out.old) (O.contents out.new) (checked_text topology.now)) }
+    ensures front { (O.contents out.new ≡ O.contents out.old) ⊎ AppendsFront (O.contents out.old) (O.contents out.new) (checked_text topology.now) }
+    ensures refused { start_of topology.now (map (λ image. image.items) images.now) ≡ None → (IsErr result) × (O.contents out.new ≡ O.contents out.old) }
 {
-    check_images(alloc, topology, images)?;
-    let Ok(text) = checked_text(alloc, topology) else {
-        return Err(Refusal::Memory);
-    };
-    put(out, text.as_bytes())
+    match check_images(alloc, topology, images) {
+        Ok(()) => put_checked(alloc, topology, out),
+        Err(refusal) => Err(refusal),
+    }
 }
 
-/// `tpnet check`, on a topology and its images. Answers the program's status.
+/// `tpnet check`, on a topology and its images. Answers the program's status: 0 where a device may be formatted with them and exactly
+/// what is said of the topology was printed, else 1. Where the images don't fit nothing is printed.
 pub fn check_on<O: Write, E: Write>(
     alloc: Global,
     topology: &Topology,
@@ -75,7 +128,11 @@ pub fn check_on<O: Write, E: Write>(
     err: &mut E,
 ) -> u8
     requires { is_topology topology.now ≡ true }
-    ensures { result ≤ 1 }
+    ensures status { result ≤ 1 }
+    ensures fit { result ≡ 0 → IsSome (start_of topology.now (map (λ image. image.items) images.now)) }
+    ensures printed { result ≡ 0 → Appends (O.contents out.old) (O.contents out.new) (checked_text topology.now) }
+    ensures front { (O.contents out.new ≡ O.contents out.old) ⊎ AppendsFront (O.contents out.old) (O.contents out.new) (checked_text topology.now) }
+    ensures refused { start_of topology.now (map (λ image. image.items) images.now) ≡ None → (result ≡ 1) × (O.contents out.new ≡ O.contents out.old) }
 {
     match check(alloc, topology, images, out) {
         Ok(()) => 0,

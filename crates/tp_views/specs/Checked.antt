@@ -1,0 +1,37 @@
+-- What `check` prints of a topology.
+use Rattle.std.specs.Prelude.{ℕ, ◌+◌, ◌*◌, List, [], ◌∷◌, ◌++◌, length, codes}
+use Rattle.std.specs.Fmt.{decimal}
+use Rattle.tp_model.specs.declared.form.Form.TheVariants.{Turns}
+use Rattle.tp_model.specs.declared.limits.TheConstants.{AREA_HEAD_BYTES}
+use Rattle.tp_model.specs.Head.{version_byte, version_for}
+use Rattle.tp_model.specs.Journal.{cut_length, entry_room, reserve}
+use Rattle.tp_model.specs.Topology.{Topology, line_count}
+use Rattle.tp_views.specs.Names.{form_name}
+
+-- how many bytes an area needs for entries that anyone may make, each in a group of its own
+abbrev pub area_for : Topology → ℕ → ℕ
+area_for t entries = cut_length t + (AREA_HEAD_BYTES + 1) + (reserve (line_count t) + entry_room * entries)
+
+-- how many nodes and ports there are, which version of the head would be written, and the form of the areas
+abbrev pub shape_line : ℕ → ℕ → ℕ → List ℕ
+shape_line nodes ports version =
+    codes "nodes " ++ (decimal nodes ++ (codes " ports " ++ (decimal ports ++ (codes " version " ++ (decimal version ++ (codes " form " ++ (form_name Turns ++ 10 ∷ [])))))))
+
+-- the least area
+abbrev pub least_line : ℕ → List ℕ
+least_line area = codes "least area " ++ (decimal area ++ 10 ∷ [])
+
+-- the area whose journal has room for that many entries
+abbrev pub area_line : ℕ → ℕ → List ℕ
+area_line entries area = codes "entries " ++ (decimal entries ++ (codes " area " ++ (decimal area ++ 10 ∷ [])))
+
+-- a line for each of several journals
+abbrev pub area_lines : Topology → List ℕ → List ℕ
+area_lines t [] = []
+area_lines t (entries ∷ journals) = area_line entries (area_for t entries) ++ area_lines t journals
+
+-- All that is printed of it.
+abbrev pub checked_text : Topology → List ℕ
+checked_text t =
+    shape_line (length t.pages) t.ports (version_byte (version_for t))
+    ++ (least_line (area_for t 1) ++ area_lines t (4096 ∷ 65536 ∷ 1048576 ∷ []))
