@@ -1,7 +1,6 @@
 //! Runs of one worker, one after another on a device.
 
-use crate::devices::letter;
-use crate::players::{FOUR, is_kept, left, play};
+use crate::runs::{FOUR, crash, letter, run_on};
 use std::alloc::Global;
 use std::process::Abort;
 use std::sync::Wait;
@@ -9,7 +8,7 @@ use std::test::Fail;
 use std::thread::Threads;
 use tp_disk::MemDisk;
 use tp_model::{Entry, OpenFault, Received, Token};
-use tp_recover::Unopened;
+use tp_recover::{Unopened, open};
 use tp_run::{Job, RunFault};
 
 /// What is run, with this input; what it prints, and what it answers.
@@ -67,21 +66,32 @@ const FULL: &[Row] = &[
     (NONE, &[7; 101], b"", Ok(105)),
 ];
 
-fn play_rows<R: Threads + Wait + Abort + Sync>(
+/// Whether a run prints and answers what its row says.
+fn is_row<R: Threads + Wait + Abort + Sync>(
     rt: &R,
     alloc: Global,
-    disk: MemDisk,
+    disk: &mut MemDisk,
+    row: &Row,
+) -> bool {
+    let (job, input, prints, answer) = *row;
+    let mut out = Vec::new(alloc);
+    let done = run_on(rt, alloc, job, disk, input, &mut out);
+    done == answer && out.as_slice() == prints
+}
+
+/// Whether all of them do, one after another.
+fn are_rows<R: Threads + Wait + Abort + Sync>(
+    rt: &R,
+    alloc: Global,
+    disk: &mut MemDisk,
     rows: &[Row],
-) -> MemDisk {
-    let mut disk = disk;
-    for (job, input, prints, answer) in rows {
-        let mut out = Vec::new(alloc);
-        let done = play(rt, alloc, disk, *job, input, &mut out);
-        assert!(rt; done.1 == *answer);
-        assert!(rt; out.as_slice() == *prints);
-        disk = done.0;
+) -> bool {
+    for row in rows {
+        if !is_row(rt, alloc, disk, row) {
+            return false;
+        }
     }
-    disk
+    true
 }
 
 /// The steps in front of the letter, the letter as the host takes it, and that it was printed.
@@ -125,14 +135,34 @@ const INPUT_C: Entry = Entry::HostIn {
 };
 
 /// Whether just `entries` are kept on what a crash leaves of a device.
-fn leaves(alloc: Global, disk: MemDisk, entries: &[Entry]) -> Result<bool, Fail> {
-    let (_, opened) = left(alloc, disk)?;
-    Ok(is_kept(&opened, entries))
+fn leaves(alloc: Global, disk: &mut MemDisk, entries: &[Entry]) -> Result<bool, Unopened> {
+    crash(alloc, disk);
+    let opened = open(alloc, disk)?;
+    let kept = opened.kept();
+    Ok(
+        kept.len() == entries.len()
+            && kept
+                .iter()
+                .zip(entries)
+                .all(|(one, other)| one.entry == *other),
+    )
+}
+
+/// Whether runs on the device of the node that sends a letter go as their rows say, and just `entries` are kept then.
+fn go<R: Threads + Wait + Abort + Sync>(
+    rt: &R,
+    alloc: Global,
+    rows: &[Row],
+    entries: &[Entry],
+) -> Result<bool, Fail> {
+    let mut disk = letter(alloc)?;
+    let are_so = are_rows(rt, alloc, &mut disk, rows);
+    let told = leaves(alloc, &mut disk, entries);
+    Ok(told? && are_so)
 }
 
 #[test]
 fn runs_keep_what_was_worked_out(rt: HostRuntime) -> Result<(), Fail> {
-    let alloc = rt.alloc();
     // The entries that are kept then.
     let printed = [RUN_3, LETTER, turn(Received::JustAck, 16), CONFIRMED];
     // Input is handed in once.
@@ -153,18 +183,29 @@ fn runs_keep_what_was_worked_out(rt: HostRuntime) -> Result<(), Fail> {
         (TAKES, &taken),
     ];
     for (rows, entries) in stories {
-        let disk = play_rows(&rt, alloc, letter(alloc)?, rows);
-        let told = leaves(alloc, disk, entries)?;
+        let told = go(&rt, rt.alloc(), rows, entries)?;
         assert!(rt; told);
     }
     Ok(())
 }
 
+/// Whether runs on a device go as their rows say.
+fn are_refused<R: Threads + Wait + Abort + Sync>(
+    rt: &R,
+    alloc: Global,
+    rows: &[Row],
+    disk: MemDisk,
+) -> bool {
+    let mut disk = disk;
+    are_rows(rt, alloc, &mut disk, rows)
+}
+
 #[test]
 fn what_may_not_be_is_refused(rt: HostRuntime) -> Result<(), Fail> {
     let alloc = rt.alloc();
-    play_rows(&rt, alloc, letter(alloc)?, REFUSED);
-    play_rows(&rt, alloc, letter(alloc)?, FULL);
-    play_rows(&rt, alloc, MemDisk::zeroed(alloc, 600)?, BLANK);
+    let refused = are_refused(&rt, alloc, REFUSED, letter(alloc)?);
+    let full = are_refused(&rt, alloc, FULL, letter(alloc)?);
+    let blank = are_refused(&rt, alloc, BLANK, MemDisk::zeroed(alloc, 600)?);
+    assert!(rt; refused && full && blank);
     Ok(())
 }

@@ -1,7 +1,6 @@
 //! Devices and outputs that fail.
 
-use crate::devices::letter;
-use crate::players::{FOUR, left, play};
+use crate::runs::{FOUR, left, letter, run_on};
 use std::alloc::{AllocError, Global};
 use std::io;
 use std::io::{ErrorKind, Write};
@@ -49,26 +48,20 @@ fn was_printed(done: Result<u64, RunFault>, out: &[u8]) -> Option<bool> {
     }
 }
 
-/// The number of the next entry on what a crash leaves of a device.
-fn next_left(alloc: Global, disk: MemDisk) -> Result<(MemDisk, u64), Fail> {
-    let (disk, opened) = left(alloc, disk)?;
-    Ok((disk, opened.next()))
-}
-
 /// Whether a run behind one that ended so is done: the letter is printed again, or was confirmed.
 fn goes_on<R: Threads + Wait + Abort + Sync>(
     rt: &R,
     alloc: Global,
-    disk: MemDisk,
+    disk: &mut MemDisk,
     done: Result<u64, RunFault>,
     was_printed: bool,
 ) -> Result<bool, Fail> {
-    let (disk, next) = next_left(alloc, disk)?;
+    let next = left(alloc, disk)?.next;
     let is_kept = !was_printed || next >= 4;
     let is_told = done != Ok(next) || next == 5;
     let again = Job { turns: 64, ..FOUR };
     let mut then = Vec::new(alloc);
-    let (_, later) = play(rt, alloc, disk, again, b"x", &mut then);
+    let later = run_on(rt, alloc, again, disk, b"x", &mut then);
     let printed = if next == 5 { b"" } else { b"A".as_slice() };
     Ok(is_kept && is_told && later.is_ok() && then.as_slice() == printed)
 }
@@ -78,10 +71,10 @@ fn goes_on<R: Threads + Wait + Abort + Sync>(
 fn play_fault<R: Threads + Wait + Abort + Sync>(
     rt: &R,
     alloc: Global,
-    disk: MemDisk,
+    disk: &mut MemDisk,
     out: &mut Vec<u8>,
 ) -> Result<Option<bool>, Fail> {
-    let (disk, done) = play(rt, alloc, disk, FOUR, b"x", out);
+    let done = run_on(rt, alloc, FOUR, disk, b"x", out);
     let Some(was_printed) = was_printed(done, out) else {
         return Ok(None);
     };
@@ -96,24 +89,37 @@ fn play_call<R: Threads + Wait + Abort + Sync>(
     call: u64,
     kind: u8,
 ) -> Result<Option<bool>, Fail> {
-    let disk = letter(alloc)?.with_fault(call, fault_of(alloc, kind)?);
+    let mut disk = letter(alloc)?.with_fault(call, fault_of(alloc, kind)?);
     let mut out = Vec::new(alloc);
-    let failed = play_fault(rt, alloc, disk, &mut out);
+    let failed = play_fault(rt, alloc, &mut disk, &mut out);
     failed
+}
+
+/// In how many calls a run failed that fails in this way. None where something doesn't go on as it should.
+fn count_failed<R: Threads + Wait + Abort + Sync>(
+    rt: &R,
+    alloc: Global,
+    kind: u8,
+) -> Result<Option<u64>, Fail> {
+    let mut failed = 0u64;
+    for call in 0..CALLS {
+        match play_call(rt, alloc, call, kind)? {
+            Some(true) => failed = failed.saturating_add(1),
+            Some(false) => {}
+            None => return Ok(None),
+        }
+    }
+    Ok(Some(failed))
 }
 
 #[test]
 fn any_call_of_the_device_may_fail(rt: HostRuntime) -> Result<(), Fail> {
     for kind in 0..KINDS {
-        let mut failed = 0u64;
-        for call in 0..CALLS {
-            match play_call(&rt, rt.alloc(), call, kind)? {
-                Some(true) => failed = failed.saturating_add(1),
-                Some(false) => {}
-                None => panic!(rt; "call {call}, kind {kind}"),
-            }
-        }
-        assert!(rt; 16 < failed && failed < CALLS);
+        let failed = count_failed(&rt, rt.alloc(), kind)?;
+        assert!(rt;
+            matches!(failed, Some(failed) if 16 < failed && failed < CALLS),
+            "kind {kind}"
+        );
     }
     Ok(())
 }
@@ -147,10 +153,11 @@ fn is_not_confirmed<R: Threads + Wait + Abort + Sync>(
     disk: MemDisk,
     fails: bool,
 ) -> bool {
+    let mut disk = disk;
     let mut narrow = Narrow { room: 0, fails };
-    let (disk, failed) = play(rt, alloc, disk, FOUR, b"", &mut narrow);
+    let failed = run_on(rt, alloc, FOUR, &mut disk, b"", &mut narrow);
     let mut out = Vec::new(alloc);
-    let (_, done) = play(rt, alloc, disk, FOUR, b"", &mut out);
+    let done = run_on(rt, alloc, FOUR, &mut disk, b"", &mut out);
     failed == Err(RunFault::OutputFailed) && done.is_ok() && out.as_slice() == b"A".as_slice()
 }
 
