@@ -1,20 +1,15 @@
 //! A device whose journal a plain run has filled.
 
-ghost use Rattle.std.specs.Prelude.{◌<◌, ◌≤◌};
-ghost use Rattle.tp_model.specs.declared.limits.TheConstants.{MAX_STEPS};
-ghost use Rattle.tp_work.specs.declared.start.TheConstants.{MAX_WORKERS};
-
 use crate::devices::{DEAF, LETTERS, ONE};
 use crate::players::{Asked, Desk, Left, NO_INPUT, QUIET, look, play_desk};
-use std::alloc::Global;
-use std::io::Write;
+use crate::runs::run_on;
 use std::mem;
 use std::process::Abort;
 use std::sync::Wait;
 use std::test::Fail;
 use std::thread::Threads;
-use tp_disk::{Disk, MemDisk};
-use tp_run::{Job, MAX_WORKERS, RunFault, run};
+use tp_disk::MemDisk;
+use tp_run::{Job, RunFault};
 use tp_stream::{Ending, StreamFault, Task};
 
 /// A node of eight pages.
@@ -30,38 +25,6 @@ const FILLS: Job = Job {
     port: 0,
 };
 
-// A run, where as many steps and workers are asked for as may be.
-fn run_within<D: Disk + Send + Drop, O: Write, R: Threads + Wait + Sync>(
-    rt: &R,
-    alloc: Global,
-    job: Job,
-    disk: D,
-    out: &mut O,
-) -> (D, Result<u64, RunFault>)
-    requires workers { (0 < job.workers) × (job.workers ≤ MAX_WORKERS) }
-    requires quantum { (0 < job.quantum) × (job.quantum ≤ MAX_STEPS) }
-{
-    run(rt, alloc, job, disk, b"", out)
-}
-
-/// A run of the device with these bytes, which are then what a crash leaves.
-fn run_on<O: Write, R: Threads + Wait + Abort + Sync>(
-    rt: &R,
-    alloc: Global,
-    job: Job,
-    device: &mut Vec<u8>,
-    out: &mut O,
-) -> Result<u64, RunFault> {
-    assert!(rt; 0 < job.workers);
-    assert!(rt; job.workers <= MAX_WORKERS);
-    assert!(rt; 0 < job.quantum);
-    assert!(rt; job.quantum <= 4096);
-    let disk = MemDisk::of_bytes(mem::replace(device, Vec::new(alloc)));
-    let (disk, done) = run_within(rt, alloc, job, disk, out);
-    *device = disk.crash();
-    done
-}
-
 /// What a run leaves that fills a journal, where it does and no snapshot is there.
 fn filled<R: Threads + Wait + Abort + Sync>(
     rt: &R,
@@ -72,7 +35,9 @@ where
 {
     let alloc = rt.alloc();
     let mut out = Vec::new(alloc);
-    let filled = run_on(rt, alloc, FILLS, device, &mut out);
+    let mut disk = MemDisk::of_bytes(mem::replace(device, Vec::new(alloc)));
+    let filled = run_on(rt, alloc, FILLS, &mut disk, b"", &mut out);
+    *device = disk.crash();
     let full = look(alloc, device)?;
     Ok(if filled == Err(RunFault::ConfirmRefused) && full.base == 0 {
         Some(full)

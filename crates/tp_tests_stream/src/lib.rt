@@ -1,8 +1,10 @@
-//! Streams over devices in memory, with sinks and sources that fail.
+//! Runs and streams over devices in memory, as the program makes them, with devices, outputs, sinks and sources that fail.
 #![tactic(auto)]
 
 #[cfg(test)]
 mod asked;
+#[cfg(test)]
+mod checkpoints;
 #[cfg(test)]
 mod devices;
 #[cfg(test)]
@@ -20,7 +22,15 @@ mod long;
 #[cfg(test)]
 mod players;
 #[cfg(test)]
+mod rings;
+#[cfg(test)]
 mod rows;
+#[cfg(test)]
+mod run_faults;
+#[cfg(test)]
+mod run_rows;
+#[cfg(test)]
+mod runs;
 #[cfg(test)]
 mod steps;
 #[cfg(test)]

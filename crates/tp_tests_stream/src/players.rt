@@ -10,6 +10,7 @@ use std::process::Abort;
 use std::sync::Wait;
 use std::test::Fail;
 use tp_disk::{Disk, MemDisk};
+use tp_model::Form;
 use tp_recover::open;
 use tp_stream::{
     Ended, Ending, Input, Listener, MemSink, Noted, Output, Progress, Sink, Source, SourceFailed,
@@ -220,21 +221,22 @@ pub(crate) fn play<S: Sink, I: Source, R: Wait + Abort>(
     done
 }
 
-/// What a device opens to: the number of the next entry, the generation of its area, and how many entries that area's cut holds.
+/// What a device opens to: the number of the next entry, the generation of its area and its form, and how many entries its cut holds.
 #[derive(Clone, Copy)]
 pub(crate) struct Left {
     pub(crate) next: u64,
     pub(crate) generation: u64,
+    pub(crate) form: Form,
     pub(crate) base: u64,
 }
 
-fn look_at(alloc: Global, disk: &mut MemDisk) -> Result<Left, Fail> {
+pub(crate) fn look_at(alloc: Global, disk: &mut MemDisk) -> Result<Left, Fail> {
     let opened = open(alloc, disk)?;
-    let (next, generation, base) = (opened.next(), opened.generation(), opened.base());
     Ok(Left {
-        next,
-        generation,
-        base,
+        next: opened.next(),
+        generation: opened.generation(),
+        form: opened.form(),
+        base: opened.base(),
     })
 }
 

@@ -1,5 +1,0 @@
-use Rattle.tp_flush.specs.History.{untold}
-use Rattle.tp_tests_run.proofs.players.play_within.Given as goal
-
-abbrev pub ghost-run : goal.ghost-run
-ghost-run g a = untold

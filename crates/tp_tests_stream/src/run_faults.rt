@@ -1,0 +1,172 @@
+//! Devices and outputs that fail.
+
+use crate::runs::{FOUR, left, letter, run_on};
+use std::alloc::{AllocError, Global};
+use std::io;
+use std::io::{ErrorKind, Write};
+use std::process::Abort;
+use std::sync::Wait;
+use std::test::Fail;
+use std::thread::Threads;
+use tp_disk::{MemDisk, PlannedFault};
+use tp_run::{Job, RunFault};
+
+/// More calls than a run makes on the device.
+const CALLS: u64 = 40;
+
+/// How a call fails.
+const KINDS: u8 = 4;
+
+fn fault_of(alloc: Global, kind: u8) -> Result<PlannedFault, AllocError> {
+    Ok(match kind {
+        0 => PlannedFault::StopsBefore,
+        1 => PlannedFault::Fails {
+            torn: Vec::new(alloc),
+        },
+        2 => PlannedFault::Fails {
+            torn: Vec::from_elem(alloc, 0xA5, 64)?,
+        },
+        _ => PlannedFault::StopsWithin {
+            torn: Vec::from_elem(alloc, 0xA5, 64)?,
+        },
+    })
+}
+
+/// Whether a run that answers so printed its letter; none where it printed something else, or answers another fault.
+fn was_printed(done: Result<u64, RunFault>, out: &[u8]) -> Option<bool> {
+    let (is_letter, wanted) = match done {
+        Ok(next) => (true, next == 5),
+        Err(RunFault::LastFlushFailed) => (true, true),
+        Err(RunFault::FlushFailed | RunFault::Opening(_)) => (false, true),
+        Err(_) => (false, false),
+    };
+    let printed = if is_letter { b"A".as_slice() } else { b"" };
+    if wanted && out == printed {
+        Some(is_letter)
+    } else {
+        None
+    }
+}
+
+/// Whether a run behind one that ended so is done: the letter is printed again, or was confirmed.
+fn goes_on<R: Threads + Wait + Abort + Sync>(
+    rt: &R,
+    alloc: Global,
+    disk: &mut MemDisk,
+    done: Result<u64, RunFault>,
+    was_printed: bool,
+) -> Result<bool, Fail> {
+    let next = left(alloc, disk)?.next;
+    let is_kept = !was_printed || next >= 4;
+    let is_told = done != Ok(next) || next == 5;
+    let again = Job { turns: 64, ..FOUR };
+    let mut then = Vec::new(alloc);
+    let later = run_on(rt, alloc, again, disk, b"x", &mut then);
+    let printed = if next == 5 { b"" } else { b"A".as_slice() };
+    Ok(is_kept && is_told && later.is_ok() && then.as_slice() == printed)
+}
+
+/// A run over a device one call of which fails, and one behind it. Answers whether the first one failed; none where what was printed
+/// isn't there: it is printed again, or was confirmed.
+fn play_fault<R: Threads + Wait + Abort + Sync>(
+    rt: &R,
+    alloc: Global,
+    disk: &mut MemDisk,
+    out: &mut Vec<u8>,
+) -> Result<Option<bool>, Fail> {
+    let done = run_on(rt, alloc, FOUR, disk, b"x", out);
+    let Some(was_printed) = was_printed(done, out) else {
+        return Ok(None);
+    };
+    let goes_on = goes_on(rt, alloc, disk, done, was_printed)?;
+    Ok(if goes_on { Some(done.is_err()) } else { None })
+}
+
+/// The same for a call and a way in which it fails.
+fn play_call<R: Threads + Wait + Abort + Sync>(
+    rt: &R,
+    alloc: Global,
+    call: u64,
+    kind: u8,
+) -> Result<Option<bool>, Fail> {
+    let mut disk = letter(alloc)?.with_fault(call, fault_of(alloc, kind)?);
+    let mut out = Vec::new(alloc);
+    let failed = play_fault(rt, alloc, &mut disk, &mut out);
+    failed
+}
+
+/// In how many calls a run failed that fails in this way. None where something doesn't go on as it should.
+fn count_failed<R: Threads + Wait + Abort + Sync>(
+    rt: &R,
+    alloc: Global,
+    kind: u8,
+) -> Result<Option<u64>, Fail> {
+    let mut failed = 0u64;
+    for call in 0..CALLS {
+        match play_call(rt, alloc, call, kind)? {
+            Some(true) => failed = failed.saturating_add(1),
+            Some(false) => {}
+            None => return Ok(None),
+        }
+    }
+    Ok(Some(failed))
+}
+
+#[test]
+fn any_call_of_the_device_may_fail(rt: HostRuntime) -> Result<(), Fail> {
+    for kind in 0..KINDS {
+        let failed = count_failed(&rt, rt.alloc(), kind)?;
+        assert!(rt;
+            matches!(failed, Some(failed) if 16 < failed && failed < CALLS),
+            "kind {kind}"
+        );
+    }
+    Ok(())
+}
+
+/// An output that takes a number of bytes, and then fails or takes none.
+#[derive(Drop)]
+struct Narrow {
+    room: usize,
+    fails: bool,
+}
+
+impl Write for Narrow {
+    fn write(&mut self, bytes: &[u8]) -> io::Result<usize> {
+        if self.room == 0 && self.fails {
+            return Err(io::Error::from(ErrorKind::StorageFull));
+        }
+        let count = bytes.len().min(self.room);
+        self.room -= count;
+        Ok(count)
+    }
+
+    fn flush(&mut self) -> io::Result<()> {
+        Ok(())
+    }
+}
+
+/// Whether an output fails, and a run behind that prints the letter.
+fn is_not_confirmed<R: Threads + Wait + Abort + Sync>(
+    rt: &R,
+    alloc: Global,
+    disk: MemDisk,
+    fails: bool,
+) -> bool {
+    let mut disk = disk;
+    let mut narrow = Narrow { room: 0, fails };
+    let failed = run_on(rt, alloc, FOUR, &mut disk, b"", &mut narrow);
+    let mut out = Vec::new(alloc);
+    let done = run_on(rt, alloc, FOUR, &mut disk, b"", &mut out);
+    failed == Err(RunFault::OutputFailed) && done.is_ok() && out.as_slice() == b"A".as_slice()
+}
+
+#[test]
+fn an_output_that_fails_confirms_nothing(rt: HostRuntime) -> Result<(), Fail> {
+    let alloc = rt.alloc();
+    for fails in [false, true] {
+        let told = is_not_confirmed(&rt, alloc, letter(alloc)?, fails);
+        assert!(rt; told);
+    }
+    Ok(())
+}
