@@ -14,11 +14,38 @@ use tp_model::limits::{
 };
 use tp_model::{HeadVersion, OpenFault, TwoAreas};
 
+/// What is said of a front whose form is known.
+const BAD_FRONT: &str =
+    "  both areas are open with one generation, or a field breaks its rule: docs/FORMATS.md, section 5\n";
+
+/// What is said of the record of a line.
+const BAD_LINE: &str =
+    "  its tokens don't agree with the wire's ends: docs/FORMATS.md, section 6, tests 8 and 9\n";
+
+/// What is said of the record of a port.
+const BAD_PORT: &str = "  its counts or positions break their rule: docs/FORMATS.md, section 5\n";
+
+/// What is said of the journal.
+const BAD_JOURNAL: &str =
+    "  its header, its number or what it says isn't possible there: docs/FORMATS.md, section 6, tests 10 and 11\n";
+
+/// What is said where the head is another one now.
+const CHANGED: &str = "  its head was changed since it was opened: try again\n";
+
+/// What is said of a file that doesn't begin as a device does.
+const NO_DEVICE: &str =
+    "  it doesn't begin with TPNET\n  It is no device, or its format was stopped: make one with tpnet format.\n";
+
+/// Whether the bytes of a device from a place on are there and can be read. They are put into `bytes` then.
+fn is_read<D: Disk>(disk: &mut D, at: u64, bytes: &mut [u8]) -> bool {
+    let (size, count) = (disk.size(), bytes.len() as u64);
+    count <= size && at <= size - count && disk.read(at, bytes).is_ok()
+}
+
 /// The bytes of a device at a place, where it has them and they can be read.
 fn bytes_at<D: Disk, const N: usize>(disk: &mut D, at: u64) -> Option<[u8; N]> {
     let mut bytes = [0; N];
-    let size = disk.size();
-    if N as u64 <= size && at <= size - N as u64 && disk.read(at, &mut bytes).is_ok() {
+    if is_read(disk, at, &mut bytes) {
         Some(bytes)
     } else {
         None
@@ -39,6 +66,14 @@ fn push_gate<D: Disk>(text: &mut String, disk: &mut D, at: u64) -> Result<(), Al
     }
 }
 
+/// Says which rule the bytes of a node's image break, where they break one.
+fn push_rule(alloc: Global, text: &mut String, image: &[u8], pages: u16) -> Result<(), AllocError> {
+    match broken_rule(alloc, image, Some(pages), false)? {
+        Some(rule) => write!(text, "  {rule}\n"),
+        None => Ok(()),
+    }
+}
+
 /// Says which rule the image of a node on a device breaks.
 fn push_node<D: Disk>(
     alloc: Global,
@@ -47,54 +82,73 @@ fn push_node<D: Disk>(
     start: u64,
     pages: u16,
 ) -> Result<(), AllocError> {
-    let count = image_length(pages);
     let mut image = Vec::new(alloc);
-    image.resize(count, 0)?;
-    let size = disk.size();
-    if count as u64 > size || start > size - count as u64 || disk.read(start, &mut image).is_err() {
-        return Ok(());
+    image.resize(image_length(pages), 0)?;
+    if is_read(disk, start, &mut image) {
+        push_rule(alloc, text, image.as_slice(), pages)
+    } else {
+        Ok(())
     }
-    match broken_rule(alloc, &image, Some(pages), false)? {
-        Some(rule) => write!(text, "  {rule}\n"),
-        None => Ok(()),
+}
+
+/// Says that the areas of a device of `size` bytes don't fit it or its network.
+fn push_areas(text: &mut String, size: u64, areas: TwoAreas) -> Result<(), AllocError> {
+    let TwoAreas { first, length } = areas;
+    let needed = length.saturating_mul(2).saturating_add(first);
+    if size < needed {
+        write!(
+            text,
+            "  the device has {size} bytes, and its head says areas of {length}, for which it needs {needed}\n"
+        )
+    } else {
+        write!(
+            text,
+            "  its areas of {length} bytes are too small for its nodes and ports: docs/FORMATS.md, section 5\n"
+        )
     }
 }
 
 /// Says what is wrong with the head of a device of `size` bytes, whose layout this is by it.
 fn push_head(text: &mut String, size: u64, layout: &Layout, head: &[u8]) -> Result<(), AllocError> {
-    let TwoAreas { first, length } = layout.areas;
     if push_broken(text, layout.version, head)? {
-        return write!(text, ": docs/FORMATS.md, section 4\n");
+        text.push_str(": docs/FORMATS.md, section 4\n")
+    } else {
+        push_areas(text, size, layout.areas)
     }
-    let needed = length.saturating_mul(2).saturating_add(first);
-    if size < needed {
-        return write!(
-            text,
-            "  the device has {size} bytes, and its head says areas of {length}, for which it needs {needed}\n"
-        );
+}
+
+/// The form of the area that begins at `start`, where it can be read, and the place of it.
+fn form_at<D: Disk>(disk: &mut D, start: u64) -> (u64, Option<u64>) {
+    let at = start.saturating_add(FIELDS_BYTES as u64 - 1);
+    match bytes_at::<D, 2>(disk, at) {
+        Some(bytes) => (at, Some(u64::from(u16::from_le_bytes(bytes)))),
+        None => (at, None),
     }
-    write!(
-        text,
-        "  its areas of {length} bytes are too small for its nodes and ports: docs/FORMATS.md, section 5\n"
-    )
 }
 
 /// Says what is wrong with the front of the area that begins at `start`.
 fn push_front<D: Disk>(text: &mut String, disk: &mut D, start: u64) -> Result<(), AllocError> {
-    let at = start.saturating_add(FIELDS_BYTES as u64 - 1);
-    if let Some(bytes) = bytes_at::<D, 2>(disk, at) {
-        let form = u64::from(u16::from_le_bytes(bytes));
-        if form != PLAIN_FORM && form != TURNS_FORM {
-            return write!(
-                text,
-                "  the form, at {at}, is {form}, and this program reads {PLAIN_FORM} and {TURNS_FORM}\n"
-            );
-        }
+    let (at, form) = form_at(disk, start);
+    match form {
+        Some(form) if form != PLAIN_FORM && form != TURNS_FORM => write!(
+            text,
+            "  the form, at {at}, is {form}, and this program reads {PLAIN_FORM} and {TURNS_FORM}\n"
+        ),
+        _ => text.push_str(BAD_FRONT),
     }
-    write!(
-        text,
-        "  both areas are open with one generation, or a field breaks its rule: docs/FORMATS.md, section 5\n"
-    )
+}
+
+/// Says what stands at a place of a device, in the record that begins at `start`.
+fn push_place(
+    text: &mut String,
+    layout: &Layout,
+    at: u64,
+    record: Record,
+    start: u64,
+) -> Result<(), AllocError> {
+    write!(text, "  offset {at} is in ")?;
+    layout.push_record(text, record)?;
+    write!(text, ", from {start} on\n")
 }
 
 /// Says what is wrong at a place of a device.
@@ -107,28 +161,22 @@ fn push_damage<D: Disk>(
     at: u64,
 ) -> Result<(), AllocError> {
     let place = layout.place(at);
-    let size = disk.size();
-    write!(text, "  offset {at} is in ")?;
-    layout.push_record(text, place.record)?;
-    let start = place.start;
-    write!(text, ", from {start} on\n")?;
+    push_place(text, layout, at, place.record, place.start)?;
     match place.record {
-        Record::Head => push_head(text, size, layout, head),
-        Record::Image { pages, .. } => push_node(alloc, text, disk, start, pages),
-        Record::Front => push_front(text, disk, start),
-        Record::Line(_) => write!(
-            text,
-            "  its tokens don't agree with the wire's ends: docs/FORMATS.md, section 6, tests 8 and 9\n"
-        ),
-        Record::Port(_) => write!(
-            text,
-            "  its counts or positions break their rule: docs/FORMATS.md, section 5\n"
-        ),
-        Record::Journal => write!(
-            text,
-            "  its header, its number or what it says isn't possible there: docs/FORMATS.md, section 6, tests 10 and 11\n"
-        ),
+        Record::Head => push_head(text, disk.size(), layout, head),
+        Record::Image { pages, .. } => push_node(alloc, text, disk, place.start, pages),
+        Record::Front => push_front(text, disk, place.start),
+        Record::Line(_) => text.push_str(BAD_LINE),
+        Record::Port(_) => text.push_str(BAD_PORT),
+        Record::Journal => text.push_str(BAD_JOURNAL),
     }
+}
+
+/// Says why no area of a device is open.
+fn push_gates<D: Disk>(text: &mut String, disk: &mut D, layout: &Layout) -> Result<(), AllocError> {
+    push_gate(text, disk, layout.areas.first)?;
+    push_gate(text, disk, layout.second())?;
+    text.push_str("  Restore a copy, or make the device anew.\n")
 }
 
 /// Says why a device with a head of a version doesn't open.
@@ -136,32 +184,52 @@ fn push_behind<D: Disk>(
     alloc: Global,
     text: &mut String,
     disk: &mut D,
-    layout: &Layout,
+    version: HeadVersion,
     head: &[u8],
     fault: OpenFault,
 ) -> Result<(), AllocError> {
+    let layout = layout_of(version, head);
     match fault {
-        OpenFault::NoOpenArea => {
-            push_gate(text, disk, layout.areas.first)?;
-            push_gate(text, disk, layout.second())?;
-            write!(text, "  Restore a copy, or make the device anew.\n")
-        }
+        OpenFault::NoOpenArea => push_gates(text, disk, &layout),
         OpenFault::Damaged(at) => {
-            push_damage(alloc, text, disk, layout, head, at)?;
-            write!(text, "  Restore a copy of the device.\n")
+            push_damage(alloc, text, disk, &layout, head, at)?;
+            text.push_str("  Restore a copy of the device.\n")
         }
-        OpenFault::NotFormatted | OpenFault::BadVersion => write!(
+        OpenFault::NotFormatted | OpenFault::BadVersion => text.push_str(CHANGED),
+    }
+}
+
+/// Says that a device has too few bytes for a head of `wanted` bytes, and the way out.
+fn push_short(text: &mut String, size: u64, wanted: usize, way: &str) -> Result<(), AllocError> {
+    write!(
+        text,
+        "  it has {size} bytes, fewer than the {wanted} of a head\n  {way}\n"
+    )
+}
+
+/// Says why a device with a wide head doesn't open.
+fn push_wide<D: Disk>(
+    alloc: Global,
+    text: &mut String,
+    disk: &mut D,
+    fault: OpenFault,
+) -> Result<(), AllocError> {
+    match bytes_at::<D, WIDE_HEAD_BYTES>(disk, 0) {
+        Some(head) => push_behind(alloc, text, disk, HeadVersion::Wide, &head, fault),
+        None => push_short(
             text,
-            "  its head was changed since it was opened: try again\n"
+            disk.size(),
+            WIDE_HEAD_BYTES,
+            "Restore a copy of the device.",
         ),
     }
 }
 
-/// Says that a device has too few bytes for a head of `wanted` bytes.
-fn push_short(text: &mut String, size: u64, wanted: usize) -> Result<(), AllocError> {
+/// Says that a device has a version that isn't read.
+fn push_version(text: &mut String, version: u8) -> Result<(), AllocError> {
     write!(
         text,
-        "  it has {size} bytes, fewer than the {wanted} of a head\n"
+        "  byte {VERSION_PLACE}, the version, is {version}, and this program reads {NARROW_VERSION} and {WIDE_VERSION}\n  Open it with the program that made it.\n"
     )
 }
 
@@ -172,34 +240,20 @@ pub fn push_fault<D: Disk>(
     disk: &mut D,
     fault: OpenFault,
 ) -> Result<(), AllocError> {
-    let size = disk.size();
     let Some(front) = bytes_at::<D, NARROW_HEAD_BYTES>(disk, 0) else {
-        push_short(text, size, NARROW_HEAD_BYTES)?;
-        return write!(text, "  It is no device: make one with tpnet format.\n");
+        return push_short(
+            text,
+            disk.size(),
+            NARROW_HEAD_BYTES,
+            "It is no device: make one with tpnet format.",
+        );
     };
-    let version = front[VERSION_PLACE];
     match head_version(&front) {
         Ok(HeadVersion::Narrow) => {
-            let layout = layout_of(HeadVersion::Narrow, &front);
-            push_behind(alloc, text, disk, &layout, &front, fault)
+            push_behind(alloc, text, disk, HeadVersion::Narrow, &front, fault)
         }
-        Ok(HeadVersion::Wide) => match bytes_at::<D, WIDE_HEAD_BYTES>(disk, 0) {
-            Some(head) => {
-                let layout = layout_of(HeadVersion::Wide, &head);
-                push_behind(alloc, text, disk, &layout, &head, fault)
-            }
-            None => {
-                push_short(text, size, WIDE_HEAD_BYTES)?;
-                write!(text, "  Restore a copy of the device.\n")
-            }
-        },
-        Err(OpenFault::BadVersion) => write!(
-            text,
-            "  byte {VERSION_PLACE}, the version, is {version}, and this program reads {NARROW_VERSION} and {WIDE_VERSION}\n  Open it with the program that made it.\n"
-        ),
-        Err(_) => write!(
-            text,
-            "  it doesn't begin with TPNET\n  It is no device, or its format was stopped: make one with tpnet format.\n"
-        ),
+        Ok(HeadVersion::Wide) => push_wide(alloc, text, disk, fault),
+        Err(OpenFault::BadVersion) => push_version(text, front[VERSION_PLACE]),
+        Err(_) => text.push_str(NO_DEVICE),
     }
 }

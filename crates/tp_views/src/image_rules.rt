@@ -18,6 +18,9 @@ const BYTES: &[(usize, u8, &str)] = &[
     (STATE_PLACE, 2, "the state, 0 idle, 1 high or 2 low"),
 ];
 
+/// The rule that is left where all others hold.
+const BAD_END: &str = "a link end in bytes 44 to 171 of its head breaks its rule";
+
 /// Appends the rule on lengths that an image breaks, where the topology asks for `wanted` pages: whether it breaks one.
 fn push_length(text: &mut String, image: &[u8], wanted: Option<u16>) -> Result<bool, AllocError> {
     let length = image.len();
@@ -109,6 +112,26 @@ fn push_busy(text: &mut String, image: &[u8]) -> Result<bool, AllocError> {
     Ok(false)
 }
 
+/// Appends the rule that an image breaks, where it breaks one: whether it does. On a device ends may be at work.
+fn push_rule(
+    alloc: Global,
+    text: &mut String,
+    image: &[u8],
+    pages: Option<u16>,
+    must_be_idle: bool,
+) -> Result<bool, AllocError> {
+    if push_length(text, image, pages)? || push_byte(text, image)? {
+        return Ok(true);
+    }
+    if must_be_idle && push_busy(text, image)? {
+        return Ok(true);
+    }
+    match Node::from_image(alloc, image, 0) {
+        Err(ImageFault::BadImage) => text.push_str(BAD_END).map(|()| true),
+        _ => Ok(false),
+    }
+}
+
 /// Which rule an image breaks, in words, where it breaks one. On a device ends may be at work.
 pub(crate) fn broken_rule(
     alloc: Global,
@@ -117,20 +140,9 @@ pub(crate) fn broken_rule(
     must_be_idle: bool,
 ) -> Result<Option<String>, AllocError> {
     let mut text = String::new(alloc);
-    if push_length(&mut text, image, pages)? || push_byte(&mut text, image)? {
-        return Ok(Some(text));
-    }
-    if must_be_idle && push_busy(&mut text, image)? {
-        return Ok(Some(text));
-    }
-    match Node::from_image(alloc, image, 0) {
-        Err(ImageFault::BadImage) => {
-            write!(
-                &mut text,
-                "a link end in bytes 44 to 171 of its head breaks its rule"
-            )?;
-            Ok(Some(text))
-        }
-        _ => Ok(None),
+    if push_rule(alloc, &mut text, image, pages, must_be_idle)? {
+        Ok(Some(text))
+    } else {
+        Ok(None)
     }
 }

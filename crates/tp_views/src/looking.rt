@@ -34,6 +34,13 @@ pub fn push_file(text: &mut String, path: &str, error: &io::Error) -> Result<(),
     write!(text, "  {way}\n")
 }
 
+/// Says what is left where all files are good.
+pub(crate) fn push_rest(text: &mut String) -> Result<(), AllocError> {
+    text.push_str(
+        "  All files are good now: standard output can't be written, or memory is wanting.\n",
+    )
+}
+
 /// Whether a regular file is at a path, or at the end of the links there.
 pub fn is_regular<R: Files>(rt: &R, path: &str) -> bool {
     match fs::metadata(rt, path) {
@@ -50,26 +57,29 @@ pub fn is_special<R: Files>(rt: &R, path: &str) -> bool {
     }
 }
 
+/// Says that what is at a path isn't read again.
+fn push_unread(text: &mut String, path: &str) -> Result<(), AllocError> {
+    write!(
+        text,
+        "  {path}: it is no regular file, so it isn't looked at again.\n  Save what comes from it in a file, and name that.\n"
+    )
+}
+
 /// Reads a whole file again. Where it isn't, says why.
 pub fn read_again<R: Files + AllocGlobal>(
     rt: &R,
     text: &mut String,
     path: &str,
 ) -> Result<Option<Vec<u8>>, AllocError> {
-    if is_special(rt, path) {
-        write!(
-            text,
-            "  {path}: it is no regular file, so it isn't looked at again.\n  Save what comes from it in a file, and name that.\n"
-        )?;
-        return Ok(None);
-    }
-    match fs::read(rt, path) {
-        Ok(bytes) => Ok(Some(bytes)),
-        Err(error) => {
-            push_file(text, path, &error)?;
-            Ok(None)
+    let said = if is_special(rt, path) {
+        push_unread(text, path)
+    } else {
+        match fs::read(rt, path) {
+            Ok(bytes) => return Ok(Some(bytes)),
+            Err(error) => push_file(text, path, &error),
         }
-    }
+    };
+    said.map(|()| None)
 }
 
 /// Whether a file that is there can be opened to be written.

@@ -20,7 +20,7 @@ pub(crate) struct Layout {
 }
 
 /// What stands at a place.
-#[derive(Clone, Copy, Debug, PartialEq, Eq)]
+#[derive(Clone, Copy)]
 pub(crate) enum Record {
     Head,
     Front,
@@ -31,7 +31,7 @@ pub(crate) enum Record {
 }
 
 /// A record of a device, and where it begins.
-#[derive(Clone, Copy, Debug, PartialEq, Eq)]
+#[derive(Clone, Copy)]
 pub(crate) struct Place {
     pub(crate) record: Record,
     pub(crate) start: u64,

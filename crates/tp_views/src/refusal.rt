@@ -7,7 +7,7 @@ use tp_recover::Unopened;
 use tp_trial::TryFault;
 
 /// The program then ends with status 1 and this name on standard error.
-#[derive(Clone, Copy, Debug, PartialEq, Eq, Error)]
+#[derive(Clone, Copy, Debug, Error)]
 pub enum Refusal {
     /// The node of the image wasn't tried.
     #[error(transparent)]

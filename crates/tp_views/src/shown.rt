@@ -12,7 +12,7 @@ use tp_replay::FlatNetwork;
 
 /// What is said of a device beside its network: the bytes of an area, which one is open, its generation, the entries in its
 /// cut and in its groups, and the number of the next entry.
-#[derive(Clone, Copy, Debug, PartialEq, Eq)]
+#[derive(Clone, Copy)]
 pub struct Front {
     pub area: u64,
     pub second: bool,

@@ -14,7 +14,7 @@ use tp_port::HostPort;
 use tp_recover::Opened;
 
 /// What a look sees of a port: how many bytes it has accepted, and how many it has put out.
-#[derive(Clone, Copy, Debug, PartialEq, Eq)]
+#[derive(Clone, Copy)]
 pub struct PortSeen {
     accepted: u128,
     out: u128,
@@ -29,7 +29,7 @@ pub struct Seen {
 }
 
 /// What a count was, and how many milliseconds before.
-#[derive(Clone, Copy, Debug, PartialEq, Eq)]
+#[derive(Clone, Copy)]
 struct Since {
     count: u128,
     millis: u64,

@@ -47,7 +47,7 @@ pub const MAX_TRIES: u32 = 20;
 
 /// What a look finds: where the areas are, and the fronts of both, in the order in which they are read: the first area's, the second
 /// one's, and the first one's again.
-#[derive(Clone, Copy, Debug, PartialEq, Eq)]
+#[derive(Clone, Copy, PartialEq, Eq)]
 pub(crate) struct Fronts {
     areas: TwoAreas,
     first: AreaFront,

@@ -1,10 +1,11 @@
 //! Which nodes have halted, said after a run or a trial.
 
 use crate::commands::TRY_QUANTUM;
+use std::alloc::Global;
 use std::fs::{self, Files, OpenFile};
 use std::io::Write;
 use std::os::unix::fs::FileExt;
-use tp_disk::{Counted, NotedFile, RawFile};
+use tp_disk::{Counted, Disk, NotedFile, RawFile};
 use tp_model::limits::MAX_NODES;
 use tp_node::{Node, Standing};
 use tp_recover::open;
@@ -27,6 +28,13 @@ fn say_each_halted<E: Write>(nodes: &[Node], err: &mut E) {
     }
 }
 
+/// Says of a device that opens which of its nodes have halted. Of one that doesn't open nothing is said.
+fn tell_opened<D: Disk, E: Write>(alloc: Global, disk: &mut D, err: &mut E) {
+    if let Ok(opened) = open(alloc, disk) {
+        say_each_halted(opened.network().nodes(), err);
+    }
+}
+
 /// Says of a device that was run which of its nodes have halted: it is opened again, to be read alone. Of one that doesn't open
 /// nothing is said.
 fn tell_run<R: Files<File = F> + AllocGlobal, F: FileExt + OpenFile + Drop, E: Write>(
@@ -34,23 +42,24 @@ fn tell_run<R: Files<File = F> + AllocGlobal, F: FileExt + OpenFile + Drop, E: W
     device: &str,
     err: &mut E,
 ) {
-    let opened: Result<Counted<RawFile<NotedFile<F>>>, _> = Counted::open_to_read(rt, device);
-    let Ok(mut disk) = opened else {
-        return;
-    };
-    if let Ok(opened) = open(rt.alloc(), &mut disk) {
-        say_each_halted(opened.network().nodes(), err);
+    let disk: Result<Counted<RawFile<NotedFile<F>>>, _> = Counted::open_to_read(rt, device);
+    if let Ok(mut disk) = disk {
+        tell_opened(rt.alloc(), &mut disk, err);
+    }
+}
+
+/// Says of a node whose image this is whether it has halted behind its turns. Where memory is wanting, or it is none, nothing is said.
+fn tell_image<E: Write>(alloc: Global, image: &[u8], turns: u32, err: &mut E) {
+    if let Ok(trial) = try_standing(alloc, image, turns, TRY_QUANTUM) {
+        say_halted(0, trial.standing, err);
     }
 }
 
 /// Says of a node that was tried whether it has halted: it is tried again. Of an image that isn't read, or for which memory is wanting,
 /// nothing is said.
 fn tell_trial<R: Files + AllocGlobal, E: Write>(rt: &R, image: &str, turns: u32, err: &mut E) {
-    let Ok(bytes) = fs::read(rt, image) else {
-        return;
-    };
-    if let Ok(trial) = try_standing(rt.alloc(), bytes.as_slice(), turns, TRY_QUANTUM) {
-        say_halted(0, trial.standing, err);
+    if let Ok(bytes) = fs::read(rt, image) {
+        tell_image(rt.alloc(), bytes.as_slice(), turns, err);
     }
 }
 

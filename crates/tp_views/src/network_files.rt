@@ -1,0 +1,126 @@
+//! What is wrong with the files of a network: its topology and its images.
+
+use crate::image_rules::broken_rule;
+use crate::looking::read_again;
+use crate::topology_text::push_topology;
+use std::alloc::{AllocError, Global};
+use std::fmt::Write;
+use std::fs::Files;
+use tp_layout::area_for;
+use tp_net::{Named, Topology};
+
+/// Says which rule an image breaks, where it breaks one: whether it does.
+fn push_image(
+    alloc: Global,
+    text: &mut String,
+    path: &str,
+    image: &[u8],
+    pages: Option<u16>,
+) -> Result<bool, AllocError> {
+    let Some(rule) = broken_rule(alloc, image, pages, true)? else {
+        return Ok(false);
+    };
+    let said = write!(
+        text,
+        "  {path}: {rule}\n  Make the image anew, by tools/make-image or docs/FORMATS.md, section 1.\n"
+    );
+    said.map(|()| true)
+}
+
+/// Says why the image in a file isn't read, or which rule it breaks: whether anything was said.
+pub(crate) fn push_image_file<R: Files + AllocGlobal>(
+    rt: &R,
+    text: &mut String,
+    path: &str,
+    pages: Option<u16>,
+) -> Result<bool, AllocError> {
+    match read_again(rt, text, path)? {
+        Some(image) => push_image(rt.alloc(), text, path, image.as_slice(), pages),
+        None => Ok(true),
+    }
+}
+
+/// Says what is wrong with the image of a node: whether anything is.
+fn push_node<R: Files + AllocGlobal>(
+    rt: &R,
+    text: &mut String,
+    folder: &str,
+    name: &str,
+    pages: u16,
+) -> Result<bool, AllocError> {
+    let path = format!(in rt.alloc(); "{folder}/{name}.img")?;
+    push_image_file(rt, text, path.as_str(), Some(pages))
+}
+
+/// Says what is wrong with the first image that can't be on a new device: whether anything is.
+fn push_images<R: Files + AllocGlobal>(
+    rt: &R,
+    text: &mut String,
+    named: &Named<'_>,
+    folder: &str,
+) -> Result<bool, AllocError> {
+    for (name, pages) in named.names.iter().zip(named.topology.pages().iter()) {
+        if push_node(rt, text, folder, name, *pages)? {
+            return Ok(true);
+        }
+    }
+    Ok(false)
+}
+
+/// Says that an area is too small for a topology, where it is: whether it is.
+fn push_small(text: &mut String, topology: &Topology, area: u64) -> Result<bool, AllocError> {
+    let least = area_for(topology, 1);
+    if area >= least {
+        return Ok(false);
+    }
+    let said = write!(
+        text,
+        "  AREA is {area}, and this network needs at least {least}\n  Take thousands of entries more, at 32 bytes each: tpnet check says how much.\n"
+    );
+    said.map(|()| true)
+}
+
+/// Says what is wrong with the images of a topology, or the area that is asked for: whether anything is.
+fn push_named<R: Files + AllocGlobal>(
+    rt: &R,
+    text: &mut String,
+    named: &Named<'_>,
+    folder: &str,
+    area: u64,
+) -> Result<bool, AllocError> {
+    if push_images(rt, text, named, folder)? {
+        return Ok(true);
+    }
+    push_small(text, &named.topology, area)
+}
+
+/// Says what is wrong with the text of a topology, its images or the area that is asked for: whether anything is.
+fn push_text<R: Files + AllocGlobal>(
+    rt: &R,
+    text: &mut String,
+    topology: &str,
+    bytes: &[u8],
+    folder: &str,
+    area: u64,
+) -> Result<bool, AllocError> {
+    match Topology::read_named(rt.alloc(), bytes) {
+        Ok(named) => push_named(rt, text, &named, folder, area),
+        Err(fault) => push_topology(rt.alloc(), text, topology, bytes, fault).map(|()| true),
+    }
+}
+
+/// Says what is wrong with a topology, its images or the area that is asked for: whether anything is.
+pub(crate) fn push_network<R: Files + AllocGlobal>(
+    rt: &R,
+    text: &mut String,
+    topology: &str,
+    folder: &str,
+    area: u64,
+) -> Result<bool, AllocError> {
+    match read_again(rt, text, topology)? {
+        Some(bytes) => push_text(rt, text, topology, bytes.as_slice(), folder, area),
+        None => text
+            .push_str("  It was named as the topology: --help has the order of the words.\n")
+            .map(|()| true),
+    }
+}

@@ -1,0 +1,126 @@
+//! Where and why a text says no topology.
+
+use std::alloc::{AllocError, Global};
+use std::fmt::Write;
+use tp_model::NetFault;
+use tp_model::limits::{MAX_NODES, MAX_PAGES, MAX_PORTS, MIN_PAGES};
+use tp_net::Topology;
+
+/// What is shown in place of a line that isn't text.
+const NO_TEXT: &str = "(no text: is this file the topology? --help has the order of the words)";
+
+/// The first lines of a text, as many as `count`, without the end of the last one.
+fn first_lines(text: &[u8], count: usize) -> &[u8] {
+    let mut seen = 0usize;
+    for (at, byte) in text.iter().enumerate() {
+        if *byte == b'\n' {
+            seen = seen.saturating_add(1);
+        }
+        if seen == count {
+            return text.get(..at).unwrap_or(text);
+        }
+    }
+    text
+}
+
+/// Whether the first lines of a text say `fault`, as many as `count`.
+fn says_fault(alloc: Global, text: &[u8], count: usize, fault: NetFault) -> bool {
+    match Topology::read(alloc, first_lines(text, count)) {
+        Err(found) => found == fault,
+        Ok(_) => false,
+    }
+}
+
+/// Where a text says `fault` first, as the number of a line from 1 on. Lines behind it change nothing, so it is looked for by halves.
+fn line_of_fault(alloc: Global, text: &[u8], fault: NetFault) -> usize {
+    let lines = text.iter().filter(|byte| **byte == b'\n').count();
+    let (mut without, mut with) = (0usize, lines.saturating_add(1));
+    for _ in 0..usize::BITS {
+        let half = with.saturating_sub(without) / 2;
+        let middle = without.saturating_add(half);
+        if half == 0 {
+            break;
+        }
+        if says_fault(alloc, text, middle, fault) {
+            with = middle;
+        } else {
+            without = middle;
+        }
+    }
+    with
+}
+
+/// The line of a text with a number from 1 on.
+fn nth_line(text: &[u8], number: usize) -> &[u8] {
+    match text
+        .split(|byte| *byte == b'\n')
+        .nth(number.saturating_sub(1))
+    {
+        Some(line) => line,
+        None => &[],
+    }
+}
+
+/// The number of the line of a text that says `fault`; 0 where it is none of a line.
+fn faulty_line(alloc: Global, text: &[u8], fault: NetFault) -> usize {
+    match fault {
+        NetFault::Syntax(line) => line as usize,
+        NetFault::Memory => 0,
+        NetFault::TwoWires | NetFault::UnknownNode | NetFault::TooMany => {
+            line_of_fault(alloc, text, fault)
+        }
+    }
+}
+
+/// Appends what a line has to be.
+fn push_form(text: &mut String) -> Result<(), AllocError> {
+    write!(
+        text,
+        "it has to be `node NAME PAGES`, `port NAME` or `wire END END`: a NAME is new and has 1 to 16 of a to z, 0 to 9 and -, a letter first; PAGES are {MIN_PAGES} to {MAX_PAGES}, without leading zeros; an END is a port's name, or a node's with .0 to .3 behind it, and one of the two is a node's; words are parted by spaces, and no space is before the first or behind the last"
+    )
+}
+
+/// Appends how many nodes and ports there may be.
+fn push_most(text: &mut String) -> Result<(), AllocError> {
+    write!(
+        text,
+        "a network has at most {MAX_NODES} nodes and {MAX_PORTS} ports"
+    )
+}
+
+/// Appends which rule a topology breaks.
+fn push_reason(text: &mut String, fault: NetFault) -> Result<(), AllocError> {
+    match fault {
+        NetFault::Syntax(0) => text.push_str("a node or a port is missing"),
+        NetFault::Syntax(_) => push_form(text),
+        NetFault::TwoWires => {
+            text.push_str("one of its ends has a wire already, or both are the same")
+        }
+        NetFault::UnknownNode => text.push_str("one of its ends is named by no line above"),
+        NetFault::TooMany => push_most(text),
+        NetFault::Memory => text.push_str("memory is wanting"),
+    }
+}
+
+/// Appends where the fault of a text at a path is: at its line with a number from 1 on, or, where that is 0, in all of it.
+fn push_where(text: &mut String, path: &str, number: usize, line: &[u8]) -> Result<(), AllocError> {
+    if number == 0 {
+        return write!(text, "  {path}: ");
+    }
+    let line = str::from_utf8(line).unwrap_or(NO_TEXT);
+    write!(text, "  {path}, line {number}: {line}\n  ")
+}
+
+/// Says where and why a text says no topology.
+pub(crate) fn push_topology(
+    alloc: Global,
+    text: &mut String,
+    path: &str,
+    bytes: &[u8],
+    fault: NetFault,
+) -> Result<(), AllocError> {
+    let number = faulty_line(alloc, bytes, fault);
+    push_where(text, path, number, nth_line(bytes, number))?;
+    push_reason(text, fault)?;
+    text.push_str("\n")
+}
