@@ -51,6 +51,16 @@ pub struct Opening<D: Disk> {
     pub ghost synced: { D.keeps → IsSynced (D.state store.disk) },
 }
 
+impl<D: Disk + Drop> Opening<D> {
+    /// The parts of its network, and the raiser of their mark, where no flusher is wanted.
+    pub fn into_parts(self) -> (Parts, Raiser)
+        ensures { result.1.mark ≡ result.0.mark }
+    {
+        let Opening { parts, raiser, .. } = self;
+        (parts, raiser)
+    }
+}
+
 /// The book and the nodes of what was opened, and the raiser of their mark.
 fn parts_of(alloc: Global, opened: Opened, spare: usize) -> Result<(Parts, Raiser), AllocError>
     ensures parts { IfOk result (λ made. StandsFor opened made.0 made.1) }

@@ -72,11 +72,13 @@ fn is_copied(alloc: Global, bytes: &[u8], start: usize, end: usize) -> Result<bo
     let (next, _, _) = look(alloc, bytes)?;
     let mut source = MemDisk::of_bytes(Vec::from_slice(alloc, bytes)?);
     let mut copy = MemDisk::of_bytes(Vec::from_elem(alloc, OLD, bytes.len())?);
-    let answer = copies(alloc, bytes, &mut source, &mut copy);
-    let is_kept = source.bytes() == bytes;
+    let answer = copies(alloc, bytes, &mut source, &mut copy)?;
+    if answer != Ok(Some(next)) || source.bytes() != bytes {
+        return Ok(false);
+    }
     let left = copy.crash();
-    let is_left = is_left(alloc, bytes, &left, start, end);
-    Ok(answer? == Ok(Some(next)) && is_kept && is_left?)
+    let told = is_left(alloc, bytes, &left, start, end);
+    told
 }
 
 #[test]
@@ -171,12 +173,10 @@ fn meanwhile_of(
 ) -> Result<(Answer, u64), Fail> {
     let mut source = changing(alloc, bytes, at, writes)?;
     let mut copy = blank(alloc)?;
-    let answer = copies(alloc, bytes, &mut source, &mut copy);
+    let answer = copies(alloc, bytes, &mut source, &mut copy)?;
     let calls = source.into_raw().calls();
     let left = copy.crash();
-    let is_open = opens(alloc, &left);
-    let answer = answer?;
-    if is_open? != (answer == Ok(Some(4))) {
+    if opens(alloc, &left)? != (answer == Ok(Some(4))) {
         return Err(Fail::new("a copy that isn't one opens, or one that is doesn't"));
     }
     Ok((answer, calls))

@@ -1,9 +1,9 @@
 //! What a worker and a host get, call by call.
 
-ghost use Rattle.std.specs.Prelude.{◌≡◌, [], All, IfSome, Some};
+ghost use Rattle.std.specs.Prelude.{◌≡◌, [], All, IfOk, IfSome, Some};
 ghost use Rattle.tp_shared.specs.Named.{Names};
 
-use crate::parted::parts_of_device;
+use crate::copied::formatted;
 use std::alloc::Global;
 use std::marker::Brand;
 use std::process::Abort;
@@ -13,6 +13,7 @@ use tp_host::{ConfirmFault, OfferFault, Session, ShownFault};
 use tp_mark::{Pass, Raiser};
 use tp_model::{Entry, Received, Token};
 use tp_shared::{Naming, NoGate, Parts};
+use tp_tests_begun::opening::opening_of;
 use tp_work::{Net, Seat, TurnFault};
 
 /// Each turn of one worker: the process, how many tokens it took, and how many steps it made, where it runs.
@@ -182,12 +183,12 @@ fn play<J: Naming, R: Wait + Abort>(
     alloc: Global,
     parts: Parts,
     mut raiser: Raiser,
-    mut pass: Pass,
 ) -> Result<(), Fail>
     requires names { Names J.roll J.first J.start J.node J.mark J.flusher J.sights J.room parts }
-    requires marks { (raiser.mark ≡ J.mark) × (pass.mark ≡ J.mark) }
+    requires mark { raiser.mark ≡ J.mark }
 {
     let (net, mut seats, _key) = Net::<J, NoGate>::start(rt, alloc, parts, 16, 1, NoGate)?;
+    let mut pass = net.shared().mark().pass(&mut raiser);
     let Some(mut seat) = next_seat(&net, &mut seats) else {
         panic!(rt; "a seat is there")
     };
@@ -210,16 +211,23 @@ fn play_device<R: Wait + Abort>(
     alloc: Global,
     parts: Parts,
     raiser: Raiser,
-    pass: Pass,
 ) -> Result<(), Fail>
-    requires { (raiser.mark ≡ parts.mark) × (pass.mark ≡ parts.mark) }
+    requires { raiser.mark ≡ parts.mark }
 {
-    play::<Brand, R>(rt, alloc, parts, raiser, pass)
+    play::<Brand, R>(rt, alloc, parts, raiser)
+}
+
+/// The parts of the device, freshly formatted and opened, and the raiser of their mark.
+fn parts_of_device(alloc: Global) -> Result<(Parts, Raiser), Fail>
+    ensures { IfOk result (λ made. made.1.mark ≡ made.0.mark) }
+{
+    let opening = opening_of(alloc, formatted(alloc)?)?;
+    Ok(opening.into_parts())
 }
 
 #[test]
 fn a_worker_and_a_host(rt: HostRuntime) -> Result<(), Fail> {
     let alloc = rt.alloc();
-    let (parts, raiser, pass) = parts_of_device(alloc)?;
-    play_device(&rt, alloc, parts, raiser, pass)
+    let (parts, raiser) = parts_of_device(alloc)?;
+    play_device(&rt, alloc, parts, raiser)
 }

@@ -3,6 +3,8 @@
 #![tactic(auto)]
 
 #[cfg(test)]
+mod again;
+#[cfg(test)]
 mod book_calls;
 #[cfg(test)]
 mod books;
@@ -12,6 +14,8 @@ mod changing;
 mod copied;
 #[cfg(test)]
 mod copying;
+#[cfg(test)]
+mod desk;
 #[cfg(test)]
 mod devices;
 #[cfg(test)]
@@ -23,7 +27,9 @@ mod networks;
 #[cfg(test)]
 mod opened;
 #[cfg(test)]
-mod parted;
+mod playing;
+#[cfg(test)]
+mod stories;
 #[cfg(test)]
 mod topologies;
 #[cfg(test)]

@@ -3,10 +3,10 @@
 ghost use Rattle.tp_shared.specs.Named.{Names};
 ghost use Rattle.tp_tests_begun.specs.Spelt.{IsSpelt};
 
-use crate::calls::{begin, confirm, flush, is_whole, offer, shows, turn};
+use crate::again::{begin, confirm, flush, is_whole, offer, shows, turn};
+use crate::copied::formatted;
 use crate::desk;
 use crate::desk::Desk;
-use crate::device::formatted;
 use crate::stories::{Step, Story, calls, full, no_frame, nothing_written, one_frame};
 use std::alloc::Global;
 use std::marker::Brand;
@@ -139,7 +139,7 @@ fn play_in<R: Wait + Abort>(
 
 /// The same of a device that is freshly formatted.
 fn play_once<R: Wait + Abort>(rt: &R, alloc: Global, story: &Story) -> Option<bool> {
-    let Ok(opening) = opening_with(alloc, formatted(alloc)?, story.spare) else {
+    let Ok(opening) = opening_with(alloc, formatted(alloc).ok()?, story.spare) else {
         return None;
     };
     play_in(rt, alloc, opening, story)
