@@ -1,3 +1,4 @@
+use Rattle.std.proofs.Common.{rules}
 use Rattle.tp_shared.specs.Holds.{in_hand}
 use Rattle.tp_stream.proofs.Quiets.{host_rests}
 use Rattle.tp_stream.proofs.rounds.host_turn.Goals as goal
