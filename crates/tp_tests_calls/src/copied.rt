@@ -33,26 +33,28 @@ pub(crate) const FURTHER: &[u8] = &[
 /// Where the further group's gate stands.
 pub(crate) const BEHIND: usize = GROUPS + 80;
 
-/// The device of the node that sends a letter, of a topology and images.
-fn formatted_with(alloc: Global, topology: &Topology, images: &[Vec<u8>]) -> Result<MemDisk, Fail> {
-    let mut disk = MemDisk::zeroed(alloc, SIZE)?;
+/// The device of the node that sends a letter, of a topology and images; none where memory is refused.
+fn formatted_with(alloc: Global, topology: &Topology, images: &[Vec<u8>]) -> Option<MemDisk> {
+    let mut disk = MemDisk::zeroed(alloc, SIZE).ok()?;
     // A topology keeps its rules: its page counts say so, which `format` asks.
     let _rules = topology.pages();
-    format(alloc, &mut disk, topology, images, AREA)?;
-    Ok(disk)
+    format(alloc, &mut disk, topology, images, AREA).ok()?;
+    Some(disk)
 }
 
-/// The device of the node that sends a letter, freshly formatted.
-pub(crate) fn formatted(alloc: Global) -> Result<MemDisk, Fail> {
-    let images = Vec::from_array(alloc, [letter(alloc)?])?;
-    let topology = Topology::read(alloc, ONE_NODE)?;
-    let disk = formatted_with(alloc, &topology, &images);
-    disk
+/// The device of the node that sends a letter, freshly formatted; none where memory is refused.
+pub(crate) fn formatted(alloc: Global) -> Option<MemDisk> {
+    let images = Vec::from_array(alloc, [letter(alloc).ok()?]).ok()?;
+    let topology = Topology::read(alloc, ONE_NODE).ok()?;
+    formatted_with(alloc, &topology, &images)
 }
 
 /// A device that has the first turns in its first area. What stood in the other one and behind the groups is left from before.
 pub(crate) fn turned(alloc: Global) -> Result<Vec<u8>, Fail> {
-    let mut bytes = formatted(alloc)?.crash();
+    let Some(disk) = formatted(alloc) else {
+        return Err(Fail::new("not formatted"));
+    };
+    let mut bytes = disk.crash();
     place(&mut bytes, GROUPS, TURNS);
     Ok(bytes)
 }

@@ -221,7 +221,10 @@ fn play_device<R: Wait + Abort>(
 fn parts_of_device(alloc: Global) -> Result<(Parts, Raiser), Fail>
     ensures { IfOk result (λ made. made.1.mark ≡ made.0.mark) }
 {
-    let opening = opening_of(alloc, formatted(alloc)?)?;
+    let Some(disk) = formatted(alloc) else {
+        return Err(Fail::new("not formatted"));
+    };
+    let opening = opening_of(alloc, disk)?;
     Ok(opening.into_parts())
 }
 

@@ -139,7 +139,7 @@ fn play_in<R: Wait + Abort>(
 
 /// The same of a device that is freshly formatted.
 fn play_once<R: Wait + Abort>(rt: &R, alloc: Global, story: &Story) -> Option<bool> {
-    let Ok(opening) = opening_with(alloc, formatted(alloc).ok()?, story.spare) else {
+    let Ok(opening) = opening_with(alloc, formatted(alloc)?, story.spare) else {
         return None;
     };
     play_in(rt, alloc, opening, story)
