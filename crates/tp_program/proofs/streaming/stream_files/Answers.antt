@@ -37,7 +37,7 @@ stream_opened-disk-requires g c κs within =
     let pipe = ⊑_meet μ _ _ (⊑_meet μ _ _ within.0.1.0 feed) nothing in
     let piped = ⊑_meet μ _ _ (⊑_meet μ _ _ (⊑_meet μ _ _ (⊑_meet μ _ _ feed nothing) pipe) nothing) nothing in
     let sources = ⊑_meet μ _ _ (⊑_meet μ _ _ given (⊑_meet μ _ _ feed nothing)) (⊑_meet μ _ _ (⊑_meet μ _ _ given nothing) piped) in
-    (within.1.0, (within.1.1.0, (sinks, (sources, (within.1.1.1.1.1.1.1.0, c.requires)))))
+    (within.1.0, (within.1.1.0, (sinks, (sources, (within.1.1.1.1.1.1.1.0, (within.1.1.1.1.1.1.1.1.0, (within.1.1.1.1.1.1.1.1.1.0, c.requires.1.1.1.1.1.1.1)))))))
 
 pub returns-in-Err-clause-streamed : goal.returns-in-Err-clause-streamed
 returns-in-Err-clause-streamed g c keeps began = ends_streamed g.history.formatted c.in-Err.fault (g.D.Disk.state c.args.disk) c.in-Err.ensures

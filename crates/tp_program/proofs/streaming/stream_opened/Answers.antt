@@ -1,0 +1,19 @@
+use contract.BorrowLft.{◌⊑◌, ⊑_meet, ⊑_static}
+use Rattle.std.proofs.Common.{[]}
+use Rattle.tp_program.proofs.streaming.stream_opened.Goals as goal
+
+-- what is said, and what looks for the file that ends the stream, is outlived by what each is lent
+pub stream-disk-requires : goal.stream-disk-requires
+stream-disk-requires g c κs within =
+    let κ = κs.1.1.1.1.1.1.1.0 in
+    let none : κ ⊑ [] = ⊑_static κ in
+    let itself : κ ⊑ κ = λ a member. member in
+    let err = within.1.1.1.0 in
+    let teller = ⊑_meet κ _ _ (⊑_meet κ _ _ err none) (⊑_meet κ _ _ (⊑_meet κ _ _ itself err) none) in
+    let μ = κs.1.1.1.1.1.1.1.1.0 in
+    let nothing : μ ⊑ [] = ⊑_static μ in
+    let own : μ ⊑ μ = λ a member. member in
+    let rt = within.1.1.1.1.0 in
+    let path = ⊑_meet μ _ _ (⊑_meet μ _ _ own nothing) nothing in
+    let stop = ⊑_meet μ _ _ (⊑_meet μ _ _ rt nothing) (⊑_meet μ _ _ (⊑_meet μ _ _ own rt) path) in
+    (within.0, (within.1.0, (within.1.1.0, (teller, (stop, (within.1.1.1.1.1, c.task_of-task.ensures.quantum))))))
