@@ -111,7 +111,12 @@ const UNSEEN: &[(&str, &str)] = &[
 /// A path that can't be looked at any more is no stop: the stream goes on, and ends as it does without.
 #[test]
 fn a_look_that_fails_stops_nothing(rt: HostRuntime) -> Result<(), Fail> {
-    let scratch = device(&rt, "stream_unseen", letters(rt.alloc())?.as_slice(), "65536")?;
+    let scratch = device(
+        &rt,
+        "stream_unseen",
+        letters(rt.alloc())?.as_slice(),
+        "65536",
+    )?;
     let mut reader = Making::new(&rt, FOLDER);
     for (stop, why) in UNSEEN {
         let words: &[&str] = &["--turns=4000", "--out", "0=-", "--stop-file", *stop];
