@@ -1,4 +1,4 @@
-pub mod Agreeing
-pub mod Pair
-pub mod Acting
+pub mod Passing
+pub mod Seating
 pub mod Netting
+pub mod Pair

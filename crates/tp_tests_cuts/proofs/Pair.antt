@@ -20,10 +20,12 @@ use Rattle.tp_node.specs.NodeContents.{NodeContents}
 use Rattle.tp_book.specs.Book.{BookValue, agreed}
 use Rattle.tp_book.specs.Start.{IsFresh, IsNetwork, first_book}
 use Rattle.tp_replay.specs.Flat.{IsFlat}
-use Rattle.tp_tests_cuts.specs.Agrees.{Agrees}
 use Rattle.tp_trial.specs.Tried.{fresh_image}
 use Rattle.tp_trial.proofs.Begun.{fresh_is, node_of_is, first_agreed}
-use Rattle.tp_tests_cuts.specs.Nets.{pair_wires, pair_network, HasNodes}
+use Rattle.tp_turn.specs.declared.receiving.Taken.{Taken}
+use Rattle.tp_tests_cuts.specs.Nets.{pair_wires, pair_network, HasSeats}
+use Rattle.tp_tests_cuts.specs.Seats.{Sits}
+use Rattle.tp_tests_cuts.proofs.Passing.{is_node}
 
 module _ (n m : NodeState) (n_idle : has_idle_links n ≡ true) (m_idle : has_idle_links m ≡ true) where
   abbrev s : Network NodeState
@@ -169,26 +171,23 @@ module _ (first second : List ℕ) (n m : NodeContents) (first_bytes : AreBytes 
   pub is_flat : IsFlat (pair_network n.live m.live)
   is_flat = pair_flat n.live m.live (fresh_is first n.live n_fresh).1 (fresh_is second m.live m_fresh).1 n_image m_image
 
-  pub thawed : (i : ℕ) (node : NodeContents) → slice_get (n ∷ m ∷ []) i ≡ Some node → node.frozen ≡ None
-  thawed zero node e = let is : n ≡ node = cc in ap (λ x. x.frozen) (sym is) ∙ n_thawed
-  thawed (suc zero) node e = let is : m ≡ node = cc in ap (λ x. x.frozen) (sym is) ∙ m_thawed
-  thawed (suc (suc i)) node e = cc
-
-  pub has_nodes : (b : BookValue) → b ≡ first_book (pair_network (node_at first) (node_at second)) None → HasNodes b (n ∷ m ∷ [])
-  has_nodes b is = record {
+  pub has_seats : (room : Option ℕ) (b : BookValue) → b ≡ first_book (pair_network (node_at first) (node_at second)) room → HasSeats b (n ∷ m ∷ []) (None ∷ None ∷ [])
+  has_seats room b is = record {
     idle = ap (λ x. x.ready) is;
-    free = ap (λ x. x.runs) is;
+    form = ap (λ x. x.form) is;
     each = each;
   }
     where
       agreed_is : agreed b.state ≡ n.live ∷ m.live ∷ []
       agreed_is = ap (λ (x : BookValue). agreed x.state) is ∙ first_agreed (pair_network (node_at first) (node_at second)) ∙ ap (λ (net : Network NodeState). net.nodes) network_is
 
-      each : (i : ℕ) (node : NodeContents) → slice_get (n ∷ m ∷ []) i ≡ Some node → Agrees b i node
-      each zero node e =
+      each : (i : ℕ) (node : NodeContents) (t : Option Taken) → slice_get (n ∷ m ∷ []) i ≡ Some node → slice_get (None ∷ None ∷ []) i ≡ Some t → Sits b i t node
+      each zero node t e f =
           let same : n ≡ node = cc in
-          subst (Agrees b 0) same (record { there = ap (λ ns. slice_get ns 0) agreed_is; image = n_image; thawed = n_thawed })
-      each (suc zero) node e =
+          let no : None ≡ t = cc in
+          subst (λ u. Sits b 0 u node) no (subst (Sits b 0 None) same (record { thawed = n_thawed; reserved = ap (λ x. slice_get x.runs 0) is; is = is_node b 0 n (ap (λ ns. slice_get ns 0) agreed_is) n_image n_thawed }))
+      each (suc zero) node t e f =
           let same : m ≡ node = cc in
-          subst (Agrees b 1) same (record { there = ap (λ ns. slice_get ns 1) agreed_is; image = m_image; thawed = m_thawed })
-      each (suc (suc i)) node e = cc
+          let no : None ≡ t = cc in
+          subst (λ u. Sits b 1 u node) no (subst (Sits b 1 None) same (record { thawed = m_thawed; reserved = ap (λ x. slice_get x.runs 1) is; is = is_node b 1 m (ap (λ ns. slice_get ns 1) agreed_is) m_image m_thawed }))
+      each (suc (suc i)) node t e f = cc

@@ -1,2 +1,2 @@
-pub mod Agrees
+pub mod Seats
 pub mod Nets

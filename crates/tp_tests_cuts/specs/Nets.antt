@@ -1,13 +1,15 @@
--- Two nodes and a port in memory: their network, their book, and what acts change of it.
-use Rattle.std.specs.Prelude.{◌≡◌, ℕ, false, List, [], ◌∷◌, length, replicate, set, Option, Some, None, slice_get}
+-- Two nodes and a port in memory: their network and their book.
+use Rattle.std.specs.Prelude.{◌≡◌, ℕ, List, [], ◌∷◌, replicate, Option, Some, None, slice_get}
+use Rattle.tp_model.specs.declared.form.Form.TheVariants.{Turns}
 use Rattle.tp_model.specs.declared.wire.WireEnd.{WireEnd}
 use Rattle.tp_model.specs.declared.wire.WireEnd.TheVariants.{Link, Port as AtPort}
 use Rattle.tp_model.specs.Format.{fresh_port}
 use Rattle.tp_model.specs.Network.{Network}
 use Rattle.tp_model.specs.NodeState.{NodeState}
 use Rattle.tp_node.specs.NodeContents.{NodeContents}
-use Rattle.tp_book.specs.Book.{BookValue, agreed}
-use Rattle.tp_tests_cuts.specs.Agrees.{Agrees}
+use Rattle.tp_book.specs.Book.{BookValue}
+use Rattle.tp_turn.specs.declared.receiving.Taken.{Taken}
+use Rattle.tp_tests_cuts.specs.Seats.{Sits}
 
 -- ## The network
 
@@ -27,21 +29,10 @@ pair_network first second = record { wires = pair_wires; nodes = first ∷ secon
 pub record NetValue : Type 0 where
   pub book : BookValue
   pub nodes : List NodeContents
+  pub taken : List (Option Taken)
 
--- Each node is the one that the book's entries make of it, and isn't frozen. No run is reserved, and nothing is made ready.
-pub record HasNodes (b : BookValue) (nodes : List NodeContents) : Type 0 where
+-- Each node sits beside its book, with what it received for a turn that is open. Nothing is made ready, and the book has turns.
+pub record HasSeats (b : BookValue) (nodes : List NodeContents) (taken : List (Option Taken)) : Type 0 where
   pub idle : b.ready ≡ None
-  pub free : b.runs ≡ replicate (length nodes) false
-  pub each : (i : ℕ) (node : NodeContents) → slice_get nodes i ≡ Some node → Agrees b i node
-
--- What is agreed on is then this node, and the others as before. No run is reserved and nothing made ready beside what was.
-pub record Stepped (number : ℕ) (node : NodeState) (old new : BookValue) : Type 0 where
-  pub ready : new.ready ≡ old.ready
-  pub runs : new.runs ≡ old.runs
-  pub nodes : agreed new.state ≡ set (agreed old.state) number node
-
--- The same, of an act after which each node is as before.
-pub record Stays (old new : BookValue) : Type 0 where
-  pub ready : new.ready ≡ old.ready
-  pub runs : new.runs ≡ old.runs
-  pub nodes : agreed new.state ≡ agreed old.state
+  pub form : b.form ≡ Turns
+  pub each : (i : ℕ) (node : NodeContents) (t : Option Taken) → slice_get nodes i ≡ Some node → slice_get taken i ≡ Some t → Sits b i t node

@@ -1,47 +1,69 @@
 //! Acts on a lent book, one at a time.
 
-ghost use Rattle.std.specs.Prelude.{◌≡◌, ◌≤◌, Some, None, false, slice_get};
+ghost use Rattle.std.specs.Prelude.{◌≡◌, ◌≤◌, Some, None};
 ghost use Rattle.tp_model.specs.Network.{receiver};
 ghost use Rattle.tp_model.specs.declared.limits.TheConstants.{MAX_STEPS};
 ghost use Rattle.tp_model.specs.declared.wire.WireEnd.TheVariants.{Link};
-ghost use Rattle.tp_tests_cuts.specs.Agrees.{Agrees};
-ghost use Rattle.tp_tests_cuts.specs.Nets.{Stepped, Stays};
+ghost use Rattle.tp_tests_cuts.specs.Seats.{Passes, Sits, Stays};
 
+use crate::frozen::thawed_image;
+use crate::turning::Did;
 use arrayvec::ArrayVec;
-use std::alloc::Global;
-use tp_book::{Book, Refusal};
+use std::alloc::{AllocError, Global};
+use tp_book::Book;
 use tp_law_machine::carries_byte;
-use tp_model::WireEnd;
+use tp_model::{Token, WireEnd};
 use tp_node::Node;
+use tp_turn::{commit_turn, record_asked, run_node};
 
-/// A node runs for at most `quantum` steps. Answers how many it made.
-pub(crate) fn run(
-    book: &mut Book,
-    node: &mut Node,
-    number: u8,
-    quantum: u16,
-) -> Result<u16, Refusal>
-    requires quantum { quantum ≤ MAX_STEPS }
-    requires free { slice_get book.old.runs number ≡ Some false }
-    requires idle { book.old.ready ≡ None }
-    requires agrees { Agrees book.old number node.old }
-    ensures stepped { Stepped number node.new.live book.old book.new }
-    ensures agrees { Agrees book.new number node.new }
-{
-    book.reserve_run(number)?;
+/// What was sent first, and what was sent then.
+pub(crate) fn all_sent(first: &[(u8, Token)], then: &[(u8, Token)]) -> ArrayVec<(u8, Token), 16> {
     let mut sent = ArrayVec::new();
-    let ran = node.run(quantum, &mut sent);
-    let _note = book.commit_run(number, ran.count(), sent.as_slice());
-    Ok(ran.count())
+    let _first = sent.try_extend_from_slice(first);
+    let _then = sent.try_extend_from_slice(then);
+    sent
 }
 
-/// A node takes the token in front of a line that leads to it. Answers whether it could.
-pub(crate) fn take(book: &mut Book, node: &mut Node, number: u8, link: u8, line: u16) -> bool
+/// A node whose turn isn't open runs for at most `quantum` steps.
+pub(crate) fn run(book: &mut Book, node: &mut Node, number: u8, quantum: u16) -> Option<Did>
+    requires quantum { quantum ≤ MAX_STEPS }
+    requires idle { book.old.ready ≡ None }
+    requires sits { Sits book.old number None node.old }
+    ensures sits { Sits book.new number None node.new }
+    ensures passes { Passes number book.old book.new }
+{
+    let Ok(()) = book.reserve_run(number) else {
+        return None;
+    };
+    book.known();
+    let stretch = run_node(node, quantum);
+    let sent = all_sent(&[], stretch.sent.as_slice());
+    let ran = commit_turn(book, node, number, stretch);
+    Some(Did {
+        steps: ran.count(),
+        sent,
+    })
+}
+
+/// What a node answers on a link.
+fn answer(link: u8, sent: Option<Token>) -> Did {
+    let mut tokens = ArrayVec::new();
+    if let Some(token) = sent {
+        tokens.push((link, token));
+    }
+    Did {
+        steps: 0,
+        sent: tokens,
+    }
+}
+
+/// A node whose turn isn't open takes the token in front of a line that leads to it.
+pub(crate) fn take(book: &mut Book, node: &mut Node, number: u8, link: u8, line: u16) -> Option<Did>
     requires goes { receiver book.old.state.start.wires line ≡ Some (Link number link) }
     requires idle { book.old.ready ≡ None }
-    requires agrees { Agrees book.old number node.old }
-    ensures stepped { Stepped number node.new.live book.old book.new }
-    ensures agrees { Agrees book.new number node.new }
+    requires sits { Sits book.old number None node.old }
+    ensures sits { Sits book.new number None node.new }
+    ensures passes { Passes number book.old book.new }
 {
     book.known();
     match book.ready_take(line) {
@@ -51,9 +73,9 @@ pub(crate) fn take(book: &mut Book, node: &mut Node, number: u8, link: u8, line:
                 unreachable!()
             };
             let _note = book.commit_take(line, sent);
-            true
+            Some(answer(link, sent))
         }
-        Err(_) => false,
+        Err(_) => None,
     }
 }
 
@@ -64,15 +86,20 @@ pub(crate) fn begin(alloc: Global, book: &mut Book) -> bool
     book.begin(alloc).is_ok()
 }
 
-/// A node records, where it is asked to. Answers whether it did.
-pub(crate) fn record(book: &mut Book, number: u8) -> bool
-    ensures { Stays book.old book.new }
+/// A node whose turn isn't open records, where it is asked to. Answers its image as it is recorded.
+pub(crate) fn record(
+    alloc: Global,
+    book: &mut Book,
+    node: &mut Node,
+    number: u8,
+) -> Result<Option<Vec<u8>>, AllocError>
+    requires sits { Sits book.old number None node.old }
+    ensures sits { Sits book.new number None node.new }
+    ensures passes { Passes number book.old book.new }
 {
-    if usize::from(number) >= book.nodes() || !book.asked(number) {
-        return false;
-    }
-    book.record(number);
-    true
+    book.known();
+    record_asked(book, node, number);
+    thawed_image(alloc, node)
 }
 
 /// The Marker in front of a line is taken off, where who receives the line has recorded. Answers whether it was.

@@ -5,6 +5,10 @@
 #[cfg(test)]
 mod acts;
 #[cfg(test)]
+mod frozen;
+#[cfg(test)]
+mod gathered;
+#[cfg(test)]
 mod machines;
 #[cfg(test)]
 mod network;
@@ -15,6 +19,10 @@ mod plain;
 #[cfg(test)]
 mod playing;
 #[cfg(test)]
+mod refused;
+#[cfg(test)]
 mod replayed;
 #[cfg(test)]
 mod rows;
+#[cfg(test)]
+mod turning;

@@ -1,24 +1,28 @@
 //! Two nodes and a port, and their book, without a device.
 
-ghost use Rattle.std.specs.Prelude.{◌≡◌, IfOk, IsSome, None, Some};
+ghost use Rattle.std.specs.Prelude.{◌≡◌, IfOk, Some};
 ghost use Rattle.tp_model.specs.Image.{node_at};
 ghost use Rattle.tp_model.specs.Network.{receiver};
 ghost use Rattle.tp_model.specs.declared.wire.WireEnd.TheVariants.{Link};
 ghost use Rattle.tp_book.specs.Parts.{network_of};
+ghost use Rattle.tp_trial.specs.Tried.{ReadsFresh};
 ghost use Rattle.tp_tests_cuts.specs.Nets.{pair_network};
 
 use crate::acts::{begin, close, record, run, take};
+use crate::frozen::image_of;
+use crate::turning::{Did, Opened, commit, open};
 use std::alloc::{AllocError, Global};
 use std::marker::Model;
 use std::test::Fail;
 use tp_book::{Book, NetParts};
 use tp_model::WireEnd;
-use tp_model::limits::{IMAGE_HEAD_BYTES, MAX_STEPS, PAGE_BYTES};
+use tp_model::limits::MAX_STEPS;
 use tp_net::Lines;
-use tp_node::Node;
+use tp_node::{ImageFault, Node, has_idle_links};
 use tp_port::{PortParts, fresh_ports};
 use tp_replay::FlatNetwork;
-use tp_trial::lone_node;
+use tp_trial::{TryFault, lone_node};
+use tp_turn::{Taken, close_all};
 
 /// How many lines there are, and how many processes; the host is the last one.
 pub(crate) const LINES: usize = 9;
@@ -38,21 +42,23 @@ pub(crate) const WIRES: [Option<WireEnd>; LINES] = [
     Some(WireEnd::Link(0, 3)),
 ];
 
-/// The two nodes and the book. Each node is the one that the book's entries make of it, and isn't frozen.
+/// The two nodes and the book. Each node is the one that the book's entries make of it, ahead of it by what it received for a turn that is
+/// open, and isn't frozen.
 #[derive(Drop)]
 pub(crate) struct Net {
     book: Book,
     nodes: Vec<Node>,
+    taken: Vec<Option<Taken>>,
 }
 
 impl Model for Net {
-    ghost use Rattle.tp_tests_cuts.specs.Nets.{NetValue, HasNodes};
+    ghost use Rattle.tp_tests_cuts.specs.Nets.{NetValue, HasSeats};
 
     ghost Value = { NetValue };
 
-    ghost view = { λ n. record { book = n.book; nodes = n.nodes.items } };
+    ghost view = { λ n. record { book = n.book; nodes = n.nodes.items; taken = n.taken.items } };
 
-    ghost invariant = { λ n. HasNodes n.book n.nodes.items };
+    ghost invariant = { λ n. HasSeats n.book n.nodes.items n.taken.items };
 }
 
 /// The network of two images, before its first entry.
@@ -103,78 +109,87 @@ pub(crate) fn flat_of(alloc: Global, first: &[u8], second: &[u8]) -> Result<Flat
     Ok(FlatNetwork::new(wires, nodes, lines, ports))
 }
 
-/// A node's image. The node stays.
-fn image_of(alloc: Global, node: &mut Node) -> Result<Vec<u8>, AllocError>
-    requires { node.old.frozen ≡ None }
-    ensures live { node.new.live ≡ node.old.live }
-    ensures thawed { node.new.frozen ≡ None }
+/// The node of an image whose links are idle, with a spare frame for each page.
+fn spare_node(alloc: Global, image: &[u8]) -> Result<Node, TryFault>
+    ensures { ReadsFresh image.now result }
 {
-    node.freeze();
-    let image = frozen_image(alloc, node);
-    node.drop_frozen();
-    image
-}
-
-/// The image of a frozen node.
-fn frozen_image(alloc: Global, node: &Node) -> Result<Vec<u8>, AllocError>
-    requires { IsSome node.now.frozen }
-{
-    let mut head = [0; IMAGE_HEAD_BYTES];
-    let mut page = [0; PAGE_BYTES];
-    node.frozen_head(&mut head);
-    let mut image = Vec::from_slice(alloc, &head)?;
-    for number in 0..node.pages() {
-        node.frozen_page(number, &mut page);
-        image.extend_from_slice(&page)?;
+    if !has_idle_links(image) {
+        return Err(TryFault::BadImage);
     }
-    Ok(image)
+    match Node::from_image(alloc, image, 4) {
+        Ok(node) => Ok(node),
+        Err(ImageFault::BadImage) => Err(TryFault::BadImage),
+        Err(ImageFault::Memory) => Err(TryFault::Memory),
+    }
 }
 
 impl Net {
-    /// The network of two images, before its first entry.
-    pub(crate) fn start(alloc: Global, first: &[u8], second: &[u8]) -> Result<Net, Fail> {
-        let one = lone_node(alloc, first)?;
-        let other = lone_node(alloc, second)?;
+    /// The network of two images, before its first entry, on a device with `room` bytes for groups or without one.
+    pub(crate) fn start(
+        alloc: Global,
+        first: &[u8],
+        second: &[u8],
+        room: Option<u64>,
+    ) -> Result<Net, Fail> {
+        let one = spare_node(alloc, first)?;
+        let other = spare_node(alloc, second)?;
         let nodes = Vec::from_array(alloc, [one, other])?;
+        let taken = Vec::from_array(alloc, [None, None])?;
         let net = pair_parts(alloc, first, second)?;
-        let book = Book::start(alloc, &net, None)?;
-        Ok(Net { book, nodes })
+        let book = Book::start(alloc, &net, room)?;
+        Ok(Net { book, nodes, taken })
     }
 
     pub(crate) fn book(&self) -> &Book {
         &self.book
     }
 
-    /// A node runs for at most `quantum` steps. Answers whether it made one.
-    pub(crate) fn run(&mut self, number: u8, quantum: u16) -> bool {
+    /// A node runs for at most `quantum` steps. Answers what it did, where it made one.
+    pub(crate) fn run(&mut self, number: u8, quantum: u16) -> Option<Did> {
         let place = usize::from(number);
         if place >= self.nodes.len() || usize::from(quantum) > MAX_STEPS {
-            return false;
+            return None;
         }
-        let ran = run(&mut self.book, &mut self.nodes[place], number, quantum);
-        ran.unwrap_or(0) > 0
+        if place >= self.taken.len() || self.taken[place].is_some() {
+            return None;
+        }
+        run(&mut self.book, &mut self.nodes[place], number, quantum)
     }
 
-    /// Who receives a line takes the token in front. Answers whether there was one.
-    pub(crate) fn take(&mut self, line: u16) -> bool {
+    /// A port takes the token in front of a line that leads to it. Answers whether there was one.
+    pub(crate) fn host_take(&mut self, line: u16) -> bool {
         self.book.known();
         if usize::from(line) >= LINES || self.book.nodes() != 2 || self.book.ports() != 1 {
             return false;
         }
         match self.book.receiver(line) {
-            Some(WireEnd::Link(node, link)) => self.node_take(node, link, line),
             Some(WireEnd::Port(_)) => self.book.host_take(line).is_ok(),
-            None => false,
+            _ => false,
         }
     }
 
-    /// A node takes the token in front of a line that leads to it. Answers whether it could.
-    fn node_take(&mut self, number: u8, link: u8, line: u16) -> bool
+    /// A node takes the token in front of a line that leads to it. Answers what it did, where there was one.
+    pub(crate) fn take(&mut self, line: u16) -> Option<Did> {
+        self.book.known();
+        if usize::from(line) >= LINES || self.book.nodes() != 2 || self.book.ports() != 1 {
+            return None;
+        }
+        match self.book.receiver(line) {
+            Some(WireEnd::Link(node, link)) => self.node_take(node, link, line),
+            _ => None,
+        }
+    }
+
+    /// A node takes the token in front of a line that leads to it.
+    fn node_take(&mut self, number: u8, link: u8, line: u16) -> Option<Did>
         requires { receiver self.old.book.state.start.wires line ≡ Some (Link number link) }
     {
         let place = usize::from(number);
         if place >= self.nodes.len() {
-            return false;
+            return None;
+        }
+        if place >= self.taken.len() || self.taken[place].is_some() {
+            return None;
         }
         take(&mut self.book, &mut self.nodes[place], number, link, line)
     }
@@ -184,9 +199,20 @@ impl Net {
         begin(alloc, &mut self.book)
     }
 
-    /// A node records, where it is asked to.
-    pub(crate) fn record(&mut self, number: u8) -> bool {
-        record(&mut self.book, number)
+    /// A node whose turn isn't open records, where it is asked to. Answers its image as it is recorded.
+    pub(crate) fn record(
+        &mut self,
+        alloc: Global,
+        number: u8,
+    ) -> Result<Option<Vec<u8>>, AllocError> {
+        let place = usize::from(number);
+        if place >= self.nodes.len() {
+            return Ok(None);
+        }
+        if place >= self.taken.len() || self.taken[place].is_some() {
+            return Ok(None);
+        }
+        record(alloc, &mut self.book, &mut self.nodes[place], number)
     }
 
     /// A line is closed, where its Marker can be taken.
@@ -194,15 +220,53 @@ impl Net {
         close(&mut self.book, line)
     }
 
+    /// Each line is closed whose receiver has recorded, also from behind other tokens.
+    pub(crate) fn close_all(&mut self) {
+        self.book.known();
+        close_all(&mut self.book);
+    }
+
     /// The host hands a byte to the port.
     pub(crate) fn hand_in(&mut self, byte: u8) -> bool {
         self.book.ports() > 0 && self.book.host_in(0, &[byte]).is_ok()
     }
 
+    /// A node's turn is opened, where none is.
+    pub(crate) fn open(&mut self, alloc: Global, number: u8) -> Option<Opened> {
+        let place = usize::from(number);
+        if place >= self.nodes.len() || place >= self.taken.len() {
+            return None;
+        }
+        let node = &mut self.nodes[place];
+        let taken = &mut self.taken[place];
+        open(alloc, &mut self.book, node, taken, number)
+    }
+
+    /// A node whose turn is open runs for at most `quantum` steps, and its turn is journalled.
+    pub(crate) fn commit(&mut self, number: u8, quantum: u16) -> Option<Did> {
+        let place = usize::from(number);
+        let there = place < self.nodes.len() && place < self.taken.len();
+        if !there || usize::from(quantum) > MAX_STEPS {
+            return None;
+        }
+        let node = &mut self.nodes[place];
+        let taken = &mut self.taken[place];
+        commit(&mut self.book, node, taken, number, quantum)
+    }
+
+    /// Whether there is a node whose turn isn't open.
+    pub(crate) fn is_closed(&self, place: usize) -> bool {
+        place < self.nodes.len() && place < self.taken.len() && self.taken[place].is_none()
+    }
+
     /// A node's image as it is now; none where there is no such node.
-    pub(crate) fn image(&mut self, alloc: Global, number: usize) -> Result<Vec<u8>, AllocError> {
-        if number >= self.nodes.len() {
-            return Ok(Vec::new(alloc));
+    pub(crate) fn image(
+        &mut self,
+        alloc: Global,
+        number: usize,
+    ) -> Result<Option<Vec<u8>>, AllocError> {
+        if number >= self.nodes.len() || number >= self.taken.len() {
+            return Ok(None);
         }
         image_of(alloc, &mut self.nodes[number])
     }

@@ -1,58 +1,29 @@
-//! Each order of the acts of two nodes and the host, from some moment on up to the whole cut.
+//! Each order of acts of two nodes and the host: of single acts from some moment on up to the whole cut, and of whole turns up to a trim and on
+//! to where no turn is open.
 
 use crate::machines::{Task, image};
-use crate::playing::Act::{Begin, Close, Record, Run, Take};
-use crate::playing::{Act, Play, do_all, does, start};
-use crate::replayed::comes_first;
+use crate::playing::Act::{Begin, Close, CloseAll, Commit, Open, Record, Run, Take, TakeIn};
+use crate::playing::{Act, Play, room_for, start};
 use std::alloc::{AllocError, Global};
 use std::test::Fail;
 
-/// What the nodes do, the acts that come first in each order, how many runs each node may make in all, and how many orders there
-/// are.
+/// What the nodes do, the acts that come first in each order, those that may come next, how many runs, or turns, each node may make in all,
+/// how many snapshots may begin, how many have to be trimmed to (none: an order ends at the whole cut), the entries for which the journal has
+/// room, if it has bounds, and how many orders there are.
 struct Case {
     first: &'static [Task],
     second: &'static [Task],
     acts: &'static [Act],
-    runs: [usize; 2],
+    choices: &'static [Act],
+    turns: [usize; 2],
+    begins: usize,
+    trims: u8,
+    room: Option<u64>,
     orders: u32,
 }
 
-/// The first node sends a byte, before the snapshot or while it runs.
-const SENT: Case = Case {
-    first: &[Task::Once(0)],
-    second: &[],
-    acts: &[],
-    runs: [1, 0],
-    orders: 1_446,
-};
-
-/// Each node sends the other a byte.
-const CROSSED: Case = Case {
-    first: &[Task::Once(0)],
-    second: &[Task::Once(0)],
-    acts: &[Run(0), Begin],
-    runs: [1, 1],
-    orders: 6_884,
-};
-
-/// An acknowledge and a byte are under way to the first node, and go on to the port.
-const ANSWERED: Case = Case {
-    first: &[Task::Once(0), Task::Relay(0, 3)],
-    second: &[Task::Relay(0, 0)],
-    acts: &[Run(1), Run(0), Take(0), Run(1)],
-    runs: [1, 2],
-    orders: 3_466,
-};
-
-/// The images of a case's nodes.
-#[derive(Drop)]
-struct Images {
-    first: Vec<u8>,
-    second: Vec<u8>,
-}
-
-/// The acts that may come next. Where one can't be done nothing changes, and it is in no order there.
-const CHOICES: [Act; 13] = [
+/// Single acts that may come next. Where one can't be done nothing changes, and it is in no order there.
+const SINGLE: [Act; 13] = [
     Begin,
     Run(0),
     Run(1),
@@ -68,56 +39,193 @@ const CHOICES: [Act; 13] = [
     Close(8),
 ];
 
-/// The most acts of an order, and more orders and broken off ones than there are.
-const MOST_ACTS: usize = 20;
+/// Whole turns in their halves, and what may come between.
+const HALVES: [Act; 9] = [
+    Begin,
+    Open(0),
+    Open(1),
+    Commit(0),
+    Commit(1),
+    Record(0),
+    Record(1),
+    CloseAll,
+    TakeIn,
+];
 
-const MOST_ORDERS: u32 = 100_000;
+/// The same, and the host takes and closes what came to its port, and a line is closed at the Marker in front.
+const BESIDE: [Act; 13] = [
+    Begin,
+    Open(0),
+    Open(1),
+    Commit(0),
+    Commit(1),
+    Record(0),
+    Record(1),
+    Take(3),
+    Close(0),
+    Close(3),
+    Close(4),
+    CloseAll,
+    TakeIn,
+];
+
+/// The first node sends a byte, before the snapshot or while it runs.
+const SENT: Case = Case {
+    first: &[Task::Once(0)],
+    second: &[],
+    acts: &[],
+    choices: &SINGLE,
+    turns: [1, 0],
+    begins: 1,
+    trims: 0,
+    room: None,
+    orders: 1_446,
+};
+
+/// Each node sends the other a byte.
+const CROSSED: Case = Case {
+    first: &[Task::Once(0)],
+    second: &[Task::Once(0)],
+    acts: &[Run(0), Begin],
+    choices: &SINGLE,
+    turns: [1, 1],
+    begins: 1,
+    trims: 0,
+    room: None,
+    orders: 6_884,
+};
+
+/// An acknowledge and a byte are under way to the first node, and go on to the port.
+const ANSWERED: Case = Case {
+    first: &[Task::Once(0), Task::Relay(0, 3)],
+    second: &[Task::Relay(0, 0)],
+    acts: &[Run(1), Run(0), Take(0), Run(1)],
+    choices: &SINGLE,
+    turns: [1, 2],
+    begins: 1,
+    trims: 0,
+    room: None,
+    orders: 3_466,
+};
+
+/// The second node's turn is open, for which it received the byte of the first.
+const OPENED: Case = Case {
+    first: &[Task::Once(0)],
+    second: &[Task::Relay(0, 0)],
+    acts: &[Open(1), Commit(1), Open(0), Commit(0), Open(1)],
+    choices: &HALVES,
+    turns: [2, 3],
+    begins: 2,
+    trims: 1,
+    room: Some(5),
+    orders: 8_926,
+};
+
+/// An acknowledge and a byte are under way to the first node, which sends the byte on to the port.
+const RELAYED: Case = Case {
+    first: &[Task::Once(0), Task::Relay(0, 3)],
+    second: &[Task::Relay(0, 0)],
+    acts: &[Open(1), Commit(1), Open(0), Commit(0), Open(1), Commit(1)],
+    choices: &HALVES,
+    turns: [3, 3],
+    begins: 1,
+    trims: 1,
+    room: Some(6),
+    orders: 8_157,
+};
+
+/// The first node's turn is open, for which it received both. The host takes, too, and lines are also closed one at a time.
+const CLOSED: Case = Case {
+    first: &[Task::Once(0), Task::Relay(0, 3)],
+    second: &[Task::Relay(0, 0)],
+    acts: &[
+        Open(1),
+        Commit(1),
+        Open(0),
+        Commit(0),
+        Open(1),
+        Commit(1),
+        Open(0),
+    ],
+    choices: &BESIDE,
+    turns: [2, 3],
+    begins: 1,
+    trims: 1,
+    room: Some(6),
+    orders: 7_134,
+};
+
+/// The images of a case's nodes.
+#[derive(Drop)]
+struct Images {
+    first: Vec<u8>,
+    second: Vec<u8>,
+}
+
+/// The most acts of an order, and more orders and broken off ones than there are.
+const MOST_ACTS: usize = 24;
+
+const MOST_ORDERS: u32 = 400_000;
 
 /// How an order ends: its cut is whole and right; no act is left that wasn't tried before; or something is wrong.
-#[derive(Clone, Copy, Debug, PartialEq, Eq)]
+#[derive(Clone, Copy)]
 enum End {
     Whole,
     Spent,
     Wrong,
 }
 
-/// Whether an act is none of a node that made all the runs that it may.
-fn may_be(play: &Play, act: Act, runs: [usize; 2]) -> bool {
-    let Act::Run(node) = act else {
-        return true;
-    };
-    play.plain.runs(node) < runs.get(usize::from(node)).copied().unwrap_or(0)
+/// How often an act may be done in an order.
+fn most(case: &Case, act: Act) -> usize {
+    match act {
+        Act::Run(node) | Act::Open(node) => {
+            case.turns.get(usize::from(node)).copied().unwrap_or(0)
+        }
+        Act::Begin => case.begins,
+        Act::TakeIn => usize::from(case.trims),
+        _ => usize::MAX,
+    }
 }
 
 /// Does the first act that can be done from a choice on. Answers which, where there is one.
-fn choose(
-    alloc: Global,
-    play: &mut Play,
-    runs: [usize; 2],
-    from: usize,
-) -> Result<Option<usize>, Fail> {
-    for (choice, act) in CHOICES.iter().enumerate().skip(from) {
-        if may_be(play, *act, runs) && does(alloc, play, *act)? {
+fn choose(alloc: Global, play: &mut Play, case: &Case, from: usize) -> Result<Option<usize>, Fail> {
+    for (choice, act) in case.choices.iter().enumerate().skip(from) {
+        if play.count(*act) < most(case, *act) && play.does(alloc, *act)? {
             return Ok(Some(choice));
         }
     }
     Ok(None)
 }
 
-/// Whether the whole cut is what the plain lists and replays say, and so is what the trim leaves.
-fn is_right(alloc: Global, play: &mut Play, first: &[u8], second: &[u8]) -> Result<bool, Fail> {
-    let replayed = comes_first(alloc, play, first, second)?;
-    let gathered = play.plain.is_gathered(alloc, play.net.book())?;
-    let trimmed = play.net.take_in() && play.plain.is_behind(play.net.book());
-    Ok(replayed && gathered && trimmed)
+/// Whether an order is at its end.
+fn is_over(play: &Play, case: &Case) -> bool {
+    if case.trims == 0 {
+        return play.net.book().whole().is_some();
+    }
+    play.plain.cuts == case.trims && play.net.is_closed(0) && play.net.is_closed(1)
 }
 
-/// Whether the whole cut, where there is one, is right.
-fn whole_end(alloc: Global, play: &mut Play, images: &Images) -> Result<Option<End>, Fail> {
-    if play.net.book().whole().is_none() {
+/// Acts by which a snapshot that runs comes to its end where no turn is open, and one more that is begun where none runs.
+const LAST: [Act; 5] = [Begin, Record(0), Record(1), CloseAll, TakeIn];
+
+/// Whether the whole cut of the snapshot that then comes to its end is right, and so is what the trim leaves.
+fn is_right(alloc: Global, play: &mut Play) -> Result<bool, Fail> {
+    let mut done = false;
+    for act in LAST {
+        done = play.does(alloc, act)?;
+    }
+    Ok(done && play.is_right)
+}
+
+/// How an order ends, where it is at its end.
+fn ended(alloc: Global, play: &mut Play, case: &Case) -> Result<Option<End>, Fail> {
+    if !play.is_right {
+        return Ok(Some(End::Wrong));
+    }
+    if !is_over(play, case) {
         return Ok(None);
     }
-    let is_right = is_right(alloc, play, &images.first, &images.second)?;
+    let is_right = is_right(alloc, play)?;
     Ok(Some(if is_right { End::Whole } else { End::Wrong }))
 }
 
@@ -125,12 +233,12 @@ fn whole_end(alloc: Global, play: &mut Play, images: &Images) -> Result<Option<E
 fn next_act(
     alloc: Global,
     play: &mut Play,
-    runs: [usize; 2],
+    case: &Case,
     choices: &mut Vec<usize>,
     at: usize,
 ) -> Result<Option<End>, Fail> {
     let before = choices.get(at).copied();
-    let Some(choice) = choose(alloc, play, runs, before.unwrap_or(0))? else {
+    let Some(choice) = choose(alloc, play, case, before.unwrap_or(0))? else {
         choices.truncate(at);
         return Ok(Some(if before.is_some() {
             End::Spent
@@ -147,17 +255,16 @@ fn make_acts(
     alloc: Global,
     play: &mut Play,
     case: &Case,
-    images: &Images,
     choices: &mut Vec<usize>,
 ) -> Result<End, Fail> {
-    if !do_all(alloc, play, case.acts)? {
+    if !play.do_all(alloc, case.acts)? {
         return Ok(End::Wrong);
     }
     for at in 0..MOST_ACTS {
-        if let Some(end) = whole_end(alloc, play, images)? {
+        if let Some(end) = ended(alloc, play, case)? {
             return Ok(end);
         }
-        if let Some(end) = next_act(alloc, play, case.runs, choices, at)? {
+        if let Some(end) = next_act(alloc, play, case, choices, at)? {
             return Ok(end);
         }
     }
@@ -171,8 +278,8 @@ fn play_order(
     images: &Images,
     choices: &mut Vec<usize>,
 ) -> Result<End, Fail> {
-    let mut play = start(alloc, &images.first, &images.second)?;
-    let end = make_acts(alloc, &mut play, case, images, choices);
+    let mut play = start(alloc, &images.first, &images.second, room_for(case.room))?;
+    let end = make_acts(alloc, &mut play, case, choices);
     end
 }
 
@@ -227,11 +334,27 @@ fn play_all(alloc: Global, case: &Case) -> Result<Option<u32>, Fail> {
     orders
 }
 
+/// Plays each order of each case. Answers the first case that has others than it says, or one that isn't right, and how many it has.
+fn first_other(alloc: Global, cases: &[&Case]) -> Result<Option<(usize, Option<u32>)>, Fail> {
+    for (place, case) in cases.iter().enumerate() {
+        let orders = play_all(alloc, case)?;
+        if orders != Some(case.orders) {
+            return Ok(Some((place, orders)));
+        }
+    }
+    Ok(None)
+}
+
 #[test]
 fn each_order_comes_to_a_right_cut(rt: HostRuntime) -> Result<(), Fail> {
-    for case in [&SENT, &CROSSED, &ANSWERED] {
-        let orders = play_all(rt.alloc(), case)?;
-        assert_eq!(rt; orders, Some(case.orders));
-    }
+    let other = first_other(rt.alloc(), &[&SENT, &CROSSED, &ANSWERED])?;
+    assert_eq!(rt; other, None);
+    Ok(())
+}
+
+#[test]
+fn each_order_of_whole_turns_comes_to_a_right_cut(rt: HostRuntime) -> Result<(), Fail> {
+    let other = first_other(rt.alloc(), &[&OPENED, &RELAYED, &CLOSED])?;
+    assert_eq!(rt; other, None);
     Ok(())
 }

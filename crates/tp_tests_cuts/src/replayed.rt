@@ -25,13 +25,34 @@ fn can_count(flat: &FlatNetwork) -> bool
     }
 }
 
-/// Replays the entries that are in the cut or outside, as `wanted` says. Answers whether each was possible.
-fn replay(plain: &Plain, wanted: &[bool], flat: &mut FlatNetwork) -> bool {
+/// Replays the entries that are first in a cut with one of these numbers, those of each cut in their order. Answers whether each was
+/// possible.
+fn replay(plain: &Plain, cuts: &[u8], flat: &mut FlatNetwork) -> bool {
+    for cut in cuts {
+        if !replay_cut(plain, *cut, flat) {
+            return false;
+        }
+    }
+    true
+}
+
+/// Replays the entries that are first in a cut.
+fn replay_cut(plain: &Plain, cut: u8, flat: &mut FlatNetwork) -> bool {
     for made in plain.made.iter() {
-        if wanted.contains(&made.inside) {
+        if made.cut == cut {
             if !can_count(flat) || flat.apply(&made.entry).is_err() {
                 return false;
             }
+        }
+    }
+    true
+}
+
+/// Replays all entries in their own order.
+fn replay_all(plain: &Plain, flat: &mut FlatNetwork) -> bool {
+    for made in plain.made.iter() {
+        if !can_count(flat) || flat.apply(&made.entry).is_err() {
+            return false;
         }
     }
     true
@@ -91,34 +112,67 @@ fn are_same(one: &NetParts, other: &NetParts) -> bool {
         && are_images(&one.images, &other.images)
 }
 
-/// The network that the entries lead to which are in the cut or outside, as `wanted` says. None where one isn't possible.
+/// Whether `there` are the tokens of a plain list, Markers left out.
+fn are_plainly(tokens: &[Token], there: &[Token]) -> bool {
+    let mut at = 0usize;
+    for token in tokens {
+        if *token != Token::Marker {
+            if there.get(at) != Some(token) {
+                return false;
+            }
+            at = at.saturating_add(1);
+        }
+    }
+    there.len() == at
+}
+
+/// Whether the tokens on the lines are those of the plain lists, Markers left out.
+fn are_lines(plain: &Plain, parts: &NetParts) -> bool {
+    plain.lines.len() == parts.lines.len()
+        && plain
+            .lines
+            .iter()
+            .zip(&parts.lines)
+            .all(|(tokens, there)| are_plainly(tokens, there))
+}
+
+/// The network that the entries of the cuts with these numbers lead to, one cut's behind the other's. None where one isn't possible.
 fn led_to(
     alloc: Global,
     plain: &Plain,
-    wanted: &[bool],
+    cuts: &[u8],
     flat: &mut FlatNetwork,
 ) -> Result<Option<NetParts>, Fail> {
-    if !replay(plain, wanted, flat) {
+    if !replay(plain, cuts, flat) {
         return Ok(None);
     }
     Ok(Some(flat.parts(alloc)?))
 }
 
 /// The network that all entries lead to, in their own order.
-fn ordered(
+fn all_lead(
     alloc: Global,
     plain: &Plain,
-    first: &[u8],
-    second: &[u8],
+    flat: &mut FlatNetwork,
 ) -> Result<Option<NetParts>, Fail> {
-    let mut flat = flat_of(alloc, first, second)?;
-    let led = led_to(alloc, plain, &[true, false], &mut flat);
+    if !replay_all(plain, flat) {
+        return Ok(None);
+    }
+    Ok(Some(flat.parts(alloc)?))
+}
+
+/// The same from the network of two images on.
+fn ordered(alloc: Global, play: &Play) -> Result<Option<NetParts>, Fail> {
+    let mut flat = flat_of(alloc, play.first, play.second)?;
+    let led = all_lead(alloc, &play.plain, &mut flat);
     led
 }
 
 /// Whether the entries in the whole cut lead to the network that was recorded.
 fn is_recorded(alloc: Global, play: &Play, flat: &mut FlatNetwork) -> Result<bool, Fail> {
-    let Some(between) = led_to(alloc, &play.plain, &[true], flat)? else {
+    let cuts = [0, 1, 2];
+    let inside = cuts.get(..=usize::from(play.plain.cuts)).unwrap_or(&cuts);
+    let Some(between) = led_to(alloc, &play.plain, inside, flat)? else {
         return Ok(false);
     };
     let is_recorded = match play.net.book().whole() {
@@ -128,60 +182,46 @@ fn is_recorded(alloc: Global, play: &Play, flat: &mut FlatNetwork) -> Result<boo
     Ok(is_recorded)
 }
 
-/// Whether the nodes as they are have `images`.
+/// Whether the nodes as they are have `images`, but for those whose turn is open.
 fn are_now(alloc: Global, play: &mut Play, images: &[Vec<u8>]) -> Result<bool, Fail> {
     for (number, image) in images.iter().enumerate() {
-        let now = play.net.image(alloc, number)?;
-        if now.as_slice() != image.as_slice() {
+        let Some(now) = play.net.image(alloc, number)? else {
+            return Ok(false);
+        };
+        if now.as_slice() != image.as_slice() && play.net.is_closed(number) {
             return Ok(false);
         }
     }
     Ok(images.len() + 1 == PROCESSES)
 }
 
-/// Whether all entries lead, in their own order, to a network, and that has the nodes as they are.
-fn is_led(
-    alloc: Global,
-    play: &mut Play,
-    swapped: &NetParts,
-    first: &[u8],
-    second: &[u8],
-) -> Result<bool, Fail> {
+/// Whether all entries lead, in their own order, to a network, and that has the nodes and the lines as they are.
+fn is_led(alloc: Global, play: &mut Play, swapped: &NetParts) -> Result<bool, Fail> {
     let are_now = are_now(alloc, play, &swapped.images)?;
-    let Some(all) = ordered(alloc, &play.plain, first, second)? else {
+    let Some(all) = ordered(alloc, play)? else {
         return Ok(false);
     };
     let are_same = are_same(swapped, &all);
-    Ok(are_now && are_same)
+    Ok(are_now && are_same && are_lines(&play.plain, &all))
 }
 
 /// Whether the entries in the whole cut come first, over a network without entries: they lead to the network that was recorded, and with
-/// those outside behind them all lead to where they led in their own order, to the nodes as they are.
-fn leads(
-    alloc: Global,
-    play: &mut Play,
-    flat: &mut FlatNetwork,
-    first: &[u8],
-    second: &[u8],
-) -> Result<bool, Fail> {
+/// those outside behind them all lead to where they led in their own order, to the nodes and lines as they are.
+fn leads(alloc: Global, play: &mut Play, flat: &mut FlatNetwork) -> Result<bool, Fail> {
     if !is_recorded(alloc, play, flat)? {
         return Ok(false);
     }
-    let Some(swapped) = led_to(alloc, &play.plain, &[false], flat)? else {
+    let outside = [play.plain.cuts.saturating_add(1)];
+    let Some(swapped) = led_to(alloc, &play.plain, &outside, flat)? else {
         return Ok(false);
     };
-    let is_led = is_led(alloc, play, &swapped, first, second);
+    let is_led = is_led(alloc, play, &swapped);
     is_led
 }
 
-/// The same from the network of two images on.
-pub(crate) fn comes_first(
-    alloc: Global,
-    play: &mut Play,
-    first: &[u8],
-    second: &[u8],
-) -> Result<bool, Fail> {
-    let mut flat = flat_of(alloc, first, second)?;
-    let leads = leads(alloc, play, &mut flat, first, second);
+/// The same from the network of the two images on.
+pub(crate) fn comes_first(alloc: Global, play: &mut Play) -> Result<bool, Fail> {
+    let mut flat = flat_of(alloc, play.first, play.second)?;
+    let leads = leads(alloc, play, &mut flat);
     leads
 }

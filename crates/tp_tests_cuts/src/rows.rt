@@ -3,8 +3,7 @@
 use crate::machines::{Task, image};
 use crate::network::LINES;
 use crate::playing::Act::{Begin, Close, HandIn, Record, Run, Take};
-use crate::playing::{Act, Play, do_all, does, start};
-use crate::replayed::comes_first;
+use crate::playing::{Act, Play, start};
 use std::alloc::{AllocError, Global};
 use std::test::Fail;
 use tp_book::{Book, Numbered};
@@ -87,27 +86,19 @@ fn is_trimmed(book: &Book, story: &Story) -> bool {
 
 /// Whether the next entry gets the next number.
 fn goes_on(alloc: Global, play: &mut Play, next: u64) -> Result<bool, Fail> {
-    let done = does(alloc, play, HandIn(0x7A))?;
+    let done = play.does(alloc, HandIn(0x7A))?;
     let number = play.net.book().entries().last().map(|last| last.number);
     Ok(done && number == Some(next))
 }
 
-/// Plays a story on a network. Answers how far it is as it was told: its acts, the cut and the tail, the plain lists, the replays, the
-/// trim, and the entry behind it.
-fn tell(
-    alloc: Global,
-    play: &mut Play,
-    story: &Story,
-    first: &[u8],
-    second: &[u8],
-) -> Result<[bool; 6], Fail> {
-    let acts = do_all(alloc, play, story.acts)?;
+/// Plays a story on a network. Answers how far it is as it was told: its acts, the cut and the tail, the trim, the entry behind it, and
+/// all that the plain lists and the replays say.
+fn tell(alloc: Global, play: &mut Play, story: &Story) -> Result<[bool; 5], Fail> {
+    let acts = play.do_all(alloc, story.acts)?;
     let cut = is_cut(alloc, play.net.book(), story)?;
-    let plain = play.plain.is_gathered(alloc, play.net.book())?;
-    let replayed = comes_first(alloc, play, first, second)?;
-    let trimmed = play.net.take_in() && is_trimmed(play.net.book(), story);
+    let trimmed = play.take_in(alloc)? && is_trimmed(play.net.book(), story);
     let more = goes_on(alloc, play, story.next)?;
-    Ok([acts, cut, plain, replayed, trimmed, more])
+    Ok([acts, cut, trimmed, more, play.is_right])
 }
 
 /// The same from two images on.
@@ -116,14 +107,14 @@ fn play_images(
     story: &Story,
     first: &[u8],
     second: &[u8],
-) -> Result<[bool; 6], Fail> {
-    let mut play = start(alloc, first, second)?;
-    let told = tell(alloc, &mut play, story, first, second);
+) -> Result<[bool; 5], Fail> {
+    let mut play = start(alloc, first, second, None)?;
+    let told = tell(alloc, &mut play, story);
     told
 }
 
 /// The same from the images of the story's nodes on.
-fn play(alloc: Global, story: &Story) -> Result<[bool; 6], Fail> {
+fn play(alloc: Global, story: &Story) -> Result<[bool; 5], Fail> {
     let first = image(alloc, story.first)?;
     let second = image(alloc, story.second)?;
     let told = play_images(alloc, story, &first, &second);
@@ -131,7 +122,7 @@ fn play(alloc: Global, story: &Story) -> Result<[bool; 6], Fail> {
 }
 
 /// A byte is under way as the nodes record: the receiver recorded before it came, and the sender after it was sent.
-fn play_under_way(alloc: Global) -> Result<[bool; 6], Fail> {
+fn play_under_way(alloc: Global) -> Result<[bool; 5], Fail> {
     let under_way = Story {
         first: &[Task::Once(0)],
         second: &[],
@@ -166,7 +157,7 @@ fn play_under_way(alloc: Global) -> Result<[bool; 6], Fail> {
 
 /// The second node records when the next number is 9, and the cut is whole at 12. Three entries are outside, with gaps
 /// between their numbers.
-fn play_late(alloc: Global) -> Result<[bool; 6], Fail> {
+fn play_late(alloc: Global) -> Result<[bool; 5], Fail> {
     let late = Story {
         first: &[Task::Once(0), Task::Relay(0, 3)],
         second: &[Task::Relay(0, 0)],
@@ -228,8 +219,8 @@ fn play_late(alloc: Global) -> Result<[bool; 6], Fail> {
 #[test]
 fn cuts_are_those_that_were_worked_out(rt: HostRuntime) -> Result<(), Fail> {
     let under_way = play_under_way(rt.alloc())?;
-    assert_eq!(rt; under_way, [true; 6]);
+    assert_eq!(rt; under_way, [true; 5]);
     let late = play_late(rt.alloc())?;
-    assert_eq!(rt; late, [true; 6]);
+    assert_eq!(rt; late, [true; 5]);
     Ok(())
 }

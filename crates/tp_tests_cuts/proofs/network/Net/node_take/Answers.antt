@@ -1,19 +1,29 @@
-use Rattle.std.proofs.Common.{◌≡◌, ◌<◌, Some, length, slice_get, refl, rules}
+use Rattle.std.proofs.Common.{◌≡◌, ◌<◌, false, Some, None, length, slice_get, refl, ap, ◌∙◌, rules}
+use Rattle.std.specs.Prelude.{is_some}
 use Rattle.std.proofs.lemmas.Option.{slice_get_read}
-use Rattle.tp_tests_cuts.proofs.Netting.{stepped}
+use Rattle.tp_tests_cuts.proofs.Netting.{node_seated}
+use Rattle.tp_tests_cuts.proofs.Seating.{is_none}
 use Rattle.tp_tests_cuts.proofs.network.Net.node_take.Goals as goal
 
-pub take-requires-clause-agrees : goal.take-requires-clause-agrees
-take-requires-clause-agrees c =
+pub take-requires-clause-sits : goal.take-requires-clause-sits
+take-requires-clause-sits c =
     let nodes = c.self.inside.nodes.items in
-    let there : c.args.number < length nodes = search rules in
-    c.self.invariant.each c.args.number c.index_mut.result.now (slice_get_read nodes (length nodes) c.args.number c.index_mut.result.now refl there (search rules))
+    let taken = c.self.inside.taken.items in
+    let in_nodes : c.args.number < length nodes = search rules in
+    let in_taken : c.args.number < length taken = search rules in
+    let at_node : slice_get nodes c.args.number ≡ Some c.index_mut.result.now = slice_get_read nodes (length nodes) c.args.number c.index_mut.result.now refl in_nodes (search rules) in
+    let at_taken : slice_get taken c.args.number ≡ Some c.index.result.now = slice_get_read taken (length taken) c.args.number c.index.result.now refl in_taken (search rules) in
+    let closed : is_some c.index.result.now ≡ false = search rules in
+    c.self.invariant.each c.args.number c.index_mut.result.now None at_node (at_taken ∙ ap Some (is_none c.index.result.now closed))
 
 pub invariant_of-self : goal.invariant_of-self
 invariant_of-self c =
     let nodes = c.self.inside.nodes.items in
-    let there : c.args.number < length nodes = search rules in
-    let at : slice_get nodes c.args.number ≡ Some c.index_mut.result.now =
-    slice_get_read nodes (length nodes) c.args.number c.index_mut.result.now refl there (search rules) in
+    let taken = c.self.inside.taken.items in
+    let in_nodes : c.args.number < length nodes = search rules in
+    let in_taken : c.args.number < length taken = search rules in
+    let at_node : slice_get nodes c.args.number ≡ Some c.index_mut.result.now = slice_get_read nodes (length nodes) c.args.number c.index_mut.result.now refl in_nodes (search rules) in
+    let at_taken : slice_get taken c.args.number ≡ Some c.index.result.now = slice_get_read taken (length taken) c.args.number c.index.result.now refl in_taken (search rules) in
+    let closed : is_some c.index.result.now ≡ false = search rules in
     rw c.from-place.ensures
-    (stepped nodes c.args.number c.index_mut.result.now c.take.new.node c.self.inside.book c.take.new.book at c.take.ensures.stepped c.take.ensures.agrees c.self.invariant)
+    (node_seated c.args.number c.index_mut.result.now c.take.new.node None c.self.inside.book c.take.new.book nodes taken at_node (at_taken ∙ ap Some (is_none c.index.result.now closed)) c.take.ensures.passes c.take.ensures.sits c.self.invariant)
