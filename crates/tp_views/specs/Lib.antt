@@ -3,6 +3,7 @@ pub mod Hex
 pub mod Json
 pub mod Names
 pub mod Shown
+pub mod JsonShow
 pub mod Opens
 pub mod Status
 pub mod NodeText

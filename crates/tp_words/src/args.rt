@@ -6,7 +6,9 @@ ghost use Rattle.std.specs.Option.{option_map};
 ghost use Rattle.tp_words.specs.Args.{HasTyped, IsEvery, IsInRange, WasTyped};
 ghost use Rattle.tp_words.specs.Given.{given, IsGivenOr};
 
-use crate::found::{area_of, option_number, option_or, option_string, place_of, text_of, turns_of};
+use crate::found::{
+    area_of, json_of, option_number, option_or, option_string, place_of, text_of, turns_of,
+};
 use crate::stream_words::stream_option;
 use crate::views::View;
 use crate::words::command;
@@ -31,8 +33,8 @@ pub enum Asked {
     Compact { device: String, wait_lock: u32 },
     /// Opens a device by `workers` threads and says what the next entry's number is.
     Recover { device: String, workers: u8 },
-    /// Opens a device and says what it holds.
-    Show { device: String },
+    /// Opens a device and says what it holds. `json`: as JSON.
+    Show { device: String, json: bool },
     /// Opens a device and says in a line whether it is run, and how far it is.
     /// `every`: how many seconds lie between two looks; `None`: there is one.
     Status { device: String, every: Option<u32> },
@@ -333,6 +335,7 @@ fn asked_show(alloc: Global, words: &[String], found: &ArgMatches) -> Result<Ask
     ensures typed { IfOk result (WasTyped words.now) }
 {
     Ok(Asked::Show {
+        json: json_of(words, found)?,
         device: text_of(alloc, words, found, "DEVICE")?,
     })
 }

@@ -188,7 +188,7 @@ const RECOVER: Form = Form {
 const SHOW: Form = Form {
     name: "show",
     about: "Opens a device, writes nothing, and prints what it holds",
-    words: &[EXPLAIN, DEVICE],
+    words: &[EXPLAIN, JSON, DEVICE],
 };
 
 const STATUS: Form = Form {
