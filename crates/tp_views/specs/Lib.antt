@@ -7,6 +7,7 @@ pub mod JsonShow
 pub mod Opens
 pub mod Status
 pub mod NodeText
+pub mod JsonNode
 pub mod Entries
 pub mod Views
 pub mod Checked

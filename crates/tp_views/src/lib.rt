@@ -14,6 +14,7 @@ mod head_rules;
 mod image_fields;
 mod image_rules;
 mod json;
+mod json_node;
 mod json_show;
 mod looking;
 mod network_files;

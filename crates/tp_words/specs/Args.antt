@@ -1,5 +1,5 @@
 -- The values of a command line.
-use Rattle.std.specs.Prelude.{◌≡◌, ◌≤◌, ◌<◌, ◌^◌, ℕ, true, List, Option, Some, None, codes, string_bytes}
+use Rattle.std.specs.Prelude.{◌≡◌, ◌≤◌, ◌<◌, ◌^◌, ℕ, false, true, List, Option, Some, None, codes, string_bytes}
 use Rattle.std.specs.Fmt.{decimal}
 use Rattle.std.specs.Option.{option_map}
 use Rattle.std.specs.declared.alloc.Global.{Global}
@@ -10,7 +10,7 @@ use Rattle.tp_words.specs.declared.args.Asked.TheVariants.{Help, Try, Format, Ru
 use Rattle.tp_words.specs.declared.args.Run.{Run}
 use Rattle.tp_words.specs.declared.args.TheConstants.{MAX_AREA, MAX_WORKERS, QUANTUM}
 use Rattle.tp_words.specs.declared.views.View.{View}
-use Rattle.tp_words.specs.declared.views.View.TheVariants.{Node, Image, Journal, Pending, Outputs}
+use Rattle.tp_words.specs.declared.views.View.TheVariants.{Node, Image, Journal, Pending, Outputs, NodeJson}
 use Rattle.tp_words.specs.Given.{given, has_flag, IsGivenOr}
 use Rattle.tp_words.specs.Typed.{has_word, was_typed}
 
@@ -38,11 +38,12 @@ IsInRange (Views device view) = Unit {0}
 
 -- the number of a view is a decimal that was typed; a journal is shown from its first entry where none was
 abbrev pub HasTyped : List (String Global) → View → Type 0
-HasTyped words (Node node) = was_typed words (decimal node) ≡ true
+HasTyped words (Node node) = (was_typed words (decimal node) ≡ true) × (has_flag (codes "--json") words ≡ false)
 HasTyped words (Image node) = was_typed words (decimal node) ≡ true
 HasTyped words (Journal from) = IsGivenOr 0 from (given (codes "from") words)
 HasTyped words (Pending port) = was_typed words (decimal port) ≡ true
 HasTyped words (Outputs port) = was_typed words (decimal port) ≡ true
+HasTyped words (NodeJson node) = (was_typed words (decimal node) ≡ true) × (has_flag (codes "--json") words ≡ true)
 
 -- each option of a run is what was typed for it, and else what docs/PROGRAM.md says
 abbrev pub IsTypedRun : List (String Global) → Run → Type 0

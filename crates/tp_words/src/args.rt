@@ -269,6 +269,18 @@ fn first_of(alloc: Global, words: &[String], found: &ArgMatches) -> Result<View,
     Ok(View::Journal(option_or(alloc, words, found, "from", 0, u64::MAX, 0)?))
 }
 
+/// The form of a node that is shown.
+fn node_view(alloc: Global, words: &[String], found: &ArgMatches) -> Result<View, ArgFault>
+    ensures { IfOk result (HasTyped words.now) }
+{
+    let node = place_of(alloc, words, found, "I")?;
+    if json_of(words, found)? {
+        Ok(View::NodeJson(node))
+    } else {
+        Ok(View::Node(node))
+    }
+}
+
 /// The bytes of a port that are shown.
 fn port_view(alloc: Global, words: &[String], found: &ArgMatches) -> Result<View, ArgFault>
     ensures { IfOk result (HasTyped words.now) }
@@ -291,7 +303,7 @@ fn view_of(
     ensures { IfOk result (HasTyped words.now) }
 {
     match name {
-        "node" => Ok(View::Node(place_of(alloc, words, found, "I")?)),
+        "node" => node_view(alloc, words, found),
         "image" => Ok(View::Image(place_of(alloc, words, found, "I")?)),
         "journal" => first_of(alloc, words, found),
         "port" => port_view(alloc, words, found),

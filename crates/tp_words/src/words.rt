@@ -208,7 +208,7 @@ const STATUS: Form = Form {
 const NODES: Form = Form {
     name: "node",
     about: "Prints a node's registers, queues and link ends, addresses in hexadecimal",
-    words: &[EXPLAIN, DEVICE, NODE],
+    words: &[EXPLAIN, JSON, DEVICE, NODE],
 };
 
 const IMAGE: Form = Form {
