@@ -8,6 +8,7 @@ pub mod Opens
 pub mod Status
 pub mod NodeText
 pub mod JsonNode
+pub mod JsonPort
 pub mod Entries
 pub mod Views
 pub mod Checked

@@ -15,6 +15,7 @@ mod image_fields;
 mod image_rules;
 mod json;
 mod json_node;
+mod json_port;
 mod json_show;
 mod looking;
 mod network_files;

@@ -10,7 +10,7 @@ use Rattle.tp_words.specs.declared.args.Asked.TheVariants.{Help, Try, Format, Ru
 use Rattle.tp_words.specs.declared.args.Run.{Run}
 use Rattle.tp_words.specs.declared.args.TheConstants.{MAX_AREA, MAX_WORKERS, QUANTUM}
 use Rattle.tp_words.specs.declared.views.View.{View}
-use Rattle.tp_words.specs.declared.views.View.TheVariants.{Node, Image, Journal, Pending, Outputs, NodeJson}
+use Rattle.tp_words.specs.declared.views.View.TheVariants.{Node, Image, Journal, Pending, Outputs, NodeJson, PendingJson, OutputsJson}
 use Rattle.tp_words.specs.Given.{given, has_flag, IsGivenOr}
 use Rattle.tp_words.specs.Typed.{has_word, was_typed}
 
@@ -36,14 +36,16 @@ IsInRange (Status device every) = IsEvery every
 IsInRange (Check topology images) = Unit {0}
 IsInRange (Views device view) = Unit {0}
 
--- the number of a view is a decimal that was typed; a journal is shown from its first entry where none was
+-- the number of a view is a decimal that was typed; a journal is shown from its first entry where none was; JSON is shown where it is asked for
 abbrev pub HasTyped : List (String Global) → View → Type 0
 HasTyped words (Node node) = (was_typed words (decimal node) ≡ true) × (has_flag (codes "--json") words ≡ false)
 HasTyped words (Image node) = was_typed words (decimal node) ≡ true
 HasTyped words (Journal from) = IsGivenOr 0 from (given (codes "from") words)
-HasTyped words (Pending port) = was_typed words (decimal port) ≡ true
-HasTyped words (Outputs port) = was_typed words (decimal port) ≡ true
+HasTyped words (Pending port) = (was_typed words (decimal port) ≡ true) × (has_flag (codes "--json") words ≡ false)
+HasTyped words (Outputs port) = (was_typed words (decimal port) ≡ true) × (has_flag (codes "--json") words ≡ false)
 HasTyped words (NodeJson node) = (was_typed words (decimal node) ≡ true) × (has_flag (codes "--json") words ≡ true)
+HasTyped words (PendingJson port) = (was_typed words (decimal port) ≡ true) × (has_flag (codes "--json") words ≡ true)
+HasTyped words (OutputsJson port) = (was_typed words (decimal port) ≡ true) × (has_flag (codes "--json") words ≡ true)
 
 -- each option of a run is what was typed for it, and else what docs/PROGRAM.md says
 abbrev pub IsTypedRun : List (String Global) → Run → Type 0
