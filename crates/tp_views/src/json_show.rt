@@ -32,13 +32,33 @@ fn push_outputs(text: &mut String, confirmed: u64, unconfirmed: usize) -> Result
     write!(text, ",\"out\":{confirmed},\"unconfirmed\":{unconfirmed}}}")
 }
 
+/// Appends what is counted at a port.
+fn push_counts(
+    text: &mut String,
+    taken: u64,
+    pending: usize,
+    confirmed: u64,
+    unconfirmed: usize,
+) -> Result<(), AllocError>
+    ensures { OnOk result (string_bytes text.new ≡ string_bytes text.old ++ (input_fields taken pending ++ output_fields confirmed unconfirmed)) }
+{
+    push_inputs(text, taken, pending)?;
+    push_outputs(text, confirmed, unconfirmed)
+}
+
+fn push_port_item(text: &mut String, port: &HostPort) -> Result<(), AllocError>
+    ensures { OnOk result (string_bytes text.new ≡ string_bytes text.old ++ port_item port.now.port) }
+{
+    let (pending, unconfirmed) = (port.pending().len(), port.outputs().len());
+    push_counts(text, port.in_base(), pending, port.out_base(), unconfirmed)
+}
+
 /// Appends the item of a port that has `before` ports before it.
 fn push_port(text: &mut String, before: usize, port: &HostPort) -> Result<(), AllocError>
     ensures { OnOk result (string_bytes text.new ≡ string_bytes text.old ++ (comma before ++ port_item port.now.port)) }
 {
     push(text, comma(before))?;
-    push_inputs(text, port.in_base(), port.pending().len())?;
-    push_outputs(text, port.out_base(), port.outputs().len())
+    push_port_item(text, port)
 }
 
 fn push_nodes(text: &mut String, nodes: &[Node]) -> Result<(), AllocError>
