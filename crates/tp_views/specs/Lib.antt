@@ -1,10 +1,14 @@
 pub mod Front
 pub mod Hex
+pub mod Json
 pub mod Names
 pub mod Shown
+pub mod JsonShow
 pub mod Opens
 pub mod Status
 pub mod NodeText
+pub mod JsonNode
+pub mod JsonPort
 pub mod Entries
 pub mod Views
 pub mod Checked

@@ -1,5 +1,5 @@
 -- The values of a command line.
-use Rattle.std.specs.Prelude.{◌≡◌, ◌≤◌, ◌<◌, ◌^◌, ℕ, true, List, Option, Some, None, codes, string_bytes}
+use Rattle.std.specs.Prelude.{◌≡◌, ◌≤◌, ◌<◌, ◌^◌, ℕ, false, true, List, Option, Some, None, codes, string_bytes}
 use Rattle.std.specs.Fmt.{decimal}
 use Rattle.std.specs.Option.{option_map}
 use Rattle.std.specs.declared.alloc.Global.{Global}
@@ -10,8 +10,8 @@ use Rattle.tp_words.specs.declared.args.Asked.TheVariants.{Help, Try, Format, Ru
 use Rattle.tp_words.specs.declared.args.Run.{Run}
 use Rattle.tp_words.specs.declared.args.TheConstants.{MAX_AREA, MAX_WORKERS, QUANTUM}
 use Rattle.tp_words.specs.declared.views.View.{View}
-use Rattle.tp_words.specs.declared.views.View.TheVariants.{Node, Image, Journal, Pending, Outputs}
-use Rattle.tp_words.specs.Given.{given, IsGivenOr}
+use Rattle.tp_words.specs.declared.views.View.TheVariants.{Node, Image, Journal, Pending, Outputs, NodeJson, PendingJson, OutputsJson}
+use Rattle.tp_words.specs.Given.{given, has_flag, IsGivenOr}
 use Rattle.tp_words.specs.Typed.{has_word, was_typed}
 
 -- a snapshot begins after a number of entries, or a further look is taken after a number of seconds, where one is given
@@ -31,18 +31,21 @@ IsInRange (Format new) = new.area ≤ MAX_AREA
 IsInRange (Runs run) = IsRun run
 IsInRange (Compact device wait_lock) = Unit {0}
 IsInRange (Recover device workers) = (0 < workers) × (workers ≤ MAX_WORKERS)
-IsInRange (Show device) = Unit {0}
+IsInRange (Show device json) = Unit {0}
 IsInRange (Status device every) = IsEvery every
 IsInRange (Check topology images) = Unit {0}
 IsInRange (Views device view) = Unit {0}
 
--- the number of a view is a decimal that was typed; a journal is shown from its first entry where none was
+-- the number of a view is a decimal that was typed; a journal is shown from its first entry where none was; JSON is shown where it is asked for
 abbrev pub HasTyped : List (String Global) → View → Type 0
-HasTyped words (Node node) = was_typed words (decimal node) ≡ true
+HasTyped words (Node node) = (was_typed words (decimal node) ≡ true) × (has_flag (codes "--json") words ≡ false)
 HasTyped words (Image node) = was_typed words (decimal node) ≡ true
 HasTyped words (Journal from) = IsGivenOr 0 from (given (codes "from") words)
-HasTyped words (Pending port) = was_typed words (decimal port) ≡ true
-HasTyped words (Outputs port) = was_typed words (decimal port) ≡ true
+HasTyped words (Pending port) = (was_typed words (decimal port) ≡ true) × (has_flag (codes "--json") words ≡ false)
+HasTyped words (Outputs port) = (was_typed words (decimal port) ≡ true) × (has_flag (codes "--json") words ≡ false)
+HasTyped words (NodeJson node) = (was_typed words (decimal node) ≡ true) × (has_flag (codes "--json") words ≡ true)
+HasTyped words (PendingJson port) = (was_typed words (decimal port) ≡ true) × (has_flag (codes "--json") words ≡ true)
+HasTyped words (OutputsJson port) = (was_typed words (decimal port) ≡ true) × (has_flag (codes "--json") words ≡ true)
 
 -- each option of a run is what was typed for it, and else what docs/PROGRAM.md says
 abbrev pub IsTypedRun : List (String Global) → Run → Type 0
@@ -56,7 +59,7 @@ IsTypedRun words run = (has_word (string_bytes run.device) words ≡ true)
     × (given (codes "in") words ≡ option_map string_bytes run.input)
     × IsGivenOr 0 run.wait_lock (given (codes "wait-lock") words)
 
--- each number is a decimal that was typed, and each text a word
+-- each number is a decimal that was typed, each text a word, and JSON is asked for where its flag was typed
 abbrev pub WasTyped : List (String Global) → Asked → Type 0
 WasTyped words (Help text) = Unit {0}
 WasTyped words (Try image turns) = (has_word (string_bytes image) words ≡ true) × (given (codes "turns") words ≡ Some (decimal turns))
@@ -66,7 +69,7 @@ WasTyped words (Format new) = (has_word (string_bytes new.device) words ≡ true
 WasTyped words (Runs run) = IsTypedRun words run
 WasTyped words (Compact device wait_lock) = (has_word (string_bytes device) words ≡ true) × IsGivenOr 0 wait_lock (given (codes "wait-lock") words)
 WasTyped words (Recover device workers) = (has_word (string_bytes device) words ≡ true) × IsGivenOr 1 workers (given (codes "workers") words)
-WasTyped words (Show device) = has_word (string_bytes device) words ≡ true
+WasTyped words (Show device json) = (has_word (string_bytes device) words ≡ true) × (json ≡ has_flag (codes "--json") words)
 WasTyped words (Status device every) = (has_word (string_bytes device) words ≡ true) × (given (codes "every") words ≡ option_map decimal every)
 WasTyped words (Check topology images) = (has_word (string_bytes topology) words ≡ true) × (has_word (string_bytes images) words ≡ true)
 WasTyped words (Views device view) = (has_word (string_bytes device) words ≡ true) × HasTyped words view

@@ -6,7 +6,9 @@ ghost use Rattle.std.specs.Option.{option_map};
 ghost use Rattle.tp_words.specs.Args.{HasTyped, IsEvery, IsInRange, WasTyped};
 ghost use Rattle.tp_words.specs.Given.{given, IsGivenOr};
 
-use crate::found::{area_of, option_number, option_or, option_string, place_of, text_of, turns_of};
+use crate::found::{
+    area_of, json_of, option_number, option_or, option_string, place_of, text_of, turns_of,
+};
 use crate::stream_words::stream_option;
 use crate::views::View;
 use crate::words::command;
@@ -31,8 +33,8 @@ pub enum Asked {
     Compact { device: String, wait_lock: u32 },
     /// Opens a device by `workers` threads and says what the next entry's number is.
     Recover { device: String, workers: u8 },
-    /// Opens a device and says what it holds.
-    Show { device: String },
+    /// Opens a device and says what it holds. `json`: as JSON.
+    Show { device: String, json: bool },
     /// Opens a device and says in a line whether it is run, and how far it is.
     /// `every`: how many seconds lie between two looks; `None`: there is one.
     Status { device: String, every: Option<u32> },
@@ -267,16 +269,30 @@ fn first_of(alloc: Global, words: &[String], found: &ArgMatches) -> Result<View,
     Ok(View::Journal(option_or(alloc, words, found, "from", 0, u64::MAX, 0)?))
 }
 
+/// The form of a node that is shown.
+fn node_view(alloc: Global, words: &[String], found: &ArgMatches) -> Result<View, ArgFault>
+    ensures { IfOk result (HasTyped words.now) }
+{
+    let node = place_of(alloc, words, found, "I")?;
+    if json_of(words, found)? {
+        Ok(View::NodeJson(node))
+    } else {
+        Ok(View::Node(node))
+    }
+}
+
 /// The bytes of a port that are shown.
 fn port_view(alloc: Global, words: &[String], found: &ArgMatches) -> Result<View, ArgFault>
     ensures { IfOk result (HasTyped words.now) }
 {
     let port = place_of(alloc, words, found, "P")?;
-    if found.get_flag("pending") {
-        Ok(View::Pending(port))
-    } else {
-        Ok(View::Outputs(port))
-    }
+    let json = json_of(words, found)?;
+    Ok(match (found.get_flag("pending"), json) {
+        (true, true) => View::PendingJson(port),
+        (true, false) => View::Pending(port),
+        (false, true) => View::OutputsJson(port),
+        (false, false) => View::Outputs(port),
+    })
 }
 
 /// The view of a device that a command of that name shows.
@@ -289,7 +305,7 @@ fn view_of(
     ensures { IfOk result (HasTyped words.now) }
 {
     match name {
-        "node" => Ok(View::Node(place_of(alloc, words, found, "I")?)),
+        "node" => node_view(alloc, words, found),
         "image" => Ok(View::Image(place_of(alloc, words, found, "I")?)),
         "journal" => first_of(alloc, words, found),
         "port" => port_view(alloc, words, found),
@@ -333,6 +349,7 @@ fn asked_show(alloc: Global, words: &[String], found: &ArgMatches) -> Result<Ask
     ensures typed { IfOk result (WasTyped words.now) }
 {
     Ok(Asked::Show {
+        json: json_of(words, found)?,
         device: text_of(alloc, words, found, "DEVICE")?,
     })
 }

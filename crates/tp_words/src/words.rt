@@ -42,6 +42,9 @@ pub const EXPLAIN: Word = Word::Flag(
     "after a refusal, say which file, why, and what to do",
 );
 
+/// Prints for scripts.
+const JSON: Word = Word::Flag("json", "print it as one line of JSON, for scripts");
+
 /// How long another process is waited for that holds the device.
 pub const WAIT_LOCK: Word = Word::Value(
     "wait-lock",
@@ -185,7 +188,7 @@ const RECOVER: Form = Form {
 const SHOW: Form = Form {
     name: "show",
     about: "Opens a device, writes nothing, and prints what it holds",
-    words: &[EXPLAIN, DEVICE],
+    words: &[EXPLAIN, JSON, DEVICE],
 };
 
 const STATUS: Form = Form {
@@ -205,7 +208,7 @@ const STATUS: Form = Form {
 const NODES: Form = Form {
     name: "node",
     about: "Prints a node's registers, queues and link ends, addresses in hexadecimal",
-    words: &[EXPLAIN, DEVICE, NODE],
+    words: &[EXPLAIN, JSON, DEVICE, NODE],
 };
 
 const IMAGE: Form = Form {
@@ -229,6 +232,7 @@ const PORT: Form = Form {
     about: "Prints a port's bytes as they are: the outputs that aren't confirmed, or the inputs that are pending",
     words: &[
         EXPLAIN,
+        JSON,
         DEVICE,
         Word::Place("P", "the port's number"),
         Word::Flag("pending", "the inputs that no node has taken"),
