@@ -31,7 +31,7 @@ pub use tp_views::{
 };
 pub use tp_words::{
     ArgFault, Asked, Backup, BackupAsked, EndsFault, NewDevice, Run, StreamArgFault, StreamAsked,
-    StreamRun, View, is_backup, is_stream, read_args, read_backup_args, read_stream_args,
+    JournalPart, StreamRun, View, is_backup, is_stream, read_args, read_backup_args, read_stream_args,
     wants_input,
 };
 pub use watching::{OneLook, Watch};

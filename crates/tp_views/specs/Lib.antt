@@ -6,6 +6,7 @@ pub mod Opens
 pub mod Status
 pub mod NodeText
 pub mod Entries
+pub mod JournalText
 pub mod Views
 pub mod Checked
 pub mod Looks

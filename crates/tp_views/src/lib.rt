@@ -13,6 +13,7 @@ mod full_journal;
 mod head_rules;
 mod image_fields;
 mod image_rules;
+mod journal;
 mod looking;
 mod network_files;
 mod opening;

@@ -1,5 +1,5 @@
 -- The values of a command line.
-use Rattle.std.specs.Prelude.{◌≡◌, ◌≤◌, ◌<◌, ◌^◌, ℕ, true, List, Option, Some, None, codes, string_bytes}
+use Rattle.std.specs.Prelude.{◌≡◌, ◌≤◌, ◌<◌, ◌^◌, ℕ, true, List, Option, Some, None, IfSome, codes, string_bytes}
 use Rattle.std.specs.Fmt.{decimal}
 use Rattle.std.specs.Option.{option_map}
 use Rattle.std.specs.declared.alloc.Global.{Global}
@@ -9,6 +9,7 @@ use Rattle.tp_words.specs.declared.args.Asked.{Asked}
 use Rattle.tp_words.specs.declared.args.Asked.TheVariants.{Help, Try, Format, Run as Runs, Compact, Recover, Show, Status, Check, View as Views}
 use Rattle.tp_words.specs.declared.args.Run.{Run}
 use Rattle.tp_words.specs.declared.args.TheConstants.{MAX_AREA, MAX_WORKERS, QUANTUM}
+use Rattle.tp_words.specs.declared.views.JournalPart.{JournalPart}
 use Rattle.tp_words.specs.declared.views.View.{View}
 use Rattle.tp_words.specs.declared.views.View.TheVariants.{Node, Image, Journal, Pending, Outputs}
 use Rattle.tp_words.specs.Given.{given, IsGivenOr}
@@ -23,6 +24,17 @@ IsEvery (Some every) = (0 < every) × (every < 2 ^ 32)
 unfoldable pub IsRun : Run → Type 0
 IsRun run = (run.turns < 2 ^ 32) × (0 < run.workers) × (run.workers ≤ MAX_WORKERS) × (0 < run.quantum) × (run.quantum ≤ MAX_STEPS) × IsEvery run.every
 
+-- where the last number of a journal is given it isn't below the first one, and where a count of entries is, it isn't 0
+abbrev pub IsPart : JournalPart → Type 0
+IsPart part = IfSome part.to (λ to. part.from ≤ to) × IfSome part.last (λ last. 0 < last)
+
+abbrev pub IsView : View → Type 0
+IsView (Journal part) = IsPart part
+IsView (Node node) = Unit {0}
+IsView (Image node) = Unit {0}
+IsView (Pending port) = Unit {0}
+IsView (Outputs port) = Unit {0}
+
 -- each number is in its range
 abbrev pub IsInRange : Asked → Type 0
 IsInRange (Help text) = Unit {0}
@@ -34,13 +46,20 @@ IsInRange (Recover device workers) = (0 < workers) × (workers ≤ MAX_WORKERS)
 IsInRange (Show device) = Unit {0}
 IsInRange (Status device every) = IsEvery every
 IsInRange (Check topology images) = Unit {0}
-IsInRange (Views device view) = Unit {0}
+IsInRange (Views device view) = IsView view
 
--- the number of a view is a decimal that was typed; a journal is shown from its first entry where none was
+-- each option of a journal is what was typed for it; it is shown from its first entry where none was
+abbrev pub IsTypedPart : List (String Global) → JournalPart → Type 0
+IsTypedPart words part = IsGivenOr 0 part.from (given (codes "from") words)
+    × (given (codes "to") words ≡ option_map decimal part.to)
+    × (given (codes "node") words ≡ option_map decimal part.node)
+    × (given (codes "last") words ≡ option_map decimal part.last)
+
+-- the number of a view is a decimal that was typed
 abbrev pub HasTyped : List (String Global) → View → Type 0
 HasTyped words (Node node) = was_typed words (decimal node) ≡ true
 HasTyped words (Image node) = was_typed words (decimal node) ≡ true
-HasTyped words (Journal from) = IsGivenOr 0 from (given (codes "from") words)
+HasTyped words (Journal part) = IsTypedPart words part
 HasTyped words (Pending port) = was_typed words (decimal port) ≡ true
 HasTyped words (Outputs port) = was_typed words (decimal port) ≡ true
 

@@ -3,10 +3,11 @@
 ghost use Rattle.std.specs.Prelude.{◌≡◌, ◌≤◌, IfOk, codes};
 ghost use Rattle.std.specs.Fmt.{decimal};
 ghost use Rattle.std.specs.Option.{option_map};
-ghost use Rattle.tp_words.specs.Args.{HasTyped, IsEvery, IsInRange, WasTyped};
+ghost use Rattle.tp_words.specs.Args.{HasTyped, IsEvery, IsInRange, IsView, WasTyped};
 ghost use Rattle.tp_words.specs.Given.{given, IsGivenOr};
 
 use crate::found::{area_of, option_number, option_or, option_string, place_of, text_of, turns_of};
+use crate::journal_args::journal_view;
 use crate::stream_words::stream_option;
 use crate::views::View;
 use crate::words::command;
@@ -107,6 +108,8 @@ pub enum ArgFault {
     Area,
     /// The number of a node, a port or an entry is no decimal.
     Number,
+    /// The last entry that is asked for is before the first one.
+    Order,
     /// There are more words than any command has.
     Many,
     /// This option goes with `--stream`.
@@ -126,7 +129,9 @@ fn say_bounds<W: fmt::Write>(
     match id {
         "spare" => f.write_str("from 0 to the pages of the smallest node"),
         "port" => f.write_str("from 0 to 7, a port of the device"),
-        "from" => f.write_str("below 2^64"),
+        "from" | "to" => f.write_str("below 2^64"),
+        "node" => f.write_str("below 2^64, a node of the device"),
+        "last" => f.write_str("from 1, below 2^64"),
         _ => write!(f, "from {least} to {most}"),
     }
 }
@@ -154,6 +159,9 @@ impl fmt::Display for ArgFault {
             ArgFault::Number => f.write_str(
                 "tpnet: a number of a node or a port is a decimal below 2^64, without a sign or leading zeros\n",
             ),
+            ArgFault::Order => {
+                f.write_str("tpnet: --to is below --from: there is no entry between them\n")
+            }
             ArgFault::Many => write!(f, "tpnet: there are more than {MAX_WORDS} words\n"),
             ArgFault::Stream(id) => write!(
                 f,
@@ -260,16 +268,10 @@ fn asked_recover(alloc: Global, words: &[String], found: &ArgMatches) -> Result<
     })
 }
 
-/// The first entry of a journal that is shown.
-fn first_of(alloc: Global, words: &[String], found: &ArgMatches) -> Result<View, ArgFault>
-    ensures { IfOk result (HasTyped words.now) }
-{
-    Ok(View::Journal(option_or(alloc, words, found, "from", 0, u64::MAX, 0)?))
-}
-
 /// The bytes of a port that are shown.
 fn port_view(alloc: Global, words: &[String], found: &ArgMatches) -> Result<View, ArgFault>
-    ensures { IfOk result (HasTyped words.now) }
+    ensures range { IfOk result IsView }
+    ensures typed { IfOk result (HasTyped words.now) }
 {
     let port = place_of(alloc, words, found, "P")?;
     if found.get_flag("pending") {
@@ -286,12 +288,13 @@ fn view_of(
     name: &str,
     found: &ArgMatches,
 ) -> Result<View, ArgFault>
-    ensures { IfOk result (HasTyped words.now) }
+    ensures range { IfOk result IsView }
+    ensures typed { IfOk result (HasTyped words.now) }
 {
     match name {
         "node" => Ok(View::Node(place_of(alloc, words, found, "I")?)),
         "image" => Ok(View::Image(place_of(alloc, words, found, "I")?)),
-        "journal" => first_of(alloc, words, found),
+        "journal" => journal_view(alloc, words, found),
         "port" => port_view(alloc, words, found),
         _ => Err(ArgFault::Missing),
     }

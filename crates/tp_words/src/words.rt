@@ -221,6 +221,13 @@ const JOURNAL: Form = Form {
         EXPLAIN,
         DEVICE,
         Word::Value("from", "N", "the first number that is shown"),
+        Word::Value("to", "N", "the last number that is shown"),
+        Word::Value(
+            "node",
+            "I",
+            "only what node I did: its turns, its runs, and what it took; nothing of the host",
+        ),
+        Word::Value("last", "K", "only the last K of these"),
     ],
 };
 
