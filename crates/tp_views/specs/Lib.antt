@@ -1,5 +1,6 @@
 pub mod Front
 pub mod Hex
+pub mod Json
 pub mod Names
 pub mod Shown
 pub mod Opens

@@ -1,5 +1,5 @@
 -- What was typed for an option.
-use Rattle.std.specs.Prelude.{◌≡◌, ◌++◌, ℕ, List, [], ◌∷◌, Option, Some, None, if◌then◌else◌, length, take, drop, codes, string_bytes, nat_eq}
+use Rattle.std.specs.Prelude.{◌≡◌, ◌++◌, ◌||◌, ℕ, Bool, false, List, [], ◌∷◌, Option, Some, None, if◌then◌else◌, length, take, drop, codes, string_bytes, nat_eq}
 use Rattle.std.specs.Cmp.Lexicographic.{pointwise}
 use Rattle.std.specs.Fmt.{decimal}
 use Rattle.std.specs.Option.{option_or}
@@ -28,6 +28,11 @@ given_in name ending (word ∷ words) =
 -- what was typed for an option
 abbrev pub given : List ℕ → List (String Global) → Option (List ℕ)
 given id words = given_in (codes "--" ++ id) (codes "--" ++ (id ++ codes "=")) words
+
+-- a flag of this name was typed: one of the words is it, and no word `--` stands before that
+abbrev pub has_flag : List ℕ → List (String Global) → Bool
+has_flag name [] = false
+has_flag name (word ∷ words) = if is_word (codes "--") word then false else (is_word name word || has_flag name words)
 
 -- the number is the decimal that was typed, or that one where none was
 abbrev pub IsGivenOr : ℕ → ℕ → Option (List ℕ) → Type 0

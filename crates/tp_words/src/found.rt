@@ -3,11 +3,11 @@
 ghost use Rattle.std.specs.Prelude.{◌≡◌, ◌≤◌, true, Some, IfOk, IfSome, codes, string_bytes};
 ghost use Rattle.std.specs.Fmt.{decimal};
 ghost use Rattle.std.specs.Option.{option_map};
-ghost use Rattle.tp_words.specs.Given.{given, IsGivenOr};
+ghost use Rattle.tp_words.specs.Given.{given, has_flag, IsGivenOr};
 ghost use Rattle.tp_words.specs.Typed.{has_word, was_typed};
 
 use crate::args::{ArgFault, MAX_AREA, MAX_TURNS};
-use crate::numbers::{given, has_word, number_of, was_typed};
+use crate::numbers::{given, has_flag, has_word, number_of, was_typed};
 use clap::ArgMatches;
 use std::alloc::Global;
 
@@ -163,4 +163,15 @@ pub fn place_of(
         Some(number) => Ok(number),
         None => Err(ArgFault::Number),
     }
+}
+
+/// Whether `--json` was typed, by the words themselves. `clap` has to have found the same.
+pub fn json_of(words: &[String], found: &ArgMatches) -> Result<bool, ArgFault>
+    ensures { IfOk result (λ json. json ≡ has_flag (codes "--json") words.now) }
+{
+    let json = has_flag(words, "--json");
+    if json != found.get_flag("json") {
+        return Err(ArgFault::Missing);
+    }
+    Ok(json)
 }

@@ -3,7 +3,7 @@
 ghost use Rattle.std.specs.Prelude.{◌≡◌, IfOk, IfSome, string_bytes};
 ghost use Rattle.std.specs.Fmt.{decimal};
 ghost use Rattle.std.specs.Option.{option_map};
-ghost use Rattle.tp_words.specs.Given.{given_in, value_in};
+ghost use Rattle.tp_words.specs.Given.{given_in, has_flag, value_in};
 ghost use Rattle.tp_words.specs.Typed.{has_value, has_word, is_value, is_word, was_typed};
 
 use std::alloc::{AllocError, Global};
@@ -80,4 +80,17 @@ pub fn given<'a>(words: &'a [String], name: &str, ending: &str) -> Option<&'a [u
         Some(text) => Some(text),
         None => given(rest, name, ending),
     }
+}
+
+/// Whether the flag of this name was typed: one of the words is it, and no word `--` stands before that.
+pub fn has_flag(words: &[String], name: &str) -> bool
+    ensures { result ≡ has_flag name.now words.now }
+{
+    let Some((word, rest)) = words.split_first() else {
+        return false;
+    };
+    if is_word(word, "--") {
+        return false;
+    }
+    is_word(word, name) || has_flag(rest, name)
 }

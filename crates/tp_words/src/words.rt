@@ -42,6 +42,9 @@ pub const EXPLAIN: Word = Word::Flag(
     "after a refusal, say which file, why, and what to do",
 );
 
+/// Prints for scripts.
+const JSON: Word = Word::Flag("json", "print it as one line of JSON, for scripts");
+
 /// How long another process is waited for that holds the device.
 pub const WAIT_LOCK: Word = Word::Value(
     "wait-lock",

@@ -1,0 +1,18 @@
+//! How values are spelt for scripts. All that is printed is numbers and fixed names, so no text needs an escape.
+
+ghost use Rattle.std.specs.Prelude.{◌≡◌};
+ghost use Rattle.tp_views.specs.Json.{comma, json_bool};
+
+/// What stands before an item of a list that has `before` items before it.
+pub(crate) fn comma(before: usize) -> &'static str
+    ensures { result.now ≡ comma before }
+{
+    if before == 0 { "" } else { "," }
+}
+
+/// Whether something is so.
+pub(crate) fn json_bool(is_so: bool) -> &'static str
+    ensures { result.now ≡ json_bool is_so }
+{
+    if is_so { "true" } else { "false" }
+}
