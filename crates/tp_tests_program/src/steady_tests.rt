@@ -8,7 +8,9 @@ use std::test::Fail;
 use std::thread::Threads;
 use tp_disk::{Counted, Disk, MemDisk};
 use tp_net::Topology;
-use tp_program::{JournalPart, View, backup_on, compact_on, format_on, recover_on, show_on, view_on};
+use tp_program::{
+    JournalPart, View, backup_on, compact_on, format_on, recover_on, show_on, view_on,
+};
 use tp_tests_files::scratch::Output;
 use tp_tests_fixtures::{ONE_NODE, SIZE, letter};
 

@@ -13,11 +13,8 @@ mod full_journal;
 mod head_rules;
 mod image_fields;
 mod image_rules;
-<<<<<<< HEAD
 mod journal;
-=======
 mod json;
->>>>>>> 386c586dd0564cc318c52fd00d29abb9c83c6df5
 mod looking;
 mod network_files;
 mod opening;

@@ -10,11 +10,7 @@ use clap::ArgMatches;
 use std::alloc::Global;
 
 /// The options of a journal, each in its range.
-fn options_of(
-    alloc: Global,
-    words: &[String],
-    found: &ArgMatches,
-) -> Result<JournalPart, ArgFault>
+fn options_of(alloc: Global, words: &[String], found: &ArgMatches) -> Result<JournalPart, ArgFault>
     ensures last { IfOk result (λ part. IfSome part.last (λ last. 0 < last)) }
     ensures typed { IfOk result (IsTypedPart words.now) }
 {
