@@ -87,7 +87,7 @@ tpnet status device --every 2>err
 starts err error: 
 tpnet status device --every 1 --every 1 2>err
 starts err error: 
-tpnet status device --json 2>err
+tpnet status device --xml 2>err
 starts err error: 
 tpnet status device --every 0
 tpnet status device --every 01

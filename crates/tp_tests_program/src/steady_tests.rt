@@ -290,6 +290,7 @@ const WHOLE: JournalPart = JournalPart {
     to: None,
     node: None,
     last: None,
+    json: false,
 };
 
 /// A command, in how many of its tries the device is written, and whether it says what is so in the end; else it says `Busy`.

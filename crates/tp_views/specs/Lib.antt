@@ -5,11 +5,14 @@ pub mod Names
 pub mod Shown
 pub mod Opens
 pub mod Status
+pub mod JsonStatus
 pub mod NodeText
 pub mod Entries
+pub mod JsonEntries
 pub mod JournalText
 pub mod Views
 pub mod Checked
+pub mod JsonChecked
 pub mod Looks
 pub mod Steady
 pub mod Attempt

@@ -12,7 +12,7 @@ use Rattle.tp_words.specs.declared.args.TheConstants.{MAX_AREA, MAX_WORKERS, QUA
 use Rattle.tp_words.specs.declared.views.JournalPart.{JournalPart}
 use Rattle.tp_words.specs.declared.views.View.{View}
 use Rattle.tp_words.specs.declared.views.View.TheVariants.{Node, Image, Journal, Pending, Outputs}
-use Rattle.tp_words.specs.Given.{given, IsGivenOr}
+use Rattle.tp_words.specs.Given.{given, has_flag, IsGivenOr}
 use Rattle.tp_words.specs.Typed.{has_word, was_typed}
 
 -- a snapshot begins after a number of entries, or a further look is taken after a number of seconds, where one is given
@@ -44,16 +44,17 @@ IsInRange (Runs run) = IsRun run
 IsInRange (Compact device wait_lock) = Unit {0}
 IsInRange (Recover device workers) = (0 < workers) × (workers ≤ MAX_WORKERS)
 IsInRange (Show device) = Unit {0}
-IsInRange (Status device every) = IsEvery every
-IsInRange (Check topology images) = Unit {0}
+IsInRange (Status device every json) = IsEvery every
+IsInRange (Check topology images json) = Unit {0}
 IsInRange (Views device view) = IsView view
 
--- each option of a journal is what was typed for it; it is shown from its first entry where none was
+-- each option of a journal is what was typed for it; it is shown from its first entry where none was, and as JSON where that was typed
 abbrev pub IsTypedPart : List (String Global) → JournalPart → Type 0
 IsTypedPart words part = IsGivenOr 0 part.from (given (codes "from") words)
     × (given (codes "to") words ≡ option_map decimal part.to)
     × (given (codes "node") words ≡ option_map decimal part.node)
     × (given (codes "last") words ≡ option_map decimal part.last)
+    × (part.json ≡ has_flag (codes "--json") words)
 
 -- the number of a view is a decimal that was typed
 abbrev pub HasTyped : List (String Global) → View → Type 0
@@ -75,7 +76,7 @@ IsTypedRun words run = (has_word (string_bytes run.device) words ≡ true)
     × (given (codes "in") words ≡ option_map string_bytes run.input)
     × IsGivenOr 0 run.wait_lock (given (codes "wait-lock") words)
 
--- each number is a decimal that was typed, and each text a word
+-- each number is a decimal that was typed, each text a word, and JSON is asked for where its flag was typed
 abbrev pub WasTyped : List (String Global) → Asked → Type 0
 WasTyped words (Help text) = Unit {0}
 WasTyped words (Try image turns) = (has_word (string_bytes image) words ≡ true) × (given (codes "turns") words ≡ Some (decimal turns))
@@ -86,6 +87,8 @@ WasTyped words (Runs run) = IsTypedRun words run
 WasTyped words (Compact device wait_lock) = (has_word (string_bytes device) words ≡ true) × IsGivenOr 0 wait_lock (given (codes "wait-lock") words)
 WasTyped words (Recover device workers) = (has_word (string_bytes device) words ≡ true) × IsGivenOr 1 workers (given (codes "workers") words)
 WasTyped words (Show device) = has_word (string_bytes device) words ≡ true
-WasTyped words (Status device every) = (has_word (string_bytes device) words ≡ true) × (given (codes "every") words ≡ option_map decimal every)
-WasTyped words (Check topology images) = (has_word (string_bytes topology) words ≡ true) × (has_word (string_bytes images) words ≡ true)
+WasTyped words (Status device every json) = (has_word (string_bytes device) words ≡ true) × (given (codes "every") words ≡ option_map decimal every)
+    × (json ≡ has_flag (codes "--json") words)
+WasTyped words (Check topology images json) = (has_word (string_bytes topology) words ≡ true) × (has_word (string_bytes images) words ≡ true)
+    × (json ≡ has_flag (codes "--json") words)
 WasTyped words (Views device view) = (has_word (string_bytes device) words ≡ true) × HasTyped words view

@@ -6,7 +6,9 @@ ghost use Rattle.std.specs.Option.{option_map};
 ghost use Rattle.tp_words.specs.Args.{HasTyped, IsEvery, IsInRange, IsView, WasTyped};
 ghost use Rattle.tp_words.specs.Given.{given, IsGivenOr};
 
-use crate::found::{area_of, option_number, option_or, option_string, place_of, text_of, turns_of};
+use crate::found::{
+    area_of, json_of, option_number, option_or, option_string, place_of, text_of, turns_of,
+};
 use crate::journal_args::journal_view;
 use crate::stream_words::stream_option;
 use crate::views::View;
@@ -22,25 +24,47 @@ pub enum Asked {
     /// How to call the program, or which version it is.
     Help(String),
     /// Turns of one node, from its image, without a device.
-    Try { image: String, turns: u32 },
+    Try {
+        image: String,
+        turns: u32,
+    },
     /// A new device.
     Format(NewDevice),
     /// A run of a device's network.
     Run(Run),
     /// Makes a device's network, as it is, its cut, behind which the journal is empty.
     /// `wait_lock`: how many seconds another process is waited for that holds it.
-    Compact { device: String, wait_lock: u32 },
+    Compact {
+        device: String,
+        wait_lock: u32,
+    },
     /// Opens a device by `workers` threads and says what the next entry's number is.
-    Recover { device: String, workers: u8 },
+    Recover {
+        device: String,
+        workers: u8,
+    },
     /// Opens a device and says what it holds.
-    Show { device: String },
+    Show {
+        device: String,
+    },
     /// Opens a device and says in a line whether it is run, and how far it is.
-    /// `every`: how many seconds lie between two looks; `None`: there is one.
-    Status { device: String, every: Option<u32> },
-    /// Reads a topology and its images, and says how large an area has to be.
-    Check { topology: String, images: String },
+    /// `every`: how many seconds lie between two looks; `None`: there is one. `json`: as JSON.
+    Status {
+        device: String,
+        every: Option<u32>,
+        json: bool,
+    },
+    /// Reads a topology and its images, and says how large an area has to be. `json`: as JSON.
+    Check {
+        topology: String,
+        images: String,
+        json: bool,
+    },
     /// Opens a device and shows a view of it.
-    View { device: String, view: View },
+    View {
+        device: String,
+        view: View,
+    },
 }
 
 /// A device that is to be made: its file, the file of its topology, the folder of the images, and the bytes of an area.
@@ -305,6 +329,7 @@ fn asked_status(alloc: Global, words: &[String], found: &ArgMatches) -> Result<A
     ensures typed { IfOk result (WasTyped words.now) }
 {
     Ok(Asked::Status {
+        json: json_of(words, found)?,
         every: every_of(alloc, words, found)?,
         device: text_of(alloc, words, found, "DEVICE")?,
     })
@@ -315,6 +340,7 @@ fn asked_check(alloc: Global, words: &[String], found: &ArgMatches) -> Result<As
     ensures typed { IfOk result (WasTyped words.now) }
 {
     Ok(Asked::Check {
+        json: json_of(words, found)?,
         topology: text_of(alloc, words, found, "TOPOLOGY")?,
         images: text_of(alloc, words, found, "DIR")?,
     })

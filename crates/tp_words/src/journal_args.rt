@@ -4,7 +4,7 @@ ghost use Rattle.std.specs.Prelude.{◌≡◌, ◌≤◌, ◌<◌, IfOk, IfSome}
 ghost use Rattle.tp_words.specs.Args.{HasTyped, IsTypedPart, IsView};
 
 use crate::args::ArgFault;
-use crate::found::{option_number, option_or};
+use crate::found::{json_of, option_number, option_or};
 use crate::views::{JournalPart, View};
 use clap::ArgMatches;
 use std::alloc::Global;
@@ -19,6 +19,7 @@ fn options_of(alloc: Global, words: &[String], found: &ArgMatches) -> Result<Jou
         to: option_number(alloc, words, found, "to", 0, u64::MAX)?,
         node: option_number(alloc, words, found, "node", 0, u64::MAX)?,
         last: option_number(alloc, words, found, "last", 1, u64::MAX)?,
+        json: json_of(words, found)?,
     })
 }
 

@@ -12,11 +12,12 @@ pub enum View {
 }
 
 /// The part of the kept entries that is shown: those whose number is `from` or more and `to` or less, that node `node` made, and of these the
-/// last `last`. An option that isn't given leaves none out.
+/// last `last`. An option that isn't given leaves none out. `json`: as JSON.
 #[derive(Clone, Copy, Debug, PartialEq, Eq)]
 pub struct JournalPart {
     pub from: u64,
     pub to: Option<u64>,
     pub node: Option<u64>,
     pub last: Option<u64>,
+    pub json: bool,
 }
