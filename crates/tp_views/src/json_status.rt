@@ -138,7 +138,7 @@ fn push_halted(
     number: usize,
     standing: Standing,
 ) -> Result<usize, AllocError>
-    requires { before < 2 ^ 63 }
+    requires { before + 1 < 2 ^ 64 }
     ensures more { IfOk result (λ after. (more : List (List ℕ)) → string_bytes text.new ++ json_items after more ≡ string_bytes text.old ++ json_items before (halted_items number standing ++ more)) }
     ensures few { IfOk result (λ after. after ≤ before + 1) }
 {
