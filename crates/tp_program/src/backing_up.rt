@@ -69,7 +69,7 @@ fn copy_once<D: Disk, K: Disk, E: Write>(
 {
     match open(alloc, source) {
         Ok(opened) => copy_or_refuse(alloc, source, copy, opened, err),
-        Err(Unopened::Fault(_)) => match show_on(alloc, source, &mut io::sink(), err) {
+        Err(Unopened::Fault(_)) => match show_on(alloc, source, false, &mut io::sink(), err) {
             0 => Ok(None),
             status => Err(status),
         },

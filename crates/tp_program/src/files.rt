@@ -345,11 +345,11 @@ pub fn show_file<
     F: FileExt + OpenFile + Drop,
     O: Write,
     E: Write,
->(rt: &R, device: &str, out: &mut O, err: &mut E) -> u8
+>(rt: &R, device: &str, json: bool, out: &mut O, err: &mut E) -> u8
     ensures { result ≤ 1 }
 {
     match disk_to_read(rt, device) {
-        Ok(mut disk) => show_on(rt.alloc(), &mut disk, out, err),
+        Ok(mut disk) => show_on(rt.alloc(), &mut disk, json, out, err),
         Err(refusal) => refuse(err, refusal),
     }
 }

@@ -47,7 +47,7 @@ fn carry_out<
         Asked::Recover { device, workers } => {
             recover_file(rt, device.as_str(), *workers, out, err)
         }
-        Asked::Show { device } => show_file(rt, device.as_str(), out, err),
+        Asked::Show { device, json } => show_file(rt, device.as_str(), *json, out, err),
         Asked::Status {
             device,
             every,
@@ -72,7 +72,7 @@ fn device_of(asked: &Asked) -> Option<&str> {
         Asked::Run(run) => Some(run.device.as_str()),
         Asked::Compact { device, .. }
         | Asked::Recover { device, .. }
-        | Asked::Show { device }
+        | Asked::Show { device, .. }
         | Asked::Status { device, .. }
         | Asked::View { device, .. } => Some(device.as_str()),
         Asked::Help(_) | Asked::Try { .. } | Asked::Check { .. } => None,

@@ -46,7 +46,7 @@ fn each_call_of_the_device_may_fail(rt: HostRuntime) -> Result<(), Fail> {
         };
         let mut disk = MemDisk::of_bytes(grown(alloc)?).with_fault(call, fault);
         let (mut out, mut err) = (Vec::new(alloc), Vec::new(alloc));
-        if show_on(alloc, &mut disk, &mut out, &mut err) == 0 {
+        if show_on(alloc, &mut disk, false, &mut out, &mut err) == 0 {
             assert!(rt; call >= 6);
             return Ok(());
         }

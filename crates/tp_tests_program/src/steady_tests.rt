@@ -92,7 +92,7 @@ fn show_copy<D: Disk>(
 ) -> Result<u8, Fail> {
     let mut copy = MemDisk::zeroed(alloc, SIZE)?;
     match backup_on(alloc, disk, &mut copy, err) {
-        Ok(_) => Ok(show_on(alloc, &mut copy, out, err)),
+        Ok(_) => Ok(show_on(alloc, &mut copy, false, out, err)),
         Err(status) => Ok(status),
     }
 }
@@ -107,7 +107,7 @@ fn asked<R: AllocGlobal + Threads + Sync>(
     let (mut out, mut err) = (Vec::new(alloc), Vec::new(alloc));
     let status = match reader {
         Reader::Recover(workers) => recover_on(rt, alloc, &mut disk, workers, &mut out, &mut err),
-        Reader::Show => show_on(alloc, &mut disk, &mut out, &mut err),
+        Reader::Show => show_on(alloc, &mut disk, false, &mut out, &mut err),
         Reader::Look(view) => view_on(alloc, &mut disk, view, &mut out, &mut err),
         Reader::Backup => show_copy(alloc, &mut disk, &mut out, &mut err)?,
     };

@@ -3,10 +3,12 @@ pub mod Hex
 pub mod Json
 pub mod Names
 pub mod Shown
+pub mod JsonShow
 pub mod Opens
 pub mod Status
 pub mod JsonStatus
 pub mod NodeText
+pub mod JsonNode
 pub mod Entries
 pub mod JsonEntries
 pub mod JournalText

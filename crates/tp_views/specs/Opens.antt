@@ -1,9 +1,10 @@
 -- What `recover` and `show` do.
-use Rattle.std.specs.Prelude.{◌≡◌, ℕ, List, length, Option, Ok}
+use Rattle.std.specs.Prelude.{◌≡◌, ℕ, Bool, if◌then◌else◌, List, length, Option, Ok}
 use Rattle.std.specs.Io.KnownBytes.{Appends}
 use Rattle.tp_model.specs.Disk.{Moment, Sync, done}
 use Rattle.tp_model.specs.Opening.{Opened, verdict, next_of}
 use Rattle.tp_views.specs.declared.shown.Front.{Front}
+use Rattle.tp_views.specs.JsonShow.{show_json}
 use Rattle.tp_views.specs.Shown.{shown_text, next_line}
 
 -- what is said of an opened device beside its network
@@ -21,8 +22,9 @@ front_of o = record {
 abbrev pub recovered : Opened → List ℕ
 recovered o = next_line (next_of o)
 
-abbrev pub shown : Opened → List ℕ
-shown o = shown_text (front_of o) o.now
+-- its lines, or one line of JSON
+abbrev pub shown : Bool → Opened → List ℕ
+shown json o = if json then show_json (front_of o) o.now else shown_text (front_of o) o.now
 
 -- The device opens, and exactly that is printed of it.
 pub record Prints (text : Opened → List ℕ) (bytes : List ℕ) (was now : Option (List ℕ)) : Type 0 where

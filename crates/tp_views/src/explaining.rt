@@ -252,7 +252,7 @@ fn push_explanation<R: Files<File = F> + AllocGlobal, F: FileExt + OpenFile + Dr
         } => { push_check(rt, text, topology.as_str(), images.as_str()) }
         Asked::Compact { device, .. } => push_compact(rt, text, device.as_str(), system),
         Asked::Recover { device, .. }
-        | Asked::Show { device }
+        | Asked::Show { device, .. }
         | Asked::Status { device, .. }
         | Asked::View { device, .. } => push_reading(rt, text, device.as_str()),
     }

@@ -1,7 +1,9 @@
 //! How values are spelt for scripts. All that is printed is numbers and fixed names, so no text needs an escape.
 
-ghost use Rattle.std.specs.Prelude.{◌≡◌};
+ghost use Rattle.std.specs.Prelude.{◌≡◌, ◌++◌, OnOk, string_bytes};
 ghost use Rattle.tp_views.specs.Json.{comma, json_bool};
+
+use std::alloc::AllocError;
 
 /// What stands before an item of a list that has `before` items before it.
 pub(crate) fn comma(before: usize) -> &'static str
@@ -15,4 +17,11 @@ pub(crate) fn json_bool(is_so: bool) -> &'static str
     ensures { result.now ≡ json_bool is_so }
 {
     if is_so { "true" } else { "false" }
+}
+
+/// Appends a part as it is.
+pub(crate) fn push(text: &mut String, part: &str) -> Result<(), AllocError>
+    ensures { OnOk result (string_bytes text.new ≡ string_bytes text.old ++ part.now) }
+{
+    text.push_str(part)
 }

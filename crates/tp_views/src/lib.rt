@@ -17,6 +17,8 @@ mod journal;
 mod json;
 mod json_checked;
 mod json_entries;
+mod json_node;
+mod json_show;
 mod json_status;
 mod looking;
 mod network_files;

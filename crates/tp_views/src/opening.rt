@@ -1,6 +1,6 @@
 //! `tpnet recover` and `tpnet show`, over any device.
 
-ghost use Rattle.std.specs.Prelude.{◌≡◌, ◌≤◌, IsErr, OnOk};
+ghost use Rattle.std.specs.Prelude.{◌≡◌, ◌≤◌, IfOk, IsErr, OnOk, string_bytes};
 ghost use Rattle.tp_model.specs.Opening.{verdict};
 ghost use Rattle.tp_recover.specs.Reading.{LeavesNothingNew};
 ghost use Rattle.tp_views.specs.Front.{PrintsFront};
@@ -8,10 +8,11 @@ ghost use Rattle.tp_views.specs.Opens.{IsUnwritten, Prints, front_of, recovered,
 
 use crate::by_workers::open_steady_by;
 use crate::commands::{put, refuse};
+use crate::json_show::show_json;
 use crate::refusal::Refusal;
 use crate::shown::{Front, next_line, shown_text};
 use crate::steady::{Tried, open_steady};
-use std::alloc::Global;
+use std::alloc::{AllocError, Global};
 use std::io::Write;
 use std::thread::Threads;
 use tp_disk::Disk;
@@ -54,10 +55,27 @@ fn recover<D: Disk, O: Write, R: Threads + Sync>(
     put(out, text.as_bytes())
 }
 
-fn show<D: Disk, O: Write>(alloc: Global, disk: &mut D, out: &mut O) -> Result<(), Refusal>
-    ensures done { D.keeps → OnOk result (Prints shown (D.state disk.old).now.bytes (O.contents out.old) (O.contents out.new)) }
+/// What is shown of an opened device: lines, or JSON.
+fn text_of(alloc: Global, json: bool, opened: &Opened) -> Result<String, AllocError>
+    ensures { IfOk result (λ text. string_bytes text ≡ shown json opened.now) }
+{
+    let (front, network) = (front_of(opened), opened.network());
+    if json {
+        show_json(alloc, front, network)
+    } else {
+        shown_text(alloc, front, network)
+    }
+}
+
+fn show<D: Disk, O: Write>(
+    alloc: Global,
+    disk: &mut D,
+    json: bool,
+    out: &mut O,
+) -> Result<(), Refusal>
+    ensures done { D.keeps → OnOk result (Prints (shown json) (D.state disk.old).now.bytes (O.contents out.old) (O.contents out.new)) }
     ensures leaves { D.keeps → LeavesNothingNew (D.state disk.old) (D.state disk.new) }
-    ensures front { D.keeps → PrintsFront shown (D.state disk.old).now.bytes (O.contents out.old) (O.contents out.new) }
+    ensures front { D.keeps → PrintsFront (shown json) (D.state disk.old).now.bytes (O.contents out.old) (O.contents out.new) }
     ensures kept { D.keeps → IsUnwritten (D.failures_of disk.old) (D.failures_of disk.new) (D.state disk.old).now (D.state disk.new).now }
     ensures refused { D.keeps → IsErr (verdict (D.state disk.old).now.bytes) → (IsErr result) × (O.contents out.new ≡ O.contents out.old) }
 {
@@ -65,7 +83,7 @@ fn show<D: Disk, O: Write>(alloc: Global, disk: &mut D, out: &mut O) -> Result<(
         return Err(Refusal::Busy);
     };
     let opened = answer?;
-    let Ok(text) = shown_text(alloc, front_of(&opened), opened.network()) else {
+    let Ok(text) = text_of(alloc, json, &opened) else {
         return Err(Refusal::Memory);
     };
     put(out, text.as_bytes())
@@ -95,22 +113,23 @@ pub fn recover_on<D: Disk, O: Write, E: Write, R: Threads + Sync>(
     }
 }
 
-/// `tpnet show`, on a device. Answers the program's status: 0 where the device opens and exactly its lines were printed, else 1.
+/// `tpnet show`, on a device, as lines or as JSON. Answers the program's status: 0 where the device opens and exactly that was printed, else 1.
 /// Nothing is written to the device, and a crash finds nothing that the call made. Of one that doesn't open nothing is printed.
 pub fn show_on<D: Disk, O: Write, E: Write>(
     alloc: Global,
     disk: &mut D,
+    json: bool,
     out: &mut O,
     err: &mut E,
 ) -> u8
     ensures status { result ≤ 1 }
-    ensures done { D.keeps → result ≡ 0 → Prints shown (D.state disk.old).now.bytes (O.contents out.old) (O.contents out.new) }
+    ensures done { D.keeps → result ≡ 0 → Prints (shown json) (D.state disk.old).now.bytes (O.contents out.old) (O.contents out.new) }
     ensures leaves { D.keeps → LeavesNothingNew (D.state disk.old) (D.state disk.new) }
-    ensures front { D.keeps → PrintsFront shown (D.state disk.old).now.bytes (O.contents out.old) (O.contents out.new) }
+    ensures front { D.keeps → PrintsFront (shown json) (D.state disk.old).now.bytes (O.contents out.old) (O.contents out.new) }
     ensures kept { D.keeps → IsUnwritten (D.failures_of disk.old) (D.failures_of disk.new) (D.state disk.old).now (D.state disk.new).now }
     ensures refused { D.keeps → IsErr (verdict (D.state disk.old).now.bytes) → (result ≡ 1) × (O.contents out.new ≡ O.contents out.old) }
 {
-    match show(alloc, disk, out) {
+    match show(alloc, disk, json, out) {
         Ok(()) => 0,
         Err(refusal) => refuse(err, refusal),
     }

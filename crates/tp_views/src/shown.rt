@@ -22,7 +22,8 @@ pub struct Front {
     pub next: u64,
 }
 
-fn area_number(second: bool) -> u8
+/// The number of an area.
+pub(crate) fn area_number(second: bool) -> u8
     ensures { result ≡ area_number second }
 {
     if second { 1 } else { 0 }

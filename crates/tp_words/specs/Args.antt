@@ -1,5 +1,5 @@
 -- The values of a command line.
-use Rattle.std.specs.Prelude.{◌≡◌, ◌≤◌, ◌<◌, ◌^◌, ℕ, true, List, Option, Some, None, IfSome, codes, string_bytes}
+use Rattle.std.specs.Prelude.{◌≡◌, ◌≤◌, ◌<◌, ◌^◌, ℕ, false, true, List, Option, Some, None, IfSome, codes, string_bytes}
 use Rattle.std.specs.Fmt.{decimal}
 use Rattle.std.specs.Option.{option_map}
 use Rattle.std.specs.declared.alloc.Global.{Global}
@@ -11,7 +11,7 @@ use Rattle.tp_words.specs.declared.args.Run.{Run}
 use Rattle.tp_words.specs.declared.args.TheConstants.{MAX_AREA, MAX_WORKERS, QUANTUM}
 use Rattle.tp_words.specs.declared.views.JournalPart.{JournalPart}
 use Rattle.tp_words.specs.declared.views.View.{View}
-use Rattle.tp_words.specs.declared.views.View.TheVariants.{Node, Image, Journal, Pending, Outputs}
+use Rattle.tp_words.specs.declared.views.View.TheVariants.{Node, Image, Journal, Pending, Outputs, NodeJson}
 use Rattle.tp_words.specs.Given.{given, has_flag, IsGivenOr}
 use Rattle.tp_words.specs.Typed.{has_word, was_typed}
 
@@ -34,6 +34,7 @@ IsView (Node node) = Unit {0}
 IsView (Image node) = Unit {0}
 IsView (Pending port) = Unit {0}
 IsView (Outputs port) = Unit {0}
+IsView (NodeJson node) = Unit {0}
 
 -- each number is in its range
 abbrev pub IsInRange : Asked → Type 0
@@ -43,7 +44,7 @@ IsInRange (Format new) = new.area ≤ MAX_AREA
 IsInRange (Runs run) = IsRun run
 IsInRange (Compact device wait_lock) = Unit {0}
 IsInRange (Recover device workers) = (0 < workers) × (workers ≤ MAX_WORKERS)
-IsInRange (Show device) = Unit {0}
+IsInRange (Show device json) = Unit {0}
 IsInRange (Status device every json) = IsEvery every
 IsInRange (Check topology images json) = Unit {0}
 IsInRange (Views device view) = IsView view
@@ -58,11 +59,12 @@ IsTypedPart words part = IsGivenOr 0 part.from (given (codes "from") words)
 
 -- the number of a view is a decimal that was typed
 abbrev pub HasTyped : List (String Global) → View → Type 0
-HasTyped words (Node node) = was_typed words (decimal node) ≡ true
+HasTyped words (Node node) = (was_typed words (decimal node) ≡ true) × (has_flag (codes "--json") words ≡ false)
 HasTyped words (Image node) = was_typed words (decimal node) ≡ true
 HasTyped words (Journal part) = IsTypedPart words part
 HasTyped words (Pending port) = was_typed words (decimal port) ≡ true
 HasTyped words (Outputs port) = was_typed words (decimal port) ≡ true
+HasTyped words (NodeJson node) = (was_typed words (decimal node) ≡ true) × (has_flag (codes "--json") words ≡ true)
 
 -- each option of a run is what was typed for it, and else what docs/PROGRAM.md says
 abbrev pub IsTypedRun : List (String Global) → Run → Type 0
@@ -86,7 +88,7 @@ WasTyped words (Format new) = (has_word (string_bytes new.device) words ≡ true
 WasTyped words (Runs run) = IsTypedRun words run
 WasTyped words (Compact device wait_lock) = (has_word (string_bytes device) words ≡ true) × IsGivenOr 0 wait_lock (given (codes "wait-lock") words)
 WasTyped words (Recover device workers) = (has_word (string_bytes device) words ≡ true) × IsGivenOr 1 workers (given (codes "workers") words)
-WasTyped words (Show device) = has_word (string_bytes device) words ≡ true
+WasTyped words (Show device json) = (has_word (string_bytes device) words ≡ true) × (json ≡ has_flag (codes "--json") words)
 WasTyped words (Status device every json) = (has_word (string_bytes device) words ≡ true) × (given (codes "every") words ≡ option_map decimal every)
     × (json ≡ has_flag (codes "--json") words)
 WasTyped words (Check topology images json) = (has_word (string_bytes topology) words ≡ true) × (has_word (string_bytes images) words ≡ true)

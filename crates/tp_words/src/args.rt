@@ -43,9 +43,10 @@ pub enum Asked {
         device: String,
         workers: u8,
     },
-    /// Opens a device and says what it holds.
+    /// Opens a device and says what it holds. `json`: as JSON.
     Show {
         device: String,
+        json: bool,
     },
     /// Opens a device and says in a line whether it is run, and how far it is.
     /// `every`: how many seconds lie between two looks; `None`: there is one. `json`: as JSON.
@@ -292,6 +293,19 @@ fn asked_recover(alloc: Global, words: &[String], found: &ArgMatches) -> Result<
     })
 }
 
+/// The form of a node that is shown.
+fn node_view(alloc: Global, words: &[String], found: &ArgMatches) -> Result<View, ArgFault>
+    ensures range { IfOk result IsView }
+    ensures typed { IfOk result (HasTyped words.now) }
+{
+    let node = place_of(alloc, words, found, "I")?;
+    if json_of(words, found)? {
+        Ok(View::NodeJson(node))
+    } else {
+        Ok(View::Node(node))
+    }
+}
+
 /// The bytes of a port that are shown.
 fn port_view(alloc: Global, words: &[String], found: &ArgMatches) -> Result<View, ArgFault>
     ensures range { IfOk result IsView }
@@ -316,7 +330,7 @@ fn view_of(
     ensures typed { IfOk result (HasTyped words.now) }
 {
     match name {
-        "node" => Ok(View::Node(place_of(alloc, words, found, "I")?)),
+        "node" => node_view(alloc, words, found),
         "image" => Ok(View::Image(place_of(alloc, words, found, "I")?)),
         "journal" => journal_view(alloc, words, found),
         "port" => port_view(alloc, words, found),
@@ -362,6 +376,7 @@ fn asked_show(alloc: Global, words: &[String], found: &ArgMatches) -> Result<Ask
     ensures typed { IfOk result (WasTyped words.now) }
 {
     Ok(Asked::Show {
+        json: json_of(words, found)?,
         device: text_of(alloc, words, found, "DEVICE")?,
     })
 }

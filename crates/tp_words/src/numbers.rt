@@ -89,8 +89,5 @@ pub fn has_flag(words: &[String], name: &str) -> bool
     let Some((word, rest)) = words.split_first() else {
         return false;
     };
-    if is_word(word, "--") {
-        return false;
-    }
-    is_word(word, name) || has_flag(rest, name)
+    !is_word(word, "--") && (is_word(word, name) || has_flag(rest, name))
 }

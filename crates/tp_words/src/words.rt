@@ -188,7 +188,7 @@ const RECOVER: Form = Form {
 const SHOW: Form = Form {
     name: "show",
     about: "Opens a device, writes nothing, and prints what it holds",
-    words: &[EXPLAIN, DEVICE],
+    words: &[EXPLAIN, JSON, DEVICE],
 };
 
 const STATUS: Form = Form {
@@ -209,7 +209,7 @@ const STATUS: Form = Form {
 const NODES: Form = Form {
     name: "node",
     about: "Prints a node's registers, queues and link ends, addresses in hexadecimal",
-    words: &[EXPLAIN, DEVICE, NODE],
+    words: &[EXPLAIN, JSON, DEVICE, NODE],
 };
 
 const IMAGE: Form = Form {

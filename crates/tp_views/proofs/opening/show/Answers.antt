@@ -1,9 +1,7 @@
-use Rattle.std.proofs.Common.{rules, ◌≡◌, ◌∙◌, ap, subst, inr, Ok, Err, Result, OnOk}
+use Rattle.std.proofs.Common.{rules, ◌≡◌, ◌∙◌, subst, inr, Ok, Err, Result, OnOk}
 use Rattle.std.specs.Io.KnownBytes.{Appends}
 use Rattle.tp_model.specs.Opening.{verdict}
 use Rattle.tp_views.specs.Front.{AppendsFront}
-use Rattle.tp_views.specs.Shown.{shown_text}
-use Rattle.tp_views.specs.Opens.{front_of, shown}
 use Rattle.tp_views.proofs.opening.show.Goals as goal
 
 on_ok : {T E : Type 0} (P Q : Type 0) (r : Result T E) → (P → Q) → OnOk r P → OnOk r Q
@@ -14,9 +12,7 @@ pub returns-clause-done : goal.returns-clause-done
 returns-clause-done g c keeps =
     let opened = c.in_ok-opened.opened in
     let opens : verdict (g.D.Disk.state c.args.disk.now).now.bytes ≡ Ok opened = search rules in
-    let text = c.as_bytes.ensures.value ∙ c.in-Ok.ensures
-    ∙ ap (λ front. shown_text front c.network.result.now) c.front_of.ensures
-    ∙ ap (shown_text (front_of opened)) c.network.ensures in
+    let text = c.as_bytes.ensures.value ∙ c.in-Ok.ensures in
     on_ok _ _ c.put.result (λ appended. record {
       opened = opened;
       is = opens;
@@ -28,9 +24,7 @@ pub returns-clause-front : goal.returns-clause-front
 returns-clause-front g c keeps =
     let opened = c.in_ok-opened.opened in
     let opens : verdict (g.D.Disk.state c.args.disk.now).now.bytes ≡ Ok opened = search rules in
-    let text = c.as_bytes.ensures.value ∙ c.in-Ok.ensures
-    ∙ ap (λ front. shown_text front c.network.result.now) c.front_of.ensures
-    ∙ ap (shown_text (front_of opened)) c.network.ensures in
+    let text = c.as_bytes.ensures.value ∙ c.in-Ok.ensures in
     inr (
       opened,
       opens,

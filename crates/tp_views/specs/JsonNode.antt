@@ -1,0 +1,83 @@
+-- What `node --json` prints of a node.
+use Rattle.std.specs.Prelude.{ℕ, Bool, List, ◌++◌, map, Option, Some, None, codes}
+use Rattle.std.specs.Fmt.{decimal}
+use Rattle.tp_model.specs.declared.link.InEnd.{InEnd}
+use Rattle.tp_model.specs.declared.link.InEnd.TheVariants.{Idle as InIdle, Inputs, Enabled}
+use Rattle.tp_model.specs.declared.link.OutEnd.{OutEnd}
+use Rattle.tp_model.specs.declared.link.OutEnd.TheVariants.{Idle as OutIdle, Waits}
+use Rattle.tp_model.specs.declared.link.Transfer.{Transfer}
+use Rattle.tp_model.specs.declared.processor.Cpu.{Cpu}
+use Rattle.tp_model.specs.declared.processor.Fault.{Fault}
+use Rattle.tp_model.specs.declared.processor.Queue.{Queue}
+use Rattle.tp_model.specs.declared.processor.State.{State}
+use Rattle.tp_model.specs.Image.{halt_byte, page_count}
+use Rattle.tp_model.specs.NodeState.{NodeState}
+use Rattle.tp_views.specs.Json.{json_bool, json_list}
+use Rattle.tp_views.specs.Names.{halt_name, state_name}
+
+-- ## The processor
+
+-- its number, its pages, and why it halted: the code and its name
+abbrev pub number_fields : ℕ → ℕ → Option Fault → List ℕ
+number_fields number pages halt =
+    codes "{\"node\":" ++ (decimal number ++ (codes ",\"pages\":" ++ (decimal pages
+    ++ (codes ",\"halt\":" ++ (decimal (halt_byte halt) ++ (codes ",\"halt_name\":\"" ++ (halt_name halt ++ codes "\"")))))))
+
+-- the next instruction, and the workspace
+abbrev pub pointer_fields : ℕ → ℕ → List ℕ
+pointer_fields iptr wptr = codes ",\"iptr\":" ++ (decimal iptr ++ (codes ",\"wptr\":" ++ decimal wptr))
+
+-- the evaluation stack
+abbrev pub stack_fields : ℕ → ℕ → ℕ → List ℕ
+stack_fields a b c = codes ",\"a\":" ++ (decimal a ++ (codes ",\"b\":" ++ (decimal b ++ (codes ",\"c\":" ++ decimal c))))
+
+-- the first and the last process of the queue with this name
+abbrev pub queue_field : List ℕ → Queue → List ℕ
+queue_field name queue =
+    codes ",\"" ++ (name ++ (codes "\":{\"front\":" ++ (decimal queue.front ++ (codes ",\"back\":" ++ (decimal queue.back ++ codes "}")))))
+
+-- the Error flag, what runs, and the slice count
+abbrev pub state_fields : Bool → State → ℕ → List ℕ
+state_fields error state slice =
+    codes ",\"error\":" ++ (json_bool error ++ (codes ",\"state\":\"" ++ (state_name state ++ (codes "\",\"slice\":" ++ decimal slice))))
+
+abbrev pub cpu_fields : Cpu → List ℕ
+cpu_fields cpu =
+    pointer_fields cpu.iptr cpu.wptr
+    ++ (stack_fields cpu.regs.a cpu.regs.b cpu.regs.c
+    ++ (queue_field (codes "high") cpu.high ++ (queue_field (codes "low") cpu.low ++ state_fields cpu.regs.error cpu.state cpu.slice)))
+
+-- ## The links
+
+-- an end at which nothing is under way
+abbrev pub idle_item : List ℕ
+idle_item = codes "{\"state\":\"idle\"}"
+
+-- an end at which a process waits: what it does, the process, where the next byte is or goes, and how many bytes are left
+abbrev pub working_item : List ℕ → Transfer → List ℕ
+working_item what t =
+    codes "{\"state\":\"" ++ (what ++ (codes "\",\"process\":" ++ (decimal t.process
+    ++ (codes ",\"pointer\":" ++ (decimal t.pointer ++ (codes ",\"left\":" ++ (decimal t.left ++ codes "}")))))))
+
+abbrev pub output_item : OutEnd → List ℕ
+output_item OutIdle = idle_item
+output_item (Waits t) = working_item (codes "waits") t
+
+-- an input end may hold a byte; of an alternative there is its process alone
+abbrev pub input_item : InEnd → List ℕ
+input_item (InIdle None) = idle_item
+input_item (InIdle (Some byte)) = codes "{\"state\":\"idle\",\"held\":" ++ (decimal byte ++ codes "}")
+input_item (Inputs t) = working_item (codes "inputs") t
+input_item (Enabled process) = codes "{\"state\":\"enabled\",\"process\":" ++ (decimal process ++ codes "}")
+
+-- ## The node
+
+-- the node with this number, by its pages, its processor and its ends, which stand at their links' numbers
+abbrev pub node_fields : ℕ → ℕ → Cpu → List OutEnd → List InEnd → List ℕ
+node_fields number pages cpu outputs inputs =
+    number_fields number pages cpu.halt ++ (cpu_fields cpu ++ (codes ",\"out\":" ++ (json_list (map output_item outputs)
+    ++ (codes ",\"in\":" ++ (json_list (map input_item inputs) ++ codes "}\n")))))
+
+-- All that is printed of it.
+abbrev pub node_json : ℕ → NodeState → List ℕ
+node_json number node = node_fields number (page_count node.memory) node.cpu node.outputs node.inputs

@@ -1,0 +1,195 @@
+//! What is printed of a node for scripts: its registers, queues and link ends, as numbers.
+
+ghost use Rattle.std.specs.Prelude.{◌≡◌, ◌++◌, IfOk, OnOk, string_bytes, map};
+ghost use Rattle.tp_model.specs.Image.{node_at};
+ghost use Rattle.tp_views.specs.Json.{comma, json_items, json_list};
+ghost use Rattle.tp_views.specs.JsonNode.{cpu_fields, idle_item, input_item, node_fields, node_json, number_fields, output_item, pointer_fields, queue_field, stack_fields, state_fields, working_item};
+
+use crate::formats::{halt_name, state_name};
+use crate::image_fields::{cpu_in, inputs_in, outputs_in, pages_in};
+use crate::json::{comma, json_bool, push};
+use std::alloc::{AllocError, Global};
+use std::fmt::Write;
+use tp_model::{Cpu, Fault, InEnd, OutEnd, Queue, Regs, State, Transfer};
+use tp_node::halt_byte;
+
+fn push_number(
+    text: &mut String,
+    number: u64,
+    pages: usize,
+    halt: Option<Fault>,
+) -> Result<(), AllocError>
+    ensures { OnOk result (string_bytes text.new ≡ string_bytes text.old ++ number_fields number pages halt) }
+{
+    let (code, name) = (halt_byte(halt), halt_name(halt));
+    write!(
+        text,
+        "{{\"node\":{number},\"pages\":{pages},\"halt\":{code},\"halt_name\":\"{name}\""
+    )
+}
+
+fn push_pointers(text: &mut String, iptr: u32, wptr: u32) -> Result<(), AllocError>
+    ensures { OnOk result (string_bytes text.new ≡ string_bytes text.old ++ pointer_fields iptr wptr) }
+{
+    write!(text, ",\"iptr\":{iptr},\"wptr\":{wptr}")
+}
+
+fn push_stack(text: &mut String, regs: Regs) -> Result<(), AllocError>
+    ensures { OnOk result (string_bytes text.new ≡ string_bytes text.old ++ stack_fields regs.a regs.b regs.c) }
+{
+    let Regs { a, b, c, .. } = regs;
+    write!(text, ",\"a\":{a},\"b\":{b},\"c\":{c}")
+}
+
+fn push_queue(text: &mut String, name: &str, queue: Queue) -> Result<(), AllocError>
+    ensures { OnOk result (string_bytes text.new ≡ string_bytes text.old ++ queue_field name.now queue) }
+{
+    let Queue { front, back } = queue;
+    write!(text, ",\"{name}\":{{\"front\":{front},\"back\":{back}}}")
+}
+
+fn push_state(text: &mut String, error: bool, state: State, slice: u16) -> Result<(), AllocError>
+    ensures { OnOk result (string_bytes text.new ≡ string_bytes text.old ++ state_fields error state slice) }
+{
+    let (error, name) = (json_bool(error), state_name(state));
+    write!(text, ",\"error\":{error},\"state\":\"{name}\",\"slice\":{slice}")
+}
+
+/// Appends the fields of a processor.
+fn push_cpu(text: &mut String, cpu: &Cpu) -> Result<(), AllocError>
+    ensures { OnOk result (string_bytes text.new ≡ string_bytes text.old ++ cpu_fields cpu.now) }
+{
+    push_pointers(text, cpu.iptr, cpu.wptr)?;
+    push_stack(text, cpu.regs)?;
+    push_queue(text, "high", cpu.high)?;
+    push_queue(text, "low", cpu.low)?;
+    push_state(text, cpu.regs.error, cpu.state, cpu.slice)
+}
+
+/// Appends the item of an end at which nothing is under way.
+fn push_idle(text: &mut String) -> Result<(), AllocError>
+    ensures { OnOk result (string_bytes text.new ≡ string_bytes text.old ++ idle_item) }
+{
+    write!(text, "{{\"state\":\"idle\"}}")
+}
+
+/// Appends the item of an end at which a process waits.
+fn push_working(text: &mut String, what: &str, transfer: Transfer) -> Result<(), AllocError>
+    ensures { OnOk result (string_bytes text.new ≡ string_bytes text.old ++ working_item what.now transfer) }
+{
+    let Transfer {
+        process,
+        pointer,
+        left,
+    } = transfer;
+    write!(
+        text,
+        "{{\"state\":\"{what}\",\"process\":{process},\"pointer\":{pointer},\"left\":{left}}}"
+    )
+}
+
+/// Appends the item of an output end.
+fn push_output_item(text: &mut String, end: OutEnd) -> Result<(), AllocError>
+    ensures { OnOk result (string_bytes text.new ≡ string_bytes text.old ++ output_item end) }
+{
+    match end {
+        OutEnd::Idle => push_idle(text),
+        OutEnd::Waits(transfer) => push_working(text, "waits", transfer),
+    }
+}
+
+/// Appends the item of an input end.
+fn push_input_item(text: &mut String, end: InEnd) -> Result<(), AllocError>
+    ensures { OnOk result (string_bytes text.new ≡ string_bytes text.old ++ input_item end) }
+{
+    match end {
+        InEnd::Idle(None) => push_idle(text),
+        InEnd::Idle(Some(byte)) => write!(text, "{{\"state\":\"idle\",\"held\":{byte}}}"),
+        InEnd::Inputs(transfer) => push_working(text, "inputs", transfer),
+        InEnd::Enabled(process) => {
+            write!(text, "{{\"state\":\"enabled\",\"process\":{process}}}")
+        }
+    }
+}
+
+/// Appends the item of an output end that has `before` ends before it.
+fn push_output(text: &mut String, before: usize, end: OutEnd) -> Result<(), AllocError>
+    ensures { OnOk result (string_bytes text.new ≡ string_bytes text.old ++ (comma before ++ output_item end)) }
+{
+    push(text, comma(before))?;
+    push_output_item(text, end)
+}
+
+/// Appends the item of an input end that has `before` ends before it.
+fn push_input(text: &mut String, before: usize, end: InEnd) -> Result<(), AllocError>
+    ensures { OnOk result (string_bytes text.new ≡ string_bytes text.old ++ (comma before ++ input_item end)) }
+{
+    push(text, comma(before))?;
+    push_input_item(text, end)
+}
+
+fn push_outputs(text: &mut String, ends: &[OutEnd]) -> Result<(), AllocError>
+    ensures { OnOk result (string_bytes text.new ≡ string_bytes text.old ++ json_items 0 (map output_item ends.now)) }
+{
+    for (link, end) in ends.iter().enumerate() {
+        push_output(text, link, *end)?;
+    }
+    Ok(())
+}
+
+fn push_inputs(text: &mut String, ends: &[InEnd]) -> Result<(), AllocError>
+    ensures { OnOk result (string_bytes text.new ≡ string_bytes text.old ++ json_items 0 (map input_item ends.now)) }
+{
+    for (link, end) in ends.iter().enumerate() {
+        push_input(text, link, *end)?;
+    }
+    Ok(())
+}
+
+fn push_output_list(text: &mut String, ends: &[OutEnd]) -> Result<(), AllocError>
+    ensures { OnOk result (string_bytes text.new ≡ string_bytes text.old ++ json_list (map output_item ends.now)) }
+{
+    push(text, "[")?;
+    push_outputs(text, ends)?;
+    push(text, "]")
+}
+
+fn push_input_list(text: &mut String, ends: &[InEnd]) -> Result<(), AllocError>
+    ensures { OnOk result (string_bytes text.new ≡ string_bytes text.old ++ json_list (map input_item ends.now)) }
+{
+    push(text, "[")?;
+    push_inputs(text, ends)?;
+    push(text, "]")
+}
+
+/// The fields of a node, by its pages, its processor and its ends.
+fn node_fields(
+    alloc: Global,
+    number: u64,
+    pages: usize,
+    cpu: &Cpu,
+    outputs: &[OutEnd],
+    inputs: &[InEnd],
+) -> Result<String, AllocError>
+    ensures { IfOk result (λ text. string_bytes text ≡ node_fields number pages cpu.now outputs.now inputs.now) }
+{
+    let mut text = String::new(alloc);
+    push_number(&mut text, number, pages, cpu.halt)?;
+    push_cpu(&mut text, cpu)?;
+    push(&mut text, ",\"out\":")?;
+    push_output_list(&mut text, outputs)?;
+    push(&mut text, ",\"in\":")?;
+    push_input_list(&mut text, inputs)?;
+    push(&mut text, "}\n")?;
+    Ok(text)
+}
+
+/// All that is printed of a node, which its image spells, as JSON.
+pub(crate) fn node_json(alloc: Global, number: u64, image: &[u8]) -> Result<String, AllocError>
+    ensures { IfOk result (λ text. string_bytes text ≡ node_json number (node_at image.now)) }
+{
+    let pages = pages_in(image);
+    let cpu = cpu_in(image);
+    let (outputs, inputs) = (outputs_in(image), inputs_in(image));
+    node_fields(alloc, number, pages, &cpu, &outputs, &inputs)
+}

@@ -1,0 +1,99 @@
+//! What is printed of a device for scripts.
+
+ghost use Rattle.std.specs.Prelude.{◌≡◌, ◌++◌, IfOk, OnOk, string_bytes, map};
+ghost use Rattle.tp_views.specs.Json.{comma, json_items, json_list};
+ghost use Rattle.tp_views.specs.JsonShow.{front_fields, node_item, port_item, show_json};
+ghost use Rattle.tp_views.specs.Shown.{area_number};
+
+use crate::json::{comma, push};
+use crate::shown::{Front, area_number};
+use std::alloc::{AllocError, Global};
+use std::fmt::Write;
+use tp_node::{Node, halt_byte};
+use tp_port::HostPort;
+use tp_replay::FlatNetwork;
+
+/// Appends the item of a node that has `before` nodes before it.
+fn push_node(text: &mut String, before: usize, node: &Node) -> Result<(), AllocError>
+    ensures { OnOk result (string_bytes text.new ≡ string_bytes text.old ++ (comma before ++ node_item node.now.live)) }
+{
+    let (comma, halt) = (comma(before), halt_byte(node.halt()));
+    write!(text, "{comma}{{\"halt\":{halt}}}")
+}
+
+/// Appends the item of a port that has `before` ports before it.
+fn push_port(text: &mut String, before: usize, port: &HostPort) -> Result<(), AllocError>
+    ensures { OnOk result (string_bytes text.new ≡ string_bytes text.old ++ (comma before ++ port_item port.now.port)) }
+{
+    let (comma, in_base, out_base) = (comma(before), port.in_base(), port.out_base());
+    let (pending, unconfirmed) = (port.pending().len(), port.outputs().len());
+    write!(
+        text,
+        "{comma}{{\"in\":{in_base},\"pending\":{pending},\"out\":{out_base},\"unconfirmed\":{unconfirmed}}}"
+    )
+}
+
+fn push_nodes(text: &mut String, nodes: &[Node]) -> Result<(), AllocError>
+    ensures { OnOk result (string_bytes text.new ≡ string_bytes text.old ++ json_items 0 (map node_item (map (λ node. node.live) nodes.now))) }
+{
+    for (number, node) in nodes.iter().enumerate() {
+        push_node(text, number, node)?;
+    }
+    Ok(())
+}
+
+fn push_ports(text: &mut String, ports: &[HostPort]) -> Result<(), AllocError>
+    ensures { OnOk result (string_bytes text.new ≡ string_bytes text.old ++ json_items 0 (map port_item (map (λ port. port.port) ports.now))) }
+{
+    for (number, port) in ports.iter().enumerate() {
+        push_port(text, number, port)?;
+    }
+    Ok(())
+}
+
+fn push_node_list(text: &mut String, nodes: &[Node]) -> Result<(), AllocError>
+    ensures { OnOk result (string_bytes text.new ≡ string_bytes text.old ++ json_list (map node_item (map (λ node. node.live) nodes.now))) }
+{
+    push(text, "[")?;
+    push_nodes(text, nodes)?;
+    push(text, "]")
+}
+
+fn push_port_list(text: &mut String, ports: &[HostPort]) -> Result<(), AllocError>
+    ensures { OnOk result (string_bytes text.new ≡ string_bytes text.old ++ json_list (map port_item (map (λ port. port.port) ports.now))) }
+{
+    push(text, "[")?;
+    push_ports(text, ports)?;
+    push(text, "]")
+}
+
+fn push_front(text: &mut String, front: Front) -> Result<(), AllocError>
+    ensures { OnOk result (string_bytes text.new ≡ string_bytes text.old ++ front_fields front.area (area_number front.second) front.generation front.base front.entries front.next) }
+{
+    let open = area_number(front.second);
+    let Front {
+        area,
+        generation,
+        base,
+        entries,
+        next,
+        ..
+    } = front;
+    write!(
+        text,
+        ",\"area\":{area},\"open\":{open},\"generation\":{generation},\"base\":{base},\"entries\":{entries},\"next\":{next}}}\n"
+    )
+}
+
+/// All that is shown of a device, as JSON.
+pub fn show_json(alloc: Global, front: Front, now: &FlatNetwork) -> Result<String, AllocError>
+    ensures { IfOk result (λ text. string_bytes text ≡ show_json front now.now) }
+{
+    let mut text = String::new(alloc);
+    push(&mut text, "{\"nodes\":")?;
+    push_node_list(&mut text, now.nodes())?;
+    push(&mut text, ",\"ports\":")?;
+    push_port_list(&mut text, now.ports())?;
+    push_front(&mut text, front)?;
+    Ok(text)
+}
