@@ -41,6 +41,10 @@ tpnet journal device --node 0 --last 3
 tpnet journal device --to 3 --last 2
 tpnet journal device --from 1 --to 4 --node 1 --last 1
 tpnet journal device --from 1 --to 2 --node 0
+# As JSON, an object an entry.
+tpnet journal device --json
+tpnet journal device --json --node 0 --last 1
+tpnet journal device --json --from 7
 stay
 # Behind a checkpoint there is nothing, and the node has to be there all the same.
 tpnet compact device >out
@@ -60,6 +64,7 @@ set device 13097 01 00 10 00 00 00 00 00 03 00 00 00 00 00 00 00
 set device 13113 00
 tpnet journal device --node 0
 tpnet journal device --node 0 --last 2
+tpnet journal device --json --node 0 --from 2
 # The host is no node.
 tpnet journal device --node 1 2>err
 
@@ -76,6 +81,7 @@ tpnet journal device --node 1 --node 2 2>err
 starts err error: 
 tpnet journal device --last 2>err
 starts err error: 
+tpnet journal device --json --to 3 --from 4
 # Where the words are good, the device is asked for.
 tpnet journal device --from 3 --to 3
 tpnet journal --help >out
