@@ -20,26 +20,46 @@ abbrev pub rate : ℕ → Option Since → List ℕ
 rate now None = codes "null"
 rate now (Some since) = if since.millis == 0 then codes "null" else decimal ((now - since.count) * 1000 / since.millis)
 
--- whether a process holds the device, which checkpoint it has, the form of its area, and the number of the next entry
+-- whether a process holds the device, and which checkpoint it has
+abbrev pub running_part : Bool → ℕ → List ℕ
+running_part held generation = codes "{\"running\":" ++ (json_bool held ++ (codes ",\"generation\":" ++ decimal generation))
+
+-- the form of its area, and the number of the next entry
+abbrev pub next_part : Form → ℕ → List ℕ
+next_part form next = codes ",\"form\":\"" ++ (form_name form ++ (codes "\",\"next\":" ++ (decimal next ++ codes ",\"next_per_second\":")))
+
 abbrev pub front_json : Bool → ℕ → Form → ℕ → Option Since → List ℕ
-front_json held generation form next since =
-    codes "{\"running\":" ++ (json_bool held ++ (codes ",\"generation\":" ++ (decimal generation
-    ++ (codes ",\"form\":\"" ++ (form_name form ++ (codes "\",\"next\":" ++ (decimal next ++ (codes ",\"next_per_second\":" ++ rate next since))))))))
+front_json held generation form next since = running_part held generation ++ (next_part form next ++ rate next since)
 
 -- how many entries the journal has, how many it has room for, and how much of that is in use
+abbrev pub room_part : ℕ → ℕ → List ℕ
+room_part entries room = codes ",\"entries\":" ++ (decimal entries ++ (codes ",\"room\":" ++ decimal room))
+
+abbrev pub percent_part : ℕ → ℕ → List ℕ
+percent_part entries room = codes ",\"percent\":" ++ (decimal (percent entries room) ++ codes ",\"ports\":[")
+
 abbrev pub journal_json : ℕ → ℕ → List ℕ
-journal_json entries room =
-    codes ",\"entries\":" ++ (decimal entries ++ (codes ",\"room\":" ++ (decimal room ++ (codes ",\"percent\":" ++ (decimal (percent entries room) ++ codes ",\"ports\":[")))))
+journal_json entries room = room_part entries room ++ percent_part entries room
 
 -- what a port has accepted, and how much of that no node has taken
+abbrev pub accepted_front : ℕ → List ℕ
+accepted_front now = codes "{\"accepted\":" ++ (decimal now ++ codes ",\"accepted_per_second\":")
+
+abbrev pub pending_part : ℕ → List ℕ
+pending_part pending = codes ",\"pending\":" ++ decimal pending
+
 abbrev pub accepted_json : ℕ → Option Since → ℕ → List ℕ
-accepted_json now since pending =
-    codes "{\"accepted\":" ++ (decimal now ++ (codes ",\"accepted_per_second\":" ++ (rate now since ++ (codes ",\"pending\":" ++ decimal pending))))
+accepted_json now since pending = accepted_front now ++ (rate now since ++ pending_part pending)
 
 -- what it has put out, and how much of that isn't confirmed
+abbrev pub out_front : ℕ → List ℕ
+out_front now = codes ",\"out\":" ++ (decimal now ++ codes ",\"out_per_second\":")
+
+abbrev pub unconfirmed_part : ℕ → List ℕ
+unconfirmed_part unconfirmed = codes ",\"unconfirmed\":" ++ (decimal unconfirmed ++ codes "}")
+
 abbrev pub out_json : ℕ → Option Since → ℕ → List ℕ
-out_json now since unconfirmed =
-    codes ",\"out\":" ++ (decimal now ++ (codes ",\"out_per_second\":" ++ (rate now since ++ (codes ",\"unconfirmed\":" ++ (decimal unconfirmed ++ codes "}")))))
+out_json now since unconfirmed = out_front now ++ (rate now since ++ unconfirmed_part unconfirmed)
 
 abbrev pub port_item : ℕ → Option PortSeen → Port → List ℕ
 port_item millis before port =

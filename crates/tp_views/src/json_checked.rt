@@ -35,6 +35,14 @@ fn push_least(text: &mut String, topology: &Topology) -> Result<(), AllocError>
     write!(text, ",\"least_area\":{least},\"areas\":[")
 }
 
+/// Appends an item of an area, behind `before` others.
+fn push_item(text: &mut String, before: usize, entries: u32, area: u64) -> Result<(), AllocError>
+    ensures { OnOk result (string_bytes text.new ≡ string_bytes text.old ++ (comma before ++ area_item entries area)) }
+{
+    let comma = comma(before);
+    write!(text, "{comma}{{\"entries\":{entries},\"area\":{area}}}")
+}
+
 /// Appends how large an area has to be whose journal has room for `entries`, behind `before` others.
 fn push_area(
     text: &mut String,
@@ -45,8 +53,8 @@ fn push_area(
     requires { is_topology topology.now ≡ true }
     ensures { OnOk result (string_bytes text.new ≡ string_bytes text.old ++ (comma before ++ area_item entries (area_for topology.now entries))) }
 {
-    let (comma, area) = (comma(before), area_for(topology, u64::from(entries)));
-    write!(text, "{comma}{{\"entries\":{entries},\"area\":{area}}}")
+    let area = area_for(topology, u64::from(entries));
+    push_item(text, before, entries, area)
 }
 
 /// Appends an item for each of several journals.

@@ -3,11 +3,11 @@
 ghost use Rattle.std.specs.Prelude.{◌≡◌, ◌≤◌, ◌<◌, ◌+◌, ◌^◌, ◌++◌, List, ℕ, IfOk, OnOk, map, string_bytes};
 ghost use Rattle.tp_node.specs.Standing.{standing};
 ghost use Rattle.tp_views.specs.Json.{comma, json_bool, json_items};
-ghost use Rattle.tp_views.specs.JsonStatus.{accepted_json, all_halted_items, front_json, halted_items, halts_json, journal_json, look_text, out_json, port_item, port_items, rate, status_json};
+ghost use Rattle.tp_views.specs.JsonStatus.{accepted_front, accepted_json, all_halted_items, front_json, halted_items, halts_json, journal_json, look_text, next_part, out_front, out_json, pending_part, percent_part, port_item, port_items, rate, room_part, running_part, status_json, unconfirmed_part};
 ghost use Rattle.tp_views.specs.Status.{percent};
 
 use crate::formats::{fault_name, form_name};
-use crate::json::{comma, json_bool};
+use crate::json::{comma, json_bool, push};
 use crate::status::{
     PortSeen, Seen, Since, accepted, accepted_before, millis_since, next_before, out_before,
     percent, port_before, put_out, room_of, status_text,
@@ -33,7 +33,25 @@ fn push_rate(text: &mut String, now: u128, since: Option<Since>) -> Result<(), A
     }
 }
 
-/// Appends whether a process holds the device, which checkpoint it has, the form of its area, and the number of the next entry.
+/// Appends whether a process holds the device, and which checkpoint it has.
+fn push_running(text: &mut String, held: bool, generation: u64) -> Result<(), AllocError>
+    ensures { OnOk result (string_bytes text.new ≡ string_bytes text.old ++ running_part held generation) }
+{
+    let running = json_bool(held);
+    write!(text, "{{\"running\":{running},\"generation\":{generation}")
+}
+
+/// Appends the form of its area, and the number of the next entry.
+fn push_next(text: &mut String, form: Form, next: u64) -> Result<(), AllocError>
+    ensures { OnOk result (string_bytes text.new ≡ string_bytes text.old ++ next_part form next) }
+{
+    let form = form_name(form);
+    write!(
+        text,
+        ",\"form\":\"{form}\",\"next\":{next},\"next_per_second\":"
+    )
+}
+
 fn push_front(
     text: &mut String,
     held: bool,
@@ -44,40 +62,69 @@ fn push_front(
 ) -> Result<(), AllocError>
     ensures { OnOk result (string_bytes text.new ≡ string_bytes text.old ++ front_json held generation form next since) }
 {
-    let (running, form) = (json_bool(held), form_name(form));
-    write!(
-        text,
-        "{{\"running\":{running},\"generation\":{generation},\"form\":\"{form}\",\"next\":{next},\"next_per_second\":"
-    )?;
+    push_running(text, held, generation)?;
+    push_next(text, form, next)?;
     push_rate(text, next as u128, since)
+}
+
+fn push_room(text: &mut String, entries: usize, room: u64) -> Result<(), AllocError>
+    ensures { OnOk result (string_bytes text.new ≡ string_bytes text.old ++ room_part entries room) }
+{
+    write!(text, ",\"entries\":{entries},\"room\":{room}")
+}
+
+fn push_percent(text: &mut String, entries: usize, room: u64) -> Result<(), AllocError>
+    ensures { OnOk result (string_bytes text.new ≡ string_bytes text.old ++ percent_part entries room) }
+{
+    let used = percent(entries, room);
+    write!(text, ",\"percent\":{used},\"ports\":[")
 }
 
 /// Appends how many entries the journal has, and how many it has room for.
 fn push_journal(text: &mut String, entries: usize, room: u64) -> Result<(), AllocError>
     ensures { OnOk result (string_bytes text.new ≡ string_bytes text.old ++ journal_json entries room) }
 {
-    let used = percent(entries, room);
-    write!(
-        text,
-        ",\"entries\":{entries},\"room\":{room},\"percent\":{used},\"ports\":["
-    )
+    push_room(text, entries, room)?;
+    push_percent(text, entries, room)
 }
 
-/// Appends what a port that has `before` ports before it has accepted, and how much of that no node has taken.
+fn push_accepted_front(text: &mut String, now: u128) -> Result<(), AllocError>
+    ensures { OnOk result (string_bytes text.new ≡ string_bytes text.old ++ accepted_front now) }
+{
+    write!(text, "{{\"accepted\":{now},\"accepted_per_second\":")
+}
+
+fn push_pending(text: &mut String, pending: usize) -> Result<(), AllocError>
+    ensures { OnOk result (string_bytes text.new ≡ string_bytes text.old ++ pending_part pending) }
+{
+    write!(text, ",\"pending\":{pending}")
+}
+
+/// Appends what a port has accepted, and how much of that no node has taken.
 fn push_accepted(
     text: &mut String,
-    before: usize,
     pending: usize,
     now: u128,
     since: Option<Since>,
 ) -> Result<(), AllocError>
     requires { now < 2 ^ 65 }
-    ensures { OnOk result (string_bytes text.new ≡ string_bytes text.old ++ (comma before ++ accepted_json now since pending)) }
+    ensures { OnOk result (string_bytes text.new ≡ string_bytes text.old ++ accepted_json now since pending) }
 {
-    let comma = comma(before);
-    write!(text, "{comma}{{\"accepted\":{now},\"accepted_per_second\":")?;
+    push_accepted_front(text, now)?;
     push_rate(text, now, since)?;
-    write!(text, ",\"pending\":{pending}")
+    push_pending(text, pending)
+}
+
+fn push_out_front(text: &mut String, now: u128) -> Result<(), AllocError>
+    ensures { OnOk result (string_bytes text.new ≡ string_bytes text.old ++ out_front now) }
+{
+    write!(text, ",\"out\":{now},\"out_per_second\":")
+}
+
+fn push_unconfirmed(text: &mut String, unconfirmed: usize) -> Result<(), AllocError>
+    ensures { OnOk result (string_bytes text.new ≡ string_bytes text.old ++ unconfirmed_part unconfirmed) }
+{
+    write!(text, ",\"unconfirmed\":{unconfirmed}}}")
 }
 
 /// Appends what a port has put out, and how much of that isn't confirmed.
@@ -90,13 +137,34 @@ fn push_out(
     requires { now < 2 ^ 65 }
     ensures { OnOk result (string_bytes text.new ≡ string_bytes text.old ++ out_json now since unconfirmed) }
 {
-    write!(text, ",\"out\":{now},\"out_per_second\":")?;
+    push_out_front(text, now)?;
     push_rate(text, now, since)?;
-    write!(text, ",\"unconfirmed\":{unconfirmed}}}")
+    push_unconfirmed(text, unconfirmed)
 }
 
-/// Appends what went into a port that has `number` ports before it, and came out of it.
+/// Appends what went into a port and came out of it.
 fn push_port(
+    text: &mut String,
+    millis: u64,
+    before: Option<PortSeen>,
+    port: &HostPort,
+) -> Result<(), AllocError>
+    ensures { OnOk result (string_bytes text.new ≡ string_bytes text.old ++ port_item millis before port.now.port) }
+{
+    let (pending, unconfirmed) = (port.pending().len(), port.outputs().len());
+    let (then_accepted, then_out) = (accepted_before(millis, before), out_before(millis, before));
+    push_accepted(text, pending, accepted(port), then_accepted)?;
+    push_out(text, unconfirmed, put_out(port), then_out)
+}
+
+fn push_comma(text: &mut String, before: usize) -> Result<(), AllocError>
+    ensures { OnOk result (string_bytes text.new ≡ string_bytes text.old ++ comma before) }
+{
+    push(text, comma(before))
+}
+
+/// Appends a port that has `number` ports before it.
+fn push_port_item(
     text: &mut String,
     number: usize,
     millis: u64,
@@ -105,10 +173,8 @@ fn push_port(
 ) -> Result<(), AllocError>
     ensures { OnOk result (string_bytes text.new ≡ string_bytes text.old ++ (comma number ++ port_item millis before port.now.port)) }
 {
-    let (pending, unconfirmed) = (port.pending().len(), port.outputs().len());
-    let (then_accepted, then_out) = (accepted_before(millis, before), out_before(millis, before));
-    push_accepted(text, number, pending, accepted(port), then_accepted)?;
-    push_out(text, unconfirmed, put_out(port), then_out)
+    push_comma(text, number)?;
+    push_port(text, millis, before, port)
 }
 
 fn push_ports(
@@ -120,7 +186,7 @@ fn push_ports(
     ensures { OnOk result (string_bytes text.new ≡ string_bytes text.old ++ json_items 0 (port_items 0 at before.now (map (λ port. port.port) ports.now))) }
 {
     for (number, port) in ports.iter().enumerate() {
-        push_port(
+        push_port_item(
             text,
             number,
             millis_since(at, before),

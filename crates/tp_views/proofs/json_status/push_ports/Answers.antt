@@ -13,7 +13,7 @@ loop-number-preserved c =
     let before = c.args.before.now in
     let rest = json_items (n + 1) (port_items (n + 1) at before (map (λ x. x.port) (drop (n + 1) all))) in
     let here = at_drop_more (λ xs. xs) all n c.index-ports-number.result c.loop-number-test.true ∙ ap (λ x. x ∷ drop (n + 1) all) (sym c.index-ports-number.is) in
-    ap (λ bytes. bytes ++ rest) (c.in_ok-push_port.ensures
+    ap (λ bytes. bytes ++ rest) (c.in_ok-push_port_item.ensures
     ∙ ap (λ millis. string_bytes c.loop-number.text ++ (comma n ++ port_item millis c.port_before.result c.index-ports-number.result.port)) c.millis_since.ensures
     ∙ ap (λ then. string_bytes c.loop-number.text ++ (comma n ++ port_item (millis_since at before) then c.index-ports-number.result.port)) c.port_before.ensures)
     ∙ append_assoc (string_bytes c.loop-number.text) _ rest
