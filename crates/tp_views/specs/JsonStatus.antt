@@ -8,7 +8,7 @@ use Rattle.tp_model.specs.declared.form.Form.{Form}
 use Rattle.tp_node.specs.Standing.{standing}
 use Rattle.tp_node.specs.declared.standing.Standing.{Standing}
 use Rattle.tp_node.specs.declared.standing.Standing.TheVariants.{Halted, Waits, Free}
-use Rattle.tp_views.specs.Json.{json_bool, json_items}
+use Rattle.tp_views.specs.Json.{json_items}
 use Rattle.tp_views.specs.Names.{fault_name, form_name}
 use Rattle.tp_views.specs.Status.{accepted, accepted_before, millis_since, next_before, out_before, percent, port_before, put_out, room_of, status_line}
 use Rattle.tp_views.specs.declared.status.PortSeen.{PortSeen}
@@ -20,16 +20,20 @@ abbrev pub rate : ℕ → Option Since → List ℕ
 rate now None = codes "null"
 rate now (Some since) = if since.millis == 0 then codes "null" else decimal ((now - since.count) * 1000 / since.millis)
 
--- whether a process holds the device, and which checkpoint it has
-abbrev pub running_part : Bool → ℕ → List ℕ
-running_part held generation = codes "{\"running\":" ++ (json_bool held ++ (codes ",\"generation\":" ++ decimal generation))
+-- whether a process holds the device
+abbrev pub running_part : Bool → List ℕ
+running_part held = if held then codes "{\"running\":true" else codes "{\"running\":false"
+
+-- which checkpoint it has
+abbrev pub generation_part : ℕ → List ℕ
+generation_part generation = codes ",\"generation\":" ++ decimal generation
 
 -- the form of its area, and the number of the next entry
 abbrev pub next_part : Form → ℕ → List ℕ
 next_part form next = codes ",\"form\":\"" ++ (form_name form ++ (codes "\",\"next\":" ++ (decimal next ++ codes ",\"next_per_second\":")))
 
 abbrev pub front_json : Bool → ℕ → Form → ℕ → Option Since → List ℕ
-front_json held generation form next since = running_part held generation ++ (next_part form next ++ rate next since)
+front_json held generation form next since = running_part held ++ (generation_part generation ++ (next_part form next ++ rate next since))
 
 -- how many entries the journal has, how many it has room for, and how much of that is in use
 abbrev pub room_part : ℕ → ℕ → List ℕ

@@ -2,12 +2,12 @@
 
 ghost use Rattle.std.specs.Prelude.{◌≡◌, ◌≤◌, ◌<◌, ◌+◌, ◌^◌, ◌++◌, List, ℕ, IfOk, OnOk, map, string_bytes};
 ghost use Rattle.tp_node.specs.Standing.{standing};
-ghost use Rattle.tp_views.specs.Json.{comma, json_bool, json_items};
-ghost use Rattle.tp_views.specs.JsonStatus.{accepted_front, accepted_json, all_halted_items, front_json, halted_items, halts_json, journal_json, look_text, next_part, out_front, out_json, pending_part, percent_part, port_item, port_items, rate, room_part, running_part, status_json, unconfirmed_part};
+ghost use Rattle.tp_views.specs.Json.{comma, json_items};
+ghost use Rattle.tp_views.specs.JsonStatus.{accepted_front, accepted_json, all_halted_items, front_json, generation_part, halted_items, halts_json, journal_json, look_text, next_part, out_front, out_json, pending_part, percent_part, port_item, port_items, rate, room_part, running_part, status_json, unconfirmed_part};
 ghost use Rattle.tp_views.specs.Status.{percent};
 
 use crate::formats::{fault_name, form_name};
-use crate::json::{comma, json_bool, push};
+use crate::json::{comma, push};
 use crate::status::{
     PortSeen, Seen, Since, accepted, accepted_before, millis_since, next_before, out_before,
     percent, port_before, put_out, room_of, status_text,
@@ -33,12 +33,28 @@ fn push_rate(text: &mut String, now: u128, since: Option<Since>) -> Result<(), A
     }
 }
 
-/// Appends whether a process holds the device, and which checkpoint it has.
-fn push_running(text: &mut String, held: bool, generation: u64) -> Result<(), AllocError>
-    ensures { OnOk result (string_bytes text.new ≡ string_bytes text.old ++ running_part held generation) }
+/// Whether a process holds the device.
+fn running_part(held: bool) -> &'static str
+    ensures { result.now ≡ running_part held }
 {
-    let running = json_bool(held);
-    write!(text, "{{\"running\":{running},\"generation\":{generation}")
+    if held {
+        "{\"running\":true"
+    } else {
+        "{\"running\":false"
+    }
+}
+
+fn push_running(text: &mut String, held: bool) -> Result<(), AllocError>
+    ensures { OnOk result (string_bytes text.new ≡ string_bytes text.old ++ running_part held) }
+{
+    push(text, running_part(held))
+}
+
+/// Appends which checkpoint the device has.
+fn push_generation(text: &mut String, generation: u64) -> Result<(), AllocError>
+    ensures { OnOk result (string_bytes text.new ≡ string_bytes text.old ++ generation_part generation) }
+{
+    write!(text, ",\"generation\":{generation}")
 }
 
 /// Appends the form of its area, and the number of the next entry.
@@ -62,7 +78,8 @@ fn push_front(
 ) -> Result<(), AllocError>
     ensures { OnOk result (string_bytes text.new ≡ string_bytes text.old ++ front_json held generation form next since) }
 {
-    push_running(text, held, generation)?;
+    push_running(text, held)?;
+    push_generation(text, generation)?;
     push_next(text, form, next)?;
     push_rate(text, next as u128, since)
 }
