@@ -86,6 +86,7 @@ tpnet help >out
 has out format
 tpnet help show >out
 has out NoOpenArea
+has out --json
 tpnet try --help >out
 has out BadImage
 tpnet format --help >out

@@ -9,6 +9,7 @@ pub mod Status
 pub mod JsonStatus
 pub mod NodeText
 pub mod JsonNode
+pub mod JsonPort
 pub mod Entries
 pub mod JsonEntries
 pub mod JournalText

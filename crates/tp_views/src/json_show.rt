@@ -2,8 +2,7 @@
 
 ghost use Rattle.std.specs.Prelude.{◌≡◌, ◌++◌, IfOk, OnOk, string_bytes, map};
 ghost use Rattle.tp_views.specs.Json.{comma, json_items, json_list};
-ghost use Rattle.tp_views.specs.JsonShow.{front_fields, node_item, port_item, show_json};
-ghost use Rattle.tp_views.specs.Shown.{area_number};
+ghost use Rattle.tp_views.specs.JsonShow.{area_fields, entry_fields, front_fields, input_fields, node_item, output_fields, port_item, show_json};
 
 use crate::json::{comma, push};
 use crate::shown::{Front, area_number};
@@ -21,16 +20,25 @@ fn push_node(text: &mut String, before: usize, node: &Node) -> Result<(), AllocE
     write!(text, "{comma}{{\"halt\":{halt}}}")
 }
 
+fn push_inputs(text: &mut String, taken: u64, pending: usize) -> Result<(), AllocError>
+    ensures { OnOk result (string_bytes text.new ≡ string_bytes text.old ++ input_fields taken pending) }
+{
+    write!(text, "{{\"in\":{taken},\"pending\":{pending}")
+}
+
+fn push_outputs(text: &mut String, confirmed: u64, unconfirmed: usize) -> Result<(), AllocError>
+    ensures { OnOk result (string_bytes text.new ≡ string_bytes text.old ++ output_fields confirmed unconfirmed) }
+{
+    write!(text, ",\"out\":{confirmed},\"unconfirmed\":{unconfirmed}}}")
+}
+
 /// Appends the item of a port that has `before` ports before it.
 fn push_port(text: &mut String, before: usize, port: &HostPort) -> Result<(), AllocError>
     ensures { OnOk result (string_bytes text.new ≡ string_bytes text.old ++ (comma before ++ port_item port.now.port)) }
 {
-    let (comma, in_base, out_base) = (comma(before), port.in_base(), port.out_base());
-    let (pending, unconfirmed) = (port.pending().len(), port.outputs().len());
-    write!(
-        text,
-        "{comma}{{\"in\":{in_base},\"pending\":{pending},\"out\":{out_base},\"unconfirmed\":{unconfirmed}}}"
-    )
+    push(text, comma(before))?;
+    push_inputs(text, port.in_base(), port.pending().len())?;
+    push_outputs(text, port.out_base(), port.outputs().len())
 }
 
 fn push_nodes(text: &mut String, nodes: &[Node]) -> Result<(), AllocError>
@@ -67,22 +75,33 @@ fn push_port_list(text: &mut String, ports: &[HostPort]) -> Result<(), AllocErro
     push(text, "]")
 }
 
-fn push_front(text: &mut String, front: Front) -> Result<(), AllocError>
-    ensures { OnOk result (string_bytes text.new ≡ string_bytes text.old ++ front_fields front.area (area_number front.second) front.generation front.base front.entries front.next) }
+fn push_area(
+    text: &mut String,
+    area: u64,
+    open_area: u8,
+    generation: u64,
+) -> Result<(), AllocError>
+    ensures { OnOk result (string_bytes text.new ≡ string_bytes text.old ++ area_fields area open_area generation) }
 {
-    let open = area_number(front.second);
-    let Front {
-        area,
-        generation,
-        base,
-        entries,
-        next,
-        ..
-    } = front;
-    write!(
-        text,
-        ",\"area\":{area},\"open\":{open},\"generation\":{generation},\"base\":{base},\"entries\":{entries},\"next\":{next}}}\n"
-    )
+    write!(text, ",\"area\":{area},\"open\":{open_area},\"generation\":{generation}")
+}
+
+fn push_entries(
+    text: &mut String,
+    base: u64,
+    entries: usize,
+    next: u64,
+) -> Result<(), AllocError>
+    ensures { OnOk result (string_bytes text.new ≡ string_bytes text.old ++ entry_fields base entries next) }
+{
+    write!(text, ",\"base\":{base},\"entries\":{entries},\"next\":{next}}}\n")
+}
+
+fn push_front(text: &mut String, front: Front) -> Result<(), AllocError>
+    ensures { OnOk result (string_bytes text.new ≡ string_bytes text.old ++ front_fields front) }
+{
+    push_area(text, front.area, area_number(front.second), front.generation)?;
+    push_entries(text, front.base, front.entries, front.next)
 }
 
 /// All that is shown of a device, as JSON.

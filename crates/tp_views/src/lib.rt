@@ -18,6 +18,7 @@ mod json;
 mod json_checked;
 mod json_entries;
 mod json_node;
+mod json_port;
 mod json_show;
 mod json_status;
 mod looking;

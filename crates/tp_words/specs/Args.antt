@@ -11,7 +11,7 @@ use Rattle.tp_words.specs.declared.args.Run.{Run}
 use Rattle.tp_words.specs.declared.args.TheConstants.{MAX_AREA, MAX_WORKERS, QUANTUM}
 use Rattle.tp_words.specs.declared.views.JournalPart.{JournalPart}
 use Rattle.tp_words.specs.declared.views.View.{View}
-use Rattle.tp_words.specs.declared.views.View.TheVariants.{Node, Image, Journal, Pending, Outputs, NodeJson}
+use Rattle.tp_words.specs.declared.views.View.TheVariants.{Node, Image, Journal, Pending, Outputs, NodeJson, PendingJson, OutputsJson}
 use Rattle.tp_words.specs.Given.{given, has_flag, IsGivenOr}
 use Rattle.tp_words.specs.Typed.{has_word, was_typed}
 
@@ -35,6 +35,8 @@ IsView (Image node) = Unit {0}
 IsView (Pending port) = Unit {0}
 IsView (Outputs port) = Unit {0}
 IsView (NodeJson node) = Unit {0}
+IsView (PendingJson port) = Unit {0}
+IsView (OutputsJson port) = Unit {0}
 
 -- each number is in its range
 abbrev pub IsInRange : Asked → Type 0
@@ -57,14 +59,16 @@ IsTypedPart words part = IsGivenOr 0 part.from (given (codes "from") words)
     × (given (codes "last") words ≡ option_map decimal part.last)
     × (part.json ≡ has_flag (codes "--json") words)
 
--- the number of a view is a decimal that was typed
+-- the number of a view is a decimal that was typed; JSON is shown where it is asked for
 abbrev pub HasTyped : List (String Global) → View → Type 0
 HasTyped words (Node node) = (was_typed words (decimal node) ≡ true) × (has_flag (codes "--json") words ≡ false)
 HasTyped words (Image node) = was_typed words (decimal node) ≡ true
 HasTyped words (Journal part) = IsTypedPart words part
-HasTyped words (Pending port) = was_typed words (decimal port) ≡ true
-HasTyped words (Outputs port) = was_typed words (decimal port) ≡ true
+HasTyped words (Pending port) = (was_typed words (decimal port) ≡ true) × (has_flag (codes "--json") words ≡ false)
+HasTyped words (Outputs port) = (was_typed words (decimal port) ≡ true) × (has_flag (codes "--json") words ≡ false)
 HasTyped words (NodeJson node) = (was_typed words (decimal node) ≡ true) × (has_flag (codes "--json") words ≡ true)
+HasTyped words (PendingJson port) = (was_typed words (decimal port) ≡ true) × (has_flag (codes "--json") words ≡ true)
+HasTyped words (OutputsJson port) = (was_typed words (decimal port) ≡ true) × (has_flag (codes "--json") words ≡ true)
 
 -- each option of a run is what was typed for it, and else what docs/PROGRAM.md says
 abbrev pub IsTypedRun : List (String Global) → Run → Type 0

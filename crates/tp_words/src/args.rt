@@ -312,11 +312,13 @@ fn port_view(alloc: Global, words: &[String], found: &ArgMatches) -> Result<View
     ensures typed { IfOk result (HasTyped words.now) }
 {
     let port = place_of(alloc, words, found, "P")?;
-    if found.get_flag("pending") {
-        Ok(View::Pending(port))
-    } else {
-        Ok(View::Outputs(port))
-    }
+    let json = json_of(words, found)?;
+    Ok(match (found.get_flag("pending"), json) {
+        (true, true) => View::PendingJson(port),
+        (true, false) => View::Pending(port),
+        (false, true) => View::OutputsJson(port),
+        (false, false) => View::Outputs(port),
+    })
 }
 
 /// The view of a device that a command of that name shows.

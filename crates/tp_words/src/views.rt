@@ -1,7 +1,7 @@
 //! What is shown of a device.
 
 /// What is shown of a device that opens: a node's registers, a node's image, a part of the kept entries, and the bytes of a port that are
-/// pending or not confirmed; and the first of these as JSON.
+/// pending or not confirmed; and the first of these and the last two as JSON.
 #[derive(Clone, Copy, Debug, PartialEq, Eq)]
 pub enum View {
     Node(u64),
@@ -10,6 +10,8 @@ pub enum View {
     Pending(u64),
     Outputs(u64),
     NodeJson(u64),
+    PendingJson(u64),
+    OutputsJson(u64),
 }
 
 /// The part of the kept entries that is shown: those whose number is `from` or more and `to` or less, that node `node` made, and of these the

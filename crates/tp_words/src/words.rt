@@ -241,6 +241,7 @@ const PORT: Form = Form {
     about: "Prints a port's bytes as they are: the outputs that aren't confirmed, or the inputs that are pending",
     words: &[
         EXPLAIN,
+        JSON,
         DEVICE,
         Word::Place("P", "the port's number"),
         Word::Flag("pending", "the inputs that no node has taken"),
