@@ -52,7 +52,10 @@ fn push_state(text: &mut String, error: bool, state: State, slice: u16) -> Resul
     ensures { OnOk result (string_bytes text.new ≡ string_bytes text.old ++ state_fields error state slice) }
 {
     let (error, name) = (json_bool(error), state_name(state));
-    write!(text, ",\"error\":{error},\"state\":\"{name}\",\"slice\":{slice}")
+    write!(
+        text,
+        ",\"error\":{error},\"state\":\"{name}\",\"slice\":{slice}"
+    )
 }
 
 /// Appends the fields of a processor.

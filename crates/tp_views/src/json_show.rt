@@ -75,32 +75,33 @@ fn push_port_list(text: &mut String, ports: &[HostPort]) -> Result<(), AllocErro
     push(text, "]")
 }
 
-fn push_area(
-    text: &mut String,
-    area: u64,
-    open_area: u8,
-    generation: u64,
-) -> Result<(), AllocError>
+fn push_area(text: &mut String, area: u64, open_area: u8, generation: u64) -> Result<(), AllocError>
     ensures { OnOk result (string_bytes text.new ≡ string_bytes text.old ++ area_fields area open_area generation) }
 {
-    write!(text, ",\"area\":{area},\"open\":{open_area},\"generation\":{generation}")
+    write!(
+        text,
+        ",\"area\":{area},\"open\":{open_area},\"generation\":{generation}"
+    )
 }
 
-fn push_entries(
-    text: &mut String,
-    base: u64,
-    entries: usize,
-    next: u64,
-) -> Result<(), AllocError>
+fn push_entries(text: &mut String, base: u64, entries: usize, next: u64) -> Result<(), AllocError>
     ensures { OnOk result (string_bytes text.new ≡ string_bytes text.old ++ entry_fields base entries next) }
 {
-    write!(text, ",\"base\":{base},\"entries\":{entries},\"next\":{next}}}\n")
+    write!(
+        text,
+        ",\"base\":{base},\"entries\":{entries},\"next\":{next}}}\n"
+    )
 }
 
 fn push_front(text: &mut String, front: Front) -> Result<(), AllocError>
     ensures { OnOk result (string_bytes text.new ≡ string_bytes text.old ++ front_fields front) }
 {
-    push_area(text, front.area, area_number(front.second), front.generation)?;
+    push_area(
+        text,
+        front.area,
+        area_number(front.second),
+        front.generation,
+    )?;
     push_entries(text, front.base, front.entries, front.next)
 }
 
