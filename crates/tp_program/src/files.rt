@@ -247,6 +247,7 @@ pub fn check_file<R: Files + AllocGlobal, O: Write, E: Write>(
     rt: &R,
     topology: &str,
     folder: &str,
+    json: bool,
     out: &mut O,
     err: &mut E,
 ) -> u8
@@ -261,7 +262,14 @@ pub fn check_file<R: Files + AllocGlobal, O: Write, E: Write>(
         Err(refusal) => return refuse(err, refusal),
     };
     let _rules = named.topology.pages();
-    check_on(rt.alloc(), &named.topology, images.as_slice(), out, err)
+    check_on(
+        rt.alloc(),
+        &named.topology,
+        images.as_slice(),
+        json,
+        out,
+        err,
+    )
 }
 
 /// `tpnet node`, `image`, `journal` and `port`, on a device's file, which stays as it is.
@@ -358,6 +366,7 @@ fn look_file<
     watch: &mut W,
     device: &str,
     before: &Option<Seen>,
+    json: bool,
     out: &mut O,
     err: &mut E,
 ) -> Result<Seen, u8>
@@ -365,7 +374,7 @@ fn look_file<
 {
     let (held, at) = (watch.is_held(device), watch.now());
     match disk_to_read(rt, device) {
-        Ok(mut disk) => status_on(rt.alloc(), &mut disk, held, at, before, out, err),
+        Ok(mut disk) => status_on(rt.alloc(), &mut disk, held, at, before, json, out, err),
         Err(refusal) => Err(refuse(err, refusal)),
     }
 }
@@ -378,12 +387,20 @@ pub fn status_file<
     W: Watch,
     O: Write,
     E: Write,
->(rt: &R, watch: &mut W, device: &str, every: Option<u32>, out: &mut O, err: &mut E) -> u8
+>(
+    rt: &R,
+    watch: &mut W,
+    device: &str,
+    every: Option<u32>,
+    json: bool,
+    out: &mut O,
+    err: &mut E,
+) -> u8
     ensures { result ≤ 1 }
 {
     let mut before = None;
     for _ in 0..u64::MAX {
-        let seen = match look_file(rt, watch, device, &before, out, err) {
+        let seen = match look_file(rt, watch, device, &before, json, out, err) {
             Ok(seen) => seen,
             Err(status) => return status,
         };

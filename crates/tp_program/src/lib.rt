@@ -30,8 +30,8 @@ pub use tp_views::{
     Seen, TRY_QUANTUM, check_on, is_device_file, recover_on, show_on, status_on, try_on, view_on,
 };
 pub use tp_words::{
-    ArgFault, Asked, Backup, BackupAsked, EndsFault, NewDevice, Run, StreamArgFault, StreamAsked,
-    StreamRun, View, is_backup, is_stream, read_args, read_backup_args, read_stream_args,
-    wants_input,
+    ArgFault, Asked, Backup, BackupAsked, EndsFault, JournalPart, NewDevice, Run, StreamArgFault,
+    StreamAsked, StreamRun, View, is_backup, is_stream, read_args, read_backup_args,
+    read_stream_args, wants_input,
 };
 pub use watching::{OneLook, Watch};

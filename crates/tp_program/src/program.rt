@@ -48,12 +48,16 @@ fn carry_out<
             recover_file(rt, device.as_str(), *workers, out, err)
         }
         Asked::Show { device, json } => show_file(rt, device.as_str(), *json, out, err),
-        Asked::Status { device, every } => {
-            status_file(rt, watch, device.as_str(), *every, out, err)
-        }
-        Asked::Check { topology, images } => {
-            check_file(rt, topology.as_str(), images.as_str(), out, err)
-        }
+        Asked::Status {
+            device,
+            every,
+            json,
+        } => status_file(rt, watch, device.as_str(), *every, *json, out, err),
+        Asked::Check {
+            topology,
+            images,
+            json,
+        } => check_file(rt, topology.as_str(), images.as_str(), *json, out, err),
         Asked::View { device, view } => view_file(rt, device.as_str(), *view, out, err),
     }
 }

@@ -174,6 +174,7 @@ tpnet run device --turns 0 --port 1
 tpnet run device --turns 0 --port 1 --in more
 tpnet run device --turns 0 --port 2 2>err
 tpnet journal device
+tpnet journal device --json --from 5 --to 6
 tpnet show device
 tpnet port device 1 --pending
 tpnet port device 0 --pending

@@ -5,8 +5,10 @@ story kept
 bring kept/one.dev device
 keep device
 tpnet status device
+tpnet status device --json
 # Nobody waits between two looks here.
 tpnet status device --every 1
+tpnet status --json --every 1 device
 tpnet status --every=4294967295 device
 stay
 # Nine letters that nobody has confirmed, in a journal with room for 215 entries; a checkpoint was begun.
@@ -30,6 +32,7 @@ tpnet format device net.txt . 65536
 tpnet status device
 tpnet run device --turns 3 --workers 1 --in in
 tpnet status device
+tpnet status device --json
 tpnet run device --turns 5 --workers 1 --in in
 tpnet status device
 tpnet run device --turns 0 --port 1
@@ -44,6 +47,7 @@ image b.img 22 F2
 tpnet format device net.txt . 24576
 tpnet run device --turns 3 --workers 1 --quantum 16
 tpnet status device
+tpnet status device --json
 # Four have, each for a reason of its own; a checkpoint says the same of them.
 text net.txt node a 4\nnode b 4\nnode c 4\nnode d 4\nport h\n
 image a.img 45 30
@@ -54,6 +58,7 @@ tpnet run device --turns 5 --workers 1
 tpnet status device
 tpnet compact device
 tpnet status device
+tpnet status --json device
 
 story refused
 # A damaged device, one without an open area, one that is none, and one that isn't there.
@@ -62,6 +67,7 @@ set device 10 01
 keep device
 tpnet status device
 tpnet status device --every 1
+tpnet status device --json
 tpnet status device --explain 2>err
 starts err tpnet: Damaged 0\n
 has err byte 10 is 01 and must be 00
@@ -87,7 +93,7 @@ tpnet status device --every 2>err
 starts err error: 
 tpnet status device --every 1 --every 1 2>err
 starts err error: 
-tpnet status device --json 2>err
+tpnet status device --xml 2>err
 starts err error: 
 tpnet status device --every 0
 tpnet status device --every 01

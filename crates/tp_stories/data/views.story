@@ -21,6 +21,7 @@ tpnet port device 0 --outputs
 tpnet port device 0 --pending
 tpnet node fresh 0
 tpnet check net.txt .
+tpnet check net.txt . --json
 # The node's image is one that is tried.
 tpnet image device 0 >later.img 2>err
 length later.img

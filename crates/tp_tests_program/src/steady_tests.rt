@@ -8,7 +8,9 @@ use std::test::Fail;
 use std::thread::Threads;
 use tp_disk::{Counted, Disk, MemDisk};
 use tp_net::Topology;
-use tp_program::{View, backup_on, compact_on, format_on, recover_on, show_on, view_on};
+use tp_program::{
+    JournalPart, View, backup_on, compact_on, format_on, recover_on, show_on, view_on,
+};
 use tp_tests_files::scratch::Output;
 use tp_tests_fixtures::{ONE_NODE, SIZE, letter};
 
@@ -282,6 +284,15 @@ fn aged(alloc: Global, times: u8) -> Result<RawChanging, Fail> {
     Ok(raw)
 }
 
+/// All of a journal.
+const WHOLE: JournalPart = JournalPart {
+    from: 0,
+    to: None,
+    node: None,
+    last: None,
+    json: false,
+};
+
 /// A command, in how many of its tries the device is written, and whether it says what is so in the end; else it says `Busy`.
 const TRIES: &[(Reader, u8, bool)] = &[
     (Reader::Recover(1), 19, true),
@@ -293,7 +304,7 @@ const TRIES: &[(Reader, u8, bool)] = &[
     (Reader::Show, 21, false),
     (Reader::Look(View::Node(0)), 20, false),
     (Reader::Look(View::Image(0)), 20, false),
-    (Reader::Look(View::Journal(0)), 20, false),
+    (Reader::Look(View::Journal(WHOLE)), 20, false),
     (Reader::Look(View::Outputs(0)), 20, false),
     (Reader::Backup, 1, true),
     (Reader::Backup, 19, true),

@@ -6,12 +6,16 @@ pub mod Shown
 pub mod JsonShow
 pub mod Opens
 pub mod Status
+pub mod JsonStatus
 pub mod NodeText
 pub mod JsonNode
 pub mod JsonPort
 pub mod Entries
+pub mod JsonEntries
+pub mod JournalText
 pub mod Views
 pub mod Checked
+pub mod JsonChecked
 pub mod Looks
 pub mod Steady
 pub mod Attempt

@@ -2,12 +2,13 @@
 use Rattle.std.specs.Prelude.{◌≡◌, ℕ, Bool, List, Option, Result, Ok, Err}
 use Rattle.std.specs.Io.KnownBytes.{Appends}
 use Rattle.tp_model.specs.Opening.{Opened, verdict}
-use Rattle.tp_views.specs.Status.{IsSeen, status_line}
+use Rattle.tp_views.specs.JsonStatus.{look_text}
+use Rattle.tp_views.specs.Status.{IsSeen}
 use Rattle.tp_views.specs.declared.status.Seen.{Seen}
 
--- The device opens, exactly its line is printed, and what is handed on is what was seen of it.
-pub record Tells (held : Bool) (at : ℕ) (before : Option Seen) (bytes : List ℕ) (was now : Option (List ℕ)) (seen : Seen) : Type 0 where
+-- The device opens, exactly its line is printed, as JSON or not, and what is handed on is what was seen of it.
+pub record Tells (json held : Bool) (at : ℕ) (before : Option Seen) (bytes : List ℕ) (was now : Option (List ℕ)) (seen : Seen) : Type 0 where
   pub opened : Opened
   pub is : verdict bytes ≡ Ok opened
-  pub printed : Appends was now (status_line held at before opened)
+  pub printed : Appends was now (look_text json held at before opened)
   pub saw : IsSeen at opened seen

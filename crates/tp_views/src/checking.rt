@@ -6,9 +6,11 @@ ghost use Rattle.tp_model.specs.Format.{start_of};
 ghost use Rattle.tp_model.specs.Topology.{is_topology};
 ghost use Rattle.tp_views.specs.Checked.{area_for, area_line, area_lines, checked_text, least_line, shape_line};
 ghost use Rattle.tp_views.specs.Front.{AppendsFront};
+ghost use Rattle.tp_views.specs.JsonChecked.{topology_said};
 
 use crate::commands::{put, refuse};
 use crate::formats::{form_name, version_number};
+use crate::json_checked::checked_json;
 use crate::refusal::Refusal;
 use std::alloc::{AllocError, Global};
 use std::fmt::Write as Push;
@@ -33,7 +35,7 @@ fn check_images(alloc: Global, topology: &Topology, images: &[Vec<u8>]) -> Resul
 }
 
 /// How many entries the journals have room for, whose areas are told.
-const JOURNALS: [u32; 3] = [4_096, 65_536, 1_048_576];
+pub(crate) const JOURNALS: [u32; 3] = [4_096, 65_536, 1_048_576];
 
 /// Appends how many nodes and ports there are, which version of the head would be written, and the form of the areas.
 fn push_shape(text: &mut String, nodes: usize, ports: usize, version: u8) -> Result<(), AllocError>
@@ -88,13 +90,30 @@ fn checked_text(alloc: Global, topology: &Topology) -> Result<String, AllocError
     Ok(text)
 }
 
-/// Prints what is said of a topology.
-fn put_checked<O: Write>(alloc: Global, topology: &Topology, out: &mut O) -> Result<(), Refusal>
+/// What is said of a topology, as JSON or not.
+fn topology_said(alloc: Global, topology: &Topology, json: bool) -> Result<String, AllocError>
     requires { is_topology topology.now ≡ true }
-    ensures printed { OnOk result (Appends (O.contents out.old) (O.contents out.new) (checked_text topology.now)) }
-    ensures front { (O.contents out.new ≡ O.contents out.old) ⊎ AppendsFront (O.contents out.old) (O.contents out.new) (checked_text topology.now) }
+    ensures { IfOk result (λ text. string_bytes text ≡ topology_said json topology.now) }
 {
-    let Ok(text) = checked_text(alloc, topology) else {
+    if json {
+        checked_json(alloc, topology)
+    } else {
+        checked_text(alloc, topology)
+    }
+}
+
+/// Prints what is said of a topology.
+fn put_checked<O: Write>(
+    alloc: Global,
+    topology: &Topology,
+    json: bool,
+    out: &mut O,
+) -> Result<(), Refusal>
+    requires { is_topology topology.now ≡ true }
+    ensures printed { OnOk result (Appends (O.contents out.old) (O.contents out.new) (topology_said json topology.now)) }
+    ensures front { (O.contents out.new ≡ O.contents out.old) ⊎ AppendsFront (O.contents out.old) (O.contents out.new) (topology_said json topology.now) }
+{
+    let Ok(text) = topology_said(alloc, topology, json) else {
         return Err(Refusal::Memory);
     };
     put(out, text.as_bytes())
@@ -104,37 +123,39 @@ fn check<O: Write>(
     alloc: Global,
     topology: &Topology,
     images: &[Vec<u8>],
+    json: bool,
     out: &mut O,
 ) -> Result<(), Refusal>
     requires { is_topology topology.now ≡ true }
     ensures fit { OnOk result (IsSome (start_of topology.now (map (λ image. image.items) images.now))) }
-    ensures printed { OnOk result (Appends (O.contents out.old) (O.contents out.new) (checked_text topology.now)) }
-    ensures front { (O.contents out.new ≡ O.contents out.old) ⊎ AppendsFront (O.contents out.old) (O.contents out.new) (checked_text topology.now) }
+    ensures printed { OnOk result (Appends (O.contents out.old) (O.contents out.new) (topology_said json topology.now)) }
+    ensures front { (O.contents out.new ≡ O.contents out.old) ⊎ AppendsFront (O.contents out.old) (O.contents out.new) (topology_said json topology.now) }
     ensures refused { start_of topology.now (map (λ image. image.items) images.now) ≡ None → (IsErr result) × (O.contents out.new ≡ O.contents out.old) }
 {
     match check_images(alloc, topology, images) {
-        Ok(()) => put_checked(alloc, topology, out),
+        Ok(()) => put_checked(alloc, topology, json, out),
         Err(refusal) => Err(refusal),
     }
 }
 
 /// `tpnet check`, on a topology and its images. Answers the program's status: 0 where a device may be formatted with them and exactly
-/// what is said of the topology was printed, else 1. Where the images don't fit nothing is printed.
+/// what is said of the topology was printed, as JSON or not, else 1. Where the images don't fit nothing is printed.
 pub fn check_on<O: Write, E: Write>(
     alloc: Global,
     topology: &Topology,
     images: &[Vec<u8>],
+    json: bool,
     out: &mut O,
     err: &mut E,
 ) -> u8
     requires { is_topology topology.now ≡ true }
     ensures status { result ≤ 1 }
     ensures fit { result ≡ 0 → IsSome (start_of topology.now (map (λ image. image.items) images.now)) }
-    ensures printed { result ≡ 0 → Appends (O.contents out.old) (O.contents out.new) (checked_text topology.now) }
-    ensures front { (O.contents out.new ≡ O.contents out.old) ⊎ AppendsFront (O.contents out.old) (O.contents out.new) (checked_text topology.now) }
+    ensures printed { result ≡ 0 → Appends (O.contents out.old) (O.contents out.new) (topology_said json topology.now) }
+    ensures front { (O.contents out.new ≡ O.contents out.old) ⊎ AppendsFront (O.contents out.old) (O.contents out.new) (topology_said json topology.now) }
     ensures refused { start_of topology.now (map (λ image. image.items) images.now) ≡ None → (result ≡ 1) × (O.contents out.new ≡ O.contents out.old) }
 {
-    match check(alloc, topology, images, out) {
+    match check(alloc, topology, images, json, out) {
         Ok(()) => 0,
         Err(refusal) => refuse(err, refusal),
     }

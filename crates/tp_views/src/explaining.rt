@@ -245,9 +245,11 @@ fn push_explanation<R: Files<File = F> + AllocGlobal, F: FileExt + OpenFile + Dr
         Asked::Try { image, .. } => push_try(rt, text, image.as_str()),
         Asked::Format(new) => push_format(rt, text, new, system),
         Asked::Run(run) => push_run(rt, text, run, system),
-        Asked::Check { topology, images } => {
-            push_check(rt, text, topology.as_str(), images.as_str())
-        }
+        Asked::Check {
+            topology,
+            images,
+            ..
+        } => { push_check(rt, text, topology.as_str(), images.as_str()) }
         Asked::Compact { device, .. } => push_compact(rt, text, device.as_str(), system),
         Asked::Recover { device, .. }
         | Asked::Show { device, .. }

@@ -30,13 +30,13 @@ pub struct Seen {
 
 /// What a count was, and how many milliseconds before.
 #[derive(Clone, Copy)]
-struct Since {
-    count: u128,
-    millis: u64,
+pub(crate) struct Since {
+    pub(crate) count: u128,
+    pub(crate) millis: u64,
 }
 
 /// How many bytes a port has accepted.
-fn accepted(port: &HostPort) -> u128
+pub(crate) fn accepted(port: &HostPort) -> u128
     ensures value { result ≡ accepted port.now.port }
     ensures bound { result < 2 ^ 65 }
 {
@@ -44,7 +44,7 @@ fn accepted(port: &HostPort) -> u128
 }
 
 /// How many bytes a port has put out.
-fn put_out(port: &HostPort) -> u128
+pub(crate) fn put_out(port: &HostPort) -> u128
     ensures value { result ≡ put_out port.now.port }
     ensures bound { result < 2 ^ 65 }
 {
@@ -84,7 +84,7 @@ pub(crate) fn seen_of(alloc: Global, at: u64, opened: &Opened) -> Result<Seen, A
 }
 
 /// The number of the next entry at the look before.
-fn next_before(at: u64, before: &Option<Seen>) -> Option<Since>
+pub(crate) fn next_before(at: u64, before: &Option<Seen>) -> Option<Since>
     ensures { result ≡ next_before at before.now }
 {
     match before {
@@ -97,7 +97,7 @@ fn next_before(at: u64, before: &Option<Seen>) -> Option<Since>
 }
 
 /// What the look before saw of a port, if it was there.
-fn port_before(before: &Option<Seen>, number: usize) -> Option<PortSeen>
+pub(crate) fn port_before(before: &Option<Seen>, number: usize) -> Option<PortSeen>
     ensures { result ≡ port_before before.now number }
 {
     match before {
@@ -110,7 +110,7 @@ fn port_before(before: &Option<Seen>, number: usize) -> Option<PortSeen>
 }
 
 /// How many milliseconds before it was.
-fn millis_since(at: u64, before: &Option<Seen>) -> u64
+pub(crate) fn millis_since(at: u64, before: &Option<Seen>) -> u64
     ensures { result ≡ millis_since at before.now }
 {
     match before {
@@ -119,7 +119,7 @@ fn millis_since(at: u64, before: &Option<Seen>) -> u64
     }
 }
 
-fn accepted_before(millis: u64, before: Option<PortSeen>) -> Option<Since>
+pub(crate) fn accepted_before(millis: u64, before: Option<PortSeen>) -> Option<Since>
     ensures { result ≡ accepted_before millis before }
 {
     match before {
@@ -131,7 +131,7 @@ fn accepted_before(millis: u64, before: Option<PortSeen>) -> Option<Since>
     }
 }
 
-fn out_before(millis: u64, before: Option<PortSeen>) -> Option<Since>
+pub(crate) fn out_before(millis: u64, before: Option<PortSeen>) -> Option<Since>
     ensures { result ≡ out_before millis before }
 {
     match before {
@@ -173,7 +173,7 @@ fn yes_or_no(is_so: bool) -> &'static str
 }
 
 /// How much of the room is in use, in percent.
-fn percent(entries: usize, room: u64) -> u128
+pub(crate) fn percent(entries: usize, room: u64) -> u128
     ensures { result ≡ percent entries room }
 {
     if room == 0 {
@@ -314,7 +314,7 @@ fn push_halts(alloc: Global, text: &mut String, nodes: &[Node]) -> Result<(), Al
 }
 
 /// How many entries the journal of an opened device has room for.
-fn room_of(opened: &Opened) -> u64
+pub(crate) fn room_of(opened: &Opened) -> u64
     ensures { result ≡ room_of opened.now }
 {
     let head = opened.head();

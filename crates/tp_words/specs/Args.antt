@@ -1,5 +1,5 @@
 -- The values of a command line.
-use Rattle.std.specs.Prelude.{◌≡◌, ◌≤◌, ◌<◌, ◌^◌, ℕ, false, true, List, Option, Some, None, codes, string_bytes}
+use Rattle.std.specs.Prelude.{◌≡◌, ◌≤◌, ◌<◌, ◌^◌, ℕ, false, true, List, Option, Some, None, IfSome, codes, string_bytes}
 use Rattle.std.specs.Fmt.{decimal}
 use Rattle.std.specs.Option.{option_map}
 use Rattle.std.specs.declared.alloc.Global.{Global}
@@ -9,6 +9,7 @@ use Rattle.tp_words.specs.declared.args.Asked.{Asked}
 use Rattle.tp_words.specs.declared.args.Asked.TheVariants.{Help, Try, Format, Run as Runs, Compact, Recover, Show, Status, Check, View as Views}
 use Rattle.tp_words.specs.declared.args.Run.{Run}
 use Rattle.tp_words.specs.declared.args.TheConstants.{MAX_AREA, MAX_WORKERS, QUANTUM}
+use Rattle.tp_words.specs.declared.views.JournalPart.{JournalPart}
 use Rattle.tp_words.specs.declared.views.View.{View}
 use Rattle.tp_words.specs.declared.views.View.TheVariants.{Node, Image, Journal, Pending, Outputs, NodeJson, PendingJson, OutputsJson}
 use Rattle.tp_words.specs.Given.{given, has_flag, IsGivenOr}
@@ -23,6 +24,20 @@ IsEvery (Some every) = (0 < every) × (every < 2 ^ 32)
 unfoldable pub IsRun : Run → Type 0
 IsRun run = (run.turns < 2 ^ 32) × (0 < run.workers) × (run.workers ≤ MAX_WORKERS) × (0 < run.quantum) × (run.quantum ≤ MAX_STEPS) × IsEvery run.every
 
+-- where the last number of a journal is given it isn't below the first one, and where a count of entries is, it isn't 0
+abbrev pub IsPart : JournalPart → Type 0
+IsPart part = IfSome part.to (λ to. part.from ≤ to) × IfSome part.last (λ last. 0 < last)
+
+abbrev pub IsView : View → Type 0
+IsView (Journal part) = IsPart part
+IsView (Node node) = Unit {0}
+IsView (Image node) = Unit {0}
+IsView (Pending port) = Unit {0}
+IsView (Outputs port) = Unit {0}
+IsView (NodeJson node) = Unit {0}
+IsView (PendingJson port) = Unit {0}
+IsView (OutputsJson port) = Unit {0}
+
 -- each number is in its range
 abbrev pub IsInRange : Asked → Type 0
 IsInRange (Help text) = Unit {0}
@@ -32,15 +47,23 @@ IsInRange (Runs run) = IsRun run
 IsInRange (Compact device wait_lock) = Unit {0}
 IsInRange (Recover device workers) = (0 < workers) × (workers ≤ MAX_WORKERS)
 IsInRange (Show device json) = Unit {0}
-IsInRange (Status device every) = IsEvery every
-IsInRange (Check topology images) = Unit {0}
-IsInRange (Views device view) = Unit {0}
+IsInRange (Status device every json) = IsEvery every
+IsInRange (Check topology images json) = Unit {0}
+IsInRange (Views device view) = IsView view
 
--- the number of a view is a decimal that was typed; a journal is shown from its first entry where none was; JSON is shown where it is asked for
+-- each option of a journal is what was typed for it; it is shown from its first entry where none was, and as JSON where that was typed
+abbrev pub IsTypedPart : List (String Global) → JournalPart → Type 0
+IsTypedPart words part = IsGivenOr 0 part.from (given (codes "from") words)
+    × (given (codes "to") words ≡ option_map decimal part.to)
+    × (given (codes "node") words ≡ option_map decimal part.node)
+    × (given (codes "last") words ≡ option_map decimal part.last)
+    × (part.json ≡ has_flag (codes "--json") words)
+
+-- the number of a view is a decimal that was typed; JSON is shown where it is asked for
 abbrev pub HasTyped : List (String Global) → View → Type 0
 HasTyped words (Node node) = (was_typed words (decimal node) ≡ true) × (has_flag (codes "--json") words ≡ false)
 HasTyped words (Image node) = was_typed words (decimal node) ≡ true
-HasTyped words (Journal from) = IsGivenOr 0 from (given (codes "from") words)
+HasTyped words (Journal part) = IsTypedPart words part
 HasTyped words (Pending port) = (was_typed words (decimal port) ≡ true) × (has_flag (codes "--json") words ≡ false)
 HasTyped words (Outputs port) = (was_typed words (decimal port) ≡ true) × (has_flag (codes "--json") words ≡ false)
 HasTyped words (NodeJson node) = (was_typed words (decimal node) ≡ true) × (has_flag (codes "--json") words ≡ true)
@@ -70,6 +93,8 @@ WasTyped words (Runs run) = IsTypedRun words run
 WasTyped words (Compact device wait_lock) = (has_word (string_bytes device) words ≡ true) × IsGivenOr 0 wait_lock (given (codes "wait-lock") words)
 WasTyped words (Recover device workers) = (has_word (string_bytes device) words ≡ true) × IsGivenOr 1 workers (given (codes "workers") words)
 WasTyped words (Show device json) = (has_word (string_bytes device) words ≡ true) × (json ≡ has_flag (codes "--json") words)
-WasTyped words (Status device every) = (has_word (string_bytes device) words ≡ true) × (given (codes "every") words ≡ option_map decimal every)
-WasTyped words (Check topology images) = (has_word (string_bytes topology) words ≡ true) × (has_word (string_bytes images) words ≡ true)
+WasTyped words (Status device every json) = (has_word (string_bytes device) words ≡ true) × (given (codes "every") words ≡ option_map decimal every)
+    × (json ≡ has_flag (codes "--json") words)
+WasTyped words (Check topology images json) = (has_word (string_bytes topology) words ≡ true) × (has_word (string_bytes images) words ≡ true)
+    × (json ≡ has_flag (codes "--json") words)
 WasTyped words (Views device view) = (has_word (string_bytes device) words ≡ true) × HasTyped words view

@@ -3,12 +3,13 @@
 ghost use Rattle.std.specs.Prelude.{◌≡◌, ◌≤◌, IfOk, codes};
 ghost use Rattle.std.specs.Fmt.{decimal};
 ghost use Rattle.std.specs.Option.{option_map};
-ghost use Rattle.tp_words.specs.Args.{HasTyped, IsEvery, IsInRange, WasTyped};
+ghost use Rattle.tp_words.specs.Args.{HasTyped, IsEvery, IsInRange, IsView, WasTyped};
 ghost use Rattle.tp_words.specs.Given.{given, IsGivenOr};
 
 use crate::found::{
     area_of, json_of, option_number, option_or, option_string, place_of, text_of, turns_of,
 };
+use crate::journal_args::journal_view;
 use crate::stream_words::stream_option;
 use crate::views::View;
 use crate::words::command;
@@ -23,25 +24,48 @@ pub enum Asked {
     /// How to call the program, or which version it is.
     Help(String),
     /// Turns of one node, from its image, without a device.
-    Try { image: String, turns: u32 },
+    Try {
+        image: String,
+        turns: u32,
+    },
     /// A new device.
     Format(NewDevice),
     /// A run of a device's network.
     Run(Run),
     /// Makes a device's network, as it is, its cut, behind which the journal is empty.
     /// `wait_lock`: how many seconds another process is waited for that holds it.
-    Compact { device: String, wait_lock: u32 },
+    Compact {
+        device: String,
+        wait_lock: u32,
+    },
     /// Opens a device by `workers` threads and says what the next entry's number is.
-    Recover { device: String, workers: u8 },
+    Recover {
+        device: String,
+        workers: u8,
+    },
     /// Opens a device and says what it holds. `json`: as JSON.
-    Show { device: String, json: bool },
+    Show {
+        device: String,
+        json: bool,
+    },
     /// Opens a device and says in a line whether it is run, and how far it is.
-    /// `every`: how many seconds lie between two looks; `None`: there is one.
-    Status { device: String, every: Option<u32> },
-    /// Reads a topology and its images, and says how large an area has to be.
-    Check { topology: String, images: String },
+    /// `every`: how many seconds lie between two looks; `None`: there is one. `json`: as JSON.
+    Status {
+        device: String,
+        every: Option<u32>,
+        json: bool,
+    },
+    /// Reads a topology and its images, and says how large an area has to be. `json`: as JSON.
+    Check {
+        topology: String,
+        images: String,
+        json: bool,
+    },
     /// Opens a device and shows a view of it.
-    View { device: String, view: View },
+    View {
+        device: String,
+        view: View,
+    },
 }
 
 /// A device that is to be made: its file, the file of its topology, the folder of the images, and the bytes of an area.
@@ -109,6 +133,8 @@ pub enum ArgFault {
     Area,
     /// The number of a node, a port or an entry is no decimal.
     Number,
+    /// The last entry that is asked for is before the first one.
+    Order,
     /// There are more words than any command has.
     Many,
     /// This option goes with `--stream`.
@@ -128,7 +154,9 @@ fn say_bounds<W: fmt::Write>(
     match id {
         "spare" => f.write_str("from 0 to the pages of the smallest node"),
         "port" => f.write_str("from 0 to 7, a port of the device"),
-        "from" => f.write_str("below 2^64"),
+        "from" | "to" => f.write_str("below 2^64"),
+        "node" => f.write_str("below 2^64, a node of the device"),
+        "last" => f.write_str("from 1, below 2^64"),
         _ => write!(f, "from {least} to {most}"),
     }
 }
@@ -156,6 +184,9 @@ impl fmt::Display for ArgFault {
             ArgFault::Number => f.write_str(
                 "tpnet: a number of a node or a port is a decimal below 2^64, without a sign or leading zeros\n",
             ),
+            ArgFault::Order => {
+                f.write_str("tpnet: --to is below --from: there is no entry between them\n")
+            }
             ArgFault::Many => write!(f, "tpnet: there are more than {MAX_WORDS} words\n"),
             ArgFault::Stream(id) => write!(
                 f,
@@ -262,16 +293,10 @@ fn asked_recover(alloc: Global, words: &[String], found: &ArgMatches) -> Result<
     })
 }
 
-/// The first entry of a journal that is shown.
-fn first_of(alloc: Global, words: &[String], found: &ArgMatches) -> Result<View, ArgFault>
-    ensures { IfOk result (HasTyped words.now) }
-{
-    Ok(View::Journal(option_or(alloc, words, found, "from", 0, u64::MAX, 0)?))
-}
-
 /// The form of a node that is shown.
 fn node_view(alloc: Global, words: &[String], found: &ArgMatches) -> Result<View, ArgFault>
-    ensures { IfOk result (HasTyped words.now) }
+    ensures range { IfOk result IsView }
+    ensures typed { IfOk result (HasTyped words.now) }
 {
     let node = place_of(alloc, words, found, "I")?;
     if json_of(words, found)? {
@@ -283,7 +308,8 @@ fn node_view(alloc: Global, words: &[String], found: &ArgMatches) -> Result<View
 
 /// The bytes of a port that are shown.
 fn port_view(alloc: Global, words: &[String], found: &ArgMatches) -> Result<View, ArgFault>
-    ensures { IfOk result (HasTyped words.now) }
+    ensures range { IfOk result IsView }
+    ensures typed { IfOk result (HasTyped words.now) }
 {
     let port = place_of(alloc, words, found, "P")?;
     let json = json_of(words, found)?;
@@ -302,12 +328,13 @@ fn view_of(
     name: &str,
     found: &ArgMatches,
 ) -> Result<View, ArgFault>
-    ensures { IfOk result (HasTyped words.now) }
+    ensures range { IfOk result IsView }
+    ensures typed { IfOk result (HasTyped words.now) }
 {
     match name {
         "node" => node_view(alloc, words, found),
         "image" => Ok(View::Image(place_of(alloc, words, found, "I")?)),
-        "journal" => first_of(alloc, words, found),
+        "journal" => journal_view(alloc, words, found),
         "port" => port_view(alloc, words, found),
         _ => Err(ArgFault::Missing),
     }
@@ -318,6 +345,7 @@ fn asked_status(alloc: Global, words: &[String], found: &ArgMatches) -> Result<A
     ensures typed { IfOk result (WasTyped words.now) }
 {
     Ok(Asked::Status {
+        json: json_of(words, found)?,
         every: every_of(alloc, words, found)?,
         device: text_of(alloc, words, found, "DEVICE")?,
     })
@@ -328,6 +356,7 @@ fn asked_check(alloc: Global, words: &[String], found: &ArgMatches) -> Result<As
     ensures typed { IfOk result (WasTyped words.now) }
 {
     Ok(Asked::Check {
+        json: json_of(words, found)?,
         topology: text_of(alloc, words, found, "TOPOLOGY")?,
         images: text_of(alloc, words, found, "DIR")?,
     })

@@ -5,6 +5,7 @@ mod args;
 mod backup_args;
 mod found;
 mod help;
+mod journal_args;
 mod numbers;
 mod stream_args;
 mod stream_ends;
@@ -19,4 +20,4 @@ pub use stream_args::{
     StreamArgFault, StreamAsked, StreamRun, is_stream, read_stream_args, wants_input,
 };
 pub use stream_ends::EndsFault;
-pub use views::View;
+pub use views::{JournalPart, View};

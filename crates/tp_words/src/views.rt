@@ -1,15 +1,26 @@
 //! What is shown of a device.
 
-/// What is shown of a device that opens: a node's registers, a node's image, the kept entries from a number on, and the bytes
-/// of a port that are pending or not confirmed. Those whose names end so are shown as JSON.
+/// What is shown of a device that opens: a node's registers, a node's image, a part of the kept entries, and the bytes of a port that are
+/// pending or not confirmed; and the first of these and the last two as JSON.
 #[derive(Clone, Copy, Debug, PartialEq, Eq)]
 pub enum View {
     Node(u64),
     Image(u64),
-    Journal(u64),
+    Journal(JournalPart),
     Pending(u64),
     Outputs(u64),
     NodeJson(u64),
     PendingJson(u64),
     OutputsJson(u64),
+}
+
+/// The part of the kept entries that is shown: those whose number is `from` or more and `to` or less, that node `node` made, and of these the
+/// last `last`. An option that isn't given leaves none out. `json`: as JSON.
+#[derive(Clone, Copy, Debug, PartialEq, Eq)]
+pub struct JournalPart {
+    pub from: u64,
+    pub to: Option<u64>,
+    pub node: Option<u64>,
+    pub last: Option<u64>,
+    pub json: bool,
 }

@@ -80,7 +80,7 @@ const TRY: Form = Form {
 const CHECK: Form = Form {
     name: "check",
     about: "Reads a topology and its images as format does, writes nothing, and says how large an area has to be",
-    words: &[EXPLAIN, TOPOLOGY, DIR],
+    words: &[EXPLAIN, JSON, TOPOLOGY, DIR],
 };
 
 const FORMAT: Form = Form {
@@ -196,6 +196,7 @@ const STATUS: Form = Form {
     about: "Opens a device, writes nothing, and prints in one line whether it is run, and how far it is",
     words: &[
         EXPLAIN,
+        Word::Flag("json", "print each look as one line of JSON, for scripts"),
         DEVICE,
         Word::Value(
             "every",
@@ -222,8 +223,16 @@ const JOURNAL: Form = Form {
     about: "Prints each entry behind the cut in a line, with its number",
     words: &[
         EXPLAIN,
+        Word::Flag("json", "print each entry as one line of JSON, for scripts"),
         DEVICE,
         Word::Value("from", "N", "the first number that is shown"),
+        Word::Value("to", "N", "the last number that is shown"),
+        Word::Value(
+            "node",
+            "I",
+            "only what node I did: its turns, its runs, and what it took; nothing of the host",
+        ),
+        Word::Value("last", "K", "only the last K of these"),
     ],
 };
 

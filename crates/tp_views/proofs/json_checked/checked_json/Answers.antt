@@ -1,0 +1,23 @@
+use Rattle.std.proofs.Common.{◌≡◌, ◌∙◌, ◌++◌, ◌∷◌, [], List, ℕ, ap, append_assoc, codes, length, string_bytes}
+use Rattle.tp_model.specs.Head.{version_byte, version_for}
+use Rattle.tp_views.specs.Checked.{area_for}
+use Rattle.tp_views.specs.Json.{json_items}
+use Rattle.tp_views.specs.JsonChecked.{area_items, least_json, shape_json}
+use Rattle.tp_views.proofs.json_checked.checked_json.Goals as goal
+
+pub returns : goal.returns
+returns c =
+    let t = c.args.topology.now in
+    let version = c.version_number-version.ensures ∙ ap version_byte c.version_for.ensures.value in
+    let shape : List ℕ = shape_json (length t.pages) t.ports (version_byte (version_for t)) in
+    let least : List ℕ = least_json (area_for t 1) in
+    let areas : List ℕ = json_items 0 (area_items t (4096 ∷ 65536 ∷ 1048576 ∷ [])) in
+    let end : List ℕ = codes "]}\n" in
+    let shaped : string_bytes c.push_shape.new.text ≡ shape =
+    c.in_ok-push_shape.ensures
+    ∙ (λ i. c.new-text.ensures.bytes i ++ shape_json (length (c.pages.ensures.value i)) (c.port_count-ports.ensures.value i) (version i)) in
+    c.in_ok-write.ensures.bytes
+    ∙ ap (λ bytes. bytes ++ end) (c.in_ok-push_areas.ensures
+    ∙ ap (λ bytes. bytes ++ areas) (c.in_ok-push_least.ensures ∙ ap (λ bytes. bytes ++ least) shaped))
+    ∙ append_assoc (shape ++ least) areas end
+    ∙ append_assoc shape least (areas ++ end)

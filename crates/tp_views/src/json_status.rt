@@ -1,0 +1,297 @@
+//! What a look of `tpnet status` prints for scripts.
+
+ghost use Rattle.std.specs.Prelude.{◌≡◌, ◌≤◌, ◌<◌, ◌+◌, ◌^◌, ◌++◌, List, ℕ, IfOk, OnOk, map, string_bytes};
+ghost use Rattle.tp_node.specs.Standing.{standing};
+ghost use Rattle.tp_views.specs.Json.{comma, json_items};
+ghost use Rattle.tp_views.specs.JsonStatus.{accepted_front, accepted_json, all_halted_items, front_json, generation_part, halted_items, halts_json, journal_json, look_text, next_part, out_front, out_json, pending_part, percent_part, port_item, port_items, rate, room_part, running_part, status_json, unconfirmed_part};
+ghost use Rattle.tp_views.specs.Status.{percent};
+
+use crate::formats::{fault_name, form_name};
+use crate::json::{comma, push};
+use crate::status::{
+    PortSeen, Seen, Since, accepted, accepted_before, millis_since, next_before, out_before,
+    percent, port_before, put_out, room_of, status_text,
+};
+use std::alloc::{AllocError, Global};
+use std::fmt::Write;
+use tp_model::Form;
+use tp_node::{Node, Standing};
+use tp_port::HostPort;
+use tp_recover::Opened;
+
+/// Appends by how much a count grew in a second, or null.
+fn push_rate(text: &mut String, now: u128, since: Option<Since>) -> Result<(), AllocError>
+    requires { now < 2 ^ 65 }
+    ensures { OnOk result (string_bytes text.new ≡ string_bytes text.old ++ rate now since) }
+{
+    match since {
+        Some(Since { count, millis }) if millis != 0 => {
+            let rate = now.saturating_sub(count) * 1000 / millis as u128;
+            write!(text, "{rate}")
+        }
+        _ => write!(text, "null"),
+    }
+}
+
+/// Whether a process holds the device.
+fn running_part(held: bool) -> &'static str
+    ensures { result.now ≡ running_part held }
+{
+    if held {
+        "{\"running\":true"
+    } else {
+        "{\"running\":false"
+    }
+}
+
+fn push_running(text: &mut String, held: bool) -> Result<(), AllocError>
+    ensures { OnOk result (string_bytes text.new ≡ string_bytes text.old ++ running_part held) }
+{
+    push(text, running_part(held))
+}
+
+/// Appends which checkpoint the device has.
+fn push_generation(text: &mut String, generation: u64) -> Result<(), AllocError>
+    ensures { OnOk result (string_bytes text.new ≡ string_bytes text.old ++ generation_part generation) }
+{
+    write!(text, ",\"generation\":{generation}")
+}
+
+/// Appends the form of its area, and the number of the next entry.
+fn push_next(text: &mut String, form: Form, next: u64) -> Result<(), AllocError>
+    ensures { OnOk result (string_bytes text.new ≡ string_bytes text.old ++ next_part form next) }
+{
+    let form = form_name(form);
+    write!(
+        text,
+        ",\"form\":\"{form}\",\"next\":{next},\"next_per_second\":"
+    )
+}
+
+fn push_front(
+    text: &mut String,
+    held: bool,
+    generation: u64,
+    form: Form,
+    next: u64,
+    since: Option<Since>,
+) -> Result<(), AllocError>
+    ensures { OnOk result (string_bytes text.new ≡ string_bytes text.old ++ front_json held generation form next since) }
+{
+    push_running(text, held)?;
+    push_generation(text, generation)?;
+    push_next(text, form, next)?;
+    push_rate(text, next as u128, since)
+}
+
+fn push_room(text: &mut String, entries: usize, room: u64) -> Result<(), AllocError>
+    ensures { OnOk result (string_bytes text.new ≡ string_bytes text.old ++ room_part entries room) }
+{
+    write!(text, ",\"entries\":{entries},\"room\":{room}")
+}
+
+fn push_percent(text: &mut String, entries: usize, room: u64) -> Result<(), AllocError>
+    ensures { OnOk result (string_bytes text.new ≡ string_bytes text.old ++ percent_part entries room) }
+{
+    let used = percent(entries, room);
+    write!(text, ",\"percent\":{used},\"ports\":[")
+}
+
+/// Appends how many entries the journal has, and how many it has room for.
+fn push_journal(text: &mut String, entries: usize, room: u64) -> Result<(), AllocError>
+    ensures { OnOk result (string_bytes text.new ≡ string_bytes text.old ++ journal_json entries room) }
+{
+    push_room(text, entries, room)?;
+    push_percent(text, entries, room)
+}
+
+fn push_accepted_front(text: &mut String, now: u128) -> Result<(), AllocError>
+    ensures { OnOk result (string_bytes text.new ≡ string_bytes text.old ++ accepted_front now) }
+{
+    write!(text, "{{\"accepted\":{now},\"accepted_per_second\":")
+}
+
+fn push_pending(text: &mut String, pending: usize) -> Result<(), AllocError>
+    ensures { OnOk result (string_bytes text.new ≡ string_bytes text.old ++ pending_part pending) }
+{
+    write!(text, ",\"pending\":{pending}")
+}
+
+/// Appends what a port has accepted, and how much of that no node has taken.
+fn push_accepted(
+    text: &mut String,
+    pending: usize,
+    now: u128,
+    since: Option<Since>,
+) -> Result<(), AllocError>
+    requires { now < 2 ^ 65 }
+    ensures { OnOk result (string_bytes text.new ≡ string_bytes text.old ++ accepted_json now since pending) }
+{
+    push_accepted_front(text, now)?;
+    push_rate(text, now, since)?;
+    push_pending(text, pending)
+}
+
+fn push_out_front(text: &mut String, now: u128) -> Result<(), AllocError>
+    ensures { OnOk result (string_bytes text.new ≡ string_bytes text.old ++ out_front now) }
+{
+    write!(text, ",\"out\":{now},\"out_per_second\":")
+}
+
+fn push_unconfirmed(text: &mut String, unconfirmed: usize) -> Result<(), AllocError>
+    ensures { OnOk result (string_bytes text.new ≡ string_bytes text.old ++ unconfirmed_part unconfirmed) }
+{
+    write!(text, ",\"unconfirmed\":{unconfirmed}}}")
+}
+
+/// Appends what a port has put out, and how much of that isn't confirmed.
+fn push_out(
+    text: &mut String,
+    unconfirmed: usize,
+    now: u128,
+    since: Option<Since>,
+) -> Result<(), AllocError>
+    requires { now < 2 ^ 65 }
+    ensures { OnOk result (string_bytes text.new ≡ string_bytes text.old ++ out_json now since unconfirmed) }
+{
+    push_out_front(text, now)?;
+    push_rate(text, now, since)?;
+    push_unconfirmed(text, unconfirmed)
+}
+
+/// Appends what went into a port and came out of it.
+fn push_port(
+    text: &mut String,
+    millis: u64,
+    before: Option<PortSeen>,
+    port: &HostPort,
+) -> Result<(), AllocError>
+    ensures { OnOk result (string_bytes text.new ≡ string_bytes text.old ++ port_item millis before port.now.port) }
+{
+    let (pending, unconfirmed) = (port.pending().len(), port.outputs().len());
+    let (then_accepted, then_out) = (accepted_before(millis, before), out_before(millis, before));
+    push_accepted(text, pending, accepted(port), then_accepted)?;
+    push_out(text, unconfirmed, put_out(port), then_out)
+}
+
+fn push_comma(text: &mut String, before: usize) -> Result<(), AllocError>
+    ensures { OnOk result (string_bytes text.new ≡ string_bytes text.old ++ comma before) }
+{
+    push(text, comma(before))
+}
+
+/// Appends a port that has `number` ports before it.
+fn push_port_item(
+    text: &mut String,
+    number: usize,
+    millis: u64,
+    before: Option<PortSeen>,
+    port: &HostPort,
+) -> Result<(), AllocError>
+    ensures { OnOk result (string_bytes text.new ≡ string_bytes text.old ++ (comma number ++ port_item millis before port.now.port)) }
+{
+    push_comma(text, number)?;
+    push_port(text, millis, before, port)
+}
+
+fn push_ports(
+    text: &mut String,
+    at: u64,
+    before: &Option<Seen>,
+    ports: &[HostPort],
+) -> Result<(), AllocError>
+    ensures { OnOk result (string_bytes text.new ≡ string_bytes text.old ++ json_items 0 (port_items 0 at before.now (map (λ port. port.port) ports.now))) }
+{
+    for (number, port) in ports.iter().enumerate() {
+        push_port_item(
+            text,
+            number,
+            millis_since(at, before),
+            port_before(before, number),
+            port,
+        )?;
+    }
+    Ok(())
+}
+
+/// Appends why and where a node has halted, if it has, behind `before` others. Answers how many there are then.
+fn push_halted(
+    text: &mut String,
+    before: usize,
+    number: usize,
+    standing: Standing,
+) -> Result<usize, AllocError>
+    requires { before + 1 < 2 ^ 64 }
+    ensures more { IfOk result (λ after. (more : List (List ℕ)) → string_bytes text.new ++ json_items after more ≡ string_bytes text.old ++ json_items before (halted_items number standing ++ more)) }
+    ensures few { IfOk result (λ after. after ≤ before + 1) }
+{
+    match standing {
+        Standing::Halted { fault, at } => {
+            let (comma, why) = (comma(before), fault_name(fault));
+            write!(
+                text,
+                "{comma}{{\"node\":{number},\"fault\":\"{why}\",\"address\":{at}}}"
+            )?;
+            Ok(before + 1)
+        }
+        Standing::Waits | Standing::Free => Ok(before),
+    }
+}
+
+fn push_all_halted(text: &mut String, nodes: &[Node]) -> Result<(), AllocError>
+    ensures { OnOk result (string_bytes text.new ≡ string_bytes text.old ++ json_items 0 (all_halted_items 0 (map (λ node. node.live) nodes.now))) }
+{
+    let mut before = 0;
+    for (number, node) in nodes.iter().enumerate() {
+        before = push_halted(text, before, number, node.standing())?;
+    }
+    Ok(())
+}
+
+/// Appends each node that has halted, and ends the object.
+fn push_halts(text: &mut String, nodes: &[Node]) -> Result<(), AllocError>
+    ensures { OnOk result (string_bytes text.new ≡ string_bytes text.old ++ halts_json (map (λ node. node.live) nodes.now)) }
+{
+    write!(text, "],\"halted\":[")?;
+    push_all_halted(text, nodes)?;
+    write!(text, "]}}\n")
+}
+
+/// The object of an opened device: `held` says whether a process holds it, and `before` what a look before saw; it is `at` milliseconds.
+fn status_json(
+    alloc: Global,
+    held: bool,
+    at: u64,
+    before: &Option<Seen>,
+    opened: &Opened,
+) -> Result<String, AllocError>
+    ensures { IfOk result (λ text. string_bytes text ≡ status_json held at before.now opened.now) }
+{
+    let now = opened.network();
+    let (generation, form, next) = (opened.generation(), opened.form(), opened.next());
+    let mut text = String::new(alloc);
+    let since = next_before(at, before);
+    push_front(&mut text, held, generation, form, next, since)?;
+    push_journal(&mut text, opened.kept().len(), room_of(opened))?;
+    push_ports(&mut text, at, before, now.ports())?;
+    push_halts(&mut text, now.nodes())?;
+    Ok(text)
+}
+
+/// What is printed of a look, as JSON or as a line.
+pub(crate) fn look_text(
+    alloc: Global,
+    json: bool,
+    held: bool,
+    at: u64,
+    before: &Option<Seen>,
+    opened: &Opened,
+) -> Result<String, AllocError>
+    ensures { IfOk result (λ text. string_bytes text ≡ look_text json held at before.now opened.now) }
+{
+    if json {
+        status_json(alloc, held, at, before, opened)
+    } else {
+        status_text(alloc, held, at, before, opened)
+    }
+}
