@@ -13,6 +13,7 @@ use Rattle.tp_words.specs.declared.views.JournalPart.{JournalPart}
 use Rattle.tp_words.specs.declared.views.View.{View}
 use Rattle.tp_words.specs.declared.views.View.TheVariants.{Node, Image, Journal, Pending, Outputs, NodeJson, PendingJson, OutputsJson}
 use Rattle.tp_words.specs.Given.{given, has_flag, IsGivenOr}
+use Rattle.tp_words.specs.Size.{IsArea}
 use Rattle.tp_words.specs.Typed.{has_word, was_typed}
 
 -- a snapshot begins after a number of entries, or a further look is taken after a number of seconds, where one is given
@@ -87,7 +88,7 @@ abbrev pub WasTyped : List (String Global) → Asked → Type 0
 WasTyped words (Help text) = Unit {0}
 WasTyped words (Try image turns) = (has_word (string_bytes image) words ≡ true) × (given (codes "turns") words ≡ Some (decimal turns))
 WasTyped words (Format new) = (has_word (string_bytes new.device) words ≡ true) × (has_word (string_bytes new.topology) words ≡ true)
-    × (has_word (string_bytes new.images) words ≡ true) × (was_typed words (decimal new.area) ≡ true)
+    × (has_word (string_bytes new.images) words ≡ true) × IsArea words new.area (given (codes "area") words)
     × IsGivenOr 0 new.wait_lock (given (codes "wait-lock") words)
 WasTyped words (Runs run) = IsTypedRun words run
 WasTyped words (Compact device wait_lock) = (has_word (string_bytes device) words ≡ true) × IsGivenOr 0 wait_lock (given (codes "wait-lock") words)

@@ -7,6 +7,7 @@ mod found;
 mod help;
 mod journal_args;
 mod numbers;
+mod sizes;
 mod stream_args;
 mod stream_ends;
 mod stream_words;

@@ -14,6 +14,8 @@ const VERSION: &str = "0.1.0\nproved with rattle-kit-13f, logic dac8208d650f15bf
 pub enum Word {
     /// A word that has to be there.
     Place(&'static str, &'static str),
+    /// A word that has to be there just where the option of the second name isn't.
+    Instead(&'static str, &'static str, &'static str),
     /// An option without a value.
     Flag(&'static str, &'static str),
     /// An option without a value that has to be there.
@@ -90,14 +92,20 @@ const FORMAT: Form = Form {
         EXPLAIN,
         Word::Flag("new", "refuse a file that is there already"),
         WAIT_LOCK,
+        Word::Value(
+            "area",
+            "SIZE",
+            "the bytes of each area in place of AREA: a decimal, or one with K, M or G behind it (64K is 65536)",
+        ),
         Word::Place(
             "DEVICE",
             "the file that is made, with 512 + 2 AREA bytes, or 1024 + 2 AREA for more than 16 nodes, or more than 256 pages in one",
         ),
         TOPOLOGY,
         DIR,
-        Word::Place(
+        Word::Instead(
             "AREA",
+            "area",
             "how many bytes each of the two areas has, up to 2^40",
         ),
     ],
@@ -340,6 +348,17 @@ fn option<'a>(alloc: Global, id: &'a str, value: &'a str, help: &'a str) -> Arg<
         .help(help)
 }
 
+/// A word that has to be there just where an option isn't.
+fn instead<'a>(
+    alloc: Global,
+    id: &'a str,
+    other: &'a str,
+    help: &'a str,
+) -> Result<Arg<'a>, AllocError> {
+    let arg = Arg::new(alloc, id).action(ArgAction::Set).help(help);
+    arg.conflicts_with(other)?.required_unless_present(other)
+}
+
 /// A word as `clap` takes it.
 fn arg_of<'a>(alloc: Global, word: &Word) -> Result<Arg<'a>, AllocError> {
     match *word {
@@ -349,6 +368,7 @@ fn arg_of<'a>(alloc: Global, word: &Word) -> Result<Arg<'a>, AllocError> {
                 .action(ArgAction::Set)
                 .help(help),
         ),
+        Word::Instead(id, other, help) => instead(alloc, id, other, help),
         Word::Flag(id, help) => Ok(flag(alloc, id, help)),
         Word::Mark(id, help) => Ok(flag(alloc, id, help).required(true)),
         Word::Unless(id, other, help) => flag(alloc, id, help).conflicts_with(other),
