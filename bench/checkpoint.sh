@@ -10,22 +10,25 @@
 # usage: bench/checkpoint.sh TPNET [ROUNDS [FOLDER ..]]      5 rounds in /dev/shm (in memory, so only our own cost shows) by default
 #        TURNS_ALONE=1 bench/checkpoint.sh ..                the turns alone, also without a TPNET of the same day
 #        NODES=64 PAGES=1024 TURNS_ALONE=1 bench/checkpoint.sh ..      of other networks: as many nodes of as many pages
+# BUILT=FOLDER names where what is built is kept, and taken from if it is there; with 0 ROUNDS nothing else is done
 set -e
 nodes=${NODES:-16}
 pages=${PAGES:-256}
 head=512
 [ "$nodes" -le 16 ] && [ "$pages" -le 256 ] || head=1024
 top=$(cd "$(dirname "$0")/.." && pwd)
-tpnet=$(realpath "$1")
+tpnet=$(realpath -m "$1")
 rounds=${2:-5}
 folders=("${@:3}")
 [ ${#folders[@]} -gt 0 ] || folders=(/dev/shm)
-work=$(mktemp -d /tmp/bench-checkpoint-XXXX)
-trap 'rm -rf "$work"' EXIT
+work=$([ -n "$BUILT" ] && realpath -m "$BUILT" || mktemp -d /tmp/bench-checkpoint-XXXX)
+[ -n "$BUILT" ] || trap 'rm -rf "$work"' EXIT
+mkdir -p "$work"
 
-# writes what a checkpoint writes: the other area's gate and a sync where it is open, images piece by piece, the rest and a sync, the gate
-# and a sync
-cat > "$work/raw.c" <<'C'
+if [ ! -e "$work/built" ]; then
+    # writes what a checkpoint writes: the other area's gate and a sync where it is open, images piece by piece, the rest and a sync, the gate
+    # and a sync
+    cat > "$work/raw.c" <<'C'
 #include <fcntl.h>
 #include <stdlib.h>
 #include <string.h>
@@ -58,10 +61,10 @@ int main(int count, char **words) {
     return 0;
 }
 C
-cc -O2 -o "$work/raw" "$work/raw.c"
+    cc -O2 -o "$work/raw" "$work/raw.c"
 
-# prints the nanoseconds of each of COUNT loops that call nothing and take about as long as it is told
-cat > "$work/bare.c" <<'C'
+    # prints the nanoseconds of each of COUNT loops that call nothing and take about as long as it is told
+    cat > "$work/bare.c" <<'C'
 #include <stdint.h>
 #include <stdio.h>
 #include <stdlib.h>
@@ -96,33 +99,34 @@ int main(int count, char **words) {
     return 0;
 }
 C
-cc -O2 -o "$work/bare" "$work/bare.c"
+    cc -O2 -o "$work/bare" "$work/bare.c"
 
-tar -C "$top" -c --exclude=incremental crates crates.txt HANDLES | tar -C "$work" -x
-turns=$work/crates/bench_turns
-mkdir -p "$turns/src" "$turns/specs" "$turns/proofs/time_in"
-gate=$top/crates/tp_tests_gate
-cp "$top/bench/turns.rattle" "$turns/src/main.rt"
-cp "$gate/src/opening.rt" "$turns/src/"
-cp "$gate/specs/Spelt.antt" "$turns/specs/"
-echo 'pub mod Spelt' > "$turns/specs/Lib.antt"
-cp -r "$gate/proofs/opening" "$turns/proofs/"
-cp "$gate/proofs/scenes/play_in/"*.antt "$turns/proofs/time_in/"
-sed -i 's/std::test::Fail/crate::Fault/; s/, Fail>/, Fault>/' "$turns/src/opening.rt"
-mkdir -p "$turns/proofs/make_turns" "$turns/proofs/make_rounds"
-for pair in make_turns:loop-number make_rounds:loop; do
-    cat > "$turns/proofs/${pair%:*}/Invariants.antt" <<A
+    tar -C "$top" -c --exclude=incremental crates crates.txt HANDLES | tar -C "$work" -x
+    turns=$work/crates/bench_turns
+    mkdir -p "$turns/src" "$turns/specs" "$turns/proofs/time_in"
+    begun=$top/crates/tp_tests_begun
+    cp "$top/bench/turns.rattle" "$turns/src/main.rt"
+    cp "$begun/src/opening.rt" "$turns/src/"
+    cp "$begun/specs/"*.antt "$turns/specs/"
+    cp -r "$begun/proofs/opening" "$turns/proofs/"
+    cp "$top/crates/tp_tests_gate/proofs/scenes/play_in/"*.antt "$turns/proofs/time_in/"
+    mkdir -p "$turns/proofs/make_turns" "$turns/proofs/make_rounds"
+    for pair in make_turns:loop-number make_rounds:loop; do
+        cat > "$turns/proofs/${pair%:*}/Invariants.antt" <<A
 use Rattle.std.proofs.Common.{◌≡◌, Some}
 use Rattle.bench_turns.proofs.${pair%:*}.Given as goal
 
 abbrev pub invariant-${pair#*:} : goal.invariant-${pair#*:}
-invariant-${pair#*:} g l = l.seat.hand ≡ Some l.net.queue
+invariant-${pair#*:} g l = l.seat.hand.of ≡ Some l.net.queue
 A
-done
-find "$turns" -type f | xargs sed -i 's/tp_tests_gate/bench_turns/g; s/proofs\.scenes\.play_in/proofs.time_in/g; s/-play\b/-time_all/g; s/play-requires/time_all-requires/g'
-sed -n 's/^tp_tests_gate:/bench_turns:/p' "$top/crates.txt" >> "$work/crates.txt"
-(cd "$turns" && rt run > "$work/build.log" 2>&1) || true
-[ -x "$turns/out/bench_turns" ] || { tail -20 "$work/build.log"; exit 1; }
+    done
+    find "$turns" -type f | xargs sed -i 's/tp_tests_\(begun\|gate\)/bench_turns/g; s/proofs\.scenes\.play_in/proofs.time_in/g; s/-play\b/-time_all/g; s/play-requires/time_all-requires/g'
+    sed -n 's/ tp_tests_opening//; s/^tp_tests_begun:/bench_turns:/p' "$top/crates.txt" >> "$work/crates.txt"
+    (cd "$turns" && rt run > "$work/build.log" 2>&1) || true
+    [ -x "$turns/out/bench_turns" ] || { tail -20 "$work/build.log"; exit 1; }
+    touch "$work/built"
+fi
+[ "$rounds" -gt 0 ] || exit 0
 
 sed "s/^pages .*/pages $pages/" "$top/examples/compute.txt" > "$work/node.txt"
 : > "$work/net"

@@ -10,28 +10,31 @@
 #             microseconds, so a few rounds say nothing
 # usage: bench/run.sh TPNET [ROUNDS [FOLDER ..]]      5 rounds in /dev/shm (in memory, so only our own cost shows) by default.
 #                                                     The time of a run is that of a run without turns less
+# BUILT=FOLDER names where what is built is kept, and taken from if it is there; with 0 ROUNDS nothing else is done
 set -e
 top=$(cd "$(dirname "$0")/.." && pwd)
-tpnet=$(realpath "$1")
+tpnet=$(realpath -m "$1")
 rounds=${2:-5}
 folders=("${@:3}")
 [ ${#folders[@]} -gt 0 ] || folders=(/dev/shm)
-work=$(mktemp -d /tmp/bench-run-XXXX)
-trap 'rm -rf "$work"' EXIT
+work=$([ -n "$BUILT" ] && realpath -m "$BUILT" || mktemp -d /tmp/bench-run-XXXX)
+[ -n "$BUILT" ] || trap 'rm -rf "$work"' EXIT
+mkdir -p "$work"
 
-tar -C "$top" -c --exclude=incremental crates crates.txt HANDLES | tar -C "$work" -x
-cow='s/FlatMemory::new(rt.alloc(), 4, /CowMemory::new(rt.alloc(), 4, 4, /; s/FlatMemory/CowMemory/g'
-mkdir -p "$work/crates/bench_flat/src" "$work/crates/bench_cow/src" "$work/steps"
-cp "$top/bench/steps.rattle" "$work/crates/bench_flat/src/main.rt"
-sed "$cow" "$top/bench/steps.rattle" > "$work/crates/bench_cow/src/main.rt"
-for kind in flat cow; do
-    echo "bench_$kind: tp_cpu tp_mem tp_model" >> "$work/crates.txt"
-    (cd "$work/crates/bench_$kind" && rt run > "$work/build.log" 2>&1) || true
-    [ -x "$work/crates/bench_$kind/out/bench_$kind" ] || { tail -20 "$work/build.log"; exit 1; }
-done
+if [ ! -e "$work/built" ]; then
+    tar -C "$top" -c --exclude=incremental crates crates.txt HANDLES | tar -C "$work" -x
+    cow='s/FlatMemory::new(rt.alloc(), 4, /CowMemory::new(rt.alloc(), 4, 4, /; s/FlatMemory/CowMemory/g'
+    mkdir -p "$work/crates/bench_flat/src" "$work/crates/bench_cow/src" "$work/steps"
+    cp "$top/bench/steps.rattle" "$work/crates/bench_flat/src/main.rt"
+    sed "$cow" "$top/bench/steps.rattle" > "$work/crates/bench_cow/src/main.rt"
+    for kind in flat cow; do
+        echo "bench_$kind: tp_cpu tp_mem tp_model" >> "$work/crates.txt"
+        (cd "$work/crates/bench_$kind" && rt run > "$work/build.log" 2>&1) || true
+        [ -x "$work/crates/bench_$kind/out/bench_$kind" ] || { tail -20 "$work/build.log"; exit 1; }
+    done
 
-# writes the groups whose numbers of entries stand on standard input, as the store does: the bytes behind the gate, a sync, the gate, a sync
-cat > "$work/raw.c" <<'C'
+    # writes the groups whose numbers of entries stand on standard input, as the store does: the bytes behind the gate, a sync, the gate, a sync
+    cat > "$work/raw.c" <<'C'
 #include <fcntl.h>
 #include <stdio.h>
 #include <stdlib.h>
@@ -60,7 +63,10 @@ int main(int count, char **words) {
     return 0;
 }
 C
-cc -O2 -o "$work/raw" "$work/raw.c"
+    cc -O2 -o "$work/raw" "$work/raw.c"
+    touch "$work/built"
+fi
+[ "$rounds" -gt 0 ] || exit 0
 
 "$top/tools/make-image" "$top/examples/compute.txt" "$work/a.img"
 for name in b c d; do cp "$work/a.img" "$work/$name.img"; done
