@@ -194,6 +194,28 @@ pub fn answer_over<
     }
 }
 
+/// The same with devices of which nothing is told.
+fn answer_untold<
+    R: Files<File = F> + AllocGlobal + Threads + Wait + Sync,
+    F: FileExt + OpenFile + Drop,
+    S: Devices<Device = D>,
+    D: Disk + Drop + Send,
+    W: Watch,
+    O: Write,
+    E: Write,
+>(
+    rt: &R,
+    devices: &mut S,
+    watch: &mut W,
+    words: &[String],
+    out: &mut O,
+    err: &mut E,
+) -> u8
+    ensures { result ≤ 2 }
+{
+    answer_over(rt, devices, watch, words, out, err)
+}
+
 /// The same with the devices in files of the system.
 pub fn answer_watching<
     R: Files<File = F> + AllocGlobal + Threads + Wait + Sync,
@@ -204,7 +226,7 @@ pub fn answer_watching<
 >(rt: &R, watch: &mut W, words: &[String], out: &mut O, err: &mut E) -> u8
     ensures { result ≤ 2 }
 {
-    answer_over(rt, &mut FileDevices::new(rt), watch, words, out, err)
+    answer_untold(rt, &mut FileDevices::new(rt), watch, words, out, err)
 }
 
 /// The same where nobody else holds a device, and `status` takes one look.

@@ -147,6 +147,28 @@ pub fn answer_stream_over<
     }
 }
 
+/// The same with devices of which nothing is told.
+fn answer_stream_untold<
+    R: Files<File = F> + AllocGlobal + Wait,
+    F: FileExt + OpenFile + Drop,
+    S: Devices<Device = D>,
+    D: Disk + Drop,
+    I: Feed,
+    O: Write,
+    E: Write,
+>(
+    rt: &R,
+    devices: &mut S,
+    words: &[String],
+    feed: &mut I,
+    out: &mut O,
+    err: &mut E,
+) -> u8
+    ensures { result ≤ 3 }
+{
+    answer_stream_over(rt, devices, words, feed, out, err)
+}
+
 /// The same with the devices in files of the system.
 pub fn answer_stream<
     R: Files<File = F> + AllocGlobal + Wait,
@@ -157,5 +179,5 @@ pub fn answer_stream<
 >(rt: &R, words: &[String], feed: &mut I, out: &mut O, err: &mut E) -> u8
     ensures { result ≤ 3 }
 {
-    answer_stream_over(rt, &mut FileDevices::new(rt), words, feed, out, err)
+    answer_stream_untold(rt, &mut FileDevices::new(rt), words, feed, out, err)
 }
