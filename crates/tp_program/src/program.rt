@@ -170,14 +170,7 @@ pub fn answer_over<
     W: Watch,
     O: Write,
     E: Write,
->(
-    rt: &R,
-    devices: &mut S,
-    watch: &mut W,
-    words: &[String],
-    out: &mut O,
-    err: &mut E,
-) -> u8
+>(rt: &R, devices: &mut S, watch: &mut W, words: &[String], out: &mut O, err: &mut E) -> u8
     ghost history: { History }
     ensures few { result ≤ 2 }
     ensures answered { Answered D.keeps history words.now (S.calls devices.old) (S.calls devices.new) (O.contents out.old) (O.contents out.new) result }
@@ -203,14 +196,7 @@ fn answer_untold<
     W: Watch,
     O: Write,
     E: Write,
->(
-    rt: &R,
-    devices: &mut S,
-    watch: &mut W,
-    words: &[String],
-    out: &mut O,
-    err: &mut E,
-) -> u8
+>(rt: &R, devices: &mut S, watch: &mut W, words: &[String], out: &mut O, err: &mut E) -> u8
     ensures { result ≤ 2 }
 {
     answer_over(rt, devices, watch, words, out, err)

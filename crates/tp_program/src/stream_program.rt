@@ -58,14 +58,7 @@ fn stream_file<
     I: Feed,
     O: Write,
     E: Write,
->(
-    rt: &R,
-    devices: &mut S,
-    asked: &StreamRun,
-    feed: &mut I,
-    out: &mut O,
-    err: &mut E,
-) -> Outcome
+>(rt: &R, devices: &mut S, asked: &StreamRun, feed: &mut I, out: &mut O, err: &mut E) -> Outcome
     ghost history: { History }
     requires { IsStreamRun asked.now }
     ensures few { result.status ≤ 3 }
@@ -123,14 +116,7 @@ pub fn answer_stream_over<
     I: Feed,
     O: Write,
     E: Write,
->(
-    rt: &R,
-    devices: &mut S,
-    words: &[String],
-    feed: &mut I,
-    out: &mut O,
-    err: &mut E,
-) -> u8
+>(rt: &R, devices: &mut S, words: &[String], feed: &mut I, out: &mut O, err: &mut E) -> u8
     ghost history: { History }
     ensures few { result ≤ 3 }
     ensures answered { StreamAnswered D.keeps history words.now (S.calls devices.old) (S.calls devices.new) (O.contents out.old) (O.contents out.new) result }
@@ -156,14 +142,7 @@ fn answer_stream_untold<
     I: Feed,
     O: Write,
     E: Write,
->(
-    rt: &R,
-    devices: &mut S,
-    words: &[String],
-    feed: &mut I,
-    out: &mut O,
-    err: &mut E,
-) -> u8
+>(rt: &R, devices: &mut S, words: &[String], feed: &mut I, out: &mut O, err: &mut E) -> u8
     ensures { result ≤ 3 }
 {
     answer_stream_over(rt, devices, words, feed, out, err)
