@@ -3,3 +3,8 @@ pub mod Running
 pub mod Compacting
 pub mod Streaming
 pub mod Backups
+pub mod Devices
+pub mod RunFile
+pub mod CompactFile
+pub mod StreamFile
+pub mod Answers

@@ -1,6 +1,7 @@
 //! What the program does for the words of a command line of `backup`.
 
 ghost use Rattle.std.specs.Prelude.{◌≡◌, ◌≤◌};
+ghost use Rattle.tp_program.specs.Answers.{BackupAnswered};
 ghost use Rattle.tp_program.specs.Backups.{PrintsCopied};
 
 use crate::backup_explain::explain_backup;
@@ -42,7 +43,8 @@ pub(crate) fn answer_backup<
     O: Write,
     E: Write,
 >(rt: &R, words: &[String], out: &mut O, err: &mut E) -> u8
-    ensures { result ≤ 2 }
+    ensures few { result ≤ 2 }
+    ensures answered { BackupAnswered words.now (O.contents out.old) (O.contents out.new) result }
 {
     match read_backup_args(rt.alloc(), words) {
         Ok(BackupAsked::Help(text)) => print_help(text.as_str(), out, err),

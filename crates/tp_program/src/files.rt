@@ -4,18 +4,14 @@ ghost use Rattle.std.specs.Prelude.{◌≡◌, ◌≤◌, true, IfErr, IfSome};
 ghost use Rattle.tp_model.specs.Device.{areas_end};
 ghost use Rattle.tp_model.specs.Head.{areas_of_length};
 ghost use Rattle.tp_model.specs.Topology.{is_topology};
-ghost use Rattle.tp_words.specs.Args.{IsRun};
 ghost use Rattle.tp_words.specs.declared.args.TheConstants.{MAX_AREA};
 
-use crate::compacting::compact_on;
 use crate::formatting::format_on;
-use crate::running::run_on;
 use crate::watching::Watch;
 use std::alloc::Global;
 use std::fs::{Files, OpenFile};
 use std::io::Write;
 use std::os::unix::fs::FileExt;
-use std::sync::Wait;
 use std::thread::Threads;
 use std::{fs, io};
 use tp_disk::{Counted, NewDisk, NotedFile, RawFile};
@@ -27,10 +23,10 @@ use tp_views::{
     Refusal, Seen, check_on, is_device_file, recover_on, refuse, show_on, status_on, try_on,
     view_on,
 };
-use tp_words::{NewDevice, Run, View};
+use tp_words::{NewDevice, View};
 
 /// Why a file wasn't read.
-fn read_refusal(error: &io::Error) -> Refusal {
+pub(crate) fn read_refusal(error: &io::Error) -> Refusal {
     match error.kind() {
         io::ErrorKind::OutOfMemory => Refusal::Memory,
         _ => Refusal::ReadFailed,
@@ -54,7 +50,7 @@ pub fn try_file<R: Files + AllocGlobal, O: Write, E: Write>(
 }
 
 /// Reads a whole file.
-fn read_file<R: Files + AllocGlobal>(rt: &R, path: &str) -> Result<Vec<u8>, Refusal> {
+pub(crate) fn read_file<R: Files + AllocGlobal>(rt: &R, path: &str) -> Result<Vec<u8>, Refusal> {
     fs::read(rt, path).map_err(|error| read_refusal(&error))
 }
 
@@ -298,32 +294,6 @@ pub(crate) fn disk_to_read<R: Files<File = F>, F: FileExt + OpenFile + Drop>(
     Counted::open_to_read(rt, device).map_err(|_| Refusal::ReadFailed)
 }
 
-/// `tpnet compact`, on a device's file, which is opened as it is, and keeps its length. What the system said of a call on it that failed
-/// is put into `system`.
-pub fn compact_file<
-    R: Files<File = F> + AllocGlobal + Wait,
-    F: FileExt + OpenFile + Drop,
-    O: Write,
-    E: Write,
->(rt: &R, device: &str, system: &mut Option<io::Error>, out: &mut O, err: &mut E) -> u8
-    ensures { result ≤ 1 }
-{
-    if !is_device_file(rt, device) {
-        return refuse(err, Refusal::ReadFailed);
-    }
-    let disk = match Counted::open(rt, device) {
-        Ok(disk) => disk,
-        Err(error) => {
-            let refusal = read_refusal(&error);
-            *system = Some(error);
-            return refuse(err, refusal);
-        }
-    };
-    let (disk, status) = compact_on(rt, rt.alloc(), disk, out, err);
-    *system = disk.raw().failure().map(said_again);
-    status
-}
-
 /// `tpnet recover`, on a device's file, which stays as it is.
 pub fn recover_file<
     R: Files<File = F> + AllocGlobal + Threads + Sync,
@@ -411,51 +381,4 @@ pub fn status_file<
         }
     }
     0
-}
-
-/// The input of a run, which has none where no file was named.
-fn read_input<R: Files + AllocGlobal>(rt: &R, run: &Run) -> Result<Vec<u8>, Refusal> {
-    match &run.input {
-        Some(path) => read_file(rt, path.as_str()),
-        None => Ok(Vec::new(rt.alloc())),
-    }
-}
-
-/// The same error of the system.
-pub fn said_again(error: &io::Error) -> io::Error {
-    match error.raw_os_error() {
-        Some(code) => io::Error::from_raw_os_error(code),
-        None => io::Error::from(error.kind()),
-    }
-}
-
-/// `tpnet run`, on files. The input is read first. The device's file is opened as it is, and keeps its length. What the system said of
-/// a call on it that failed is put into `system`.
-pub fn run_file<
-    R: Files<File = F> + AllocGlobal + Threads + Wait + Sync,
-    F: FileExt + OpenFile + Drop + Send,
-    O: Write,
-    E: Write,
->(rt: &R, run: &Run, system: &mut Option<io::Error>, out: &mut O, err: &mut E) -> u8
-    requires { IsRun run.now }
-    ensures { result ≤ 2 }
-{
-    let input = match read_input(rt, run) {
-        Ok(input) => input,
-        Err(refusal) => return refuse(err, refusal),
-    };
-    if !is_device_file(rt, run.device.as_str()) {
-        return refuse(err, Refusal::ReadFailed);
-    }
-    let disk = match Counted::open(rt, run.device.as_str()) {
-        Ok(disk) => disk,
-        Err(error) => {
-            let refusal = read_refusal(&error);
-            *system = Some(error);
-            return refuse(err, refusal);
-        }
-    };
-    let (disk, status) = run_on(rt, rt.alloc(), run, disk, input.as_slice(), out, err);
-    *system = disk.raw().failure().map(said_again);
-    status
 }

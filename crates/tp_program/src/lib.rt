@@ -5,11 +5,15 @@ mod backing_up;
 mod backup_explain;
 mod backup_files;
 mod backup_program;
+mod compact_file;
 mod compacting;
+mod device_calls;
+mod devices;
 mod files;
 mod formatting;
 mod in_use;
 mod program;
+mod run_file;
 mod running;
 mod stop_file;
 mod stream_explain;
@@ -19,12 +23,13 @@ mod watching;
 
 pub use backing_up::backup_on;
 pub use compacting::compact_on;
+pub use devices::{Devices, FileDevices};
 pub use formatting::format_on;
 pub use in_use::refuse_in_use;
-pub use program::{answer, answer_watching};
+pub use program::{answer, answer_over, answer_watching};
 pub use running::run_on;
 pub use stop_file::StopFault;
-pub use stream_program::answer_stream;
+pub use stream_program::{answer_stream, answer_stream_over};
 pub use streaming::{FilesFault, Streamed, stream_on};
 pub use tp_views::{
     Seen, TRY_QUANTUM, check_on, is_device_file, recover_on, show_on, status_on, try_on, view_on,

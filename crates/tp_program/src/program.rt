@@ -1,13 +1,17 @@
 //! What the program does for the words of its command line.
 
 ghost use Rattle.std.specs.Prelude.{◌≡◌, ◌≤◌};
+ghost use Rattle.tp_run.specs.Ran.{History};
 ghost use Rattle.tp_words.specs.Args.{IsInRange};
+ghost use Rattle.tp_program.specs.Answers.{Answered, AnsweredAs, CarriedOut};
 
 use crate::backup_program::answer_backup;
+use crate::compact_file::compact_file;
+use crate::devices::{Devices, FileDevices};
 use crate::files::{
-    check_file, compact_file, format_file, recover_file, run_file, show_file, status_file,
-    try_file, view_file,
+    check_file, format_file, recover_file, show_file, status_file, try_file, view_file,
 };
+use crate::run_file::run_file;
 use crate::watching::{OneLook, Watch};
 use std::fs::{Files, OpenFile};
 use std::io;
@@ -15,6 +19,7 @@ use std::io::Write;
 use std::os::unix::fs::FileExt;
 use std::sync::Wait;
 use std::thread::Threads;
+use tp_disk::Disk;
 use tp_stream_files::is_one_file;
 use tp_views::{explain, print_help, tell_halted};
 use tp_words::{Asked, has_word, is_backup, read_args};
@@ -23,27 +28,32 @@ use tp_words::{Asked, has_word, is_backup, read_args};
 /// isn't there. What the system said of a call on a device that failed is put into `system`.
 fn carry_out<
     R: Files<File = F> + AllocGlobal + Threads + Wait + Sync,
-    F: FileExt + OpenFile + Drop + Send,
+    F: FileExt + OpenFile + Drop,
+    S: Devices<Device = D>,
+    D: Disk + Drop + Send,
     W: Watch,
     O: Write,
     E: Write,
 >(
     rt: &R,
+    devices: &mut S,
     watch: &mut W,
     asked: &Asked,
     system: &mut Option<io::Error>,
     out: &mut O,
     err: &mut E,
 ) -> u8
+    ghost history: { History }
     requires { IsInRange asked.now }
-    ensures { result ≤ 2 }
+    ensures few { result ≤ 2 }
+    ensures done { CarriedOut D.keeps history asked.now (S.calls devices.old) (S.calls devices.new) (O.contents out.old) (O.contents out.new) result }
 {
     match asked {
         Asked::Help(text) => print_help(text.as_str(), out, err),
         Asked::Try { image, turns } => try_file(rt, image.as_str(), *turns, out, err),
         Asked::Format(new) => format_file(rt, new, system, out, err),
-        Asked::Run(run) => run_file(rt, run, system, out, err),
-        Asked::Compact { device, .. } => compact_file(rt, device.as_str(), system, out, err),
+        Asked::Run(run) => run_file(rt, devices, run, system, out, err),
+        Asked::Compact { device, .. } => compact_file(rt, devices, device, system, out, err),
         Asked::Recover { device, workers } => {
             recover_file(rt, device.as_str(), *workers, out, err)
         }
@@ -103,9 +113,100 @@ pub(crate) fn refuse_output<E: Write>(err: &mut E) -> u8
     2
 }
 
+/// Says more of what a command did, where the words ask for that.
+fn say_more<R: Files<File = F> + AllocGlobal, F: FileExt + OpenFile + Drop, E: Write>(
+    rt: &R,
+    words: &[String],
+    asked: &Asked,
+    status: u8,
+    system: Option<&io::Error>,
+    err: &mut E,
+) {
+    if has_word(words, "--explain") {
+        match status {
+            0 => tell_halted(rt, asked, err),
+            1 => explain(rt, asked, system, err),
+            _ => {}
+        }
+    }
+}
+
+/// Does what was asked for, unless what is printed would be written over the device. Answers the program's status.
+fn answer_asked<
+    R: Files<File = F> + AllocGlobal + Threads + Wait + Sync,
+    F: FileExt + OpenFile + Drop,
+    S: Devices<Device = D>,
+    D: Disk + Drop + Send,
+    W: Watch,
+    O: Write,
+    E: Write,
+>(
+    rt: &R,
+    devices: &mut S,
+    watch: &mut W,
+    words: &[String],
+    asked: &Asked,
+    out: &mut O,
+    err: &mut E,
+) -> u8
+    ghost history: { History }
+    requires { IsInRange asked.now }
+    ensures few { result ≤ 2 }
+    ensures answered { AnsweredAs D.keeps history asked.now (S.calls devices.old) (S.calls devices.new) (O.contents out.old) (O.contents out.new) result }
+{
+    if prints_into_device(rt, asked) {
+        return refuse_output(err);
+    }
+    let mut system = None;
+    let status = carry_out(rt, devices, watch, asked, &mut system, out, err);
+    say_more(rt, words, asked, status, system.as_ref(), err);
+    status
+}
+
 /// Does what the words of a command line ask for, the program's name first. Answers the program's status: that of the
 /// command, or 2 where the words ask for nothing; no file is opened then. Asking for help is no fault.
-/// `watch` says who holds a device that `status` looks at.
+/// `devices` opens a device that is written, and `watch` says who holds one that `status` looks at.
+pub fn answer_over<
+    R: Files<File = F> + AllocGlobal + Threads + Wait + Sync,
+    F: FileExt + OpenFile + Drop,
+    S: Devices<Device = D>,
+    D: Disk + Drop + Send,
+    W: Watch,
+    O: Write,
+    E: Write,
+>(rt: &R, devices: &mut S, watch: &mut W, words: &[String], out: &mut O, err: &mut E) -> u8
+    ghost history: { History }
+    ensures few { result ≤ 2 }
+    ensures answered { Answered D.keeps history words.now (S.calls devices.old) (S.calls devices.new) (O.contents out.old) (O.contents out.new) result }
+{
+    if is_backup(words) {
+        return answer_backup(rt, words, out, err);
+    }
+    match read_args(rt.alloc(), words) {
+        Ok(asked) => answer_asked(rt, devices, watch, words, &asked, out, err),
+        Err(fault) => {
+            let _ = write!(err, "{fault}");
+            2
+        }
+    }
+}
+
+/// The same with devices of which nothing is told.
+fn answer_untold<
+    R: Files<File = F> + AllocGlobal + Threads + Wait + Sync,
+    F: FileExt + OpenFile + Drop,
+    S: Devices<Device = D>,
+    D: Disk + Drop + Send,
+    W: Watch,
+    O: Write,
+    E: Write,
+>(rt: &R, devices: &mut S, watch: &mut W, words: &[String], out: &mut O, err: &mut E) -> u8
+    ensures { result ≤ 2 }
+{
+    answer_over(rt, devices, watch, words, out, err)
+}
+
+/// The same with the devices in files of the system.
 pub fn answer_watching<
     R: Files<File = F> + AllocGlobal + Threads + Wait + Sync,
     F: FileExt + OpenFile + Drop + Send,
@@ -115,28 +216,7 @@ pub fn answer_watching<
 >(rt: &R, watch: &mut W, words: &[String], out: &mut O, err: &mut E) -> u8
     ensures { result ≤ 2 }
 {
-    if is_backup(words) {
-        return answer_backup(rt, words, out, err);
-    }
-    match read_args(rt.alloc(), words) {
-        Ok(asked) if prints_into_device(rt, &asked) => refuse_output(err),
-        Ok(asked) => {
-            let mut system = None;
-            let status = carry_out(rt, watch, &asked, &mut system, out, err);
-            if has_word(words, "--explain") {
-                match status {
-                    0 => tell_halted(rt, &asked, err),
-                    1 => explain(rt, &asked, system.as_ref(), err),
-                    _ => {}
-                }
-            }
-            status
-        }
-        Err(fault) => {
-            let _ = write!(err, "{fault}");
-            2
-        }
-    }
+    answer_untold(rt, &mut FileDevices::new(rt), watch, words, out, err)
 }
 
 /// The same where nobody else holds a device, and `status` takes one look.

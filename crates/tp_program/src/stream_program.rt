@@ -1,9 +1,12 @@
 //! What the program does for the words of a command line with `--stream`.
 
 ghost use Rattle.std.specs.Prelude.{◌≡◌, ◌≤◌};
+ghost use Rattle.tp_run.specs.Ran.{History};
 ghost use Rattle.tp_words.specs.StreamArgs.{IsStreamRun};
+ghost use Rattle.tp_program.specs.Answers.{StreamAnswered};
+ghost use Rattle.tp_program.specs.StreamFile.{StreamedFile};
 
-use crate::files::said_again;
+use crate::devices::{Devices, FileDevices};
 use crate::stream_explain::explain_stream;
 use crate::streaming::{FilesFault, Streamed, stream_on};
 use std::fs::{Files, OpenFile};
@@ -11,7 +14,7 @@ use std::io;
 use std::io::Write;
 use std::os::unix::fs::FileExt;
 use std::sync::Wait;
-use tp_disk::Counted;
+use tp_disk::Disk;
 use tp_stream_files::Feed;
 use tp_views::{Refusal, is_device_file, print_help, refuse};
 use tp_words::{StreamAsked, StreamRun, has_word, read_stream_args};
@@ -50,27 +53,102 @@ fn unopened<E: Write>(err: &mut E, system: Option<io::Error>) -> Outcome
 fn stream_file<
     R: Files<File = F> + AllocGlobal + Wait,
     F: FileExt + OpenFile + Drop,
+    S: Devices<Device = D>,
+    D: Disk + Drop,
     I: Feed,
     O: Write,
     E: Write,
->(rt: &R, asked: &StreamRun, feed: &mut I, out: &mut O, err: &mut E) -> Outcome
+>(rt: &R, devices: &mut S, asked: &StreamRun, feed: &mut I, out: &mut O, err: &mut E) -> Outcome
+    ghost history: { History }
     requires { IsStreamRun asked.now }
-    ensures { result.status ≤ 3 }
+    ensures few { result.status ≤ 3 }
+    ensures streamed { StreamedFile D.keeps history asked.now (S.calls devices.old) (S.calls devices.new) (O.contents out.old) (O.contents out.new) result.status }
 {
     if !is_device_file(rt, asked.device.as_str()) {
         return unopened(err, None);
     }
-    let disk = match Counted::open(rt, asked.device.as_str()) {
+    let disk = match devices.open(asked.device.as_str()) {
         Ok(disk) => disk,
         Err(error) => return unopened(err, Some(error)),
     };
     let (disk, streamed) = stream_on(rt, asked, disk, feed, out, err);
-    outcome_of(streamed, disk.raw().failure().map(said_again))
+    outcome_of(streamed, devices.close(disk))
 }
 
-/// Does what the words of a command line with `--stream` ask for, the program's name first; `feed` is standard input. Answers the
-/// program's status: that of the stream, 3 where it ended since a node halted, or 2 where the words ask for nothing; no file is opened then.
-/// Asking for help is no fault.
+/// Streams as it is asked for, and says more of a refusal where the words ask for that. Answers the status.
+fn stream_and_explain<
+    R: Files<File = F> + AllocGlobal + Wait,
+    F: FileExt + OpenFile + Drop,
+    S: Devices<Device = D>,
+    D: Disk + Drop,
+    I: Feed,
+    O: Write,
+    E: Write,
+>(
+    rt: &R,
+    devices: &mut S,
+    words: &[String],
+    asked: &StreamRun,
+    feed: &mut I,
+    out: &mut O,
+    err: &mut E,
+) -> u8
+    ghost history: { History }
+    requires { IsStreamRun asked.now }
+    ensures few { result ≤ 3 }
+    ensures streamed { StreamedFile D.keeps history asked.now (S.calls devices.old) (S.calls devices.new) (O.contents out.old) (O.contents out.new) result }
+{
+    let ended = stream_file(rt, devices, asked, feed, out, err);
+    if ended.status == 1 && has_word(words, "--explain") {
+        explain_stream(rt, asked, ended.fault, ended.system.as_ref(), err);
+    }
+    ended.status
+}
+
+/// Does what the words of a command line with `--stream` ask for, the program's name first; `feed` is standard input, and `devices` opens
+/// the device. Answers the program's status: that of the stream, 3 where it ended since a node halted, or 2 where the words ask for
+/// nothing; no file is opened then. Asking for help is no fault.
+pub fn answer_stream_over<
+    R: Files<File = F> + AllocGlobal + Wait,
+    F: FileExt + OpenFile + Drop,
+    S: Devices<Device = D>,
+    D: Disk + Drop,
+    I: Feed,
+    O: Write,
+    E: Write,
+>(rt: &R, devices: &mut S, words: &[String], feed: &mut I, out: &mut O, err: &mut E) -> u8
+    ghost history: { History }
+    ensures few { result ≤ 3 }
+    ensures answered { StreamAnswered D.keeps history words.now (S.calls devices.old) (S.calls devices.new) (O.contents out.old) (O.contents out.new) result }
+{
+    match read_stream_args(rt.alloc(), words) {
+        Ok(StreamAsked::Help(text)) => print_help(text.as_str(), out, err),
+        Ok(StreamAsked::Run(asked)) => {
+            stream_and_explain(rt, devices, words, &asked, feed, out, err)
+        }
+        Err(fault) => {
+            let _ = write!(err, "{fault}");
+            2
+        }
+    }
+}
+
+/// The same with devices of which nothing is told.
+fn answer_stream_untold<
+    R: Files<File = F> + AllocGlobal + Wait,
+    F: FileExt + OpenFile + Drop,
+    S: Devices<Device = D>,
+    D: Disk + Drop,
+    I: Feed,
+    O: Write,
+    E: Write,
+>(rt: &R, devices: &mut S, words: &[String], feed: &mut I, out: &mut O, err: &mut E) -> u8
+    ensures { result ≤ 3 }
+{
+    answer_stream_over(rt, devices, words, feed, out, err)
+}
+
+/// The same with the devices in files of the system.
 pub fn answer_stream<
     R: Files<File = F> + AllocGlobal + Wait,
     F: FileExt + OpenFile + Drop,
@@ -80,18 +158,5 @@ pub fn answer_stream<
 >(rt: &R, words: &[String], feed: &mut I, out: &mut O, err: &mut E) -> u8
     ensures { result ≤ 3 }
 {
-    match read_stream_args(rt.alloc(), words) {
-        Ok(StreamAsked::Help(text)) => print_help(text.as_str(), out, err),
-        Ok(StreamAsked::Run(asked)) => {
-            let ended = stream_file(rt, &asked, feed, out, err);
-            if ended.status == 1 && has_word(words, "--explain") {
-                explain_stream(rt, &asked, ended.fault, ended.system.as_ref(), err);
-            }
-            ended.status
-        }
-        Err(fault) => {
-            let _ = write!(err, "{fault}");
-            2
-        }
-    }
+    answer_stream_untold(rt, &mut FileDevices::new(rt), words, feed, out, err)
 }

@@ -1,5 +1,0 @@
-use Rattle.tp_program.proofs.Histories.{no_history}
-use Rattle.tp_program.proofs.files.compact_file.Given as goal
-
-abbrev pub ghost-compact_on : goal.ghost-compact_on
-ghost-compact_on g a = no_history

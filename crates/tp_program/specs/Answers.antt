@@ -1,0 +1,76 @@
+-- What the program does for the words of a command line.
+use Rattle.std.specs.Prelude.{◌≡◌, ◌⊎◌, ◌≤◌, ℕ, List, Option, string_bytes}
+use Rattle.std.specs.Io.KnownBytes.{Appends}
+use Rattle.std.specs.declared.alloc.Global.{Global}
+use Rattle.std.specs.declared.string.String.{String}
+use Rattle.tp_run.specs.Ran.{History}
+use Rattle.tp_words.specs.Args.{WasTyped}
+use Rattle.tp_words.specs.BackupArgs.{WasBackupTyped}
+use Rattle.tp_words.specs.StreamArgs.{WasStreamTyped}
+use Rattle.tp_words.specs.declared.args.Asked.{Asked}
+use Rattle.tp_words.specs.declared.args.Asked.TheVariants.{Help, Run as Runs, Compact}
+use Rattle.tp_words.specs.declared.backup_args.BackupAsked.{BackupAsked}
+use Rattle.tp_words.specs.declared.backup_args.BackupAsked.TheVariants.{Help as BackupHelp, Make}
+use Rattle.tp_words.specs.declared.stream_args.StreamAsked.{StreamAsked}
+use Rattle.tp_words.specs.declared.stream_args.StreamAsked.TheVariants.{Help as StreamHelp, Run as Streams}
+use Rattle.tp_program.specs.Backups.{PrintsCopied}
+use Rattle.tp_program.specs.CompactFile.{CompactedFile}
+use Rattle.tp_program.specs.Devices.{DeviceCall, WasRefused}
+use Rattle.tp_program.specs.RunFile.{RanFile}
+use Rattle.tp_program.specs.StreamFile.{StreamedFile}
+
+-- Help was printed, where the status says so. No device was opened.
+pub record Helped (text : List ℕ) (old new : List DeviceCall) (was now : Option (List ℕ)) (status : ℕ) : Type 0 where
+  pub unopened : new ≡ old
+  pub printed : status ≡ 0 → Appends was now text
+
+-- What a command did that was asked for. `format` makes its device, and one that changes none opens none to be written.
+abbrev pub CarriedOut : (keeps : Type 0) → History → Asked → (old new : List DeviceCall) → (was now : Option (List ℕ)) → ℕ → Type 0
+CarriedOut keeps history (Runs run) old new was now status = RanFile keeps history run old new was now status
+CarriedOut keeps history (Compact device wait_lock) old new was now status = CompactedFile keeps history (string_bytes device) old new was now status
+CarriedOut keeps history (Help text) old new was now status = Helped (string_bytes text) old new was now status
+CarriedOut keeps history _ old new was now status = new ≡ old
+
+-- The same, or it was refused before.
+abbrev pub AnsweredAs : (keeps : Type 0) → History → Asked → (old new : List DeviceCall) → (was now : Option (List ℕ)) → ℕ → Type 0
+AnsweredAs keeps history asked old new was now status = WasRefused old new was now status ⊎ CarriedOut keeps history asked old new was now status
+
+-- What `backup` printed that was asked for.
+abbrev pub BackedUp : BackupAsked → (was now : Option (List ℕ)) → ℕ → Type 0
+BackedUp (BackupHelp text) was now status = status ≡ 0 → Appends was now (string_bytes text)
+BackedUp (Make backup) was now status = status ≡ 0 → PrintsCopied was now
+
+-- The words asked for nothing, or standard output is the device's file; or they were read so, and that was printed.
+abbrev pub BackupAnswered : List (String Global) → (was now : Option (List ℕ)) → ℕ → Type 0
+BackupAnswered words was now status = ((1 ≤ status) × (now ≡ was)) ⊎ ((asked : BackupAsked) × WasBackupTyped words asked × BackedUp asked was now status)
+
+-- Words of `backup`, for which no device was opened to be written.
+pub record IsOfBackup (words : List (String Global)) (old new : List DeviceCall) (was now : Option (List ℕ)) (status : ℕ) : Type 0 where
+  pub unopened : new ≡ old
+  pub answered : BackupAnswered words was now status
+
+-- The words were read so, and that was done.
+pub record DidAsked (keeps : Type 0) (history : History) (words : List (String Global)) (old new : List DeviceCall) (was now : Option (List ℕ)) (status : ℕ) : Type 0 where
+  pub asked : Asked
+  pub typed : WasTyped words asked
+  pub answered : AnsweredAs keeps history asked old new was now status
+
+-- What the program did for the words of a command line: it was refused, or they were of `backup`, or they were read so, and that was done.
+abbrev pub Answered : (keeps : Type 0) → History → List (String Global) → (old new : List DeviceCall) → (was now : Option (List ℕ)) → ℕ → Type 0
+Answered keeps history words old new was now status =
+    WasRefused old new was now status ⊎ (IsOfBackup words old new was now status ⊎ DidAsked keeps history words old new was now status)
+
+-- What a command line with `--stream` did that was asked for.
+abbrev pub StreamCarriedOut : (keeps : Type 0) → History → StreamAsked → (old new : List DeviceCall) → (was now : Option (List ℕ)) → ℕ → Type 0
+StreamCarriedOut keeps history (StreamHelp text) old new was now status = Helped (string_bytes text) old new was now status
+StreamCarriedOut keeps history (Streams run) old new was now status = StreamedFile keeps history run old new was now status
+
+-- The words were read so, and that was done.
+pub record DidStreamAsked (keeps : Type 0) (history : History) (words : List (String Global)) (old new : List DeviceCall) (was now : Option (List ℕ)) (status : ℕ) : Type 0 where
+  pub asked : StreamAsked
+  pub typed : WasStreamTyped words asked
+  pub did : StreamCarriedOut keeps history asked old new was now status
+
+-- What the program did for the words of a command line with `--stream`: it was refused, or they were read so, and that was done.
+abbrev pub StreamAnswered : (keeps : Type 0) → History → List (String Global) → (old new : List DeviceCall) → (was now : Option (List ℕ)) → ℕ → Type 0
+StreamAnswered keeps history words old new was now status = WasRefused old new was now status ⊎ DidStreamAsked keeps history words old new was now status

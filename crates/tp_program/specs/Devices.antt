@@ -1,0 +1,22 @@
+-- Devices that were opened to be written, and given back.
+use Rattle.std.specs.Prelude.{◌≡◌, ◌≤◌, ℕ, List, [], ◌∷◌, ◌++◌, Option}
+use Rattle.tp_model.specs.DiskHistory.{State}
+
+-- The device at a path was opened, or one was given back; and what had become of it then.
+pub data DeviceCall : Type 0 where
+  Opens : (path : List ℕ) → (state : State) → DeviceCall
+  Closes : (state : State) → DeviceCall
+
+-- It was refused: no device was opened, and nothing printed.
+pub record WasRefused (old new : List DeviceCall) (was now : Option (List ℕ)) (status : ℕ) : Type 0 where
+  pub refused : 1 ≤ status
+  pub unopened : new ≡ old
+  pub silent : now ≡ was
+
+-- Just one device was opened, the one at this path, and it was given back. P holds of what had become of it as it was opened and as it was
+-- given back.
+pub record UsedOne (path : List ℕ) (old new : List DeviceCall) (P : State → State → Type 0) : Type 0 where
+  pub opened : State
+  pub closed : State
+  pub calls : new ≡ old ++ Opens path opened ∷ Closes closed ∷ []
+  pub between : P opened closed

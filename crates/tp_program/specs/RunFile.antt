@@ -1,0 +1,26 @@
+-- What `run` does with a device's file.
+use Rattle.std.specs.Prelude.{◌≡◌, ◌⊎◌, ℕ, List, [], Option, None, IsErr, string_bytes}
+use Rattle.tp_model.specs.DiskHistory.{State}
+use Rattle.tp_model.specs.Opening.{verdict}
+use Rattle.tp_recover.specs.Reading.{LeavesNothingNew}
+use Rattle.tp_run.specs.Ran.{History}
+use Rattle.tp_words.specs.declared.args.Run.{Run}
+use Rattle.tp_program.specs.Devices.{DeviceCall, UsedOne, WasRefused}
+use Rattle.tp_program.specs.Running.{RanAs, job_of}
+
+-- What `run_on` promises, of a device from the state as it was opened to the one as it was given back.
+pub record RanBetween (keeps : Type 0) (history : History) (run : Run) (input : List ℕ) (was now : Option (List ℕ)) (status : ℕ) (opened closed : State) : Type 0 where
+  pub ran : RanAs keeps history (job_of run) input opened closed was now status
+  pub words : status ≡ 2 → (keeps → LeavesNothingNew opened closed) × (now ≡ was)
+  pub unopened : keeps → IsErr (verdict opened.now.bytes) → (status ≡ 1) × LeavesNothingNew opened closed × (now ≡ was)
+
+-- It was refused, or just the device at the path that is asked for was opened, run with this input, and given back.
+abbrev pub RanWith : (keeps : Type 0) → History → Run → (input : List ℕ) → (old new : List DeviceCall) → (was now : Option (List ℕ)) → ℕ → Type 0
+RanWith keeps history run input old new was now status =
+    WasRefused old new was now status ⊎ UsedOne (string_bytes run.device) old new (RanBetween keeps history run input was now status)
+
+-- The same with what was read of the file that is asked for as its input, of which no contract can say more; there is none where no file was.
+pub record RanFile (keeps : Type 0) (history : History) (run : Run) (old new : List DeviceCall) (was now : Option (List ℕ)) (status : ℕ) : Type 0 where
+  pub input : List ℕ
+  pub unnamed : run.input ≡ None → input ≡ []
+  pub ran : RanWith keeps history run input old new was now status

@@ -1,0 +1,46 @@
+//! `tpnet compact`, on a device's file.
+
+ghost use Rattle.std.specs.Prelude.{◌≤◌, string_bytes};
+ghost use Rattle.tp_run.specs.Ran.{History};
+ghost use Rattle.tp_program.specs.CompactFile.{CompactedFile};
+
+use crate::compacting::compact_on;
+use crate::devices::{Devices, refuse_opening};
+use std::fs::Files;
+use std::io;
+use std::io::Write;
+use std::sync::Wait;
+use tp_disk::Disk;
+use tp_views::{Refusal, is_device_file, refuse};
+
+/// `tpnet compact`, on a device's file, which is opened as it is, and keeps its length. What the system said of a call on it that failed
+/// is put into `system`.
+pub(crate) fn compact_file<
+    R: Files + AllocGlobal + Wait,
+    S: Devices<Device = D>,
+    D: Disk + Drop,
+    O: Write,
+    E: Write,
+>(
+    rt: &R,
+    devices: &mut S,
+    device: &String,
+    system: &mut Option<io::Error>,
+    out: &mut O,
+    err: &mut E,
+) -> u8
+    ghost history: { History }
+    ensures few { result ≤ 1 }
+    ensures compacted { CompactedFile D.keeps history (string_bytes device.now) (S.calls devices.old) (S.calls devices.new) (O.contents out.old) (O.contents out.new) result }
+{
+    if !is_device_file(rt, device.as_str()) {
+        return refuse(err, Refusal::ReadFailed);
+    }
+    let disk = match devices.open(device.as_str()) {
+        Ok(disk) => disk,
+        Err(error) => return refuse_opening(error, system, err),
+    };
+    let (disk, status) = compact_on(rt, rt.alloc(), disk, out, err);
+    *system = devices.close(disk);
+    status
+}

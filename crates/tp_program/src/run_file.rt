@@ -1,0 +1,88 @@
+//! `tpnet run`, on a device's file.
+
+ghost use Rattle.std.specs.Prelude.{◌≡◌, ◌≤◌, [], None, IfOk};
+ghost use Rattle.tp_run.specs.Ran.{History};
+ghost use Rattle.tp_words.specs.Args.{IsRun};
+ghost use Rattle.tp_program.specs.RunFile.{RanFile, RanWith};
+
+use crate::devices::{Devices, refuse_opening};
+use crate::files::read_file;
+use crate::running::run_on;
+use std::fs::Files;
+use std::io;
+use std::io::Write;
+use std::sync::Wait;
+use std::thread::Threads;
+use tp_disk::Disk;
+use tp_views::{Refusal, is_device_file, refuse};
+use tp_words::Run;
+
+/// The input of a run, which has none where no file was named.
+fn read_input<R: Files + AllocGlobal>(rt: &R, run: &Run) -> Result<Vec<u8>, Refusal>
+    ensures { run.now.input ≡ None → IfOk result (λ input. input.items ≡ []) }
+{
+    match &run.input {
+        Some(path) => read_file(rt, path.as_str()),
+        None => Ok(Vec::new(rt.alloc())),
+    }
+}
+
+/// Opens the device, runs it with this input, and gives it back.
+fn run_device<
+    R: Files + AllocGlobal + Threads + Wait + Sync,
+    S: Devices<Device = D>,
+    D: Disk + Drop + Send,
+    O: Write,
+    E: Write,
+>(
+    rt: &R,
+    devices: &mut S,
+    run: &Run,
+    input: &[u8],
+    system: &mut Option<io::Error>,
+    out: &mut O,
+    err: &mut E,
+) -> u8
+    ghost history: { History }
+    requires { IsRun run.now }
+    ensures few { result ≤ 2 }
+    ensures ran { RanWith D.keeps history run.now input.now (S.calls devices.old) (S.calls devices.new) (O.contents out.old) (O.contents out.new) result }
+{
+    if !is_device_file(rt, run.device.as_str()) {
+        return refuse(err, Refusal::ReadFailed);
+    }
+    let disk = match devices.open(run.device.as_str()) {
+        Ok(disk) => disk,
+        Err(error) => return refuse_opening(error, system, err),
+    };
+    let (disk, status) = run_on(rt, rt.alloc(), run, disk, input, out, err);
+    *system = devices.close(disk);
+    status
+}
+
+/// `tpnet run`, on files. The input is read first. The device's file is opened as it is, and keeps its length. What the system said of
+/// a call on it that failed is put into `system`.
+pub(crate) fn run_file<
+    R: Files + AllocGlobal + Threads + Wait + Sync,
+    S: Devices<Device = D>,
+    D: Disk + Drop + Send,
+    O: Write,
+    E: Write,
+>(
+    rt: &R,
+    devices: &mut S,
+    run: &Run,
+    system: &mut Option<io::Error>,
+    out: &mut O,
+    err: &mut E,
+) -> u8
+    ghost history: { History }
+    requires { IsRun run.now }
+    ensures few { result ≤ 2 }
+    ensures ran { RanFile D.keeps history run.now (S.calls devices.old) (S.calls devices.new) (O.contents out.old) (O.contents out.new) result }
+{
+    match read_input(rt, run) {
+        Ok(input) => run_device(rt, devices, run, input.as_slice(), system, out, err),
+        Err(refusal) => refuse(err, refusal),
+    }
+}
