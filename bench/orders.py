@@ -1,5 +1,5 @@
 #!/usr/bin/env python3
-"""How many orders of acts two nodes and the host have up to a whole cut: a second opinion on crates/tp_tests_cuts/src/orders.rt.
+"""How many orders of acts two nodes and the host have up to a whole cut: a second opinion on crates/tp_tests_turns/src/orders.rt.
 
 usage: bench/orders.py     prints the orders of its three cases, counted over a plain model that knows no book
 """

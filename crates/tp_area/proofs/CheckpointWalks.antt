@@ -13,9 +13,9 @@ use Rattle.tp_model.specs.WholeCut.{WholeCut}
 use Rattle.tp_model.specs.WriteOrder.{Resting, Tail, Opened as AtOpened}
 use Rattle.tp_model.specs.Runs.{World, CopiesTail, Trims, HasCut, copy_of}
 use Rattle.tp_model.specs.Walks.{Walks}
-use Rattle.tp_law_runs.specs.Standing.{Rests}
-use Rattle.tp_law_runs.proofs.Planned.{clear_walks, pieces_walk, tail_walks, switch_walks}
-use Rattle.tp_law_runs.proofs.Walks.{one_step, still_walks, walks_then}
+use Rattle.tp_law_network.specs.Standing.{Rests}
+use Rattle.tp_law_network.proofs.Planned.{clear_walks, pieces_walk, tail_walks, switch_walks}
+use Rattle.tp_law_network.proofs.Walks.{one_step, still_walks, walks_then}
 use Rattle.tp_area.specs.Checkpointed.{checkpointed}
 use Rattle.tp_area.specs.Crashes.{RestsAs}
 use Rattle.tp_area.specs.Other.{Cleared, Switched, if_open, other_gate}

@@ -17,8 +17,8 @@ use Rattle.tp_model.specs.StoreCalls.{all_done, Called, Broke, clear_calls, swit
 use Rattle.tp_model.specs.Areas.{Held, gate_closed}
 use Rattle.tp_model.specs.Opening.{Opened, held_of, area_in, chosen_area, choice, opening, verdict, base_of, form_of}
 use Rattle.tp_model.specs.DeviceAreas.{device_areas, open_other_of, spare_of, other_of, if_newer, other_is_open, other_start, other_content}
-use Rattle.tp_law_runs.specs.Standing.{Rests}
-use Rattle.tp_law_runs.proofs.Device.{put_may, put_done}
+use Rattle.tp_law_network.specs.Standing.{Rests}
+use Rattle.tp_law_network.proofs.Device.{put_may, put_done}
 use Rattle.tp_disk.proofs.Moments.{written_same_outside}
 use Rattle.tp_disk.proofs.Agree.{same_apart}
 use Rattle.tp_disk.proofs.Calls.{called_one, called_then, broke_one, broke_first, broke_later, weaker, call_leaves, calls_leave}

@@ -13,8 +13,8 @@ use Rattle.tp_model.specs.StoreCalls.{all_done, group_calls, clear_calls, switch
 use Rattle.tp_model.specs.Areas.{Areas, AreasHold, Held, ArePossible, with_more, gate_open, gate_closed}
 use Rattle.tp_model.specs.Opening.{Opened, held_of}
 use Rattle.tp_model.specs.DeviceAreas.{device_areas}
-use Rattle.tp_law_runs.specs.Standing.{Rests}
-use Rattle.tp_law_runs.proofs.Device.{rests_may, clear_within, clear_written, clear_may, clear_synced, body_within, body_written, body_may, body_synced, gate_within, gate_written, gate_may, gate_synced, switch_within, switch_written, switch_may, switch_synced}
+use Rattle.tp_law_network.specs.Standing.{Rests}
+use Rattle.tp_law_network.proofs.Device.{rests_may, clear_within, clear_written, clear_may, clear_synced, body_within, body_written, body_may, body_synced, gate_within, gate_written, gate_may, gate_synced, switch_within, switch_written, switch_may, switch_synced}
 use Rattle.tp_law_device.proofs.Holds.{areas_keep}
 use Rattle.tp_disk.proofs.Calls.{AllWithin, started}
 use Rattle.tp_area.specs.Crashes.{OpensTo, OpensToEither, RestsAs}

@@ -4,7 +4,7 @@ use Rattle.tp_model.specs.NodeState.{NodeState}
 use Rattle.tp_model.specs.DiskHistory.{State}
 use Rattle.tp_model.specs.Areas.{Held}
 use Rattle.tp_model.specs.DeviceAreas.{device_areas}
-use Rattle.tp_law_runs.specs.Standing.{Rests}
+use Rattle.tp_law_network.specs.Standing.{Rests}
 
 -- opened, the bytes stand for this
 abbrev pub OpensTo : Held NodeState → List ℕ → Type 0

@@ -18,7 +18,7 @@ use crate::images::check_images;
 use crate::puts::{put_images, put_piece, put_zeros};
 use std::alloc::Global;
 use tp_disk::{DeviceFailed, Disk, write_through};
-use tp_layout::{
+use crate::{
     CutFront, FIELDS_BYTES, area_start, areas_of_length, cut_length, fits, head_bytes,
     images_length, put_fields, records_length, version_for,
 };

@@ -15,12 +15,12 @@ use Rattle.tp_model.specs.Network.{Port, OfHost, put, has_wire, taken, sent}
 use Rattle.tp_model.specs.Entries.{process, takes, confirmed, does}
 use Rattle.tp_model.specs.Halves.{BookState, without, with_entry}
 use Rattle.tp_law_network.proofs.Partial.{cond_some}
-use Rattle.tp_port.specs.declared.port.HostPort.{HostPort}
+use Rattle.tp_book.specs.declared.port.HostPort.{HostPort}
 use Rattle.tp_book.specs.declared.journal.Journal.TheInside.{Inside}
 use Rattle.tp_book.specs.Kept.{Keeps}
-use Rattle.tp_port.specs.Counted.{IsCounted, AreCounted}
-use Rattle.tp_port.specs.Ports.{PortValue}
-use Rattle.tp_port.specs.Ports.{fresh_port}
+use Rattle.tp_book.specs.Counted.{IsCounted, AreCounted}
+use Rattle.tp_book.specs.Ports.{PortValue}
+use Rattle.tp_book.specs.Ports.{fresh_port}
 use Rattle.tp_book.specs.Book.{agreed, next_number}
 use Rattle.tp_book.specs.Inside.{state_of, value_of, in_hand, IsJournal}
 use Rattle.tp_book.specs.Calls.{marks_of}
@@ -28,9 +28,9 @@ use Rattle.tp_book.specs.Bare.{bare}
 use Rattle.tp_book.specs.Host.{port_in, confirmed_port, with_confirmed, after_confirm}
 use Rattle.tp_book.proofs.Commit.{Change, agreed_after}
 use Rattle.tp_book.proofs.Changes.{own_host_agreed}
-use Rattle.tp_port.proofs.Owns.{of_port-is}
+use Rattle.tp_book.proofs.Owns.{of_port-is}
 use Rattle.tp_book.proofs.Journalled.{state_after, numbers_after, fields_after}
-use Rattle.tp_port.proofs.Counted.{counted_set}
+use Rattle.tp_book.proofs.Counted.{counted_set}
 use Rattle.tp_book.specs.Kept.{AreRising}
 use Rattle.tp_book.proofs.Formed.{confirm_of}
 use Rattle.tp_book.proofs.Ranged.{confirm_in_range}

@@ -17,15 +17,15 @@ use Rattle.tp_model.specs.Sound.{Sound}
 use Rattle.tp_model.specs.Markers.{plain, markers, plain_network}
 use Rattle.tp_book.specs.Book.{agreed}
 use Rattle.tp_book.specs.Kept.{Keeps, AreInRange}
-use Rattle.tp_port.specs.Counted.{IsCounted}
+use Rattle.tp_book.specs.Counted.{IsCounted}
 use Rattle.tp_book.specs.declared.journal.Journal.TheInside.{Inside}
 use Rattle.tp_book.specs.declared.parts.NetParts.{NetParts}
 use Rattle.tp_book.specs.Parts.{network_of}
-use Rattle.tp_port.specs.Parts.{port_of}
+use Rattle.tp_book.specs.PortParts.{port_of}
 use Rattle.tp_book.specs.Inside.{state_of, value_of, IsJournal}
 use Rattle.tp_book.specs.Bare.{bare}
 use Rattle.tp_book.specs.Start.{IsFresh, IsNetwork, first_book}
-use Rattle.tp_port.specs.Ports.{fresh_port}
+use Rattle.tp_book.specs.Ports.{fresh_port}
 use Rattle.tp_book.specs.Kept.{IsRising}
 
 pub map-replicate : {A B : Type 0} (f : A → B) (n : ℕ) (x : A) → map f (replicate n x) ≡ replicate n (f x)

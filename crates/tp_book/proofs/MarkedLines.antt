@@ -6,9 +6,9 @@ use Rattle.tp_model.specs.declared.link.Token.TheVariants.{Marker}
 use Rattle.tp_model.specs.Network.{has_wire, is_first, on_line, sent}
 use Rattle.tp_model.specs.Markers.{markers, plain, unmarked}
 use Rattle.tp_law_network.proofs.Lines.{length_sent}
-use Rattle.tp_law_cuts.proofs.Marks.{AreMarkers, sent_markers, taken_marker, marker_gone, unmarked_all}
-use Rattle.tp_port.specs.Room.{HasRoom}
-use Rattle.tp_port.proofs.Sending.{room_before}
+use Rattle.tp_law_network.proofs.CutsMarks.{AreMarkers, sent_markers, taken_marker, marker_gone, unmarked_all}
+use Rattle.tp_book.specs.Room.{HasRoom}
+use Rattle.tp_book.proofs.Sending.{room_before}
 use Rattle.tp_book.specs.declared.journal.Journal.TheInside.{Inside}
 use Rattle.tp_book.specs.Inside.{state_of, IsJournal}
 use Rattle.tp_book.proofs.Commit.{line_small}

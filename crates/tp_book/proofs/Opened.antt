@@ -24,15 +24,15 @@ use Rattle.tp_law_network.proofs.Reorder.{after_shape}
 use Rattle.tp_law_network.proofs.Sound.{sound_small}
 use Rattle.tp_law_network.proofs.Room.{length-kinds, on_line-plain}
 use Rattle.tp_law_machine.proofs.LinkLaws.{has_four_links}
-use Rattle.tp_port.specs.declared.parts.PortParts.{PortParts}
-use Rattle.tp_port.proofs.OpenedPorts.{opened_ports}
+use Rattle.tp_book.specs.declared.port_parts.PortParts.{PortParts}
+use Rattle.tp_book.proofs.OpenedPorts.{opened_ports}
 use Rattle.tp_book.specs.declared.state.NetState.{NetState}
 use Rattle.tp_book.specs.declared.journal.Journal.TheInside.{Inside}
 use Rattle.tp_book.specs.Book.{agreed, nodes_in}
 use Rattle.tp_book.specs.Kept.{Keeps, AreInRange}
-use Rattle.tp_port.specs.Counted.{AreCounted}
-use Rattle.tp_port.specs.Parts.{port_of}
-use Rattle.tp_port.specs.Ports.{opened_port}
+use Rattle.tp_book.specs.Counted.{AreCounted}
+use Rattle.tp_book.specs.PortParts.{port_of}
+use Rattle.tp_book.specs.Ports.{opened_port}
 use Rattle.tp_book.specs.Inside.{state_of, value_of, IsJournal}
 use Rattle.tp_book.specs.Bare.{bare}
 use Rattle.tp_book.specs.Opened.{cut_of, now_of, kept_of, numbers_of, IsOpened, book_form, opened_book}

@@ -23,7 +23,7 @@ use Rattle.tp_law_network.proofs.Local.{own-host, owner_of_port}
 use Rattle.tp_law_network.proofs.Room.{on_line-plain, acks-plain}
 use Rattle.tp_book.specs.Book.{agreed}
 use Rattle.tp_book.specs.Kept.{Keeps}
-use Rattle.tp_port.specs.Ports.{CanTake}
+use Rattle.tp_book.specs.Ports.{CanTake}
 use Rattle.tp_book.specs.Refusals.{takeable_of, is_full_for}
 use Rattle.tp_book.proofs.Commit.{length-agreed}
 

@@ -16,15 +16,15 @@ use Rattle.tp_model.specs.Halves.{BookState, live, marked, with_begin, with_reco
 use Rattle.tp_model.specs.Acts.{Begin, Record, Close, happens}
 use Rattle.tp_law_machine.proofs.LinkLaws.{has_four_links, never_marks}
 use Rattle.tp_law_network.proofs.Lines.{on_set_same}
-use Rattle.tp_law_cuts.proofs.Marks.{marker_there}
-use Rattle.tp_law_cuts.proofs.Whole.{running}
+use Rattle.tp_law_network.proofs.CutsMarks.{marker_there}
+use Rattle.tp_law_network.proofs.Whole.{running}
 use Rattle.tp_net.specs.declared.line.TheConstants.{LINE_TOKENS}
-use Rattle.tp_law_cuts.specs.Invariant.{Holds}
-use Rattle.tp_law_cuts.proofs.Room.{few_markers}
-use Rattle.tp_law_cuts.proofs.Happens.{happens_holds}
-use Rattle.tp_law_cuts.proofs.Halves.{begin_joins, record_joins, close_joins, close_over_joins}
-use Rattle.tp_snap.specs.Counted.{SnapshotsValue}
-use Rattle.tp_snap.specs.Needs.{has_recorded_in, is_asked, KnowsLine, HasRoomBefore}
+use Rattle.tp_law_network.specs.Invariant.{Holds}
+use Rattle.tp_law_network.proofs.CutsRoom.{few_markers}
+use Rattle.tp_law_network.proofs.Happens.{happens_holds}
+use Rattle.tp_law_network.proofs.Halves.{begin_joins, record_joins, close_joins, close_over_joins}
+use Rattle.tp_book.specs.SnapCounted.{SnapshotsValue}
+use Rattle.tp_book.specs.Needs.{has_recorded_in, is_asked, KnowsLine, HasRoomBefore}
 use Rattle.tp_book.specs.Book.{BookValue, agreed, world_of}
 use Rattle.tp_book.specs.Kept.{Keeps, IsShaped}
 use Rattle.tp_book.specs.Joined.{joined, HasFloor, HostRecorded, Stands}

@@ -6,7 +6,7 @@ use Rattle.std.specs.Option.{option_map}
 use Rattle.std.proofs.lemmas.Option.{slice_get-map, get_or_from_slice_get}
 use Rattle.tp_book.specs.declared.journal.Journal.TheInside.{Inside}
 use Rattle.tp_book.specs.Inside.{value_of, IsJournal}
-use Rattle.tp_port.specs.Ports.{PortValue}
+use Rattle.tp_book.specs.Ports.{PortValue}
 use Rattle.tp_book.specs.Calls.{marks_of}
 use Rattle.tp_book.specs.Host.{port_in, shown_upto_of, ShowsUpto}
 use Rattle.tp_book.proofs.HostTaken.{port_counts}

@@ -10,10 +10,10 @@ use Rattle.tp_model.specs.Network.{Port, has_wire, sent}
 use Rattle.tp_model.specs.Halves.{BookState}
 use Rattle.tp_book.specs.declared.refusal.Refusal.{Refusal}
 use Rattle.tp_book.specs.declared.refusal.Refusal.TheVariants.{StoreBroken, PortFull}
-use Rattle.tp_port.specs.Ports.{fresh_port}
+use Rattle.tp_book.specs.Ports.{fresh_port}
 use Rattle.tp_book.specs.Book.{BookValue, next_number, node_count}
 use Rattle.tp_book.specs.Calls.{with_journalled, marks_of}
-use Rattle.tp_port.specs.Sends.{sends_on}
+use Rattle.tp_book.specs.Sends.{sends_on}
 use Rattle.tp_book.specs.Refusals.{else_if, entry_refusal}
 
 -- a port of the book; where there is none, one at which nothing has happened

@@ -8,7 +8,7 @@ use Rattle.tp_model.specs.Order.{made}
 use Rattle.tp_model.specs.Markers.{before, has_marker, unmarked}
 use Rattle.tp_model.specs.Snapshot.{first_snapshot, with_count, with_closed, closed_over, host_markers, node_markers}
 use Rattle.tp_model.specs.Journal.{is_full_for_snapshot}
-use Rattle.tp_snap.specs.Needs.{has_recorded_in}
+use Rattle.tp_book.specs.Needs.{has_recorded_in}
 use Rattle.tp_book.specs.declared.refusal.Refusal.{Refusal}
 use Rattle.tp_book.specs.declared.refusal.Refusal.TheVariants.{JournalFull, StoreBroken, SnapshotRunning}
 use Rattle.tp_book.specs.Book.{BookValue, agreed}

@@ -15,8 +15,8 @@ use Rattle.tp_model.specs.Sound.{Sound}
 use Rattle.tp_model.specs.Markers.{plain}
 use Rattle.tp_book.specs.declared.state.NetState.{NetState}
 use Rattle.tp_book.specs.Parts.{network_of}
-use Rattle.tp_port.specs.Ports.{opened_port}
-use Rattle.tp_port.specs.Counted.{AreCounted}
+use Rattle.tp_book.specs.Ports.{opened_port}
+use Rattle.tp_book.specs.Counted.{AreCounted}
 use Rattle.tp_book.specs.Start.{IsNetwork}
 use Rattle.tp_book.specs.Kept.{AreInRange}
 use Rattle.tp_book.specs.Book.{BookValue}

@@ -8,7 +8,7 @@ use Rattle.tp_model.specs.declared.wire.WireEnd.TheVariants.{Link, Port as AtPor
 use Rattle.tp_model.specs.declared.limits.TheConstants.{MAX_HELD}
 use Rattle.tp_model.specs.Network.{Port, process_at, receiver, on_line}
 use Rattle.tp_model.specs.Journal.{is_full, is_full_for_cut}
-use Rattle.tp_snap.specs.Needs.{is_needed}
+use Rattle.tp_book.specs.Needs.{is_needed}
 use Rattle.tp_book.specs.declared.refusal.Refusal.{Refusal}
 use Rattle.tp_book.specs.declared.refusal.Refusal.TheVariants.{JournalFull, StoreBroken, Memory, NothingToTake, PortFull}
 use Rattle.tp_book.specs.Book.{BookValue, next_number, reserved}

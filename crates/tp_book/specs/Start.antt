@@ -6,7 +6,7 @@ use Rattle.tp_model.specs.Network.{Network}
 use Rattle.tp_model.specs.Sound.{Sound}
 use Rattle.tp_model.specs.declared.form.Form.TheVariants.{Turns}
 use Rattle.tp_model.specs.declared.limits.TheConstants.{MAX_NODES, MAX_PORTS}
-use Rattle.tp_port.specs.Ports.{fresh_port}
+use Rattle.tp_book.specs.Ports.{fresh_port}
 use Rattle.tp_book.specs.Book.{BookValue}
 
 -- The network is sound, nothing is under way and nothing has happened at its ports.

@@ -6,14 +6,14 @@ ghost use Rattle.tp_model.specs.Network.{has_wire, is_first, on_line, sent};
 ghost use Rattle.tp_model.specs.Snapshot.{closed_over, first_snapshot, host_markers, node_markers};
 ghost use Rattle.tp_model.specs.declared.link.Token.TheVariants.{Marker};
 ghost use Rattle.std.specs.Option.{option_map};
-ghost use Rattle.tp_snap.specs.Needs.{KnowsLine, HasRoomBefore};
+ghost use Rattle.tp_book.specs.Needs.{KnowsLine, HasRoomBefore};
 ghost use Rattle.tp_book.specs.Book.{agreed, node_count};
 ghost use Rattle.tp_book.specs.Marked.{with_lines};
 
 use crate::journal::Journal;
 use std::alloc::{AllocError, Global};
 use tp_model::{Token, WireEnd};
-use tp_snap::{Image, Snapshots, mark_node, mark_ports};
+use crate::{Image, Snapshots, mark_node, mark_ports};
 
 impl Journal {
     /// Whether the store is broken.

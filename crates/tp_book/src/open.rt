@@ -8,7 +8,7 @@ use crate::journal::Journal;
 use crate::state::NetState;
 use std::alloc::{AllocError, Global};
 use tp_model::Form;
-use tp_port::{lines_with, ports_with};
+use crate::{lines_with, ports_with};
 
 /// The form of a book: that of the area on its device; without a device it may hold every entry.
 fn book_form(room: Option<u64>, form: Form) -> Form

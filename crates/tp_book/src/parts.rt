@@ -1,7 +1,7 @@
 //! A network as its parts.
 
 use tp_model::{Token, WireEnd};
-use tp_port::PortParts;
+use crate::PortParts;
 
 /// The receiver of each line, the image of each node, the tokens on each line, and the ports.
 #[derive(Drop)]

@@ -1,7 +1,7 @@
 //! The snapshot that runs.
 //!
-//! With the node's half, under its lock, what a call does is the act: `tp_law_cuts::halves_join`. A whole cut stays, the same and
-//! with the same images, until the trim: `tp_law_cuts::whole_cuts_stay`.
+//! With the node's half, under its lock, what a call does is the act: `tp_law_network::halves_join`. A whole cut stays, the same and
+//! with the same images, until the trim: `tp_law_network::whole_cuts_stay`.
 
 ghost use Rattle.std.specs.Prelude.{◌≡◌, ◌<◌, ◌+◌, Some, true, length, IfOk, OnErr};
 ghost use Rattle.std.specs.Option.{option_copied};
@@ -10,7 +10,7 @@ ghost use Rattle.tp_model.specs.Network.{is_first, on_line};
 ghost use Rattle.tp_model.specs.Node.{t414};
 ghost use Rattle.tp_model.specs.WholeCut.{WholeCut, IsWhole, whole};
 ghost use Rattle.tp_model.specs.declared.link.Token.TheVariants.{Marker};
-ghost use Rattle.tp_snap.specs.Needs.{has_recorded_in, is_asked};
+ghost use Rattle.tp_book.specs.Needs.{has_recorded_in, is_asked};
 ghost use Rattle.tp_book.specs.Book.{node_count, world_of};
 ghost use Rattle.tp_book.specs.Marked.{after_begin, after_record, after_close, after_close_over, is_closable, taker_of, begin_refusal};
 ghost use Rattle.tp_book.specs.Refusals.{IsAnswer};
@@ -20,7 +20,7 @@ use crate::refusal::Refusal;
 use std::alloc::Global;
 use tp_model::Token;
 use tp_model::limits::NUMBER_LIMIT;
-use tp_snap::Cut;
+use crate::Cut;
 
 impl Book {
     /// Begins a snapshot: the host records its ports, and a Marker goes onto each of their wired lines. Each node is then asked

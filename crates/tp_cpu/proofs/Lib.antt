@@ -1,4 +1,12 @@
 pub mod Advances
 pub mod Ahead
+pub mod Behind
+pub mod Codes
+pub mod Exact
+pub mod IsaSpelling
+pub mod Reading
+pub mod Shortest
 pub mod Spelt
 pub mod Waits
+pub mod Whole
+pub mod Words

@@ -1,3 +1,10 @@
 pub mod Acts
 pub mod Advance
+pub mod After
+pub mod AfterWrites
+pub mod Decoding
+pub mod Ends
+pub mod Laws
 pub mod Meets
+pub mod Registers
+pub mod Room

@@ -4,7 +4,7 @@ ghost use Rattle.std.specs.Prelude.{◌≡◌, drop};
 ghost use Rattle.tp_model.specs.Memory.{offset};
 ghost use Rattle.tp_model.specs.Coding.{decoded};
 
-use tp_isa::Decoder;
+use crate::Decoder;
 use tp_mem::Mem;
 use tp_model::{DecodeFault, Instr};
 

@@ -4,7 +4,7 @@ ghost use Rattle.std.specs.Prelude.{◌≡◌, Ok};
 ghost use Rattle.tp_model.specs.Step.{executed, instruction, idle, in_state, step_of, MakesStep};
 ghost use Rattle.tp_model.specs.SharedPages.{LacksFrames, kept_after};
 ghost use Rattle.tp_model.specs.StepWrites.{executed_ranges, instruction_ranges, idle_ranges, in_state_ranges, step_ranges};
-ghost use Rattle.tp_proc.specs.Ends.{Does};
+ghost use Rattle.tp_cpu.specs.Ends.{Does};
 ghost use Rattle.tp_cpu.specs.Advance.{Leads};
 ghost use Rattle.tp_cpu.specs.Acts.{Acts, OnNoFrame, kept_acted, kept_past, fault_of};
 
@@ -12,7 +12,7 @@ use crate::effect::effect;
 use crate::fetch::fetch;
 use tp_mem::Mem;
 use tp_model::{Cpu, DecodeFault, Fault, Instr, State, StepEnd};
-use tp_proc::{
+use crate::{
     KEPT_AT, NOT_PROCESS, Undone, dispatch_high, dispatch_low, interrupt, load, pass, restore,
 };
 

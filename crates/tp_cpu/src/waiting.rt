@@ -9,10 +9,10 @@ ghost use Rattle.tp_cpu.specs.Advance.{WasDone, Leads, effect_at, ranges_at};
 
 use crate::advancing::runs;
 use crate::spelling::spelling_at;
-use tp_isa::op_at;
+use crate::op_at;
 use tp_mem::Mem;
 use tp_model::{ChannelWord, Cpu, Op, Regs};
-use tp_proc::{NOT_PROCESS, channel_at, descriptor_of, end, pass, saved_at, state_at};
+use crate::{NOT_PROCESS, channel_at, descriptor_of, end, pass, saved_at, state_at};
 
 /// The code of `opr`.
 const OPR: u8 = 0xF;

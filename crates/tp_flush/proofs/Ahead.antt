@@ -9,8 +9,8 @@ use Rattle.tp_model.specs.DeviceAreas.{device_areas}
 use Rattle.tp_model.specs.Runs.{World}
 use Rattle.tp_law_machine.proofs.LinkLaws.{has_four_links, never_marks}
 use Rattle.tp_law_device.proofs.Holds.{areas_keep}
-use Rattle.tp_law_runs.proofs.History.{journal_leads}
-use Rattle.tp_law_runs.proofs.Stay.{mark_there}
+use Rattle.tp_law_network.proofs.History.{journal_leads}
+use Rattle.tp_law_network.proofs.Stay.{mark_there}
 use Rattle.tp_book.specs.Book.{world_of}
 use Rattle.tp_shared.specs.declared.told.Told.{Told}
 use Rattle.tp_shared.specs.Seals.{Stage}

@@ -15,7 +15,7 @@ use Rattle.tp_model.specs.WriteOrder.{Resting}
 use Rattle.tp_model.specs.DeviceAreas.{device_areas}
 use Rattle.tp_model.specs.Runs.{World, Reopens, Leaves, reopened}
 use Rattle.tp_law_device.proofs.Verdicts.{verdict_leads}
-use Rattle.tp_law_runs.proofs.Walks.{run_then}
+use Rattle.tp_law_network.proofs.Walks.{run_then}
 use Rattle.tp_area.specs.declared.place.Place.{Place}
 use Rattle.tp_flush.specs.Known.{Began, Reached}
 use Rattle.tp_flush.specs.Flushing.{Keeps, position}

@@ -14,8 +14,8 @@ use Rattle.tp_flush.specs.Flushing.{HeadSays}
 use Rattle.tp_law_device.proofs.Contents.{content_same}
 use Rattle.tp_law_device.proofs.Fronts.{front_from}
 use Rattle.tp_law_device.proofs.Heads.{head_same}
-use Rattle.tp_law_runs.proofs.Moments.{written_same_outside}
-use Rattle.tp_law_tail.proofs.Places.{content_put}
+use Rattle.tp_law_network.proofs.Moments.{written_same_outside}
+use Rattle.tp_law_device.proofs.Places.{content_put}
 
 -- the head stays where bytes behind it are written
 pub head_kept : (at n : ℕ) (old new : List ℕ) (t : Topology) (areas : TwoAreas) → SameOutside at n old new → areas.first ≤ at → HeadSays t areas old → HeadSays t areas new

@@ -22,7 +22,7 @@ use Rattle.tp_model.specs.StoreCalls.{Called, clear_calls, group_calls, put_call
 use Rattle.tp_model.specs.Group.{group_length}
 use Rattle.tp_model.specs.Journal.{is_roomy}
 use Rattle.tp_model.specs.Topology.{Topology}
-use Rattle.tp_layout.specs.Pieces.{piece_length, piece_place}
+use Rattle.tp_area.specs.Pieces.{piece_length, piece_place}
 use Rattle.tp_area.specs.declared.place.Place.{Place}
 use Rattle.tp_area.specs.declared.fault.StoreFault.{StoreFault}
 use Rattle.tp_area.specs.Appended.{Appended, body_of}
@@ -35,8 +35,8 @@ use Rattle.tp_shared.specs.declared.told.Told.{Told}
 use Rattle.tp_shared.specs.Told.{IsFirst, Since}
 use Rattle.tp_law_network.proofs.Partial.{bind_some}
 use Rattle.tp_law_device.proofs.Contents.{length-content_of}
-use Rattle.tp_law_runs.proofs.Moments.{written_same_outside}
-use Rattle.tp_law_tail.proofs.Frozen.{frozen_as_stays}
+use Rattle.tp_law_network.proofs.Moments.{written_same_outside}
+use Rattle.tp_law_device.proofs.Frozen.{frozen_as_stays}
 use Rattle.tp_flush.specs.declared.progress.Progress.{Progress}
 use Rattle.tp_flush.specs.Progress.{is_out, not_begun, with_out}
 use Rattle.tp_flush.specs.Copying.{IsPartOut}

@@ -28,11 +28,11 @@ use Rattle.tp_area.specs.Places.{has_room}
 use Rattle.tp_area.proofs.Behind.{CanBeAppended}
 use Rattle.tp_shared.specs.declared.told.Told.{Told}
 use Rattle.tp_shared.specs.Told.{IsFirst, Since}
-use Rattle.tp_law_cuts.proofs.Stays.{start_stays}
+use Rattle.tp_law_network.proofs.Stays.{start_stays}
 use Rattle.tp_law_device.proofs.Opens.{reads_of}
 use Rattle.tp_law_network.proofs.Partial.{bind_some}
-use Rattle.tp_law_runs.proofs.Moments.{written_same_outside}
-use Rattle.tp_law_tail.specs.CutSpelt.{CutSpelt}
+use Rattle.tp_law_network.proofs.Moments.{written_same_outside}
+use Rattle.tp_law_device.specs.CutSpelt.{CutSpelt}
 use Rattle.tp_flush.specs.Flushing.{HeadSays, IsOfDevice}
 use Rattle.tp_flush.proofs.Appends.{Answered, after_group}
 use Rattle.tp_flush.proofs.Beside.{areas_fit, head_first, head_kept, put_same}

@@ -18,9 +18,9 @@ use Rattle.tp_model.specs.Walks.{Leads, RecoversTo}
 use Rattle.tp_law_machine.proofs.LinkLaws.{has_four_links, never_marks}
 use Rattle.tp_law_device.proofs.Holds.{areas_keep}
 use Rattle.tp_law_device.proofs.Verdicts.{verdict_leads}
-use Rattle.tp_law_runs.proofs.Moments.{may_stand}
-use Rattle.tp_law_runs.proofs.Runs.{run_recovers}
-use Rattle.tp_law_runs.proofs.Walks.{chain_leads, no_step, recovers_at, walks_leave}
+use Rattle.tp_law_network.proofs.Moments.{may_stand}
+use Rattle.tp_law_network.proofs.Runs.{run_recovers}
+use Rattle.tp_law_network.proofs.Walks.{chain_leads, no_step, recovers_at, walks_leave}
 use Rattle.tp_disk.proofs.Calls.{and_then, weaker}
 use Rattle.tp_recover.specs.Reading.{LeavesNothingNew}
 use Rattle.tp_flush.specs.Known.{Began, Reached}

@@ -18,7 +18,7 @@ use Rattle.tp_model.specs.Walks.{Leads, Walks}
 use Rattle.tp_area.specs.declared.place.Place.{Place}
 use Rattle.tp_area.specs.Appended.{entries_of}
 use Rattle.tp_area.proofs.Behind.{length-entries}
-use Rattle.tp_law_runs.proofs.Walks.{run_then, still_walks}
+use Rattle.tp_law_network.proofs.Walks.{run_then, still_walks}
 use Rattle.tp_flush.specs.declared.progress.Progress.{Progress}
 use Rattle.tp_flush.specs.Known.{Known, Reached}
 use Rattle.tp_flush.specs.Flushing.{Flushing, IsBacklog, Keeps, Looked, Walked}

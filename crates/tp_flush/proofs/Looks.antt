@@ -16,8 +16,8 @@ use Rattle.tp_model.specs.Walks.{Leads}
 use Rattle.tp_shared.specs.declared.told.Told.{Told}
 use Rattle.tp_shared.specs.Told.{IsFirst, Since, grown_all}
 use Rattle.tp_law_network.proofs.Partial.{bind_some}
-use Rattle.tp_law_cuts.proofs.Stays.{entries_grow}
-use Rattle.tp_law_runs.proofs.Walks.{one_step, leads_then}
+use Rattle.tp_law_network.proofs.Stays.{entries_grow}
+use Rattle.tp_law_network.proofs.Walks.{one_step, leads_then}
 
 -- ## The book's acts
 

@@ -15,7 +15,7 @@ use Rattle.tp_model.specs.declared.entry.Entry.{Entry}
 use Rattle.tp_book.specs.declared.state.NetState.{NetState}
 use Rattle.tp_book.specs.Book.{BookValue, next_number, world_of}
 use Rattle.tp_book.specs.Opened.{kept_of, now_of, opened_book}
-use Rattle.tp_mark.specs.Seen.{RaiserValue}
+use Rattle.tp_ready.specs.Seen.{RaiserValue}
 use Rattle.tp_shared.specs.Parted.{PartsValue}
 use Rattle.tp_flush.specs.Made.{StandsFor}
 

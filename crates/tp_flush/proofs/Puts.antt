@@ -26,14 +26,14 @@ use Rattle.tp_area.specs.declared.place.Place.{Place}
 use Rattle.tp_area.specs.declared.fault.StoreFault.{StoreFault}
 use Rattle.tp_area.specs.declared.fault.StoreFault.TheVariants.{AreaFull, DeviceFailed as StoreFailed}
 use Rattle.tp_area.specs.Other.{if_open, other_gate, put_refusal}
-use Rattle.tp_layout.specs.Pieces.{piece_length, piece_place, place_in_image}
+use Rattle.tp_area.specs.Pieces.{piece_length, piece_place, place_in_image}
 use Rattle.tp_model.specs.Topology.{Topology, is_page_count, is_topology}
 use Rattle.tp_model.specs.Journal.{image_length, is_roomy}
 use Rattle.tp_shared.specs.declared.told.Told.{Told}
 use Rattle.tp_shared.specs.Told.{IsFirst}
 use Rattle.tp_law_device.proofs.Holds.{areas_keep}
-use Rattle.tp_law_runs.proofs.Planned.{clear_walks, pieces_walk}
-use Rattle.tp_law_runs.proofs.Walks.{chain_leads}
+use Rattle.tp_law_network.proofs.Planned.{clear_walks, pieces_walk}
+use Rattle.tp_law_network.proofs.Walks.{chain_leads}
 use Rattle.tp_flush.specs.declared.fault.FlushFault.{FlushFault}
 use Rattle.tp_flush.specs.declared.fault.FlushFault.TheVariants.{DeviceFailed}
 use Rattle.tp_flush.specs.Known.{Known, Began}

@@ -14,9 +14,9 @@ use Rattle.tp_model.specs.Runs.{World}
 use Rattle.tp_model.specs.Walks.{RecoversTo}
 use Rattle.tp_law_machine.proofs.LinkLaws.{has_four_links, never_marks}
 use Rattle.tp_law_device.proofs.Holds.{areas_keep}
-use Rattle.tp_law_runs.proofs.Invariant.{Inv}
-use Rattle.tp_law_runs.proofs.Runs.{formatted_holds, run_keeps}
-use Rattle.tp_law_runs.proofs.Walks.{no_step, recovers_at}
+use Rattle.tp_law_network.proofs.Invariant.{Inv}
+use Rattle.tp_law_network.proofs.Runs.{formatted_holds, run_keeps}
+use Rattle.tp_law_network.proofs.Walks.{no_step, recovers_at}
 use Rattle.tp_token.specs.Sound.{Sound, item_of}
 use Rattle.tp_shared.specs.declared.told.Told.{Told}
 use Rattle.tp_shared.specs.Receipted.{AreBelow}

@@ -15,9 +15,9 @@ use Rattle.tp_model.specs.Disk.{written}
 use Rattle.tp_model.specs.Journal.{image_length}
 use Rattle.tp_model.specs.Opening.{nodes_place}
 use Rattle.tp_model.specs.Topology.{Topology}
-use Rattle.tp_layout.specs.Pieces.{piece_length, piece_place, place_in_image}
-use Rattle.tp_law_tail.proofs.Frozen.{cut_frozen, image_in_pieces}
-use Rattle.tp_law_tail.proofs.Pieces.{there_kept, there_written}
+use Rattle.tp_area.specs.Pieces.{piece_length, piece_place, place_in_image}
+use Rattle.tp_law_device.proofs.Frozen.{cut_frozen, image_in_pieces}
+use Rattle.tp_law_device.proofs.Pieces.{there_kept, there_written}
 use Rattle.tp_shared.specs.Pieces.{IsFrozenHead, IsFrozenPage}
 use Rattle.tp_area.specs.Tails.{content_beside}
 use Rattle.tp_flush.specs.Flushing.{Flushing}

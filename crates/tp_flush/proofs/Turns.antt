@@ -8,8 +8,8 @@ use Rattle.tp_model.specs.DeviceAreas.{device_areas}
 use Rattle.tp_model.specs.Walks.{RecoversTo}
 use Rattle.tp_law_machine.proofs.LinkLaws.{has_four_links, never_marks}
 use Rattle.tp_law_device.proofs.Holds.{areas_keep}
-use Rattle.tp_law_runs.proofs.Stay.{stays}
-use Rattle.tp_law_runs.proofs.Walks.{chain_leads, no_step, still_walks, walks_recover, walks_then}
+use Rattle.tp_law_network.proofs.Stay.{stays}
+use Rattle.tp_law_network.proofs.Walks.{chain_leads, no_step, still_walks, walks_recover, walks_then}
 use Rattle.tp_flush.specs.Known.{Reached}
 use Rattle.tp_flush.specs.Flushing.{Flushing, Walked}
 

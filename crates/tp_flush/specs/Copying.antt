@@ -7,7 +7,7 @@ use Rattle.tp_model.specs.Snapshot.{MarkedNetwork}
 use Rattle.tp_model.specs.FrozenAs.{IsFrozenAs}
 use Rattle.tp_model.specs.PiecesStand.{IsThere}
 use Rattle.tp_model.specs.Topology.{Topology}
-use Rattle.tp_layout.specs.Pieces.{piece_place}
+use Rattle.tp_area.specs.Pieces.{piece_place}
 
 -- Of the frozen image of node i, the head and as many pages stand at their places in a content.
 pub record IsPartOut (t : Topology) (net : MarkedNetwork NodeState) (content : List ℕ) (i count : ℕ) : Type 0 where

@@ -23,7 +23,7 @@ use Rattle.tp_area.specs.Appended.{entries_of}
 use Rattle.tp_area.specs.Other.{OtherIsClosed}
 use Rattle.tp_area.specs.Tails.{content_beside}
 use Rattle.tp_model.specs.Snapshot.{MarkedNetwork}
-use Rattle.tp_law_tail.specs.CutSpelt.{CutSpelt}
+use Rattle.tp_law_device.specs.CutSpelt.{CutSpelt}
 use Rattle.tp_flush.specs.Copying.{IsPartOut}
 use Rattle.tp_flush.specs.Progress.{is_out}
 use Rattle.tp_flush.specs.declared.progress.Progress.{Progress}

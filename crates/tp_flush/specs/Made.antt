@@ -1,6 +1,6 @@
 -- What is made of a device that opened, before its flusher begins.
 use Rattle.std.specs.Prelude.{◌≡◌, length}
-use Rattle.tp_mark.specs.Seen.{RaiserValue}
+use Rattle.tp_ready.specs.Seen.{RaiserValue}
 use Rattle.tp_model.specs.Opening.{Opened, next_of}
 use Rattle.tp_model.specs.OpensTo.{book_of}
 use Rattle.tp_book.specs.Book.{world_of}

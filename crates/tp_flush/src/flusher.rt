@@ -19,7 +19,7 @@ use std::marker::Model;
 use std::snapshot::Snapshot;
 use tp_area::Store;
 use tp_disk::Disk;
-use tp_mark::Raiser;
+use tp_ready::Raiser;
 use tp_net::Topology;
 use tp_recover::Opened;
 use tp_shared::{Naming, Sights, Told};

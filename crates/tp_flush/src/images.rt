@@ -4,7 +4,7 @@ ghost use Rattle.std.specs.Prelude.{◌≡◌, ◌+◌, ◌<◌, ◌≤◌, true
 ghost use Rattle.tp_model.specs.declared.limits.TheConstants.{MAX_NODES, MAX_PAGES};
 ghost use Rattle.tp_model.specs.WriteOrder.{Resting};
 ghost use Rattle.tp_area.specs.Tails.{content_beside};
-ghost use Rattle.tp_layout.specs.Pieces.{piece_place};
+ghost use Rattle.tp_area.specs.Pieces.{piece_place};
 ghost use Rattle.tp_flush.specs.Copying.{IsPartOut};
 ghost use Rattle.tp_flush.specs.Progress.{is_out};
 ghost use Rattle.tp_flush.specs.Flushing.{Goes};
@@ -17,7 +17,7 @@ use crate::imaged::{Image, Images};
 use crate::turn::FLUSHER;
 use std::sync::Wait;
 use tp_disk::Disk;
-use tp_layout::FIELDS_BYTES;
+use tp_area::FIELDS_BYTES;
 use tp_model::limits::{IMAGE_HEAD_BYTES, MAX_PAGES, PAGE_BYTES};
 use tp_shared::gate::PAGE_COPIED;
 use tp_shared::{Gate, Look, Naming, Shared};

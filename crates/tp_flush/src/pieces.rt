@@ -1,7 +1,7 @@
 //! The flusher writes a frozen image into the other area, piece by piece.
 
 ghost use Rattle.std.specs.Prelude.{◌≡◌, ◌+◌, ◌<◌, ◌≤◌, true, false, length, get_or, IfOk};
-ghost use Rattle.tp_layout.specs.Pieces.{piece_length, piece_place};
+ghost use Rattle.tp_area.specs.Pieces.{piece_length, piece_place};
 ghost use Rattle.tp_area.specs.Tails.{content_beside};
 ghost use Rattle.tp_model.specs.Disk.{written};
 ghost use Rattle.tp_shared.specs.Pieces.{IsFrozenHead, IsFrozenPage};

@@ -2,11 +2,11 @@
 
 ghost use Rattle.std.specs.Prelude.{◌≡◌, ◌+◌, ◌^◌, ◌<◌, ◌≤◌, length};
 ghost use Rattle.tp_model.specs.declared.limits.TheConstants.{MAX_PAGES};
-ghost use Rattle.tp_layout.specs.Pieces.{piece_place, place_in_image};
+ghost use Rattle.tp_area.specs.Pieces.{piece_place, place_in_image};
 
 use crate::flusher::Flusher;
 use tp_disk::Disk;
-use tp_layout::image_length;
+use tp_area::image_length;
 use tp_model::limits::{IMAGE_HEAD_BYTES, PAGE_BYTES};
 use tp_shared::Naming;
 

@@ -15,7 +15,7 @@ ghost use Rattle.tp_flush.specs.Settled.{RecoversWith, Stand};
 use crate::flusher::Flusher;
 use std::sync::Wait;
 use tp_disk::Disk;
-use tp_mark::Pass;
+use tp_ready::Pass;
 use tp_shared::{Locked, Naming, Receipt, Seat, Shared};
 
 impl<J: Naming, D: Disk> Flusher<J, D> {

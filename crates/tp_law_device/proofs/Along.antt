@@ -16,8 +16,8 @@ use Rattle.tp_model.specs.DeviceAreas.{device_areas}
 use Rattle.tp_model.specs.Runs.{World, Event, Run, IsFormatted}
 use Rattle.tp_law_machine.proofs.LinkLaws.{has_four_links, never_marks, keeps_flight}
 use Rattle.tp_law_network.proofs.Counted.{after_counted}
-use Rattle.tp_law_runs.proofs.History.{journal_leads, kept_leads, stays_sound, three_tokens}
-use Rattle.tp_law_runs.proofs.Runs.{snapshots}
+use Rattle.tp_law_network.proofs.History.{journal_leads, kept_leads, stays_sound, three_tokens}
+use Rattle.tp_law_network.proofs.Runs.{snapshots}
 use Rattle.tp_law_device.proofs.Holds.{areas_keep}
 use Rattle.tp_law_device.proofs.Opens.{held_opened}
 use Rattle.tp_law_device.proofs.Verdicts.{verdict_sound}

@@ -20,8 +20,8 @@ use Rattle.tp_model.specs.DeviceAreas.{device_areas, other_start, other_is_open,
 use Rattle.tp_model.specs.WriteOrder.{Resting, Tail, Opening, Opened as AfterOpening, switching, switch_done}
 use Rattle.tp_model.specs.Runs.{World, Event, CopiesTail, Does, Trims, Run, HasCut, copy_of}
 use Rattle.tp_law_machine.proofs.Moments.{may_be_written, loose_may, length-written, get_or-written_outside, get_or-written_inside}
-use Rattle.tp_law_runs.proofs.Planned.{tail_run}
-use Rattle.tp_law_runs.proofs.Walks.{run_then}
+use Rattle.tp_law_network.proofs.Planned.{tail_run}
+use Rattle.tp_law_network.proofs.Walks.{run_then}
 use Rattle.tp_law_device.specs.Checkpoints.{SpellsCopy, Switches}
 use Rattle.tp_law_device.proofs.Wires.{has_shape}
 use Rattle.tp_law_device.proofs.Heads.{head_parts}

@@ -28,12 +28,12 @@ use Rattle.tp_model.specs.DeviceAreas.{device_areas, other_start, other_is_open,
 use Rattle.tp_model.specs.Runs.{World, Acts, HasCut, copy_of, fresh, is_trim}
 use Rattle.tp_law_machine.proofs.LinkLaws.{has_four_links, never_marks}
 use Rattle.tp_law_network.proofs.Partial.{bind_some}
-use Rattle.tp_law_cuts.specs.Invariant.{Holds}
-use Rattle.tp_law_cuts.proofs.Happens.{acted_holds, opened_holds}
-use Rattle.tp_law_cuts.proofs.Kept.{cut_network}
-use Rattle.tp_law_cuts.proofs.Stays.{start_stays}
-use Rattle.tp_law_cuts.proofs.Whole.{whole_holds}
-use Rattle.tp_law_runs.proofs.Walks.{acts_run}
+use Rattle.tp_law_network.specs.Invariant.{Holds}
+use Rattle.tp_law_network.proofs.Happens.{acted_holds, opened_holds}
+use Rattle.tp_law_network.proofs.Kept.{cut_network}
+use Rattle.tp_law_network.proofs.Stays.{start_stays}
+use Rattle.tp_law_network.proofs.Whole.{whole_holds}
+use Rattle.tp_law_network.proofs.Walks.{acts_run}
 use Rattle.tp_law_device.specs.FormattedWorld.{formatted_world, WasFormatted}
 use Rattle.tp_law_device.specs.Checkpoints.{HasCheckpoint, HasSnapshot}
 use Rattle.tp_law_device.proofs.Wires.{HasShape, has_shape}

@@ -13,8 +13,8 @@ use Rattle.tp_model.specs.CutImage.{base_number, form_number, only_if, or_damage
 use Rattle.tp_model.specs.Opening.{form_at, form_of, front_in, has_front}
 use Rattle.tp_model.specs.Replay.{row_entry}
 use Rattle.tp_model.specs.Spelling.{IsGroup}
-use Rattle.tp_law_bytes.specs.ReadBack.{AreSpellings}
-use Rattle.tp_law_bytes.proofs.EntryLaws.{entry_at-entry_bytes}
+use Rattle.tp_law_machine.specs.ReadBack.{AreSpellings}
+use Rattle.tp_law_machine.proofs.EntryLaws.{entry_at-entry_bytes}
 use Rattle.tp_law_device.proofs.Faults.{or_damaged_ok, tested}
 
 -- ## The field of the base

@@ -14,8 +14,8 @@ use Rattle.tp_model.specs.Disk.{MayBe, written}
 use Rattle.tp_model.specs.Group.{rows_of, group_body}
 use Rattle.tp_model.specs.Opening.{Opened, next_of, held_of, opening}
 use Rattle.tp_model.specs.DeviceAreas.{numbered, can_add, spare_of, group_of}
-use Rattle.tp_law_runs.proofs.Moments.{length-written, get_or-written_outside, get_or-written_inside}
-use Rattle.tp_law_runs.proofs.SmallHolds.{IsOut}
+use Rattle.tp_law_network.proofs.Moments.{length-written, get_or-written_outside, get_or-written_inside}
+use Rattle.tp_law_network.proofs.SmallHolds.{IsOut}
 use Rattle.tp_law_device.proofs.Contents.{places, age_same}
 use Rattle.tp_law_device.proofs.Listings.{length-group_body}
 use Rattle.tp_law_device.proofs.AreaReads.{group_can}

@@ -17,8 +17,8 @@ use Rattle.tp_model.specs.Group.{rows_of, rows_behind, header, group_length, gro
 use Rattle.tp_model.specs.CutImage.{or_damaged}
 use Rattle.tp_model.specs.Spelling.{groups_bytes, entries_in, IsGroup}
 use Rattle.tp_model.specs.Replay.{Listing, Replay, row_entry, placed, at_open_gate, listing, with_entry, is_number, after_row, after_rows}
-use Rattle.tp_law_bytes.proofs.EntryLaws.{entry_at-bytes}
-use Rattle.tp_law_bytes.proofs.GroupLaws.{group_at-are}
+use Rattle.tp_law_machine.proofs.EntryLaws.{entry_at-bytes}
+use Rattle.tp_law_machine.proofs.GroupLaws.{group_at-are}
 use Rattle.tp_law_network.proofs.Partial.{map_some, cond_some}
 use Rattle.tp_law_network.proofs.Reorder.{after_first}
 use Rattle.tp_law_device.proofs.Faults.{bind_ok, or_damaged_ok}

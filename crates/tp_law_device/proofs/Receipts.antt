@@ -15,7 +15,7 @@ use Rattle.tp_model.specs.OpensTo.{OpensTo}
 use Rattle.tp_model.specs.Acknowledged.{IsAcknowledged}
 use Rattle.tp_model.specs.Runs.{World, Event, Run, IsFormatted, Recovers}
 use Rattle.tp_law_machine.proofs.LinkLaws.{has_four_links, never_marks}
-use Rattle.tp_law_runs.proofs.Acknowledged.{acknowledged}
+use Rattle.tp_law_network.proofs.Acknowledged.{acknowledged}
 use Rattle.tp_law_device.proofs.Opens.{held_from}
 use Rattle.tp_law_device.proofs.Holds.{areas_keep}
 use Rattle.tp_law_device.proofs.Verdicts.{verdict_leads}

@@ -9,7 +9,7 @@ use Rattle.tp_model.specs.Device.{area_start, is_open}
 use Rattle.tp_model.specs.Disk.{MayBe}
 use Rattle.tp_model.specs.Opening.{Opened, opening}
 use Rattle.tp_model.specs.DeviceAreas.{spare_of}
-use Rattle.tp_law_runs.proofs.SmallHolds.{IsOut}
+use Rattle.tp_law_network.proofs.SmallHolds.{IsOut}
 use Rattle.tp_law_device.proofs.Chosen.{open_in}
 use Rattle.tp_law_device.proofs.Contents.{places, age_same}
 use Rattle.tp_law_device.proofs.Opens.{Reads, held_in, held_from, layout, end_within, end_low, end_shut, HeadStays, OwnStays, OtherStays, keeps, found_in}

@@ -15,8 +15,8 @@ use Rattle.tp_model.specs.Disk.{MayBe, written}
 use Rattle.tp_model.specs.Opening.{Opened, held_of, area_in, opening}
 use Rattle.tp_model.specs.DeviceAreas.{other_is_open, other_content, spare_of, open_other_of, if_newer, other_of}
 use Rattle.tp_law_machine.proofs.Faults.{none_or}
-use Rattle.tp_law_runs.proofs.Moments.{length-written, get_or-written_outside, get_or-written_inside}
-use Rattle.tp_law_runs.proofs.SmallHolds.{IsOut}
+use Rattle.tp_law_network.proofs.Moments.{length-written, get_or-written_outside, get_or-written_inside}
+use Rattle.tp_law_network.proofs.SmallHolds.{IsOut}
 use Rattle.tp_law_device.proofs.Chosen.{open_in}
 use Rattle.tp_law_device.proofs.Contents.{places, age_same}
 use Rattle.tp_law_device.proofs.Opens.{Reads, held_in, held_from, layout, end_within, end_low, end_shut, HeadStays, OwnStays, keeps, switches, found_in}

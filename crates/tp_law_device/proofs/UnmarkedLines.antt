@@ -9,7 +9,7 @@ use Rattle.tp_model.specs.Network.{on_line, has_wire}
 use Rattle.tp_model.specs.Markers.{markers, plain}
 use Rattle.tp_model.specs.CutImage.{is_line_of}
 use Rattle.tp_model.specs.Spelling.{has_record, are_lines}
-use Rattle.tp_law_cuts.proofs.Marks.{plain_unmarked}
+use Rattle.tp_law_network.proofs.CutsMarks.{plain_unmarked}
 
 -- ## A line
 

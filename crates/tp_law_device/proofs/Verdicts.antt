@@ -20,9 +20,9 @@ use Rattle.tp_model.specs.OpensTo.{OpensTo, book_of}
 use Rattle.tp_model.specs.Runs.{World, Event, Run, fresh, IsFormatted}
 use Rattle.tp_law_machine.proofs.LinkLaws.{has_four_links, never_marks, keeps_flight}
 use Rattle.tp_law_network.proofs.Sound.{sound_after}
-use Rattle.tp_law_cuts.specs.Invariant.{Holds}
-use Rattle.tp_law_runs.proofs.Runs.{reopened_holds, run_recovers}
-use Rattle.tp_law_runs.proofs.History.{crash_order}
+use Rattle.tp_law_network.specs.Invariant.{Holds}
+use Rattle.tp_law_network.proofs.Runs.{reopened_holds, run_recovers}
+use Rattle.tp_law_network.proofs.History.{crash_order}
 use Rattle.tp_law_device.proofs.Heads.{head_parts}
 use Rattle.tp_law_device.proofs.Replays.{replay_holds}
 use Rattle.tp_law_device.proofs.AreaReads.{area_parts, groups_in}

@@ -1,2 +1,7 @@
+pub mod CanPut
 pub mod Checkpoints
+pub mod CutSpelt
 pub mod FormattedWorld
+pub mod InGroups
+pub mod OneCheckpoint
+pub mod OneTurn

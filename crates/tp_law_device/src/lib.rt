@@ -2,6 +2,10 @@
 //! nothing; their contracts are the laws.
 #![tactic(auto)]
 
+mod the_copy;
+
+pub use the_copy::{copies_open, cuts_are_spelt, copies_are_spelt, copies_can_be_put, groups_stay_inside, entries_find_room, frozen_images_stay, pieces_stay, cuts_can_be_switched_to, a_run_checkpoints, a_device_has_a_turn};
+
 ghost use Rattle.std.specs.Prelude.{◌≡◌, ◌≤◌, ◌<◌, ◌+◌, ◌++◌, ◌*◌, ◌^◌, ℕ, true, false, List, [], Some, Ok, length, map, take, drop, slice_get};
 ghost use Rattle.tp_model.specs.declared.areas.TwoAreas.{TwoAreas};
 ghost use Rattle.tp_model.specs.declared.entry.Entry.{Entry};

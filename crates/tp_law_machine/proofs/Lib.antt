@@ -1,6 +1,11 @@
 pub mod Bits
+pub mod BytesRows
 pub mod EndImages
+pub mod EntryLaws
 pub mod Faults
+pub mod FieldBytes
+pub mod FieldEntries
+pub mod GroupLaws
 pub mod Idle
 pub mod Imaged
 pub mod Images
@@ -19,3 +24,4 @@ pub mod Requests
 pub mod Rows
 pub mod Taking
 pub mod Words
+pub mod Writes

@@ -1,11 +1,14 @@
 pub mod BothWays
 pub mod Choosing
+pub mod Counts
+pub mod Fields
 pub mod Meeting
 pub mod NodeOfBytes
 pub mod OneDevice
 pub mod OneGroup
 pub mod OneNode
 pub mod Processes
+pub mod ReadBack
 pub mod Start
 pub mod Text
 pub mod Transfers

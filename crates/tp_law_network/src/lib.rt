@@ -2,6 +2,14 @@
 //! their contracts are laws of networks of this machine's nodes.
 #![tactic(auto)]
 
+mod all_runs;
+mod by_parts;
+mod whole_cuts;
+
+pub use all_runs::{crashes_hold, every_run_holds, areas_can_hold, store_calls_walk, walks_recover};
+pub use by_parts::{pieces_stop_first, pieces_make_the_network, rows_stop_with_entries, tokens_come_from_senders, another_token_is_refused};
+pub use whole_cuts::{swaps_agree, cuts_hold, whole_cuts_stay, halves_join, reserved_turns_stay, turns_join};
+
 ghost use Rattle.std.specs.Prelude.{◌≡◌, ◌≤◌, ◌+◌, ℕ, List, Some, length, slice_get};
 ghost use Rattle.std.specs.List.{count_by};
 ghost use Rattle.tp_model.specs.declared.link.Token.{Token};

@@ -1,5 +1,5 @@
 -- Where a write to memory goes outside, it has no meaning; else it keeps the length. What holds of all memories stands in
--- `tp_law_bytes`, and callers find it here too.
+-- `tp_law_machine`, and callers find it here too.
 use Rattle.std.proofs.Common.{Bool, ◌≡◌, ℕ, ◌+◌, ◌%◌, ◌<◌, ◌≤◌, true, false, ◌&&◌, cond, List, [], ◌∷◌, length, Option, Some, None, ◌||◌, ltb, leb, eqb, refl, ap, ◌∙◌, arith}
 use Rattle.std.specs.Prelude.{option_and_then, is_some}
 use Rattle.std.proofs.lemmas.Bool.{cond_both, ltb-true, lt-ltb}
@@ -7,7 +7,7 @@ use Rattle.tp_model.specs.Memory.{offset, word_offset, set_byte, set_word, byte_
 use Rattle.tp_mem.specs.After.{changed_after}
 use Rattle.tp_mem.specs.Bytes.{byte_changed}
 use Rattle.tp_mem.specs.Ranges.{are_inside}
-pub use Rattle.tp_law_bytes.proofs.Writes.{word_within, length-set_word, length-set_byte, length-stored, length-byte_stored, length-copied, length-then, length-changed, stored-append}
+pub use Rattle.tp_law_machine.proofs.Writes.{word_within, length-set_word, length-set_byte, length-stored, length-byte_stored, length-copied, length-then, length-changed, stored-append}
 
 -- where a write goes outside memory of n bytes, the writes have no meaning
 pub stored_outside : (memory : List ℕ) (writes : List (ℕ × ℕ)) (n : ℕ) → length memory ≡ n → n % 4 ≡ 0 → are_inside n writes ≡ false → stored memory writes ≡ None

@@ -2,6 +2,7 @@ pub mod Answered
 pub mod CanTake
 pub mod EndsAsBytes
 pub mod FirstStored
+pub mod IdleLinks
 pub mod Images
 pub mod Keeps
 pub mod OneMore
@@ -9,4 +10,3 @@ pub mod Pieces
 pub mod Room
 pub mod Runs
 pub mod Taken
-pub mod IdleLinks

@@ -6,8 +6,8 @@ use Rattle.tp_model.specs.LinkStep.{LinkOutcome, ◌>>=◌, begin_output}
 use Rattle.tp_model.specs.declared.processor.Cpu.{Cpu}
 use Rattle.tp_model.specs.declared.link.OutEnd.{OutEnd}
 use Rattle.tp_model.specs.declared.request.OutRequest.{OutRequest}
-use Rattle.tp_proc.specs.After.{held}
-use Rattle.tp_proc.specs.AfterWrites.{first_ranges}
+use Rattle.tp_cpu.specs.After.{held}
+use Rattle.tp_cpu.specs.AfterWrites.{first_ranges}
 
 abbrev pub output_after : Option (ℕ × ℕ) → OutRequest → OutEnd → Cpu → List ℕ → LinkOutcome OutEnd
 output_after first request end cpu memory = held first memory >>= begin_output (record request { word = None }) end cpu

@@ -13,7 +13,7 @@ use crate::fault::NoFrame;
 use crate::first::First;
 use tp_mem::Mem;
 use tp_model::{Cpu, Fault, News};
-use tp_proc::{ENABLING, READY, WAITING, queue, queue_write, state_at, workspace};
+use tp_cpu::{ENABLING, READY, WAITING, queue, queue_write, state_at, workspace};
 
 /// A node that runs halts, since a process lies outside memory.
 fn halt_outside(cpu: &mut Cpu)

@@ -15,7 +15,7 @@ use crate::image_places::{
 };
 use crate::number::{u16_at, u32_at};
 use byteorder::{ByteOrder, LittleEndian};
-use tp_link::{InEngine, OutEngine};
+use crate::{InEngine, OutEngine};
 use tp_model::limits::{IMAGE_HEAD_BYTES, IMAGE_VERSION};
 use tp_model::{Cpu, Queue, Regs};
 

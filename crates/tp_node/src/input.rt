@@ -7,14 +7,14 @@ ghost use Rattle.tp_model.specs.LinkStep.{message, with_byte, take_up, enabled, 
 ghost use Rattle.tp_model.specs.Processor.{descriptor_of};
 ghost use Rattle.tp_model.specs.SharedPages.{word_ranges, kept_after};
 ghost use Rattle.tp_model.specs.NodeWrites.{byte_written, take_up_ranges, enabled_ranges, disabled_ranges, begin_input_ranges};
-ghost use Rattle.tp_proc.specs.Ends.{Writes};
+ghost use Rattle.tp_cpu.specs.Ends.{Writes};
 ghost use Rattle.tp_node.specs.LinkEnds.{LinkEnds, kept_done};
 
 use crate::output::LINK_BUSY;
-use tp_link::InEngine;
+use crate::InEngine;
 use tp_mem::{Mem, WriteFault};
 use tp_model::{Cpu, Token, Transfer, Wish};
-use tp_proc::{
+use tp_cpu::{
     BAD_ADDRESS, NONE_CHOSEN, READY, Undone, descriptor_of, drop_b, end, load, note_choice,
     pass_over, saved_at, state_at, store, store_all,
 };

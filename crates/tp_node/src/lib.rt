@@ -2,6 +2,7 @@
 #![tactic(auto)]
 
 mod arrival;
+mod busy;
 mod code;
 mod ends;
 mod fault;
@@ -11,6 +12,8 @@ mod idle;
 mod image;
 pub mod image_places;
 mod input;
+mod link_input;
+mod link_output;
 mod memory;
 mod node;
 mod number;
@@ -20,10 +23,14 @@ mod run;
 mod standing;
 mod step;
 mod take;
+mod transfer;
 
+pub use busy::LinkBusy;
 pub use code::halt_byte;
 pub use fault::{ImageFault, NoFrame};
 pub use idle::has_idle_links;
+pub use link_input::InEngine;
+pub use link_output::OutEngine;
 pub use node::Node;
 pub use run::{Ran, Why};
 pub use standing::Standing;

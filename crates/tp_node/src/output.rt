@@ -3,18 +3,18 @@
 ghost use Rattle.std.specs.Prelude.{◌≡◌, ℕ, List, [], ◌∷◌, ◌++◌, Some, is_some};
 ghost use Rattle.tp_model.specs.Memory.{byte_at};
 ghost use Rattle.tp_model.specs.LinkStep.{begin_output};
-ghost use Rattle.tp_proc.specs.After.{held, stored_after};
+ghost use Rattle.tp_cpu.specs.After.{held, stored_after};
 ghost use Rattle.tp_model.specs.SharedPages.{word_ranges, kept_after};
 ghost use Rattle.tp_model.specs.NodeWrites.{begin_output_ranges};
-ghost use Rattle.tp_proc.specs.AfterWrites.{first_ranges};
-ghost use Rattle.tp_proc.specs.Ends.{Writes};
+ghost use Rattle.tp_cpu.specs.AfterWrites.{first_ranges};
+ghost use Rattle.tp_cpu.specs.Ends.{Writes};
 ghost use Rattle.tp_node.specs.LinkEnds.{LinkEnds, kept_done};
 ghost use Rattle.tp_node.specs.OutputAfter.{output_after, output_after_ranges};
 
-use tp_link::OutEngine;
+use crate::OutEngine;
 use tp_mem::Mem;
 use tp_model::{Cpu, Fault, OutRequest, Token, Transfer};
-use tp_proc::{BAD_ADDRESS, Undone, descriptor_of, end, saved_at, store, store_all};
+use tp_cpu::{BAD_ADDRESS, Undone, descriptor_of, end, saved_at, store, store_all};
 
 /// The byte of an address, as it is behind a first word that is to be stored.
 fn byte_after<M: Mem>(mem: &M, first: Option<(u32, u32)>, address: u32) -> Option<u8>
@@ -68,7 +68,7 @@ fn is_held<M: Mem>(mem: &M, first: Option<(u32, u32)>) -> bool
 }
 
 /// Begins an output behind a first word that is to be stored.
-#[tactic(auto, using(tp_proc::proofs::Behind::behind))]
+#[tactic(auto, using(tp_cpu::proofs::Behind::behind))]
 fn output_after<M: Mem>(
     engine: &mut OutEngine,
     cpu: &mut Cpu,

@@ -5,7 +5,7 @@ ghost use Rattle.std.specs.List.{list_all};
 ghost use Rattle.tp_model.specs.EndBytes.{is_under_way, is_out_end, is_in_end};
 ghost use Rattle.tp_model.specs.Image.{is_memory};
 
-use tp_link::{InEngine, OutEngine};
+use crate::{InEngine, OutEngine};
 use tp_mem::FIRST_ADDRESS;
 use tp_model::limits::{MAX_PAGES, MIN_PAGES, PAGE_BYTES};
 use tp_model::{InEnd, OutEnd, Transfer};

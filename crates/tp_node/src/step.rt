@@ -13,7 +13,7 @@ use crate::output::begin_output;
 use tp_cpu::step;
 use tp_mem::Mem;
 use tp_model::{InRequest, OutRequest, StepEnd, Token};
-use tp_proc::{Undone, pass};
+use tp_cpu::{Undone, pass};
 
 /// How a call that makes a step ends.
 #[derive(Clone, Copy)]

@@ -13,7 +13,7 @@ use crate::arrival::tell;
 use crate::fault::NoFrame;
 use crate::first::First;
 use crate::head::Head;
-use tp_link::OutEngine;
+use crate::OutEngine;
 use tp_mem::Mem;
 use tp_model::Token;
 

@@ -20,11 +20,11 @@ use Rattle.tp_model.specs.Node.{t414, took}
 use Rattle.tp_law_network.proofs.Lines.{for_line-elsewhere, on_sent_none}
 use Rattle.tp_law_network.proofs.Local.{put-length, put-lines, sends_own, own-host, own-node}
 use Rattle.tp_law_machine.proofs.LinkLaws.{has_four_links}
-use Rattle.tp_law_parts.specs.Piece.{Piece, sends}
-use Rattle.tp_law_parts.specs.Stops.{IsOverfull}
-use Rattle.tp_law_parts.proofs.Steps.{Act, acts_from}
-use Rattle.tp_port.specs.Sends.{on_lines}
-use Rattle.tp_port.proofs.Owns.{own_there}
+use Rattle.tp_law_network.specs.Piece.{Piece, sends}
+use Rattle.tp_law_network.specs.Stops.{IsOverfull}
+use Rattle.tp_law_network.proofs.Steps.{Act, acts_from}
+use Rattle.tp_book.specs.Sends.{on_lines}
+use Rattle.tp_book.proofs.Owns.{own_there}
 use Rattle.tp_pieces.specs.Held.{Held, has}
 use Rattle.tp_pieces.specs.Lanes.{Overfills}
 use Rattle.tp_pieces.specs.Behind.{behind, IsStuck, SameProcesses, DoesRest}

@@ -3,9 +3,9 @@ use Rattle.std.proofs.Common.{◌≡◌, ℕ, zero, suc, ◌+◌, ◌-◌, ◌*�
 use Rattle.std.proofs.lemmas.Bool.{and_from, and_parts, cases_lt, le-leb, le-ltb, leb-true, lt-ltb, ltb-true}
 use Rattle.std.proofs.lemmas.Nat.{le-div}
 use Rattle.std.proofs.Math.Nat.{div-le_of_le-mul}
-use Rattle.tp_law_parts.specs.Piece.{Covers, Piece}
-use Rattle.tp_parts.specs.Dealt.{first_of}
-use Rattle.tp_parts.proofs.Dealt.{first_up, first_most}
+use Rattle.tp_law_network.specs.Piece.{Covers, Piece}
+use Rattle.tp_pieces.specs.Dealt.{first_of}
+use Rattle.tp_pieces.proofs.Dealt.{first_up, first_most}
 use Rattle.tp_pieces.specs.Whose.{whose}
 use Rattle.tp_pieces.specs.Runs.{AreDealt, IsChain, Run, run_at, runs, some_run}
 

@@ -19,8 +19,8 @@ use Rattle.tp_pieces.specs.Held.{Held, has}
 use Rattle.tp_pieces.specs.Lanes.{LanesValue, Overfills, SameLanes}
 use Rattle.tp_pieces.specs.Behind.{SameProcesses, DoesRest}
 use Rattle.tp_pieces.specs.Inside.{AreLive, IsLive, IsNodesInside, nodes_held}
-use Rattle.tp_port.specs.Sends.{on_lines}
-use Rattle.tp_port.proofs.Owns.{own_there}
+use Rattle.tp_book.specs.Sends.{on_lines}
+use Rattle.tp_book.proofs.Owns.{own_there}
 use Rattle.tp_pieces.proofs.Acts.{refuses, node_settled}
 use Rattle.tp_pieces.proofs.Among.{among_at, among_set, length_among}
 

@@ -16,11 +16,11 @@ use Rattle.tp_model.specs.Entries.{process, takes, of_node, of_port, receives, i
 use Rattle.tp_model.specs.Node.{t414}
 use Rattle.tp_law_network.proofs.Local.{own_host, port_step, turn_step}
 use Rattle.tp_law_network.proofs.Partial.{bind_some, map_some, cond_some, slice_get-set_same, slice_get-set_other}
-use Rattle.tp_law_parts.specs.Piece.{Piece, from_piece}
-use Rattle.tp_law_parts.specs.InPiece.{next_in}
-use Rattle.tp_law_parts.proofs.Steps.{act_of}
-use Rattle.tp_parts.specs.Blocked.{IsBlocked}
-use Rattle.tp_port.specs.Counted.{AreCounted}
+use Rattle.tp_law_network.specs.Piece.{Piece, from_piece}
+use Rattle.tp_law_network.specs.InPiece.{next_in}
+use Rattle.tp_law_network.proofs.Steps.{act_of}
+use Rattle.tp_pieces.specs.Blocked.{IsBlocked}
+use Rattle.tp_book.specs.Counted.{AreCounted}
 use Rattle.tp_pieces.specs.Counts.{CanCount, most_entries, room_of}
 
 -- each port can count `n` more

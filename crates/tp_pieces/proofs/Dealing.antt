@@ -8,10 +8,10 @@ use Rattle.std.proofs.lemmas.Option.{slice_get_past}
 use Rattle.tp_model.specs.NodeState.{NodeState}
 use Rattle.tp_model.specs.Network.{Network, OfNode, OfHost, on_line, own}
 use Rattle.tp_law_network.proofs.Local.{own-host, own-node}
-use Rattle.tp_law_parts.specs.Piece.{Agrees}
+use Rattle.tp_law_network.specs.Piece.{Agrees}
 use Rattle.tp_node.specs.NodeContents.{NodeContents}
-use Rattle.tp_parts.specs.Dealt.{first_of}
-use Rattle.tp_parts.specs.Whole.{IsWhole}
+use Rattle.tp_pieces.specs.Dealt.{first_of}
+use Rattle.tp_pieces.specs.Whole.{IsWhole}
 use Rattle.tp_pieces.specs.declared.apart.Apart.{Apart}
 use Rattle.tp_pieces.specs.declared.host.HostPart.TheInside.{Inside as HostInside}
 use Rattle.tp_pieces.specs.declared.net_part.NetPart.{NetPart}

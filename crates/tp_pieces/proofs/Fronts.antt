@@ -9,7 +9,7 @@ use Rattle.tp_model.specs.NodeState.{NodeState}
 use Rattle.tp_model.specs.Network.{◌>>=◌, Network, on_line, is_first, taken}
 use Rattle.tp_model.specs.Turn.{by_line, incoming}
 use Rattle.tp_law_network.proofs.Partial.{bind_some}
-use Rattle.tp_law_parts.specs.Piece.{Piece, from_piece, sends}
+use Rattle.tp_law_network.specs.Piece.{Piece, from_piece, sends}
 use Rattle.tp_pieces.specs.Held.{Held, has}
 use Rattle.tp_pieces.specs.Behind.{without, SameProcesses, TakesTokens}
 use Rattle.tp_pieces.proofs.Halves.{same_all, same_has}

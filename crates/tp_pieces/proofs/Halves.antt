@@ -9,9 +9,9 @@ use Rattle.tp_model.specs.Network.{◌>>=◌, Network, own, taken}
 use Rattle.tp_model.specs.Entries.{process, takes, acts}
 use Rattle.tp_model.specs.Node.{t414}
 use Rattle.tp_law_network.proofs.Local.{process_same}
-use Rattle.tp_law_parts.specs.Piece.{Piece, from_piece, sends}
-use Rattle.tp_law_parts.specs.InPiece.{next_in}
-use Rattle.tp_parts.specs.Blocked.{IsBlocked}
+use Rattle.tp_law_network.specs.Piece.{Piece, from_piece, sends}
+use Rattle.tp_law_network.specs.InPiece.{next_in}
+use Rattle.tp_pieces.specs.Blocked.{IsBlocked}
 use Rattle.tp_pieces.specs.Whose.{whose}
 use Rattle.tp_pieces.specs.Held.{Held, has}
 use Rattle.tp_pieces.specs.Behind.{behind, without, IsStuck, SameProcesses, DoesRest, TakesOff, TakesTokens}

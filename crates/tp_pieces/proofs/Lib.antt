@@ -1,13 +1,17 @@
 pub mod Acts
 pub mod Among
 pub mod AtPorts
+pub mod Bare
 pub mod Chains
 pub mod Changed
 pub mod Copying
 pub mod Counting
 pub mod Dealing
+pub mod Dealt
 pub mod Fewer
+pub mod First
 pub mod Fronts
+pub mod GoesUpTo
 pub mod Halves
 pub mod Rejoined
 pub mod Replayed

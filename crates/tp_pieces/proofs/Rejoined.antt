@@ -10,7 +10,7 @@ use Rattle.tp_model.specs.Network.{Network, Own, OfNode, OfHost, Port, on_line, 
 use Rattle.tp_model.specs.Sound.{owner}
 use Rattle.tp_law_network.proofs.Lines.{same_lines}
 use Rattle.tp_law_network.proofs.Local.{own-host, own-node}
-use Rattle.tp_law_parts.specs.Piece.{Agrees, sends}
+use Rattle.tp_law_network.specs.Piece.{Agrees, sends}
 use Rattle.tp_node.specs.NodeContents.{NodeContents}
 use Rattle.tp_pieces.specs.declared.apart.Apart.{Apart}
 use Rattle.tp_pieces.specs.declared.host.HostPart.TheInside.{Inside as HostInside}

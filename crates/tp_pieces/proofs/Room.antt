@@ -6,7 +6,7 @@ use Rattle.std.proofs.lemmas.List.{get_or_past, set_past, take_more, take-append
 use Rattle.tp_model.specs.declared.link.Token.{Token}
 use Rattle.tp_model.specs.Network.{on_line, is_first, taken, pushed, sent}
 use Rattle.tp_law_network.proofs.Lines.{cons_taken, on_set_same, on_set_other, for_line-here, on_sent_open, sent_behind, sent-append}
-use Rattle.tp_port.specs.Room.{from_line}
+use Rattle.tp_book.specs.Room.{from_line}
 use Rattle.tp_pieces.specs.Lanes.{AreShort, Overfills}
 
 -- ## What is taken

@@ -6,9 +6,9 @@ use Rattle.tp_model.specs.NodeState.{NodeState}
 use Rattle.tp_model.specs.Network.{◌>>=◌, Network, taken}
 use Rattle.tp_model.specs.Entries.{process, takes, acts}
 use Rattle.tp_model.specs.Node.{t414}
-use Rattle.tp_law_parts.specs.Piece.{Piece, from_piece}
-use Rattle.tp_law_parts.specs.InPiece.{next_in}
-use Rattle.tp_law_parts.specs.Stops.{IsOverfull}
+use Rattle.tp_law_network.specs.Piece.{Piece, from_piece}
+use Rattle.tp_law_network.specs.InPiece.{next_in}
+use Rattle.tp_law_network.specs.Stops.{IsOverfull}
 use Rattle.tp_pieces.specs.Held.{Held, has}
 
 -- what is left to do of an entry in a piece, once the tokens that it takes are off the piece's lines

@@ -2,7 +2,7 @@
 use Rattle.std.specs.Prelude.{◌≡◌, ◌<◌, ◌≤◌, ℕ, ◌*◌, List, [], length, map, drop, Some}
 use Rattle.tp_model.specs.NodeState.{NodeState}
 use Rattle.tp_model.specs.Network.{Network, on_line}
-use Rattle.tp_law_parts.specs.Piece.{Agrees}
+use Rattle.tp_law_network.specs.Piece.{Agrees}
 use Rattle.tp_pieces.specs.declared.apart.Apart.{Apart}
 use Rattle.tp_pieces.specs.declared.net_part.NetPart.{NetPart}
 use Rattle.tp_pieces.specs.Dealing.{AgreeAll, pieces_of}

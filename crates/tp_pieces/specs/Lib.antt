@@ -1,9 +1,13 @@
 pub mod Apart
 pub mod Behind
 pub mod Blank
+pub mod Blocked
 pub mod Copies
 pub mod Counts
 pub mod Dealing
+pub mod Dealt
+pub mod FirstNode
+pub mod GoesUpTo
 pub mod Held
 pub mod HostInside
 pub mod Inside
@@ -12,4 +16,5 @@ pub mod Lanes
 pub mod Outcome
 pub mod Parts
 pub mod Runs
+pub mod Whole
 pub mod Whose

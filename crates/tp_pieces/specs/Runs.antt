@@ -1,7 +1,7 @@
 -- Nodes in runs of neighbours, and the parts of a network that have them.
 use Rattle.std.specs.Prelude.{◌≡◌, ◌<◌, ℕ, zero, suc, ◌+◌, ◌-◌, nat_lt, if◌then◌else◌, List, [], ◌∷◌, ◌++◌, length, get_or, Some, None}
-use Rattle.tp_law_parts.specs.Piece.{Piece}
-use Rattle.tp_parts.specs.Dealt.{first_of}
+use Rattle.tp_law_network.specs.Piece.{Piece}
+use Rattle.tp_pieces.specs.Dealt.{first_of}
 use Rattle.tp_pieces.specs.Whose.{whose}
 
 -- a run: its first node, and the first one behind it

@@ -3,7 +3,7 @@
 use tp_model::WireEnd;
 use tp_net::Lines;
 use tp_node::Node;
-use tp_port::HostPort;
+use tp_book::HostPort;
 
 /// A network taken apart: its wires, nodes, lines and ports.
 #[derive(Drop)]

@@ -3,7 +3,7 @@
 ghost use Rattle.std.specs.Prelude.{◌≡◌, IfOk, length};
 ghost use Rattle.tp_model.specs.NodeState.{NodeState};
 ghost use Rattle.tp_model.specs.Network.{Network};
-ghost use Rattle.tp_law_parts.specs.Piece.{Agrees};
+ghost use Rattle.tp_law_network.specs.Piece.{Agrees};
 ghost use Rattle.tp_pieces.specs.Apart.{whole_of};
 ghost use Rattle.tp_pieces.specs.Dealing.{AgreeAll, CanJoin};
 ghost use Rattle.tp_pieces.specs.Held.{has};

@@ -6,7 +6,7 @@ ghost use Rattle.tp_pieces.specs.Parts.{held_of, net_room};
 use crate::host::HostPart;
 use crate::nodes::NodesPart;
 use tp_model::Entry;
-use tp_parts::Part;
+use crate::Part;
 
 /// A part of a network: some of its nodes, or the host.
 #[derive(Drop)]

@@ -5,7 +5,7 @@ ghost use Rattle.tp_model.specs.Entries.{port_took, handed_in, confirmed};
 
 use tp_model::Token;
 use tp_model::limits::MAX_HELD;
-use tp_port::HostPort;
+use tp_book::HostPort;
 
 /// Whether a port can take a token: it has room for a byte, or a byte that the acknowledge takes off.
 pub(crate) fn can_take(port: &HostPort, token: Token) -> bool

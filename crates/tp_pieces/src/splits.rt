@@ -1,7 +1,7 @@
 //! A network that is split into parts.
 
 ghost use Rattle.std.specs.Prelude.{◌≡◌, ◌<◌, ◌≤◌, ◌+◌, ◌++◌, All, IfOk, OnOk, drop, length, map, vec_len};
-ghost use Rattle.tp_parts.specs.Whole.{IsWhole};
+ghost use Rattle.tp_pieces.specs.Whole.{IsWhole};
 ghost use Rattle.tp_pieces.specs.Apart.{CanSplit, whole_of};
 ghost use Rattle.tp_pieces.specs.Counts.{room_of};
 ghost use Rattle.tp_pieces.specs.Dealing.{networks_of, new_part, pieces_of, run_held, run_part};
@@ -17,7 +17,7 @@ use crate::nodes::NodesPart;
 use std::alloc::{AllocError, Global};
 use std::mem;
 use tp_node::Node;
-use tp_parts::{Neighbours, neighbours_of};
+use crate::{Neighbours, neighbours_of};
 
 /// The part of nodes from `first` on. Its wires and lines are copies of the host's.
 fn part_beside(

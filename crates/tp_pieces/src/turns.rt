@@ -7,7 +7,7 @@ ghost use Rattle.tp_model.specs.declared.link.Token.{Token};
 ghost use Rattle.tp_model.specs.Network.{has_wire, receiver, sent};
 ghost use Rattle.tp_model.specs.Node.{on_link, t414, took};
 ghost use Rattle.tp_model.specs.Turn.{by_line, by_link, comes_in, incoming, is_link, received, took_all, turned};
-ghost use Rattle.tp_port.specs.Room.{from_line};
+ghost use Rattle.tp_book.specs.Room.{from_line};
 ghost use Rattle.tp_pieces.specs.Behind.{DoesRest, TakesTokens};
 ghost use Rattle.tp_pieces.specs.Inside.{IsLive};
 ghost use Rattle.tp_pieces.specs.Lanes.{Overfills, SameLanes};
@@ -22,7 +22,7 @@ use tp_model::limits::MAX_STEPS;
 use tp_model::{Received, Token, WireEnd};
 use tp_net::{line_of, link_line};
 use tp_node::{NoFrame, Node};
-use tp_port::tokens_of;
+use tp_book::tokens_of;
 
 /// What a node sent in a turn.
 #[derive(Drop)]

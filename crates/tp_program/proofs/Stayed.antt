@@ -4,8 +4,8 @@ use Rattle.tp_area.specs.Places.{place_at}
 use Rattle.tp_area.proofs.OpenedPlace.{opening_place}
 use Rattle.tp_area.proofs.OtherArea.{own_open}
 use Rattle.tp_area.proofs.Placed.{is_placed, place_lies}
-use Rattle.tp_copies.specs.Copies.{HasStayed, kept_of, start_of}
-use Rattle.tp_layout.specs.declared.front.AreaFront.{AreaFront}
+use Rattle.tp_recover.specs.Copies.{HasStayed, kept_of, start_of}
+use Rattle.tp_area.specs.declared.front.AreaFront.{AreaFront}
 use Rattle.tp_model.specs.Bytes.{u64_at}
 use Rattle.tp_model.specs.Node.{t414, t414_ends}
 use Rattle.tp_model.specs.Opening.{Opened, verdict}

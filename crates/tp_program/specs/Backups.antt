@@ -2,7 +2,7 @@
 use Rattle.std.specs.Prelude.{◌≡◌, ℕ, List, [], ◌∷◌, ◌++◌, codes, Ok, Option}
 use Rattle.std.specs.Fmt.{decimal}
 use Rattle.std.specs.Io.KnownBytes.{Appends}
-use Rattle.tp_copies.specs.Copies.{IsCopy, kept_of}
+use Rattle.tp_recover.specs.Copies.{IsCopy, kept_of}
 use Rattle.tp_model.specs.Disk.{Moment}
 use Rattle.tp_model.specs.Opening.{Opened, verdict}
 

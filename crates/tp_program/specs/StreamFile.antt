@@ -5,7 +5,7 @@ use Rattle.tp_model.specs.DiskHistory.{State}
 use Rattle.tp_model.specs.Opening.{verdict}
 use Rattle.tp_run.specs.Ran.{History}
 use Rattle.tp_stream.specs.Quiet.{IsAsked}
-use Rattle.tp_stream_ends.specs.declared.ending.Ended.{Ended}
+use Rattle.tp_stream_files.specs.declared.ending.Ended.{Ended}
 use Rattle.tp_words.specs.declared.stream_args.StreamRun.{StreamRun}
 use Rattle.tp_program.specs.declared.streaming.FilesFault.{FilesFault}
 use Rattle.tp_program.specs.Devices.{DeviceCall, UsedOne, WasRefused}

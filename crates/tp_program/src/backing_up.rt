@@ -1,7 +1,7 @@
 //! `tpnet backup`, over any device and any copy.
 
 ghost use Rattle.std.specs.Prelude.{◌≡◌, IfErr, IfOk, IsErr, IsSomeAnd, string_bytes};
-ghost use Rattle.tp_copies.specs.Copies.{Answers, kept_of};
+ghost use Rattle.tp_recover.specs.Copies.{Answers, kept_of};
 ghost use Rattle.tp_model.specs.Opening.{verdict};
 ghost use Rattle.tp_recover.specs.Reading.{LeavesNothingNew};
 ghost use Rattle.tp_program.specs.Backups.{IsBackup, copied_line};
@@ -9,7 +9,7 @@ ghost use Rattle.tp_program.specs.Backups.{IsBackup, copied_line};
 use std::alloc::{AllocError, Global};
 use std::io;
 use std::io::Write;
-use tp_copies::{CopyFault, copy_opened};
+use tp_recover::{CopyFault, copy_opened};
 use tp_disk::Disk;
 use tp_recover::{Opened, Unopened, open};
 use tp_views::{Refusal, refuse, show_on};

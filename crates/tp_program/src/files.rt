@@ -15,7 +15,7 @@ use std::os::unix::fs::FileExt;
 use std::thread::Threads;
 use std::{fs, io};
 use tp_disk::{Counted, NewDisk, NotedFile, RawFile};
-use tp_layout::{head_length, version_for};
+use tp_area::{head_length, version_for};
 use tp_model::HeadVersion;
 use tp_net::{Named, Topology};
 use tp_stream_files::is_one_file;

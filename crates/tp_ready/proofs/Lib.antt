@@ -1,3 +1,4 @@
 pub mod Calling
 pub mod Dealing
+pub mod Steps
 pub mod Weights

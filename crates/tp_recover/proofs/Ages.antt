@@ -9,8 +9,8 @@ use Rattle.tp_model.specs.Device.{generation_of}
 use Rattle.tp_model.specs.Journal.{cut_length}
 use Rattle.tp_model.specs.Opening.{form_of, has_front, front_in}
 use Rattle.tp_model.specs.Topology.{Topology}
-use Rattle.tp_layout.specs.declared.front.CutFront.{CutFront}
-use Rattle.tp_layout.specs.Fronts.{cut_front, front_given}
+use Rattle.tp_area.specs.declared.front.CutFront.{CutFront}
+use Rattle.tp_area.specs.Fronts.{cut_front, front_given}
 use Rattle.tp_law_machine.proofs.Faults.{bind_ok, or_damaged_ok, tested}
 
 pub front_age : (t : Topology) (at : ℕ) (content : List ℕ) (front : CutFront) → front_given t at content ≡ Ok front → front.generation < NUMBER_LIMIT

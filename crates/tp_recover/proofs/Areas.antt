@@ -7,10 +7,10 @@ use Rattle.tp_model.specs.Bytes.{u8_at, u64_at}
 use Rattle.tp_model.specs.Device.{area_start, content_of, generation_of}
 use Rattle.tp_model.specs.Opening.{choice, chosen_area}
 use Rattle.tp_model.specs.Topology.{Topology}
-use Rattle.tp_layout.specs.declared.front.AreaFront.{AreaFront}
-use Rattle.tp_layout.specs.Fronts.{area_front, front_given}
+use Rattle.tp_area.specs.declared.front.AreaFront.{AreaFront}
+use Rattle.tp_area.specs.Fronts.{area_front, front_given}
 use Rattle.tp_recover.specs.Reading.{found}
-use Rattle.tp_layout.proofs.Parts.{u8_at-take, u32_at-take, u64_at-take, u8_at-drop, u64_at-drop}
+use Rattle.tp_area.proofs.Parts.{u8_at-take, u32_at-take, u64_at-take, u8_at-drop, u64_at-drop}
 
 -- the front of the bytes that begin there
 pub area_front-part : (start : ℕ) (xs : List ℕ) → area_front 0 (take 9 (drop start xs)) ≡ area_front start xs

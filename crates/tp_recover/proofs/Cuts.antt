@@ -20,12 +20,12 @@ use Rattle.tp_model.specs.Sound.{Ends}
 use Rattle.tp_model.specs.Topology.{Topology, line_count}
 use Rattle.tp_law_device.proofs.Fronts.{front_shorter, whole_front}
 use Rattle.tp_law_device.proofs.Cuts.{nodes_same}
-use Rattle.tp_layout.specs.declared.place.Places.{Places}
+use Rattle.tp_area.specs.declared.layout_place.Places.{Places}
 use Rattle.tp_recover.specs.declared.unopened.Unopened.{Unopened}
 use Rattle.tp_recover.specs.Cuts.{records_at, three, wired}
 use Rattle.tp_recover.specs.Reading.{Answers}
 use Rattle.tp_recover.proofs.Passing.{passed}
-use Rattle.tp_layout.proofs.Ports.{port_with-take}
+use Rattle.tp_area.proofs.Ports.{port_with-take}
 use Rattle.tp_recover.proofs.Records.{lines_in-take, with_first}
 
 -- ## Where a reading breaks off

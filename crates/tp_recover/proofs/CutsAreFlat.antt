@@ -22,7 +22,7 @@ use Rattle.tp_law_device.proofs.ReadNodes.{read_of_bytes}
 use Rattle.tp_law_device.proofs.Faults.{bind_ok, or_damaged_ok, tested}
 use Rattle.tp_law_device.proofs.ReadCuts.{cut_read}
 use Rattle.tp_node.proofs.Images.{node_of-short}
-use Rattle.tp_port.specs.Counted.{IsCounted, AreCounted}
+use Rattle.tp_book.specs.Counted.{IsCounted, AreCounted}
 use Rattle.tp_replay.specs.Flat.{IsFlat}
 use Rattle.tp_net.proofs.Topologies.{has_shape}
 use Rattle.tp_law_device.proofs.UnmarkedLines.{lines_unmarked}

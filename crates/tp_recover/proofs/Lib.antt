@@ -1,25 +1,26 @@
+pub mod Ages
 pub mod Areas
-pub mod GroupsRead
+pub mod BookRoom
 pub mod Cuts
-pub mod Nodes
-pub mod Passing
-pub mod Leaving
-pub mod Ports
-pub mod Records
-mod Leading
-mod ReadParts
-mod Starts
-mod Openings
-pub mod Room
 pub mod CutsAreFlat
+pub mod GroupsRead
 pub mod HeldPorts
-pub mod ReplayedCuts
-mod Ranged
+mod Leading
+pub mod Leaving
+pub mod Nodes
+mod Openings
+pub mod Passing
 mod PlayedRows
-mod SplitCuts
-mod TakenRows
+pub mod Ports
+mod Ranged
+mod Ranges
+mod ReadParts
+pub mod Records
+pub mod ReplayedCuts
+pub mod Room
 mod RowsAhead
 mod RowsRead
+mod SplitCuts
+mod Starts
+mod TakenRows
 mod Windows
-pub mod Ages
-pub mod BookRoom

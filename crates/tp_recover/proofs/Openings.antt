@@ -13,11 +13,11 @@ use Rattle.tp_model.specs.Opening.{Opened, base_of, chosen_area, closed_in, cut_
 use Rattle.tp_model.specs.Replay.{Replay, after_rows, replay_from}
 use Rattle.tp_model.specs.Results.{◌>>=◌}
 use Rattle.tp_model.specs.Topology.{Topology}
-use Rattle.tp_layout.specs.declared.front.CutFront.{CutFront}
+use Rattle.tp_area.specs.declared.front.CutFront.{CutFront}
 use Rattle.tp_recover.specs.declared.start.Start.{Start}
 use Rattle.tp_recover.specs.declared.unopened.Unopened.{Unopened}
 use Rattle.tp_recover.specs.AfterGroups.{after_groups}
-use Rattle.tp_layout.specs.Fronts.{cut_front, front_given}
+use Rattle.tp_area.specs.Fronts.{cut_front, front_given}
 use Rattle.tp_recover.specs.Reading.{Answers, found}
 use Rattle.tp_recover.specs.Starts.{Read, read_as, read_of, read_in, IsStart, groups_of, opened_with, opened_after}
 use Rattle.tp_recover.proofs.Passing.{passed}

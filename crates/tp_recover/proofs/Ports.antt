@@ -10,7 +10,7 @@ use Rattle.tp_recover.specs.declared.unopened.Unopened.{Unopened}
 use Rattle.tp_recover.specs.Reading.{Answers}
 use Rattle.tp_recover.proofs.Records.{behind, with_first, step_read, step_error}
 use Rattle.tp_model.specs.Network.{Port}
-use Rattle.tp_layout.proofs.Ports.{port_with-take}
+use Rattle.tp_area.proofs.Ports.{port_with-take}
 
 -- what a reader found
 pub port_read : (at base : ℕ) (xs bytes : List ℕ) (read : Option Port) → bytes ≡ take PORT_BYTES (drop at xs) → read ≡ port_with base bytes

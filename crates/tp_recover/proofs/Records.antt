@@ -11,8 +11,8 @@ use Rattle.tp_model.specs.declared.limits.TheConstants.{LINE_BYTES}
 use Rattle.tp_model.specs.Results.{◌>>=◌}
 use Rattle.tp_law_device.proofs.Fronts.{front_shorter, whole_front}
 use Rattle.tp_law_device.proofs.Cuts.{line_same, lines_same}
-use Rattle.tp_layout.specs.declared.line.LineTokens.{LineTokens}
-use Rattle.tp_layout.specs.Lines.{tokens_on}
+use Rattle.tp_area.specs.declared.line.LineTokens.{LineTokens}
+use Rattle.tp_area.specs.Lines.{tokens_on}
 use Rattle.tp_recover.specs.declared.unopened.Unopened.{Unopened}
 use Rattle.tp_recover.specs.Reading.{Answers}
 use Rattle.tp_recover.proofs.Passing.{passed}

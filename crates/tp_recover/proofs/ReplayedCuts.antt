@@ -26,10 +26,10 @@ use Rattle.tp_law_machine.specs.NodeOfBytes.{IsNodeOfBytes}
 use Rattle.tp_law_network.proofs.Partial.{all_append, map_some, cond_some}
 use Rattle.tp_law_device.proofs.Faults.{bind_ok, or_damaged_ok}
 use Rattle.tp_law_device.proofs.Replays.{entry_found}
-use Rattle.tp_port.specs.declared.parts.PortParts.{PortParts}
+use Rattle.tp_book.specs.declared.port_parts.PortParts.{PortParts}
 use Rattle.tp_book.specs.declared.state.NetState.{NetState}
-use Rattle.tp_port.specs.Counted.{AreCounted}
-use Rattle.tp_port.specs.Parts.{port_of}
+use Rattle.tp_book.specs.Counted.{AreCounted}
+use Rattle.tp_book.specs.PortParts.{port_of}
 use Rattle.tp_book.specs.Kept.{AreInRange}
 use Rattle.tp_book.specs.Opened.{cut_of, now_of, IsOpened}
 use Rattle.tp_replay.specs.Flat.{IsFlat}

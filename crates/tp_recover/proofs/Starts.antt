@@ -16,14 +16,14 @@ use Rattle.tp_model.specs.Node.{t414_ends}
 use Rattle.tp_model.specs.Opening.{base_of, cut_in, front_in}
 use Rattle.tp_model.specs.CutImage.{is_line_of}
 use Rattle.tp_model.specs.Spelling.{has_record, are_lines}
-use Rattle.tp_port.specs.declared.parts.PortParts.{PortParts}
-use Rattle.tp_port.specs.Parts.{port_of}
-use Rattle.tp_port.specs.Ports.{PortValue, opened_port}
+use Rattle.tp_book.specs.declared.port_parts.PortParts.{PortParts}
+use Rattle.tp_book.specs.PortParts.{port_of}
+use Rattle.tp_book.specs.Ports.{PortValue, opened_port}
 use Rattle.tp_node.specs.NodeContents.{NodeContents}
 use Rattle.tp_replay.specs.Flat.{network_of}
-use Rattle.tp_port.proofs.OpenedPorts.{opened_ports}
-use Rattle.tp_layout.specs.declared.front.CutFront.{CutFront}
-use Rattle.tp_layout.specs.Fronts.{cut_front, front_given}
+use Rattle.tp_book.proofs.OpenedPorts.{opened_ports}
+use Rattle.tp_area.specs.declared.front.CutFront.{CutFront}
+use Rattle.tp_area.specs.Fronts.{cut_front, front_given}
 use Rattle.tp_law_device.proofs.Faults.{bind_ok}
 use Rattle.tp_recover.specs.declared.cut.Cut.{Cut}
 use Rattle.tp_recover.specs.declared.start.Start.{Start}

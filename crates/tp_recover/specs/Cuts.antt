@@ -7,9 +7,9 @@ use Rattle.tp_model.specs.CutImage.{nodes_in, lines_in, ports_in}
 use Rattle.tp_model.specs.Network.{Network, Port}
 use Rattle.tp_model.specs.NodeState.{NodeState}
 use Rattle.tp_model.specs.Results.{◌>>=◌}
-use Rattle.tp_port.specs.Parts.{port_of}
+use Rattle.tp_book.specs.PortParts.{port_of}
 use Rattle.tp_recover.specs.declared.cut.Cut.{Cut}
-use Rattle.tp_layout.specs.declared.place.Places.{Places}
+use Rattle.tp_area.specs.declared.layout_place.Places.{Places}
 use Rattle.tp_recover.specs.Nodes.{live}
 
 -- a network with `wires`

@@ -1,5 +1,6 @@
 pub mod AfterGroups
 pub mod Chosen
+pub mod Copies
 pub mod Cuts
 pub mod Nodes
 pub mod Opens

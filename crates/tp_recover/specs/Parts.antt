@@ -2,7 +2,7 @@
 use Rattle.std.specs.Prelude.{map}
 use Rattle.tp_model.specs.NodeState.{NodeState}
 use Rattle.tp_model.specs.Network.{Network}
-use Rattle.tp_port.specs.Parts.{port_of}
+use Rattle.tp_book.specs.PortParts.{port_of}
 use Rattle.tp_recover.specs.declared.flights.CutParts.{CutParts}
 
 -- the network of the parts

@@ -13,10 +13,10 @@ use Rattle.tp_model.specs.Replay.{Listing, Replay, listing, replay_from}
 use Rattle.tp_model.specs.Results.{◌>>=◌}
 use Rattle.tp_model.specs.Spelling.{IsCut}
 use Rattle.tp_law_machine.specs.NodeOfBytes.{IsNodeOfBytes}
-use Rattle.tp_layout.specs.declared.front.CutFront.{CutFront}
+use Rattle.tp_area.specs.declared.front.CutFront.{CutFront}
 use Rattle.tp_recover.specs.declared.start.Start.{Start}
 use Rattle.tp_recover.specs.AfterGroups.{after_groups}
-use Rattle.tp_layout.specs.Fronts.{front_given}
+use Rattle.tp_area.specs.Fronts.{front_given}
 
 -- the fields in front of a cut, and the cut
 pub record Read : Type 0 where

@@ -5,12 +5,12 @@ ghost use Rattle.tp_model.specs.DiskHistory.{Counts};
 ghost use Rattle.tp_model.specs.Device.{areas_end};
 ghost use Rattle.tp_model.specs.Opening.{choice, chosen_area};
 ghost use Rattle.tp_recover.specs.Reading.{has_read, found, Answers, IsKept, LeavesNothingNew, TakesNone};
-ghost use Rattle.tp_layout.specs.Fronts.{area_front};
+ghost use Rattle.tp_area.specs.Fronts.{area_front};
 
 use crate::device::read_array;
 use crate::unopened::Unopened;
 use tp_disk::Disk;
-use tp_layout::{AREA_FRONT_BYTES, AreaFront, area_front, area_start};
+use tp_area::{AREA_FRONT_BYTES, AreaFront, area_front, area_start};
 use tp_model::{OpenFault, TwoAreas};
 
 /// Reads the front of the area that begins at `start`.

@@ -12,9 +12,9 @@ ghost use Rattle.tp_model.specs.Opening.{base_of, cut_in};
 ghost use Rattle.tp_model.specs.Spelling.{are_lines, IsCut};
 ghost use Rattle.tp_model.specs.Topology.{line_count};
 ghost use Rattle.tp_model.specs.declared.limits.TheConstants.{NUMBER_LIMIT};
-ghost use Rattle.tp_port.specs.Parts.{port_of};
+ghost use Rattle.tp_book.specs.PortParts.{port_of};
 ghost use Rattle.tp_recover.specs.Cuts.{cut_network, records_at};
-ghost use Rattle.tp_layout.specs.Lines.{tokens_on};
+ghost use Rattle.tp_area.specs.Lines.{tokens_on};
 ghost use Rattle.tp_recover.specs.Nodes.{live, AreThawed, HaveImages};
 ghost use Rattle.tp_recover.specs.Ports.{ArePorts};
 ghost use Rattle.tp_recover.specs.Reading.{has_read, Answers, IsKept, LeavesNothingNew};
@@ -27,12 +27,12 @@ use crate::port::read_ports;
 use crate::unopened::Unopened;
 use std::alloc::{AllocError, Global};
 use tp_disk::Disk;
-use tp_layout::{Head, LineTokens, Places};
+use tp_area::{Head, LineTokens, Places};
 use tp_model::limits::{LINE_BYTES, MAX_NODES, MAX_PORTS, PORT_BYTES};
 use tp_model::{OpenFault, Token, WireEnd};
 use tp_net::MAX_LINES;
 use tp_node::Node;
-use tp_port::PortParts;
+use tp_book::PortParts;
 
 /// A network as a snapshot cut it: its nodes, the tokens on each line, and its ports.
 #[derive(Drop)]

@@ -11,7 +11,7 @@ use tp_model::limits::{LINE_BYTES, MAX_NODES, MAX_PORTS};
 use tp_model::{OpenFault, Token, WireEnd};
 use tp_net::port_line;
 use tp_node::Node;
-use tp_port::PortParts;
+use tp_book::PortParts;
 
 /// How many of the tokens are Data.
 fn datas(tokens: &[Token]) -> usize

@@ -3,13 +3,13 @@
 ghost use Rattle.std.specs.Prelude.{◌≡◌, ◌+◌, ◌*◌, ◌≤◌, ◌<◌, length, IfOk};
 ghost use Rattle.tp_model.specs.Device.{area_start, areas_end, content_of};
 ghost use Rattle.tp_model.specs.DiskHistory.{Counts};
-ghost use Rattle.tp_layout.specs.Fronts.{front_given};
+ghost use Rattle.tp_area.specs.Fronts.{front_given};
 ghost use Rattle.tp_recover.specs.Reading.{has_read, Answers, IsKept, LeavesNothingNew, TakesNone};
 
 use crate::device::read_array;
 use crate::unopened::Unopened;
 use tp_disk::Disk;
-use tp_layout::{CutFront, FIELDS_BYTES, Head, area_start, cut_front, cut_length};
+use tp_area::{CutFront, FIELDS_BYTES, Head, area_start, cut_front, cut_length};
 use tp_model::limits::NUMBER_LIMIT;
 
 /// Reads the fields in front of an area's node images.

@@ -1,7 +1,7 @@
 //! The head of a device.
 
 ghost use Rattle.std.specs.Prelude.{◌≡◌, ◌+◌, ◌*◌, ◌≤◌, ◌<◌, ◌^◌, length, take, true, Ok, IfOk};
-ghost use Rattle.tp_layout.specs.Heads.{head_in, version_in};
+ghost use Rattle.tp_area.specs.Heads.{head_in, version_in};
 ghost use Rattle.tp_model.specs.Device.{areas_end};
 ghost use Rattle.tp_model.specs.Head.{head_length, head_of};
 ghost use Rattle.tp_model.specs.DiskHistory.{Counts};
@@ -11,7 +11,7 @@ ghost use Rattle.tp_recover.specs.Reading.{has_read, Answers, IsKept, LeavesNoth
 use crate::device::read_array;
 use crate::unopened::Unopened;
 use tp_disk::Disk;
-use tp_layout::{Head, head_in, head_version};
+use tp_area::{Head, head_in, head_version};
 use tp_model::limits::{NARROW_HEAD_BYTES, WIDE_HEAD_BYTES};
 use tp_model::{HeadVersion, OpenFault};
 

@@ -1,18 +1,22 @@
-//! Opening a device: its head, the choice of an area, the cut, and the groups behind it.
+//! Opening a device: its head, the choice of an area, the cut, and the groups behind it. And a copy of one that was opened.
 #![tactic(auto)]
 
 mod ahead;
 mod choice;
+mod copying;
 mod cut;
 mod device;
+mod fault;
 mod flights;
 mod front;
 mod groups;
 mod head;
+mod kept;
 mod line;
 mod node;
 mod opening;
 mod parallel;
+mod pieces;
 mod places;
 mod played;
 mod port;
@@ -27,7 +31,9 @@ mod window;
 
 pub use ahead::read_rows;
 pub use choice::read_choice;
+pub use copying::copy_opened;
 pub use cut::{Cut, read_cut};
+pub use fault::CopyFault;
 pub use front::read_front;
 pub use groups::replay_area;
 pub use head::read_head;

@@ -6,14 +6,14 @@ ghost use Rattle.tp_model.specs.CutImage.{lines_in};
 ghost use Rattle.tp_model.specs.Spelling.{are_lines};
 ghost use Rattle.tp_model.specs.declared.opening.OpenFault.{OpenFault};
 ghost use Rattle.tp_recover.specs.declared.unopened.Unopened.{Unopened};
-ghost use Rattle.tp_layout.specs.Lines.{tokens_on};
+ghost use Rattle.tp_area.specs.Lines.{tokens_on};
 ghost use Rattle.tp_recover.specs.Reading.{has_read, Answers, IsKept, LeavesNothingNew};
 
 use crate::device::read_bytes;
 use crate::unopened::Unopened;
 use std::alloc::Global;
 use tp_disk::Disk;
-use tp_layout::{LineTokens, line_in};
+use tp_area::{LineTokens, line_in};
 use tp_model::limits::LINE_BYTES;
 use tp_model::{OpenFault, WireEnd};
 use tp_net::MAX_LINES;

@@ -11,7 +11,7 @@ use crate::device::read_over;
 use crate::unopened::Unopened;
 use std::alloc::Global;
 use tp_disk::Disk;
-use tp_layout::image_length;
+use tp_area::image_length;
 use tp_model::OpenFault;
 use tp_node::{ImageFault, Node};
 

@@ -17,7 +17,7 @@ use std::alloc::Global;
 use std::thread::Threads;
 use tp_disk::Disk;
 use tp_gate::Gate;
-use tp_layout::Head;
+use tp_area::Head;
 
 /// Opens the device with `head`, as `open_area` does, by the pieces of its network. Its second area is taken where `second` holds,
 /// else its first.

@@ -5,7 +5,7 @@ ghost use Rattle.tp_model.specs.Device.{area_start};
 ghost use Rattle.tp_model.specs.Journal.{is_roomy};
 ghost use Rattle.tp_model.specs.Opening.{groups_place, lines_place, nodes_place, ports_place};
 
-use tp_layout::{Head, Places, area_start};
+use tp_area::{Head, Places, area_start};
 
 /// Where the records of an area stand, and its first group: within the area.
 #[tactic(auto, using(crate::proofs::Room::area_room))]

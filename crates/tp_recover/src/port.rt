@@ -1,8 +1,8 @@
 //! The ports of a cut.
 
 ghost use Rattle.std.specs.Prelude.{◌≡◌, true, ◌*◌, ◌+◌, ◌≤◌, ◌<◌, ◌^◌, IfOk, map, length, drop};
-ghost use Rattle.tp_port.specs.Parts.{port_of};
-ghost use Rattle.tp_layout.specs.Ports.{port_of as record_of};
+ghost use Rattle.tp_book.specs.PortParts.{port_of};
+ghost use Rattle.tp_area.specs.Ports.{port_of as record_of};
 ghost use Rattle.tp_model.specs.CutImage.{is_port_of, or_damaged, port_with, ports_in};
 ghost use Rattle.tp_model.specs.DiskHistory.{Counts};
 ghost use Rattle.tp_recover.specs.Ports.{ArePorts};
@@ -12,10 +12,10 @@ use crate::device::read_bytes;
 use crate::unopened::Unopened;
 use std::alloc::{AllocError, Global};
 use tp_disk::Disk;
-use tp_layout::{PortRecord, port_in};
+use tp_area::{PortRecord, port_in};
 use tp_model::OpenFault;
 use tp_model::limits::PORT_BYTES;
-use tp_port::PortParts;
+use tp_book::PortParts;
 
 /// A copy of bytes.
 fn copied(alloc: Global, bytes: &[u8]) -> Result<Vec<u8>, AllocError>

@@ -1,7 +1,7 @@
 //! The network of a cut, before the entries behind it are replayed.
 
 ghost use Rattle.std.specs.Prelude.{◌≡◌, ◌+◌, ◌*◌, ◌≤◌, All, IfOk, vec_len};
-ghost use Rattle.tp_port.specs.Parts.{port_of};
+ghost use Rattle.tp_book.specs.PortParts.{port_of};
 ghost use Rattle.tp_model.specs.Device.{areas_end, content_of};
 ghost use Rattle.tp_model.specs.DiskHistory.{Counts};
 ghost use Rattle.tp_model.specs.declared.limits.TheConstants.{MAX_HELD};
@@ -18,9 +18,9 @@ use crate::unopened::Unopened;
 use std::alloc::{AllocError, Global};
 use tp_book::CutNetwork;
 use tp_disk::Disk;
-use tp_layout::{CutFront, Head};
+use tp_area::{CutFront, Head};
 use tp_model::WireEnd;
-use tp_port::{lines_with, ports_with};
+use tp_book::{lines_with, ports_with};
 use tp_replay::{FlatNetwork, Replay};
 
 /// An area before its groups are replayed: the fields in front of its cut, the cut as contracts see it, and the network.

@@ -8,7 +8,7 @@ ghost use Rattle.tp_model.specs.Opening.{next_of};
 use crate::opening::Opened;
 use std::alloc::{AllocError, Global};
 use tp_book::NetState;
-use tp_layout::journal_room;
+use tp_area::journal_room;
 
 impl Opened {
     /// The bytes that groups may fill in an area, to which a book's journal is bound.

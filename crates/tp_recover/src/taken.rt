@@ -12,7 +12,7 @@ use crate::start::{Start, read_start};
 use crate::unopened::Unopened;
 use std::alloc::Global;
 use tp_disk::Disk;
-use tp_layout::Head;
+use tp_area::Head;
 use tp_model::OpenFault;
 
 /// An area before its entries are replayed: what stands in front of its groups, the entries that are readable, and the place of the

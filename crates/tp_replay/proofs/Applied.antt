@@ -15,9 +15,9 @@ use Rattle.tp_model.specs.Entries.{next}
 use Rattle.tp_law_network.proofs.Local.{next_from}
 use Rattle.tp_law_network.proofs.Partial.{slice_get-set_same, slice_get-set_other}
 use Rattle.tp_node.specs.NodeContents.{NodeContents}
-use Rattle.tp_port.specs.Ports.{PortValue}
-use Rattle.tp_port.specs.Sends.{on_lines}
-use Rattle.tp_port.specs.Room.{HasRoom}
+use Rattle.tp_book.specs.Ports.{PortValue}
+use Rattle.tp_book.specs.Sends.{on_lines}
+use Rattle.tp_book.specs.Room.{HasRoom}
 use Rattle.tp_replay.specs.declared.network.FlatNetwork.TheInside.{Inside}
 use Rattle.tp_replay.specs.declared.fault.NotPossible.{NotPossible}
 use Rattle.tp_replay.specs.Answers.{Applies}

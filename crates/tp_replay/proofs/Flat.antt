@@ -26,8 +26,8 @@ use Rattle.tp_law_network.proofs.Sound.{sound_kept}
 use Rattle.tp_law_machine.specs.NodeOfBytes.{CarriesByte, CarryBytes, IsNodeOfBytes}
 use Rattle.tp_law_machine.proofs.LinkLaws.{has_four_links, keeps_flight, never_marks}
 use Rattle.tp_law_machine.proofs.Nodes.{node_steps, node_took}
-use Rattle.tp_port.specs.Room.{HasRoom}
-use Rattle.tp_port.proofs.Sending.{room_before}
+use Rattle.tp_book.specs.Room.{HasRoom}
+use Rattle.tp_book.proofs.Sending.{room_before}
 use Rattle.tp_replay.specs.Flat.{IsFlat, TakesByte}
 
 -- ## The node whose entry it is

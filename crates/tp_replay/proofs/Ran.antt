@@ -16,10 +16,10 @@ use Rattle.tp_law_network.proofs.Local.{steps_links}
 use Rattle.tp_law_network.proofs.Partial.{slice_get-set_same}
 use Rattle.tp_law_machine.proofs.LinkLaws.{has_four_links}
 use Rattle.tp_node.specs.NodeContents.{NodeContents}
-use Rattle.tp_port.specs.Sends.{on_lines}
-use Rattle.tp_port.specs.Room.{HasRoom}
-use Rattle.tp_port.proofs.Lists.{set_back}
-use Rattle.tp_port.proofs.Sending.{all_known}
+use Rattle.tp_book.specs.Sends.{on_lines}
+use Rattle.tp_book.specs.Room.{HasRoom}
+use Rattle.tp_book.proofs.Lists.{set_back}
+use Rattle.tp_book.proofs.Sending.{all_known}
 use Rattle.tp_replay.specs.declared.network.FlatNetwork.TheInside.{Inside}
 use Rattle.tp_replay.specs.Answers.{Leaves, RanUpTo}
 use Rattle.tp_replay.specs.Flat.{IsFlat}

@@ -17,9 +17,9 @@ use Rattle.tp_model.specs.Entries.{process, takes, of_node, receives, port_took,
 use Rattle.tp_law_network.specs.Turns.{IsFront}
 use Rattle.tp_law_network.proofs.Lines.{cons_taken}
 use Rattle.tp_law_network.proofs.Local.{Step, own-host}
-pub use Rattle.tp_port.proofs.Owns.{own_there}
-use Rattle.tp_port.proofs.Owns.{of_port-is}
-use Rattle.tp_port.specs.Sends.{on_lines}
+pub use Rattle.tp_book.proofs.Owns.{own_there}
+use Rattle.tp_book.proofs.Owns.{of_port-is}
+use Rattle.tp_book.specs.Sends.{on_lines}
 
 -- the lines without the front of one
 abbrev pub without_front : List (List Token) → ℕ → List (List Token)

@@ -16,7 +16,7 @@ use Rattle.tp_law_network.proofs.Marks.{AreUnmarked}
 use Rattle.tp_law_network.proofs.Partial.{all_append, bind_some, slice_get-set_same}
 use Rattle.tp_law_machine.specs.NodeOfBytes.{CarryBytes}
 use Rattle.tp_law_machine.proofs.LinkLaws.{has_four_links}
-use Rattle.tp_port.specs.Sends.{on_lines}
+use Rattle.tp_book.specs.Sends.{on_lines}
 use Rattle.tp_replay.specs.Flat.{IsFlat}
 use Rattle.tp_replay.proofs.Applied.{there_is}
 use Rattle.tp_replay.proofs.Flat.{flat_step}

@@ -13,7 +13,7 @@ use Rattle.tp_model.specs.declared.limits.TheConstants.{MAX_NODES, MAX_PORTS}
 use Rattle.tp_model.specs.Turn.{by_link}
 use Rattle.tp_law_machine.specs.NodeOfBytes.{CarriesByte, CarryBytes, IsNodeOfBytes}
 use Rattle.tp_node.specs.NodeContents.{NodeContents}
-use Rattle.tp_port.specs.Ports.{PortValue}
+use Rattle.tp_book.specs.Ports.{PortValue}
 
 -- A line for each link and each port, and no more nodes and ports than a network may have.
 pub record IsShaped (s : Network NodeState) : Type 0 where

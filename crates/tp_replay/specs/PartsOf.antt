@@ -3,7 +3,7 @@ use Rattle.std.specs.Prelude.{◌≡◌, map}
 use Rattle.tp_model.specs.NodeState.{NodeState}
 use Rattle.tp_model.specs.Image.{image}
 use Rattle.tp_model.specs.Network.{Network}
-use Rattle.tp_port.specs.Parts.{port_of}
+use Rattle.tp_book.specs.PortParts.{port_of}
 use Rattle.tp_book.specs.declared.parts.NetParts.{NetParts}
 
 -- The parts are the network's, each node as its image.

@@ -3,7 +3,7 @@ use Rattle.std.specs.Prelude.{◌<◌}
 use Rattle.tp_model.specs.declared.limits.TheConstants.{NUMBER_LIMIT}
 use Rattle.tp_model.specs.NodeState.{NodeState}
 use Rattle.tp_model.specs.Replay.{Replay}
-use Rattle.tp_port.specs.Counted.{AreCounted}
+use Rattle.tp_book.specs.Counted.{AreCounted}
 use Rattle.tp_replay.specs.declared.replaying.Replay.TheInside.{Inside}
 
 abbrev pub replay_of : Inside → Replay NodeState

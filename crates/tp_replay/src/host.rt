@@ -9,7 +9,7 @@ ghost use Rattle.tp_replay.specs.Answers.{Applies};
 use crate::fault::NotPossible;
 use crate::front::{can_confirm, has_room};
 use crate::network::FlatNetwork;
-use tp_port::send_some;
+use tp_book::send_some;
 
 impl FlatNetwork {
     /// The host hands a byte to a port.

@@ -12,7 +12,7 @@ ghost use Rattle.tp_model.specs.Network.{Network, receiver, has_wire, on_line, i
 ghost use Rattle.tp_model.specs.Node.{t414, t414_ends, took};
 ghost use Rattle.tp_model.specs.Flight.{flights_in};
 ghost use Rattle.tp_model.specs.Sound.{Wired, Sound};
-ghost use Rattle.tp_port.specs.Counted.{AreCounted};
+ghost use Rattle.tp_book.specs.Counted.{AreCounted};
 ghost use Rattle.tp_model.specs.declared.opening.OpenFault.{OpenFault};
 ghost use Rattle.tp_model.specs.Replay.{Replay, after_rows, replay_from};
 ghost use Rattle.tp_replay.specs.Flat.{IsFlat, TakesByte};

@@ -8,7 +8,7 @@ use std::marker::Model;
 use tp_model::{Token, WireEnd};
 use tp_net::{Lines, port_line};
 use tp_node::Node;
-use tp_port::HostPort;
+use tp_book::HostPort;
 
 /// A network in one thread: its wires, nodes, lines and ports. No node is frozen.
 #[derive(Drop)]

@@ -12,7 +12,7 @@ use std::alloc::{AllocError, Global};
 use tp_book::NetParts;
 use tp_model::Token;
 use tp_net::Lines;
-use tp_port::all_parts;
+use tp_book::all_parts;
 
 /// The tokens on a line.
 fn tokens_on(alloc: Global, lines: &Lines, line: usize) -> Result<Vec<Token>, AllocError>

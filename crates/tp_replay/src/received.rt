@@ -12,7 +12,7 @@ use arrayvec::ArrayVec;
 use tp_model::{Received, Token, WireEnd};
 use tp_net::{Lines, receiver};
 use tp_node::{NoFrame, Node};
-use tp_port::incoming;
+use tp_book::incoming;
 
 /// Whether an end is this link of this node.
 fn is_link(end: Option<WireEnd>, node: usize, link: usize) -> bool

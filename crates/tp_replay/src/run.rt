@@ -12,7 +12,7 @@ use crate::network::FlatNetwork;
 use arrayvec::ArrayVec;
 use tp_model::limits::MAX_STEPS;
 use tp_net::link_line;
-use tp_port::send_all;
+use tp_book::send_all;
 
 impl FlatNetwork {
     /// Runs a node for at most `most` steps; for fewer only where it has no step then. Answers how many it made.

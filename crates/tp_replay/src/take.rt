@@ -18,7 +18,7 @@ use tp_law_machine::carries_byte;
 use tp_model::{Token, WireEnd};
 use tp_net::link_line;
 use tp_node::NoFrame;
-use tp_port::send_some;
+use tp_book::send_some;
 
 impl FlatNetwork {
     /// The receiver of a line takes the token in front.

@@ -16,7 +16,7 @@ use arrayvec::ArrayVec;
 use tp_model::Received;
 use tp_model::limits::MAX_STEPS;
 use tp_net::link_line;
-use tp_port::{send_all, tokens_of};
+use tp_book::{send_all, tokens_of};
 
 impl FlatNetwork {
     /// Has `node` take what came in on its links, and then make `count` steps. Where it can't make them, it has taken the tokens and

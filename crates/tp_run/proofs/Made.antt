@@ -9,7 +9,7 @@ use Rattle.tp_model.specs.Opening.{Opened, next_of}
 use Rattle.tp_model.specs.Spelling.{IsCut}
 use Rattle.tp_book.specs.declared.state.NetState.{NetState}
 use Rattle.tp_book.specs.Opened.{now_of, opened_book}
-use Rattle.tp_mark.specs.Seen.{RaiserValue}
+use Rattle.tp_ready.specs.Seen.{RaiserValue}
 use Rattle.tp_shared.specs.Parted.{PartsValue}
 use Rattle.tp_flush.specs.Made.{StandsFor}
 use Rattle.tp_flush.proofs.Made.{next_is}

@@ -15,13 +15,13 @@ use Rattle.tp_model.specs.DeviceAreas.{device_areas}
 use Rattle.tp_model.specs.Runs.{World}
 use Rattle.tp_model.specs.Walks.{RecoversTo}
 use Rattle.tp_disk.proofs.Calls.{weaker}
-use Rattle.tp_law_runs.proofs.Walks.{chain_leads}
+use Rattle.tp_law_network.proofs.Walks.{chain_leads}
 use Rattle.tp_book.specs.Book.{BookValue, next_number, world_of}
 use Rattle.tp_book.specs.Calls.{marks_of}
 use Rattle.tp_book.specs.Host.{after_confirm, port_in, shown_from, shown_of, shown_upto_of, with_confirmed}
 use Rattle.tp_book.specs.Acts.{confirm_entries}
 use Rattle.tp_shared.specs.Receipted.{Receipted}
-use Rattle.tp_host.specs.Receipts.{IsFor}
+use Rattle.tp_work.specs.Receipts.{IsFor}
 use Rattle.tp_flush.specs.Ahead.{IsAhead}
 use Rattle.tp_flush.specs.Known.{Reached}
 use Rattle.tp_flush.specs.Flushing.{Flushing, Walked}

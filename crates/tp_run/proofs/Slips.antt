@@ -16,7 +16,7 @@ use Rattle.tp_book.specs.Acts.{confirm_entries}
 use Rattle.tp_shared.specs.Receipted.{AreBelow, Receipted}
 use Rattle.tp_flush.specs.Settled.{Stand}
 use Rattle.tp_flush.proofs.Settling.{below_more}
-use Rattle.tp_host.specs.Receipts.{IsFor}
+use Rattle.tp_work.specs.Receipts.{IsFor}
 use Rattle.tp_run.specs.Accounted.{Accounted}
 use Rattle.tp_run.specs.declared.job.Job.{Job}
 use Rattle.tp_run.specs.declared.outset.Outset.{Outset}

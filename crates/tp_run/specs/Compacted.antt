@@ -9,7 +9,7 @@ use Rattle.tp_model.specs.Opening.{Opened}
 use Rattle.tp_model.specs.Disk.{MayBe}
 use Rattle.tp_model.specs.DiskHistory.{State, LeavesOnly}
 use Rattle.tp_flush.specs.Follows.{Follows}
-use Rattle.tp_layout.specs.Capacity.{capacity, journal_of}
+use Rattle.tp_area.specs.Capacity.{capacity, journal_of}
 use Rattle.tp_run.specs.declared.compacting.Compaction.{Compaction}
 use Rattle.tp_run.specs.declared.compacting.CompactFault.{CompactFault}
 use Rattle.tp_run.specs.declared.compacting.CompactFault.TheVariants.{Opening, NoGeneration, DeviceFailed, NotWhole, Memory}

@@ -1,7 +1,7 @@
 -- When a snapshot begins.
 use Rattle.std.specs.Prelude.{ℕ, ◌-◌, nat_le, if◌then◌else◌, Option, Some, None}
 use Rattle.tp_model.specs.Topology.{Topology}
-use Rattle.tp_layout.specs.Capacity.{half_capacity, journal_of}
+use Rattle.tp_area.specs.Capacity.{half_capacity, journal_of}
 use Rattle.tp_book.specs.Book.{BookValue, next_number}
 
 -- how many entries fill half of the journal of an area

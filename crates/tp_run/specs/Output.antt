@@ -5,7 +5,7 @@ use Rattle.tp_model.specs.declared.entry.Entry.{Entry}
 use Rattle.tp_model.specs.declared.entry.Entry.TheVariants.{Confirm}
 use Rattle.tp_book.specs.Book.{BookValue, next_number}
 use Rattle.tp_book.specs.Host.{port_in, shown_from, shown_of}
-use Rattle.tp_host.specs.Receipts.{IsFor}
+use Rattle.tp_work.specs.Receipts.{IsFor}
 use Rattle.tp_shared.specs.Receipted.{Receipted}
 use Rattle.tp_run.specs.declared.fault.RunFault.{RunFault}
 use Rattle.tp_run.specs.declared.fault.RunFault.TheVariants.{OutputFailed}

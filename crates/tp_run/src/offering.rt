@@ -3,14 +3,14 @@
 ghost use Rattle.std.specs.Prelude.{◌≡◌, ◌<◌, length, map, take, drop, IfOk, IfErr, OnErr};
 ghost use Rattle.tp_book.specs.Book.{next_number};
 ghost use Rattle.tp_book.specs.Host.{after_input};
-ghost use Rattle.tp_host.specs.Receipts.{IsFor};
+ghost use Rattle.tp_work.specs.Receipts.{IsFor};
 ghost use Rattle.tp_model.specs.declared.entry.Entry.TheVariants.{HostIn};
 ghost use Rattle.tp_run.specs.Input.{IsForInput, rest_of};
 ghost use Rattle.tp_run.specs.Faults.{IsBegun};
 
 use crate::fault::RunFault;
 use crate::outset::Outset;
-use tp_host::{OfferFault, offer};
+use tp_work::{OfferFault, offer};
 use tp_shared::{Locked, Naming, Receipt};
 
 // At most `room` bytes from the position `from` on.

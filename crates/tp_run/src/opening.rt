@@ -11,7 +11,7 @@ use crate::job::Job;
 use crate::outset::Outset;
 use std::alloc::{AllocError, Global};
 use tp_book::{Book, opened_books_begin};
-use tp_mark::{Mark, Raiser};
+use tp_ready::{Mark, Raiser};
 use tp_net::Topology;
 use tp_recover::Opened;
 use tp_shared::Parts;

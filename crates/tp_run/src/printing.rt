@@ -5,7 +5,7 @@ ghost use Rattle.std.specs.Io.KnownBytes.{Appends};
 ghost use Rattle.tp_book.specs.Book.{next_number};
 ghost use Rattle.tp_book.specs.Host.{after_confirm, port_in, shown_from, shown_of, shown_upto_of};
 ghost use Rattle.tp_book.specs.Acts.{confirm_entries};
-ghost use Rattle.tp_host.specs.Receipts.{IsFor};
+ghost use Rattle.tp_work.specs.Receipts.{IsFor};
 ghost use Rattle.tp_run.specs.Faults.{IsBegun, IsLate};
 ghost use Rattle.tp_run.specs.Output.{AppendsFront, AreOutputs, AreShown, IsForOutput, Printed, PrintedOf, ShowsAll};
 
@@ -13,7 +13,7 @@ use crate::fault::RunFault;
 use crate::outset::Outset;
 use std::io::{ErrorKind, Write};
 use tp_book::Book;
-use tp_host::{ConfirmFault, confirm};
+use tp_work::{ConfirmFault, confirm};
 use tp_shared::{Locked, Naming, Receipt};
 
 /// Writes bytes as they are. A front of them stands on the output, whatever is answered.

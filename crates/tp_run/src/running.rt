@@ -35,7 +35,7 @@ use std::thread::Threads;
 use tp_area::Store;
 use tp_disk::Disk;
 use tp_flush::{Flusher, stored_slips_are_recovered, topology_of};
-use tp_mark::Raiser;
+use tp_ready::Raiser;
 use tp_net::Topology;
 use tp_recover::{Opened, open};
 use tp_shared::{Naming, NoGate, Parts};

@@ -13,7 +13,7 @@ use Rattle.tp_turn.specs.Hosted.{HostDone}
 use Rattle.tp_turn.specs.Over.{ClosesOver, ClosesAll}
 use Rattle.tp_turn.proofs.Adding.{entries_more}
 use Rattle.tp_turn.specs.Settled.{Records}
-use Rattle.tp_snap.specs.Needs.{is_asked}
+use Rattle.tp_book.specs.Needs.{is_asked}
 use Rattle.tp_shared.specs.Agreement.{at_rest}
 use Rattle.tp_shared.specs.BookActs.{NodeActed, HostActed}
 use Rattle.tp_shared.proofs.Holding.{acted_free}

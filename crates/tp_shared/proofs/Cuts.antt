@@ -9,11 +9,11 @@ use Rattle.tp_model.specs.Acts.{Act, happens, acted}
 use Rattle.tp_model.specs.Runs.{is_trim, HasCut}
 use Rattle.tp_law_machine.proofs.LinkLaws.{has_four_links, never_marks}
 use Rattle.tp_law_network.proofs.Partial.{bind_some}
-use Rattle.tp_law_cuts.specs.Invariant.{Holds}
-use Rattle.tp_law_cuts.proofs.Happens.{happens_holds}
-use Rattle.tp_law_cuts.proofs.Stays.{cut_stays}
-use Rattle.tp_law_cuts.proofs.Whole.{whole_parts, parts_recorded}
-use Rattle.tp_snap.specs.Needs.{has_recorded_in}
+use Rattle.tp_law_network.specs.Invariant.{Holds}
+use Rattle.tp_law_network.proofs.Happens.{happens_holds}
+use Rattle.tp_law_network.proofs.Stays.{cut_stays}
+use Rattle.tp_law_network.proofs.Whole.{whole_parts, parts_recorded}
+use Rattle.tp_book.specs.Needs.{has_recorded_in}
 
 module _ (cut : WholeCut) (nodes : List NodeState) where
   -- a whole cut stays through acts

@@ -11,10 +11,10 @@ use Rattle.tp_model.specs.Snapshot.{Snapshot, MarkedNetwork, has_recorded}
 use Rattle.tp_model.specs.FrozenAs.{IsFrozenAs}
 use Rattle.tp_law_machine.proofs.LinkLaws.{has_four_links}
 use Rattle.tp_law_network.proofs.Local.{own-node}
-use Rattle.tp_law_cuts.specs.Invariant.{Holds, as_recorded}
-use Rattle.tp_law_cuts.proofs.Shape.{mid_nodes}
-use Rattle.tp_law_cuts.proofs.Whole.{running}
-use Rattle.tp_snap.specs.Needs.{has_recorded_in}
+use Rattle.tp_law_network.specs.Invariant.{Holds, as_recorded}
+use Rattle.tp_law_network.proofs.Shape.{mid_nodes}
+use Rattle.tp_law_network.proofs.Whole.{running}
+use Rattle.tp_book.specs.Needs.{has_recorded_in}
 use Rattle.tp_book.specs.Book.{BookValue, agreed, world_of}
 use Rattle.tp_book.proofs.Remarked.{running_in}
 use Rattle.tp_shared.specs.Pieces.{IsFrozenPage}

@@ -12,7 +12,7 @@ use Rattle.tp_model.specs.NodeState.{NodeState}
 use Rattle.tp_model.specs.Network.{Network, back}
 use Rattle.tp_model.specs.Acts.{Act}
 use Rattle.tp_model.specs.Runs.{is_trim}
-use Rattle.tp_port.proofs.Lists.{set_back}
+use Rattle.tp_book.proofs.Lists.{set_back}
 use Rattle.tp_node.specs.NodeContents.{NodeContents}
 use Rattle.tp_book.specs.declared.refusal.Refusal.{Refusal}
 use Rattle.tp_book.specs.declared.refusal.Refusal.TheVariants.{JournalFull, StoreBroken, Memory, NothingToTake, SnapshotRunning, PortFull}

@@ -10,7 +10,7 @@ use Rattle.tp_model.specs.Node.{t414}
 use Rattle.tp_model.specs.Entries.{process}
 use Rattle.tp_model.specs.Acts.{Act, Begin, Journal, happens, acted}
 use Rattle.tp_model.specs.Runs.{is_trim}
-use Rattle.tp_snap.specs.Needs.{has_recorded_in}
+use Rattle.tp_book.specs.Needs.{has_recorded_in}
 use Rattle.tp_book.specs.declared.refusal.Refusal.{Refusal}
 use Rattle.tp_book.specs.declared.refusal.Refusal.TheVariants.{JournalFull, StoreBroken, Memory, NothingToTake, SnapshotRunning, PortFull}
 use Rattle.tp_book.specs.Acts.{input_acts, confirm_acts, confirm_entries}

@@ -16,7 +16,7 @@ use Rattle.tp_model.specs.Node.{t414}
 use Rattle.tp_model.specs.Acts.{Begin, happens}
 use Rattle.tp_law_machine.specs.NodeOfBytes.{IsNodeOfBytes}
 use Rattle.tp_node.specs.NodeContents.{NodeContents}
-use Rattle.tp_snap.specs.Needs.{has_recorded_in}
+use Rattle.tp_book.specs.Needs.{has_recorded_in}
 use Rattle.tp_book.specs.declared.refusal.Refusal.{Refusal}
 use Rattle.tp_book.specs.Book.{BookValue, agreed, next_number, world_of}
 use Rattle.tp_book.specs.Joined.{FitsRoom}

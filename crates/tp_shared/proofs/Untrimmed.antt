@@ -11,7 +11,7 @@ use Rattle.tp_model.specs.Entries.{process}
 use Rattle.tp_model.specs.Acts.{Act, Begin, Record, Journal, Close, Trim}
 use Rattle.tp_model.specs.Runs.{is_trim}
 use Rattle.tp_law_machine.proofs.Partial.{all_append}
-use Rattle.tp_snap.specs.Needs.{is_asked}
+use Rattle.tp_book.specs.Needs.{is_asked}
 use Rattle.tp_book.specs.Book.{BookValue}
 use Rattle.tp_book.specs.Calls.{front_of}
 use Rattle.tp_book.specs.declared.refusal.Refusal.{Refusal}

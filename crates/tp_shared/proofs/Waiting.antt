@@ -11,7 +11,7 @@ use Rattle.tp_model.specs.Entries.{process}
 use Rattle.tp_model.specs.Order.{after}
 use Rattle.tp_model.specs.Halves.{BookState}
 use Rattle.tp_model.specs.Acts.{Act, acted}
-use Rattle.tp_law_cuts.specs.Reserved.{IsNotOf}
+use Rattle.tp_law_network.specs.Reserved.{IsNotOf}
 use Rattle.tp_law_machine.proofs.LinkLaws.{has_four_links}
 use Rattle.tp_law_network.proofs.Reorder.{after_shape}
 use Rattle.tp_book.specs.Book.{BookValue, agreed, nodes_in, world_of}

@@ -6,7 +6,7 @@ use Rattle.tp_model.specs.Node.{t414}
 use Rattle.tp_model.specs.Acts.{Act, acted}
 use Rattle.tp_model.specs.Entries.{process}
 use Rattle.tp_model.specs.Runs.{is_trim}
-use Rattle.tp_snap.specs.Needs.{has_recorded_in}
+use Rattle.tp_book.specs.Needs.{has_recorded_in}
 use Rattle.tp_book.specs.Book.{BookValue, agreed, next_number, world_of}
 use Rattle.tp_turn.specs.Moments.{entries_in}
 use Rattle.tp_shared.specs.Agreement.{Agreement}

@@ -7,7 +7,7 @@ use Rattle.tp_model.specs.declared.link.Received.{Received}
 use Rattle.tp_model.specs.NodeState.{NodeState}
 use Rattle.tp_model.specs.Network.{Network}
 use Rattle.tp_model.specs.Entries.{process}
-use Rattle.tp_law_cuts.specs.Reserved.{turn_entries}
+use Rattle.tp_law_network.specs.Reserved.{turn_entries}
 use Rattle.tp_book.specs.declared.refusal.Refusal.{Refusal}
 use Rattle.tp_book.specs.declared.refusal.Refusal.TheVariants.{JournalFull, StoreBroken, Memory, NothingToTake, SnapshotRunning, PortFull}
 use Rattle.tp_turn.specs.declared.opened.Opened.{Opened}

@@ -5,7 +5,7 @@ use Rattle.tp_model.specs.declared.link.Received.{Received}
 use Rattle.tp_model.specs.NodeState.{NodeState}
 use Rattle.tp_model.specs.Network.{Network}
 use Rattle.tp_model.specs.Turn.{by_link}
-use Rattle.tp_law_cuts.specs.Reserved.{turn_entries}
+use Rattle.tp_law_network.specs.Reserved.{turn_entries}
 use Rattle.tp_book.specs.Acts.{run_entries}
 use Rattle.tp_shared.specs.Entries.{CountedTakes}
 use Rattle.tp_shared.specs.Gains.{Gained}

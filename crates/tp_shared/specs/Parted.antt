@@ -1,6 +1,6 @@
 -- Parts that belong together.
 use Rattle.std.specs.Prelude.{◌≡◌, ℕ, zero, suc, List, [], ◌∷◌, map, length, None}
-use Rattle.tp_mark.specs.Seen.{MarkName}
+use Rattle.tp_ready.specs.Seen.{MarkName}
 use Rattle.tp_model.specs.declared.entry.Entry.{Entry}
 use Rattle.tp_node.specs.NodeContents.{NodeContents}
 use Rattle.tp_book.specs.declared.state.NetState.{NetState}

@@ -3,7 +3,7 @@ use Rattle.std.specs.Prelude.{◌≡◌, ℕ, Bool, List, [], ◌∷◌}
 use Rattle.tp_model.specs.NodeState.{NodeState}
 use Rattle.tp_model.specs.Network.{Network}
 use Rattle.tp_node.specs.NodeContents.{NodeContents}
-use Rattle.tp_snap.specs.Needs.{is_asked}
+use Rattle.tp_book.specs.Needs.{is_asked}
 use Rattle.tp_book.specs.Book.{BookValue}
 use Rattle.tp_turn.specs.Moments.{Done, IsNodeOf, moment}
 use Rattle.tp_turn.specs.Settled.{Records}

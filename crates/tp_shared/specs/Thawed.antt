@@ -5,7 +5,7 @@ use Rattle.tp_model.specs.NodeState.{NodeState}
 use Rattle.tp_model.specs.Node.{t414}
 use Rattle.tp_model.specs.WholeCut.{WholeCut}
 use Rattle.tp_model.specs.Runs.{HasCut}
-use Rattle.tp_law_cuts.specs.Invariant.{Holds}
+use Rattle.tp_law_network.specs.Invariant.{Holds}
 use Rattle.tp_shared.specs.declared.seal.NodeSeal.{NodeSeal}
 use Rattle.tp_shared.specs.declared.told.Told.{Told}
 

@@ -2,11 +2,11 @@
 
 ghost use Rattle.std.specs.Prelude.{◌≡◌, ◌<◌, [], length, map, set, IfOk};
 ghost use Rattle.tp_model.specs.Network.{on_line};
-ghost use Rattle.tp_port.specs.Parts.{port_of};
+ghost use Rattle.tp_book.specs.PortParts.{port_of};
 
 use std::alloc::{AllocError, Global};
 use tp_net::Lines;
-use tp_port::PortParts;
+use tp_book::PortParts;
 
 // Puts onto an empty line what stands on that line of others.
 fn copy_line(lines: &mut Lines, line: usize, from: &Lines)

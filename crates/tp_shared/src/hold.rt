@@ -1,7 +1,7 @@
 //! What is done for a node while the book's lock is held.
 
 ghost use Rattle.std.specs.Prelude.{◌≡◌, [], Some, None, true, false, slice_get, IfErr};
-ghost use Rattle.tp_snap.specs.Needs.{has_recorded_in};
+ghost use Rattle.tp_book.specs.Needs.{has_recorded_in};
 ghost use Rattle.tp_shared.specs.Agreement.{answered_with, at_rest};
 ghost use Rattle.tp_shared.specs.BookActs.{NodeActed};
 ghost use Rattle.tp_shared.specs.Entries.{IsTurnRefusal, OpenedEntries};

@@ -2,7 +2,7 @@
 
 ghost use Rattle.std.specs.Prelude.{◌≡◌, ◌<◌, ◌≤◌, ℕ, false, get_or, length};
 ghost use Rattle.tp_model.specs.declared.limits.TheConstants.{MAX_NODES};
-ghost use Rattle.tp_snap.specs.Needs.{has_recorded_in};
+ghost use Rattle.tp_book.specs.Needs.{has_recorded_in};
 ghost use Rattle.tp_book.specs.Book.{node_count};
 
 use crate::locked::Locked;

@@ -1,7 +1,7 @@
 //! Which network is meant.
 
 ghost use Rattle.std.specs.Prelude.{ℕ, [], Option, None};
-ghost use Rattle.tp_mark.specs.Seen.{MarkName};
+ghost use Rattle.tp_ready.specs.Seen.{MarkName};
 ghost use Rattle.tp_model.specs.NodeState.{NodeState};
 ghost use Rattle.tp_model.specs.Network.{Network};
 ghost use Rattle.tp_model.specs.Runs.{World, fresh};

@@ -17,7 +17,7 @@ use std::alloc::{AllocError, Global};
 use std::marker::Model;
 use std::snapshot::Snapshot;
 use tp_book::Book;
-use tp_mark::Mark;
+use tp_ready::Mark;
 use tp_model::Entry;
 use tp_node::Node;
 use tp_token::{Key, Roll, Seal, pair, start, turn};

@@ -4,7 +4,7 @@ ghost use Rattle.std.specs.Prelude.{◌≡◌, ◌<◌, length};
 ghost use Rattle.tp_shared.specs.RecordedIn.{RecordedIn};
 ghost use Rattle.tp_shared.specs.Seals.{Shows};
 ghost use Rattle.tp_shared.specs.Holds.{IsBookOf};
-ghost use Rattle.tp_snap.specs.Needs.{is_asked};
+ghost use Rattle.tp_book.specs.Needs.{is_asked};
 ghost use Rattle.tp_turn.specs.Moments.{Done, IsNodeOf, moment};
 ghost use Rattle.tp_turn.specs.Settled.{Records};
 

@@ -24,7 +24,7 @@ use crate::soon::lock_soon;
 use crate::told::Told;
 use std::sync::{Mutex, Wait};
 use tp_book::Refusal;
-use tp_mark::Mark;
+use tp_ready::Mark;
 use tp_token::{Key, turn};
 
 // The hold of the book's lock in the host's turn.

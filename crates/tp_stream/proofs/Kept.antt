@@ -5,7 +5,7 @@ use Rattle.tp_model.specs.declared.limits.TheConstants.{NUMBER_LIMIT}
 use Rattle.tp_model.specs.Journal.{entry_room, is_full, reserve}
 use Rattle.tp_book.specs.Book.{BookValue, reserved}
 use Rattle.tp_book.specs.Refusals.{is_journal_full}
-use Rattle.tp_layout.specs.declared.journal.JournalRoom.{JournalRoom}
+use Rattle.tp_area.specs.declared.journal.JournalRoom.{JournalRoom}
 use Rattle.tp_stream.specs.Rooms.{Lies, has_room}
 
 not_full : (most kept entries runs base more lines : ℕ) (room : Option ℕ) → room ≡ Some most → kept ≡ reserve lines → runs ≡ 0

@@ -6,8 +6,8 @@ use Rattle.std.proofs.lemmas.List.Elements.{All-append, All-cons, All-nil}
 use Rattle.tp_model.specs.NodeState.{NodeState}
 use Rattle.tp_model.specs.Network.{Network}
 use Rattle.tp_stream.specs.declared.task.Task.{Task}
-use Rattle.tp_stream_ends.specs.declared.ending.Ending.{Ending}
-use Rattle.tp_stream_ends.specs.declared.ending.Ending.TheVariants.{Quiet, Turns, Gone, Halted, Stopped}
+use Rattle.tp_stream_files.specs.declared.ending.Ending.{Ending}
+use Rattle.tp_stream_files.specs.declared.ending.Ending.TheVariants.{Quiet, Turns, Gone, Halted, Stopped}
 use Rattle.tp_stream.specs.declared.fault.StreamFault.{StreamFault}
 use Rattle.tp_stream.specs.Looks.{HaveLooked, LooksOnce, is_stopped, looked}
 use Rattle.tp_stream.specs.Quiet.{IsWhyEnded}

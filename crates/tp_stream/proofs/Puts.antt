@@ -9,14 +9,14 @@ use Rattle.tp_model.specs.Network.{Network, Port}
 use Rattle.tp_model.specs.Markers.{plain_network}
 use Rattle.tp_model.specs.Order.{after}
 use Rattle.tp_model.specs.Runs.{World}
-use Rattle.tp_port.specs.Ports.{fresh_port}
+use Rattle.tp_book.specs.Ports.{fresh_port}
 use Rattle.tp_book.specs.Book.{BookValue, next_number, world_of}
 use Rattle.tp_book.specs.Host.{after_confirm, confirmed_port, port_in, shown_from, shown_of, with_confirmed}
 use Rattle.tp_flush.specs.Ahead.{IsAhead}
 use Rattle.std.proofs.lemmas.List.{length-append}
-use Rattle.tp_stream_ends.specs.Held.{Held, HasPut, KeepsFront}
-use Rattle.tp_stream_ends.specs.Outputs.{Grew, OutputValue}
-use Rattle.tp_stream_ends.proofs.Sinks.{none_put}
+use Rattle.tp_stream_files.specs.Held.{Held, HasPut, KeepsFront}
+use Rattle.tp_stream_files.specs.Outputs.{Grew, OutputValue}
+use Rattle.tp_stream_files.proofs.StreamEndsSinks.{none_put}
 use Rattle.tp_stream.specs.Put.{EachWith, Shows, port_of}
 use Rattle.tp_stream.specs.Steps.{AreLeft, Extends, IsLeft, PutsLeft, PutsShown, Stands}
 

@@ -16,9 +16,9 @@ use Rattle.tp_shared.specs.Holds.{InHand}
 use Rattle.tp_shared.specs.TurnsMade.{HostTurnMade, TurnMade}
 use Rattle.tp_shared.specs.declared.node_turn.NodeTurn.{NodeTurn}
 use Rattle.tp_stream.specs.declared.task.Task.{Task}
-use Rattle.tp_stream_ends.specs.declared.ending.Ended.{Ended}
-use Rattle.tp_stream_ends.specs.declared.ending.Ending.{Ending}
-use Rattle.tp_stream_ends.specs.declared.ending.Ending.TheVariants.{Quiet, Turns, Gone, Halted, Stopped as AskedTo}
+use Rattle.tp_stream_files.specs.declared.ending.Ended.{Ended}
+use Rattle.tp_stream_files.specs.declared.ending.Ending.{Ending}
+use Rattle.tp_stream_files.specs.declared.ending.Ending.TheVariants.{Quiet, Turns, Gone, Halted, Stopped as AskedTo}
 use Rattle.tp_stream.specs.declared.fault.StreamFault.{StreamFault}
 use Rattle.tp_stream.specs.declared.pumping.Pumped.{Pumped}
 use Rattle.tp_stream.specs.declared.turns.Turns.{Turns as TurnsValue}

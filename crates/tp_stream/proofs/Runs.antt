@@ -14,9 +14,9 @@ use Rattle.tp_flush.specs.Known.{Began, Reached}
 use Rattle.tp_flush.specs.Flushing.{Flushing, Walked}
 use Rattle.tp_flush.specs.Follows.{Follows}
 use Rattle.tp_flush.proofs.Follows.{read_alone, read_first, stored_follows, walked_either, walked_follows}
-use Rattle.tp_stream_ends.specs.Held.{HasPut}
-use Rattle.tp_stream_ends.specs.Outputs.{Given, OutputValue, given_of}
-use Rattle.tp_stream_ends.specs.declared.ending.Ended.{Ended}
+use Rattle.tp_stream_files.specs.Held.{HasPut}
+use Rattle.tp_stream_files.specs.Outputs.{Given, OutputValue, given_of}
+use Rattle.tp_stream_files.specs.declared.ending.Ended.{Ended}
 use Rattle.tp_stream.specs.declared.fault.StreamFault.{StreamFault}
 use Rattle.tp_stream.specs.declared.fault.StreamFault.TheVariants.{Opening, Spare, Port, Unnamed, Short, Long, Gone, NotShown, ShortInput, InputFailed, OutputFailed, FlushFailed, JournalFull, Memory}
 use Rattle.tp_stream.specs.declared.standing.Standing.{Standing}

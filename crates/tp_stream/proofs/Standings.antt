@@ -9,18 +9,18 @@ use Rattle.std.proofs.lemmas.List.Folds.{sum_by-replicate}
 use Rattle.std.proofs.lemmas.Option.{slice_get-get_or, slice_get-map, slice_get_within}
 use Rattle.tp_model.specs.Network.{Port}
 use Rattle.tp_model.specs.Opening.{Opened, verdict}
-use Rattle.tp_port.specs.Counted.{AreCounted}
-use Rattle.tp_port.specs.Ports.{fresh_port, opened_port}
+use Rattle.tp_book.specs.Counted.{AreCounted}
+use Rattle.tp_book.specs.Ports.{fresh_port, opened_port}
 use Rattle.tp_book.specs.declared.state.NetState.{NetState}
 use Rattle.tp_book.specs.Book.{BookValue, outputs_of}
 use Rattle.tp_book.specs.Host.{accepted_of, port_in}
 use Rattle.tp_book.specs.Opened.{now_of, opened_book}
-use Rattle.tp_stream_ends.specs.declared.ending.Ended.{Ended}
+use Rattle.tp_stream_files.specs.declared.ending.Ended.{Ended}
 use Rattle.tp_stream.specs.declared.fault.StreamFault.{StreamFault}
 use Rattle.tp_stream.specs.declared.fault.StreamFault.TheVariants.{Opening, Spare, Port as Absent, Unnamed, Short, Long, Gone, NotShown, ShortInput, InputFailed, OutputFailed, FlushFailed, JournalFull, Memory}
 use Rattle.tp_stream.specs.declared.standing.Standing.{Standing}
-use Rattle.tp_stream_ends.specs.Inputs.{GivenInput, HasAtLeast}
-use Rattle.tp_stream_ends.specs.Outputs.{Given, OutputValue, given_of}
+use Rattle.tp_stream_files.specs.Inputs.{GivenInput, HasAtLeast}
+use Rattle.tp_stream_files.specs.Outputs.{Given, OutputValue, given_of}
 use Rattle.tp_stream.specs.Standing.{AllHaveAccepted, AllMayBegin, HaveAcceptedBelow, IsFirstRefused, IsFirstShort, IsNotBegun, MayBegin, MayBeginBelow, OfInput, OfOutput, Refuses, RefusesInput, accepted, accepted_opened, put_out, standing, stands_opened}
 use Rattle.tp_stream.specs.Streamed.{IsBegun}
 

@@ -12,7 +12,7 @@ use Rattle.tp_model.specs.declared.entry.Entry.{Entry}
 use Rattle.tp_model.specs.Runs.{World}
 use Rattle.tp_model.specs.Walks.{RecoversTo}
 use Rattle.tp_disk.proofs.Calls.{weaker}
-use Rattle.tp_law_runs.proofs.Walks.{chain_leads}
+use Rattle.tp_law_network.proofs.Walks.{chain_leads}
 use Rattle.tp_book.specs.Book.{BookValue}
 use Rattle.tp_book.specs.Host.{shown_from}
 use Rattle.tp_flush.specs.Known.{Reached}
@@ -20,9 +20,9 @@ use Rattle.tp_flush.specs.Flushing.{Flushing, Walked}
 use Rattle.tp_flush.proofs.Kept.{reached_then}
 use Rattle.tp_flush.proofs.Recovers.{recovers_less}
 use Rattle.tp_flush.proofs.Turns.{walked_recovers, walked_stays, walked_then}
-use Rattle.tp_stream_ends.specs.Held.{Held, HasPut}
-use Rattle.tp_stream_ends.specs.Outputs.{OutputValue}
-use Rattle.tp_stream_ends.proofs.Sinks.{none_put}
+use Rattle.tp_stream_files.specs.Held.{Held, HasPut}
+use Rattle.tp_stream_files.specs.Outputs.{OutputValue}
+use Rattle.tp_stream_files.proofs.StreamEndsSinks.{none_put}
 use Rattle.tp_stream.specs.Put.{ArePut, EachWith, Got, Piece, Shows, bytes_of}
 use Rattle.tp_stream.specs.Steps.{AllStepped, AreSteps, PutsLeft, Stands, Step, Stepped, put_by}
 use Rattle.tp_stream.proofs.Puts.{each_like, each_same, each_then, shows_left}

@@ -4,8 +4,8 @@ use Rattle.tp_stream.specs.declared.task.Task.{Task}
 use Rattle.tp_stream.specs.declared.turns.Turns.{Turns}
 use Rattle.tp_stream.specs.declared.pumping.Pumped.{Pumped}
 use Rattle.tp_stream.specs.declared.pumping.Pumped.TheVariants.{Nothing, Gone as TakerGone}
-use Rattle.tp_stream_ends.specs.declared.ending.Ending.{Ending}
-use Rattle.tp_stream_ends.specs.declared.ending.Ending.TheVariants.{Quiet, Turns as BoundReached, Gone, Halted, Stopped}
+use Rattle.tp_stream_files.specs.declared.ending.Ending.{Ending}
+use Rattle.tp_stream_files.specs.declared.ending.Ending.TheVariants.{Quiet, Turns as BoundReached, Gone, Halted, Stopped}
 
 -- Nothing is left to do: more of the last turns in a row than there are nodes had nothing to do, no stream has moved, and no input is
 -- left that its port may take.

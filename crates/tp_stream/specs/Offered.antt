@@ -2,7 +2,7 @@
 use Rattle.std.specs.Prelude.{◌≡◌, ℕ, List, Option}
 use Rattle.tp_book.specs.Book.{BookValue}
 use Rattle.tp_book.specs.Host.{accepted_of, after_input, port_in}
-use Rattle.tp_stream_ends.specs.Inputs.{AreFrom}
+use Rattle.tp_stream_files.specs.Inputs.{AreFrom}
 
 -- A port was handed the bytes of its input from what it has accepted on.
 pub record Offered (input : Option (List ℕ)) (port : ℕ) (old new : BookValue) : Type 0 where

@@ -2,11 +2,11 @@
 use Rattle.std.specs.Prelude.{ℕ, Bool, true, false, Option, Some, None}
 use Rattle.tp_node.specs.declared.standing.Standing.{Standing}
 use Rattle.tp_node.specs.declared.standing.Standing.TheVariants.{Halted as NodeHalted, Waits as NodeWaits, Free}
-use Rattle.tp_stream_ends.specs.declared.ending.Stopped.{Stopped}
-use Rattle.tp_stream_ends.specs.declared.ending.Stopped.TheVariants.{Halted, Waits}
+use Rattle.tp_stream_files.specs.declared.ending.Stopped.{Stopped}
+use Rattle.tp_stream_files.specs.declared.ending.Stopped.TheVariants.{Halted, Waits}
 use Rattle.tp_stream.specs.declared.fault.StreamFault.TheVariants.{OutputFailed}
-use Rattle.tp_stream_ends.specs.declared.sink.SinkFault.{SinkFault}
-use Rattle.tp_stream_ends.specs.declared.sink.SinkFault.TheVariants.{Failed, Gone}
+use Rattle.tp_stream_files.specs.declared.sink.SinkFault.{SinkFault}
+use Rattle.tp_stream_files.specs.declared.sink.SinkFault.TheVariants.{Failed, Gone}
 use Rattle.tp_stream.specs.declared.output.StepFault.{StepFault}
 use Rattle.tp_stream.specs.declared.output.StepFault.TheVariants.{Gone as TakerGone, Fault}
 use Rattle.tp_stream.specs.Streamed.{IsBegun}

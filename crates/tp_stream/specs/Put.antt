@@ -9,10 +9,10 @@ use Rattle.tp_model.specs.DiskHistory.{LeavesOnly, State, moment}
 use Rattle.tp_model.specs.DeviceAreas.{device_areas}
 use Rattle.tp_model.specs.Opening.{Opened, verdict}
 use Rattle.tp_model.specs.Walks.{RecoversTo}
-use Rattle.tp_port.specs.Ports.{fresh_port}
-use Rattle.tp_stream_ends.specs.Held.{HasPut}
-use Rattle.tp_stream_ends.specs.Outputs.{OutputValue, given_of}
-use Rattle.tp_stream_ends.specs.declared.ending.Ended.{Ended}
+use Rattle.tp_book.specs.Ports.{fresh_port}
+use Rattle.tp_stream_files.specs.Held.{HasPut}
+use Rattle.tp_stream_files.specs.Outputs.{OutputValue, given_of}
+use Rattle.tp_stream_files.specs.declared.ending.Ended.{Ended}
 use Rattle.tp_stream.specs.declared.fault.StreamFault.{StreamFault}
 use Rattle.tp_stream.specs.Standing.{from_of, stands_opened}
 use Rattle.tp_stream.specs.Streamed.{Streamed}

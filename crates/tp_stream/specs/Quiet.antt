@@ -5,14 +5,14 @@ use Rattle.tp_model.specs.Network.{Network}
 use Rattle.tp_model.specs.Node.{node_step}
 use Rattle.tp_node.specs.declared.run.Why.{Why}
 use Rattle.tp_node.specs.declared.run.Why.TheVariants.{Full, Idle, NoFrame, Halted as Stopped}
-use Rattle.tp_snap.specs.Needs.{has_recorded_in}
+use Rattle.tp_book.specs.Needs.{has_recorded_in}
 use Rattle.tp_book.specs.Book.{BookValue, node_count}
 use Rattle.tp_shared.specs.declared.node_turn.NodeTurn.{NodeTurn}
 use Rattle.tp_shared.specs.Holds.{InHand}
 use Rattle.tp_shared.specs.TurnsMade.{HostTurnMade, TurnMade}
 use Rattle.tp_stream.specs.declared.task.Task.{Task}
-use Rattle.tp_stream_ends.specs.declared.ending.Ending.{Ending}
-use Rattle.tp_stream_ends.specs.declared.ending.Ending.TheVariants.{Quiet, Turns, Gone, Halted, Stopped as AskedTo}
+use Rattle.tp_stream_files.specs.declared.ending.Ending.{Ending}
+use Rattle.tp_stream_files.specs.declared.ending.Ending.TheVariants.{Quiet, Turns, Gone, Halted, Stopped as AskedTo}
 
 -- A book of the network, with as many nodes and ports, was seen in which no snapshot runs.
 pub record IsStill (start : Network NodeState) : Type 0 where

@@ -3,8 +3,8 @@ use Rattle.std.specs.Prelude.{◌≡◌, ◌<◌, ℕ, ◌+◌, ◌-◌, Bool, �
 use Rattle.tp_model.specs.declared.limits.TheConstants.{MAX_HELD, NUMBER_LIMIT}
 use Rattle.tp_model.specs.Journal.{reserve}
 use Rattle.tp_book.specs.Book.{BookValue, next_number, outputs_of, reserved}
-use Rattle.tp_layout.specs.Capacity.{left_behind, takes}
-use Rattle.tp_layout.specs.declared.journal.JournalRoom.{JournalRoom}
+use Rattle.tp_area.specs.Capacity.{left_behind, takes}
+use Rattle.tp_area.specs.declared.journal.JournalRoom.{JournalRoom}
 
 -- A journal has room for `more` entries behind those that were made since the kept cut.
 abbrev pub has_room : JournalRoom → BookValue → ℕ → Bool

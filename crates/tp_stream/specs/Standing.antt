@@ -3,15 +3,15 @@ use Rattle.std.specs.Prelude.{◌≡◌, ◌⊎◌, ◌<◌, ◌≤◌, ℕ, ◌
 use Rattle.std.specs.Option.{unwrap_or}
 use Rattle.tp_model.specs.Network.{Port}
 use Rattle.tp_model.specs.Opening.{Opened}
-use Rattle.tp_port.specs.Ports.{fresh_port}
+use Rattle.tp_book.specs.Ports.{fresh_port}
 use Rattle.tp_book.specs.Book.{BookValue}
 use Rattle.tp_book.specs.Host.{accepted_of, port_in, shown_upto_of}
 use Rattle.tp_stream.specs.declared.fault.StreamFault.{StreamFault}
 use Rattle.tp_stream.specs.declared.fault.StreamFault.TheVariants.{Opening, Spare, Port as Absent, Unnamed, Short, Long, Gone, NotShown, ShortInput, InputFailed, OutputFailed, FlushFailed, JournalFull, Memory}
 use Rattle.tp_stream.specs.declared.standing.Standing.{Standing}
-use Rattle.tp_stream_ends.specs.Held.{HasAtMost, HasLength, HasReach, Reaches}
-use Rattle.tp_stream_ends.specs.Inputs.{GivenInput, HasAtLeast, IsLength}
-use Rattle.tp_stream_ends.specs.Outputs.{Given}
+use Rattle.tp_stream_files.specs.Held.{HasAtMost, HasLength, HasReach, Reaches}
+use Rattle.tp_stream_files.specs.Inputs.{GivenInput, HasAtLeast, IsLength}
+use Rattle.tp_stream_files.specs.Outputs.{Given}
 
 -- how many outputs a port has put out in all, those that were confirmed among them
 abbrev pub put_out : Port → ℕ

@@ -8,8 +8,8 @@ use Rattle.tp_model.specs.Runs.{World}
 use Rattle.tp_book.specs.Book.{BookValue}
 use Rattle.tp_book.specs.Host.{port_in, shown_from}
 use Rattle.tp_flush.specs.Flushing.{Flushing, Walked}
-use Rattle.tp_stream_ends.specs.Held.{HasPut}
-use Rattle.tp_stream_ends.specs.Outputs.{OutputValue, given_of}
+use Rattle.tp_stream_files.specs.Held.{HasPut}
+use Rattle.tp_stream_files.specs.Outputs.{OutputValue, given_of}
 use Rattle.tp_stream.specs.declared.standing.Standing.{Standing}
 use Rattle.tp_stream.specs.Put.{EachWith, Shows, port_of}
 use Rattle.tp_stream.specs.Standing.{from_of}

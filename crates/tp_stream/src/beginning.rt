@@ -1,9 +1,9 @@
 //! What is tested before a stream begins.
 
 ghost use Rattle.std.specs.Prelude.{◌≡◌, length, map, IfSome, OnOk, IfErr};
-ghost use Rattle.tp_port.specs.Counted.{AreCounted};
-ghost use Rattle.tp_stream_ends.specs.Inputs.{given_input};
-ghost use Rattle.tp_stream_ends.specs.Outputs.{given_of};
+ghost use Rattle.tp_book.specs.Counted.{AreCounted};
+ghost use Rattle.tp_stream_files.specs.Inputs.{given_input};
+ghost use Rattle.tp_stream_files.specs.Outputs.{given_of};
 ghost use Rattle.tp_stream.specs.Put.{EachWith};
 ghost use Rattle.tp_stream.specs.Standing.{AllHaveAccepted, AllMayBegin, IsFirstRefused, IsFirstShort, IsNotBegun, OfInput, OfOutput, accepted, standing};
 ghost use Rattle.tp_stream.specs.Steps.{IsSetOut};
@@ -13,7 +13,7 @@ use crate::output::begin;
 use crate::task::Task;
 use tp_book::Book;
 use tp_net::Topology;
-use tp_stream_ends::{Input, Listener, Output, Sink, Source, Streams};
+use tp_stream_files::{Input, Listener, Output, Sink, Source, Streams};
 
 /// Whether a port has a wire.
 fn is_wired(topology: &Topology, port: usize) -> bool {

@@ -7,7 +7,7 @@ ghost use Rattle.tp_stream.specs.Looks.{is_stopped, looked};
 use crate::pumping::Pumped;
 use crate::task::Task;
 use crate::turns::Turns;
-use tp_stream_ends::{Ending, Input, Source, Stop};
+use tp_stream_files::{Ending, Input, Source, Stop};
 
 /// Whether no input is left that its port may take.
 pub(crate) fn are_over<I: Source>(inputs: &[Input<I>]) -> bool {

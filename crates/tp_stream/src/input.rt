@@ -6,9 +6,9 @@ ghost use Rattle.tp_stream.specs.Offered.{Offered};
 ghost use Rattle.tp_stream.specs.Streamed.{IsBegun};
 
 use crate::fault::StreamFault;
-use tp_host::{OfferFault, offer};
+use tp_work::{OfferFault, offer};
 use tp_shared::{Locked, Naming};
-use tp_stream_ends::{Input, Source};
+use tp_stream_files::{Input, Source};
 
 /// Hands a port bytes, under the book's lock, where it accepts those at this position. Whether it took them: it takes none that it, or
 /// the journal, has no room for.

@@ -23,7 +23,7 @@ mod turns;
 pub use fault::StreamFault;
 pub use streaming::stream;
 pub use task::Task;
-pub use tp_stream_ends::{
+pub use tp_stream_files::{
     Ended, Ending, Input, Listener, MemSink, Noted, Output, Progress, Sink, SinkFault, Source,
     SourceFailed, Stop, Stopped, Streams,
 };

@@ -6,8 +6,8 @@ ghost use Rattle.tp_book.specs.Book.{next_number};
 ghost use Rattle.tp_book.specs.Opened.{IsOpened, opened_book};
 ghost use Rattle.tp_flush.specs.Made.{StandsFor};
 ghost use Rattle.tp_stream.specs.declared.fault.StreamFault.TheVariants.{Memory};
-ghost use Rattle.tp_stream_ends.specs.Inputs.{given_input};
-ghost use Rattle.tp_stream_ends.specs.Outputs.{given_of};
+ghost use Rattle.tp_stream_files.specs.Inputs.{given_input};
+ghost use Rattle.tp_stream_files.specs.Outputs.{given_of};
 ghost use Rattle.tp_stream.specs.Put.{EachWith};
 ghost use Rattle.tp_stream.specs.Standing.{AllHaveAccepted, AllMayBegin, IsNotBegun, accepted_opened, stands_opened};
 ghost use Rattle.tp_stream.specs.Steps.{IsSetOut};
@@ -16,10 +16,10 @@ use crate::beginning::begin_all;
 use crate::fault::StreamFault;
 use std::alloc::{AllocError, Global};
 use tp_book::{Book, NetState, opened_books_begin};
-use tp_mark::{Mark, Raiser};
+use tp_ready::{Mark, Raiser};
 use tp_recover::Opened;
 use tp_shared::Parts;
-use tp_stream_ends::{Listener, Sink, Source, Streams};
+use tp_stream_files::{Listener, Sink, Source, Streams};
 use tp_work::nodes_of;
 
 /// The parts of an opened book and its nodes, each with `spare` frames, and the raiser of their mark.

@@ -3,9 +3,9 @@
 ghost use Rattle.std.specs.Prelude.{◌≡◌, ◌<◌, ◌≤◌, ◌+◌, length, IfOk, OnOk, IfErr, OnErr};
 ghost use Rattle.tp_book.specs.Host.{after_confirm, port_in, shown_from, shown_upto_of};
 ghost use Rattle.tp_book.specs.Acts.{confirm_entries};
-ghost use Rattle.tp_host.specs.Receipts.{IsFor};
-ghost use Rattle.tp_stream_ends.specs.Held.{HasPut, KeepsFront};
-ghost use Rattle.tp_stream_ends.specs.Outputs.{Grew, given_of};
+ghost use Rattle.tp_work.specs.Receipts.{IsFor};
+ghost use Rattle.tp_stream_files.specs.Held.{HasPut, KeepsFront};
+ghost use Rattle.tp_stream_files.specs.Outputs.{Grew, given_of};
 ghost use Rattle.tp_stream.specs.Standing.{MayBegin, Refuses, from_of, put_out, standing};
 ghost use Rattle.tp_stream.specs.Streamed.{IsBegun};
 ghost use Rattle.tp_stream.specs.Outcomes.{IsStepFault, step_fault_of};
@@ -16,9 +16,9 @@ use crate::standing::Standing;
 use tp_book::Book;
 use tp_disk::Disk;
 use tp_flush::Flusher;
-use tp_host::{ConfirmFault, confirm};
+use tp_work::{ConfirmFault, confirm};
 use tp_shared::{Locked, Naming, Receipt};
-use tp_stream_ends::{Output, Sink, SinkFault};
+use tp_stream_files::{Output, Sink, SinkFault};
 
 /// Why a step of an output isn't done: whoever takes it has gone, or the stream ends with a fault.
 #[derive(Clone, Copy, Debug, PartialEq, Eq)]
@@ -49,7 +49,7 @@ fn fault_of(fault: ConfirmFault) -> StreamFault
 }
 
 /// Sets out where its port stands, where it may begin there.
-#[tactic(auto, using(tp_stream_ends::proofs::Sinks::reaches_less))]
+#[tactic(auto, using(tp_stream_files::proofs::StreamEndsSinks::reaches_less))]
 fn set_out<S: Sink>(output: &mut Output<S>, stand: Standing) -> Result<(), StreamFault>
     ensures begun { OnOk result (MayBegin stand (given_of output.old)) }
     ensures refused { IfErr result (Refuses stand (given_of output.old)) }
@@ -110,7 +110,7 @@ pub(crate) fn begin<S: Sink>(
 }
 
 /// Puts, at their positions, all outputs that the flusher's mark shows behind those that were put, and makes them safe.
-#[tactic(auto, using(tp_stream_ends::proofs::Sinks::front_stays))]
+#[tactic(auto, using(tp_stream_files::proofs::StreamEndsSinks::front_stays))]
 fn put_shown<J: Naming, D: Disk, S: Sink>(
     output: &mut Output<S>,
     book: &Book,

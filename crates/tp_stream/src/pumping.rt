@@ -16,7 +16,7 @@ use tp_disk::Disk;
 use tp_flush::Flusher;
 use tp_model::limits::MAX_HELD;
 use tp_shared::{Locked, Naming, Shared};
-use tp_stream_ends::{Input, Output, Sink, Source, Streams};
+use tp_stream_files::{Input, Output, Sink, Source, Streams};
 
 /// How many milliseconds input is waited for until it is looked again whether the stream is asked to stop.
 const REST: u64 = 20;

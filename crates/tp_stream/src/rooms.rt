@@ -2,11 +2,11 @@
 
 ghost use Rattle.std.specs.Prelude.{◌≡◌, ◌<◌, true, false};
 ghost use Rattle.tp_book.specs.Refusals.{is_journal_full};
-ghost use Rattle.tp_layout.specs.Capacity.{journal_of};
+ghost use Rattle.tp_area.specs.Capacity.{journal_of};
 ghost use Rattle.tp_stream.specs.Rooms.{HavePlace, Lies, free_of, has_room};
 
 use tp_book::Book;
-use tp_layout::JournalRoom;
+use tp_area::JournalRoom;
 use tp_model::limits::{MAX_HELD, NUMBER_LIMIT};
 use tp_net::Topology;
 

@@ -23,7 +23,7 @@ use tp_disk::Disk;
 use tp_flush::Flusher;
 use tp_model::limits::MAX_PORTS;
 use tp_shared::{Naming, Seat, Shared};
-use tp_stream_ends::{
+use tp_stream_files::{
     Ended, Ending, Input, Listener, Output, Progress, Sink, Source, Stop, Streams,
 };
 

@@ -8,7 +8,7 @@ use tp_book::Book;
 use tp_model::limits::MAX_HELD;
 use tp_node::Standing;
 use tp_shared::{Naming, Shared};
-use tp_stream_ends::{Ending, Listener, Stopped};
+use tp_stream_files::{Ending, Listener, Stopped};
 
 /// Whether a node has halted.
 pub(crate) fn find_halted<J: Naming, R: Wait>(rt: &R, shared: &Shared<J>) -> bool {

@@ -15,8 +15,8 @@ ghost use Rattle.tp_recover.specs.Reading.{LeavesNothingNew};
 ghost use Rattle.tp_flush.specs.Made.{StandsFor};
 ghost use Rattle.tp_flush.specs.History.{History};
 ghost use Rattle.tp_shared.specs.Named.{Names};
-ghost use Rattle.tp_stream_ends.specs.Inputs.{given_input};
-ghost use Rattle.tp_stream_ends.specs.Outputs.{given_of};
+ghost use Rattle.tp_stream_files.specs.Inputs.{given_input};
+ghost use Rattle.tp_stream_files.specs.Outputs.{given_of};
 ghost use Rattle.tp_stream.specs.Put.{ServedInto, StreamedInto};
 ghost use Rattle.tp_stream.specs.Looks.{HaveLooked};
 ghost use Rattle.tp_stream.specs.Quiet.{IsAsked};
@@ -38,11 +38,11 @@ use std::sync::Wait;
 use tp_area::Store;
 use tp_disk::Disk;
 use tp_flush::{Flusher, topology_of};
-use tp_mark::Raiser;
+use tp_ready::Raiser;
 use tp_net::Topology;
 use tp_recover::{Opened, open};
 use tp_shared::{Naming, Parts, Shared};
-use tp_stream_ends::{Ended, Listener, Sink, Source, Stop, Streams};
+use tp_stream_files::{Ended, Listener, Sink, Source, Stop, Streams};
 use tp_turn::{TAKES, TURN_ENTRIES};
 
 /// How turns are made on a device of this topology. Each needs room for a node's turn, or for the host's with [`TAKES`] entries a port,

@@ -1,5 +1,8 @@
-pub mod Traces
-pub mod Known
 pub mod Folders
+pub mod Fronts
 pub mod Keeping
+pub mod Known
 pub mod Pushed
+pub mod Read
+pub mod StreamEndsSinks
+pub mod Traces

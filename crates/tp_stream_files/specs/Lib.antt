@@ -1,6 +1,9 @@
+pub mod Any
+pub mod Held
+pub mod Inputs
+pub mod Named
+pub mod Opening
+pub mod Outputs
+pub mod Sinks
 pub mod Told
 pub mod Trace
-pub mod Sinks
-pub mod Opening
-pub mod Any
-pub mod Named

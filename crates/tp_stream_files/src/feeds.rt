@@ -8,7 +8,7 @@ ghost use Rattle.tp_stream_files.specs.Trace.{gave};
 use crate::trace::Trace;
 use std::io::{ErrorKind, Read};
 use tp_model::limits::MAX_HELD;
-use tp_stream_ends::SourceFailed;
+use crate::SourceFailed;
 
 /// Bytes that come once, in order, as those of standard input.
 pub trait Feed {

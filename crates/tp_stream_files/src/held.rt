@@ -6,7 +6,7 @@ ghost use Rattle.tp_stream_files.specs.Trace.{bytes_of, gave, says_end, says_fai
 
 use crate::trace::Trace;
 use tp_model::limits::MAX_HELD;
-use tp_stream_ends::SourceFailed;
+use crate::SourceFailed;
 
 /// The last bytes that came of a feed: they are kept, since a port may have no room for them yet. Those in front of them are gone.
 #[derive(Drop)]

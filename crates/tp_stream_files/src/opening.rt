@@ -18,7 +18,7 @@ use std::alloc::Global;
 use std::fs::{Files, OpenFile, OpenOptions};
 use std::io::Write;
 use std::os::unix::fs::FileExt;
-use tp_stream_ends::{Input, Output, Streams};
+use crate::{Input, Output, Streams};
 
 /// Gives a file its part in the stream.
 fn take(taken: &mut Taken, file: Option<FileNumbers>) -> Result<(), EndFault> {

@@ -6,7 +6,7 @@ ghost use Rattle.tp_stream_files.specs.Trace.{GrewAlike, bytes_of, says_end, say
 use crate::feeds::Feed;
 use crate::held::Held;
 use tp_model::limits::MAX_HELD;
-use tp_stream_ends::SourceFailed;
+use crate::SourceFailed;
 
 /// A port's whole input, from a feed.
 #[derive(Drop)]

@@ -2,7 +2,7 @@
 
 ghost use Rattle.std.specs.Prelude.{◌≡◌, ◌↔◌, ◌++◌, ◌∷◌, [], true, None, length, is_ok, IfOk, OnOk, OnErr};
 ghost use Rattle.std.specs.IoError.{error_kind};
-ghost use Rattle.tp_stream_ends.specs.Held.{HasLength, HasPut, HasReach, IsSafe, KeepsBytes, KeepsFront, Reaches};
+ghost use Rattle.tp_stream_files.specs.Held.{HasLength, HasPut, HasReach, IsSafe, KeepsBytes, KeepsFront, Reaches};
 ghost use Rattle.tp_stream_files.specs.Opening.{KeepsFiles, to_write};
 ghost use Rattle.tp_stream_files.specs.Sinks.{IsFolder, SyncsFolder, before_slash, begin_calls};
 ghost use Rattle.tp_stream_files.specs.Told.{Opened, Synced, Wrote};
@@ -14,7 +14,7 @@ use std::fs::{Files, OpenFile, OpenOptions};
 use std::io;
 use std::io::{ErrorKind, Write};
 use std::os::unix::fs::FileExt;
-use tp_stream_ends::{Sink, SinkFault};
+use crate::{Sink, SinkFault};
 
 /// A file whose byte number q is byte number q of the port.
 #[derive(Drop)]

@@ -1,12 +1,12 @@
 //! Where a port's input comes from in the program: a file, or standard input.
 
 ghost use Rattle.std.specs.Prelude.{◌≡◌, ◌≤◌, ℕ, List, Option, None, length, take, IfOk};
-ghost use Rattle.tp_stream_ends.specs.Inputs.{AreFrom, IsLength};
+ghost use Rattle.tp_stream_files.specs.Inputs.{AreFrom, IsLength};
 
 use crate::feeds::Feed;
 use crate::pipes::Pipe;
 use crate::system::EndFile;
-use tp_stream_ends::{Source, SourceFailed};
+use crate::{Source, SourceFailed};
 
 /// Where a port's input comes from.
 #[derive(Drop)]

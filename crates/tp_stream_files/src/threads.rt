@@ -13,7 +13,7 @@ use std::sync::Wait;
 use std::thread;
 use std::thread::Threads;
 use tp_model::limits::MAX_HELD;
-use tp_stream_ends::SourceFailed;
+use crate::SourceFailed;
 
 /// How many pieces are read before the first one is taken.
 const PIECES: usize = 4;

@@ -18,7 +18,7 @@ use tp_area::Store;
 use tp_book::{Book, opened_books_begin};
 use tp_disk::Disk;
 use tp_flush::{Flusher, topology_of};
-use tp_mark::{Mark, Pass, Raiser};
+use tp_ready::{Mark, Pass, Raiser};
 use tp_net::Topology;
 use tp_recover::{Opened, Unopened, open};
 use tp_shared::{Gate, Naming, Parts};

@@ -7,9 +7,9 @@ use Rattle.tp_model.specs.Network.{Network}
 use Rattle.tp_model.specs.Image.{node_at}
 use Rattle.tp_book.specs.Book.{BookValue}
 use Rattle.tp_book.specs.Start.{IsNetwork, first_book}
-use Rattle.tp_trial.specs.Output.{OutputAs}
-use Rattle.tp_trial.specs.Tried.{fresh_image, lone_network}
-use Rattle.tp_trial.proofs.Begun.{lone_begins}
+use Rattle.tp_turn.specs.Output.{OutputAs}
+use Rattle.tp_turn.specs.Tried.{fresh_image, lone_network}
+use Rattle.tp_turn.proofs.Begun.{lone_begins}
 use Rattle.tp_tests_calls.specs.Usable.{IsLone, IsUsable}
 
 -- an image that was tried is one of a node whose links are idle

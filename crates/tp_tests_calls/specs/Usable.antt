@@ -4,7 +4,7 @@ use Rattle.tp_model.specs.NodeState.{NodeState}
 use Rattle.tp_model.specs.Network.{Network}
 use Rattle.tp_book.specs.Book.{BookValue}
 use Rattle.tp_book.specs.Start.{IsFresh}
-use Rattle.tp_trial.specs.Tried.{lone_network}
+use Rattle.tp_turn.specs.Tried.{lone_network}
 
 -- the network of a node
 pub record IsLone (s : Network NodeState) : Type 0 where

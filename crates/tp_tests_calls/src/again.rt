@@ -5,7 +5,7 @@ use std::alloc::Global;
 use std::sync::Wait;
 use tp_book::{Book, Refusal};
 use tp_flush::FlushFault;
-use tp_host::{ConfirmFault, OfferFault, ShownFault};
+use tp_work::{ConfirmFault, OfferFault, ShownFault};
 use tp_model::Token;
 use tp_shared::{Naming, Shared};
 use tp_work::TurnFault;

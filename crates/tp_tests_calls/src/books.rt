@@ -3,14 +3,14 @@
 ghost use Rattle.std.specs.Prelude.{◌≡◌, IfOk, IfSome, OnErr};
 ghost use Rattle.tp_model.specs.Image.{node_at};
 ghost use Rattle.tp_book.specs.Parts.{network_of};
-ghost use Rattle.tp_trial.specs.Tried.{lone_network};
+ghost use Rattle.tp_turn.specs.Tried.{lone_network};
 ghost use Rattle.tp_tests_calls.specs.Usable.{IsLone, IsUsable};
 
 use std::alloc::{AllocError, Global};
 use tp_book::{Book, NetParts, Refusal};
 use tp_model::{Token, WireEnd};
-use tp_port::PortParts;
-use tp_trial::{ONE_WIRE, try_output};
+use tp_book::PortParts;
+use tp_turn::{ONE_WIRE, try_output};
 
 /// The network of the node of an image.
 fn parts(alloc: Global, image: &[u8]) -> Result<NetParts, AllocError>

@@ -6,7 +6,7 @@ use crate::copied::{
 };
 use std::alloc::{AllocError, Global};
 use std::test::Fail;
-use tp_copies::{CopyFault, copy_opened};
+use tp_recover::{CopyFault, copy_opened};
 use tp_disk::{Counted, Disk, MemDisk, PlannedFault};
 use tp_model::Form;
 use tp_model::limits::WIDE_HEAD_BYTES;

@@ -7,7 +7,7 @@ use tp_book::NetParts;
 use tp_disk::MemDisk;
 use tp_model::WireEnd::{Link, Port};
 use tp_model::{Token, WireEnd};
-use tp_port::PortParts;
+use tp_book::PortParts;
 use tp_recover::{Unopened, open};
 use tp_replay::FlatNetwork;
 

@@ -14,7 +14,7 @@ use std::process::Abort;
 use std::sync::Wait;
 use std::test::Fail;
 use tp_disk::MemDisk;
-use tp_host::OfferFault;
+use tp_work::OfferFault;
 use tp_model::Entry;
 use tp_recover::{Opened, open};
 use tp_shared::{Naming, NoGate};

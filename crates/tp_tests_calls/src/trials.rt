@@ -4,7 +4,7 @@ use std::alloc::{AllocError, Global};
 use std::test::Fail;
 use tp_node::Standing;
 use tp_tests_fixtures::letter;
-use tp_trial::{Trial, TryFault, try_standing};
+use tp_turn::{Trial, TryFault, try_standing};
 
 /// The image of the node that sends a letter.
 fn image(alloc: Global) -> Result<Vec<u8>, AllocError> {

@@ -10,7 +10,7 @@ use std::alloc::Global;
 use std::marker::Brand;
 use std::sync::Wait;
 use std::test::Fail;
-use tp_mark::Mark;
+use tp_ready::Mark;
 use tp_shared::{Naming, NoGate, Parts};
 use tp_tests_begun::opening::{Opening, opening_of};
 use tp_work::{Net, Seat, Turn};

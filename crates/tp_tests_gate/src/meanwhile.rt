@@ -9,8 +9,8 @@ use std::sync::atomic::{AtomicBool, Ordering};
 use std::thread::{Threads, join, yield_now};
 use tp_disk::Disk;
 use tp_flush::Flusher;
-use tp_host::Session;
-use tp_mark::Pass;
+use tp_work::Session;
+use tp_ready::Pass;
 use tp_shared::{Gate, Naming, NoGate, Receipt, Shared};
 
 /// Makes turns of the flusher until the others have ended. Answers whether all of them were done.

@@ -21,7 +21,7 @@ use std::test::Fail;
 use std::thread::{Threads, join};
 use tp_disk::{Disk, MemDisk};
 use tp_flush::{FLUSHER, Flusher};
-use tp_mark::Pass;
+use tp_ready::Pass;
 use tp_model::Entry;
 use tp_recover::{Unopened, open};
 use tp_replay::FlatNetwork;

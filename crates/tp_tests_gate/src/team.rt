@@ -7,7 +7,7 @@ use std::alloc::AllocError;
 use std::sync::Wait;
 use std::sync::atomic::{AtomicU32, Ordering};
 use std::thread::{Threads, join, map_vec, yield_now};
-use tp_host::Session;
+use tp_work::Session;
 use tp_shared::{Gate, Locked, Naming, Receipt, Seat as Slips};
 use tp_work::{Net, Seat};
 

@@ -10,7 +10,7 @@ use std::sync::atomic::{AtomicBool, Ordering};
 use std::thread::{Threads, join};
 use tp_disk::Disk;
 use tp_flush::Flusher;
-use tp_host::Session;
+use tp_work::Session;
 use tp_shared::{Gate, Naming};
 use tp_work::{Net, Seat};
 

@@ -11,7 +11,7 @@ ghost use Rattle.tp_model.specs.NodeState.{NodeState};
 
 use crate::image::FIRST;
 use std::alloc::Global;
-use tp_link::OutEngine;
+use tp_node::OutEngine;
 use tp_model::limits::IMAGE_HEAD_BYTES;
 use tp_model::{InEnd, OutEnd, Token, Transfer};
 use tp_node::Node;

@@ -1,6 +1,6 @@
 //! The ends of a link on their own.
 
-use tp_link::{InEngine, LinkBusy, OutEngine};
+use tp_node::{InEngine, LinkBusy, OutEngine};
 use tp_model::{Arrival, InEnd, News, OutEnd, Started, Token, Transfer};
 
 /// Messages of the process 80000201: of two bytes, and what is left behind the first.

@@ -2,7 +2,7 @@
 
 use std::alloc::Global;
 use std::test::Fail;
-use tp_isa::{
+use tp_cpu::{
     DecodeFault, Decoder, Fun, Instr, Op, decode, encode, encoding_reads_back, fun_at,
     no_spelling_is_shorter, op_at, reading_is_exact,
 };

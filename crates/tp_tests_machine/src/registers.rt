@@ -2,7 +2,7 @@
 
 use crate::isa::OPERATIONS;
 use std::process::Abort;
-use tp_isa::{Fun, Instr, Op, Regs, fun_row, op_row, pop, push, register_row, registers, set_a};
+use tp_cpu::{Fun, Instr, Op, Regs, fun_row, op_row, pop, push, register_row, registers, set_a};
 
 /// An operation, with A, B and C before and after it, and whether it sets Error.
 type Row = (Op, [u32; 3], [u32; 3], bool);

@@ -6,7 +6,7 @@ use Rattle.std.proofs.lemmas.Bool.{and_parts, ltb-true}
 use Rattle.std.proofs.lemmas.List.Folds.{list_all-map}
 use Rattle.tp_model.specs.NodeState.{NodeState}
 use Rattle.tp_model.specs.Network.{Network}
-use Rattle.tp_port.specs.Ports.{PortValue}
+use Rattle.tp_book.specs.Ports.{PortValue}
 use Rattle.tp_replay.specs.Flat.{CanCount}
 use Rattle.tp_tests_opening.specs.CanCount.{can_count}
 

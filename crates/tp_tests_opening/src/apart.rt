@@ -14,7 +14,7 @@ use tp_model::OpenFault;
 use tp_model::OpenFault::Damaged;
 use tp_recover::{Opened, Unopened, open, open_parallel};
 use tp_tests_fixtures::{AREA, place};
-use tp_tests_parts::Meeting;
+use tp_tests_store::Meeting;
 
 /// How many workers open each device: one; two; more than there are nodes; and as many as there may be.
 const WORKERS: [u8; 4] = [1, 2, 16, 64];

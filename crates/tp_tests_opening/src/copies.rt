@@ -5,7 +5,7 @@ ghost use Rattle.std.specs.Option.{is_some};
 ghost use Rattle.tp_model.specs.CutImage.{is_line_of, is_port_of};
 ghost use Rattle.tp_model.specs.Network.{on_line};
 ghost use Rattle.tp_model.specs.Spelling.{are_lines, has_record};
-ghost use Rattle.tp_port.specs.Parts.{port_of};
+ghost use Rattle.tp_book.specs.PortParts.{port_of};
 ghost use Rattle.tp_area.specs.Other.{OtherIsClosed};
 ghost use Rattle.tp_tests_opening.specs.TailOf.{AreTailOf};
 
@@ -19,7 +19,7 @@ use tp_entry::is_in_range;
 use tp_model::limits::{IMAGE_HEAD_BYTES, MAX_HELD, PAGE_BYTES};
 use tp_model::{Entry, Token, WireEnd};
 use tp_net::{Lines, Topology};
-use tp_port::PortParts;
+use tp_book::PortParts;
 
 /// The pages of the node.
 const PAGES: usize = 4;

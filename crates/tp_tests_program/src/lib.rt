@@ -1,10 +1,14 @@
 //! What the program's commands answer, on devices in memory and on files, where a call fails or no command line asks for it.
 #![tactic(auto)]
 
+
+
 #[cfg(test)]
 mod backup_tests;
 #[cfg(test)]
 mod changing;
+#[cfg(test)]
+mod compact_tests;
 #[cfg(test)]
 mod file_tests;
 #[cfg(test)]
@@ -16,6 +20,14 @@ mod program;
 #[cfg(test)]
 mod program_tests;
 #[cfg(test)]
+mod run_tests;
+#[cfg(test)]
+mod sessions_program;
+#[cfg(test)]
 mod steady_tests;
+#[cfg(test)]
+mod stop_tests;
+#[cfg(test)]
+mod stream_tests;
 #[cfg(test)]
 mod tests;

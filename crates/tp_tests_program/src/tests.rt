@@ -7,7 +7,7 @@ use tp_model::Fault;
 use tp_node::Standing;
 use tp_program::{TRY_QUANTUM, try_on};
 use tp_tests_fixtures::{HEAD, letter, place};
-use tp_trial::{try_output, try_standing};
+use tp_turn::{try_output, try_standing};
 
 /// Takes nothing.
 #[derive(Drop)]

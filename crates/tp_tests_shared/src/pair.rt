@@ -8,7 +8,7 @@ ghost use Rattle.tp_tests_shared.specs.Pair.{pair_network};
 
 use std::alloc::{AllocError, Global};
 use tp_book::{Book, NetParts};
-use tp_mark::Mark;
+use tp_ready::Mark;
 use tp_model::WireEnd;
 use tp_node::{Node, has_idle_links};
 use tp_shared::Parts;

@@ -11,7 +11,7 @@ use std::sync::Wait;
 use std::test::Fail;
 use tp_disk::MemDisk;
 use tp_flush::{FlushFault, Flusher};
-use tp_host::Session;
+use tp_work::Session;
 use tp_model::{Entry, Received};
 use tp_node::Why;
 use tp_shared::{Naming, NoGate, Shared};

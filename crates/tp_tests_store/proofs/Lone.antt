@@ -17,7 +17,7 @@ use Rattle.tp_model.specs.declared.entry.Entry.{Entry}
 use Rattle.tp_model.specs.Order.{after}
 use Rattle.tp_model.specs.Markers.{plain}
 use Rattle.tp_book.specs.declared.state.NetState.{NetState}
-use Rattle.tp_port.specs.Counted.{IsCounted, AreCounted}
+use Rattle.tp_book.specs.Counted.{IsCounted, AreCounted}
 use Rattle.tp_book.specs.Parts.{network_of}
 use Rattle.tp_book.specs.Start.{IsNetwork}
 use Rattle.tp_book.specs.Kept.{AreInRange}

@@ -1,1 +1,3 @@
 pub mod Lone
+pub mod Member
+pub mod Pair

@@ -9,7 +9,7 @@ ghost use Rattle.tp_tests_store.specs.Lone.{lone_network, IsUsable};
 use std::alloc::{AllocError, Global};
 use tp_book::{Book, CutNetwork, NetParts, NetState};
 use tp_model::Form;
-use tp_port::PortParts;
+use tp_book::PortParts;
 
 /// Its parts: the outputs are the letters "hi".
 fn parts(alloc: Global) -> Result<NetParts, AllocError>

@@ -3,6 +3,26 @@
 #![tactic(auto)]
 
 pub mod calls;
+mod crowd;
+mod gates;
+mod host;
+mod member;
+mod node;
+mod side;
+mod waiting;
+mod watched;
+mod whole;
+
+pub use crowd::Crowd;
+pub use gates::Meeting;
+pub use host::Host;
+pub use member::Member;
+pub use node::HaltedNode;
+pub use side::Side;
+pub use waiting::Waiting;
+pub use watched::{Watch, Watched};
+pub use whole::{replay_pair, the_pair_is_whole};
+
 #[cfg(test)]
 mod entries;
 #[cfg(test)]
@@ -11,6 +31,10 @@ mod fixture;
 mod groups;
 #[cfg(test)]
 mod host_calls;
+#[cfg(test)]
+mod stops;
+#[cfg(test)]
+mod threads;
 #[cfg(test)]
 mod topologies;
 #[cfg(test)]

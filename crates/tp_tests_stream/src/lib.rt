@@ -1,6 +1,8 @@
 //! Runs and streams over devices in memory, as the program makes them, with devices, outputs, sinks and sources that fail.
 #![tactic(auto)]
 
+
+
 #[cfg(test)]
 mod asked;
 #[cfg(test)]
@@ -14,11 +16,17 @@ mod ends;
 #[cfg(test)]
 mod faults;
 #[cfg(test)]
+mod feeds;
+#[cfg(test)]
+mod files;
+#[cfg(test)]
 mod frames;
 #[cfg(test)]
 mod full;
 #[cfg(test)]
 mod long;
+#[cfg(test)]
+mod outputs;
 #[cfg(test)]
 mod players;
 #[cfg(test)]

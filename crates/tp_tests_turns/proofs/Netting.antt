@@ -18,7 +18,7 @@ use Rattle.tp_law_machine.proofs.Partial.{slice_get-set_same, slice_get-set_othe
 use Rattle.tp_node.specs.NodeContents.{NodeContents}
 use Rattle.tp_node.specs.FromImage.{ReadsImage}
 use Rattle.tp_node.proofs.Answered.{image_read, image_thawed}
-use Rattle.tp_snap.specs.Needs.{has_recorded_in}
+use Rattle.tp_book.specs.Needs.{has_recorded_in}
 use Rattle.tp_book.specs.declared.refusal.Refusal.{Refusal}
 use Rattle.tp_book.specs.declared.refusal.Refusal.TheVariants.{JournalFull, StoreBroken, SnapshotRunning}
 use Rattle.tp_book.specs.declared.state.NetState.{NetState}

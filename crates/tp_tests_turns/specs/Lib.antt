@@ -1,1 +1,3 @@
+pub mod Agrees
+pub mod CutsNets
 pub mod Nets

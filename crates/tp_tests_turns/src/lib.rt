@@ -2,6 +2,16 @@
 //! as they may, and that snapshots come to their end.
 #![tactic(auto)]
 
+
+
+#[cfg(test)]
+mod acts;
+#[cfg(test)]
+mod cuts_machines;
+#[cfg(test)]
+mod cuts_network;
+#[cfg(test)]
+mod cuts_replayed;
 #[cfg(test)]
 mod devices;
 #[cfg(test)]
@@ -13,7 +23,15 @@ mod one_entry;
 #[cfg(test)]
 mod one_node;
 #[cfg(test)]
+mod orders;
+#[cfg(test)]
+mod plain;
+#[cfg(test)]
+mod playing;
+#[cfg(test)]
 mod replayed;
+#[cfg(test)]
+mod rows;
 #[cfg(test)]
 mod schedules;
 #[cfg(test)]

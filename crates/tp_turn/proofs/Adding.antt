@@ -10,7 +10,7 @@ use Rattle.tp_model.specs.Snapshot.{MarkedNetwork}
 use Rattle.tp_model.specs.Acts.{Act, Begin, Record, Journal, Close, Trim, happens, acted}
 use Rattle.tp_law_machine.proofs.Partial.{bind_some, all_append, slice_get-set_other}
 use Rattle.tp_node.specs.NodeContents.{NodeContents}
-use Rattle.tp_port.proofs.Lists.{set_back}
+use Rattle.tp_book.proofs.Lists.{set_back}
 use Rattle.tp_book.specs.Book.{BookValue, agreed, world_of}
 use Rattle.tp_book.proofs.Stood.{no_act}
 use Rattle.tp_turn.specs.Books.{Grew}

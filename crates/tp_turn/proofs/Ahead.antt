@@ -16,8 +16,8 @@ use Rattle.tp_model.specs.Markers.{before}
 use Rattle.tp_model.specs.Turn.{by_link, received, took_all, turned}
 use Rattle.tp_model.specs.Acts.{Act, Begin, Record, Journal, Close, Trim, acted}
 use Rattle.tp_model.specs.Entries.{process}
-use Rattle.tp_law_cuts.specs.Reserved.{IsNotOf, IsReceived}
-use Rattle.tp_law_cuts.proofs.Fronts.{received_after}
+use Rattle.tp_law_network.specs.Reserved.{IsNotOf, IsReceived}
+use Rattle.tp_law_network.proofs.CutsFronts.{received_after}
 use Rattle.tp_law_machine.specs.NodeOfBytes.{IsNodeOfBytes}
 use Rattle.tp_law_machine.proofs.LinkLaws.{has_four_links}
 use Rattle.tp_law_machine.proofs.Nodes.{node_steps}

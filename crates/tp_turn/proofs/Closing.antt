@@ -6,7 +6,7 @@ use Rattle.tp_model.specs.declared.link.Token.{Token}
 use Rattle.tp_model.specs.Node.{t414}
 use Rattle.tp_model.specs.Snapshot.{Snapshot, closed_over}
 use Rattle.tp_model.specs.Acts.{Close, happens}
-use Rattle.tp_snap.specs.Needs.{has_recorded_in}
+use Rattle.tp_book.specs.Needs.{has_recorded_in}
 use Rattle.tp_book.specs.Book.{BookValue, agreed, world_of}
 use Rattle.tp_book.specs.Marked.{after_close_over, is_closable}
 use Rattle.tp_book.proofs.Stood.{one_act}

@@ -15,12 +15,12 @@ use Rattle.tp_model.specs.Node.{t414}
 use Rattle.tp_model.specs.Turn.{by_line, by_link, comes_in}
 use Rattle.tp_model.specs.Entries.{process}
 use Rattle.tp_model.specs.Acts.{Journal, acted}
-use Rattle.tp_law_cuts.specs.Reserved.{turn_acts, turn_entries}
+use Rattle.tp_law_network.specs.Reserved.{turn_acts, turn_entries}
 use Rattle.tp_law_machine.proofs.Partial.{slice_get-set_same}
 use Rattle.tp_law_network.specs.Turns.{run_of}
 use Rattle.tp_node.specs.NodeContents.{NodeContents}
-use Rattle.tp_port.specs.Sends.{on_lines}
-use Rattle.tp_snap.specs.Needs.{has_recorded_in}
+use Rattle.tp_book.specs.Sends.{on_lines}
+use Rattle.tp_book.specs.Needs.{has_recorded_in}
 use Rattle.tp_book.specs.Book.{BookValue, agreed, world_of}
 use Rattle.tp_book.specs.Calls.{without_run, with_journalled}
 use Rattle.tp_book.specs.Kept.{Keeps}

@@ -19,8 +19,8 @@ use Rattle.tp_model.specs.NodeWrites.{took_ranges}
 use Rattle.tp_model.specs.SharedPages.{kept_behind}
 use Rattle.tp_node.specs.NodeContents.{NodeContents, kept_of}
 use Rattle.tp_law_machine.proofs.Partial.{slice_get-set_same}
-use Rattle.tp_port.proofs.Lists.{set_back}
-use Rattle.tp_snap.specs.Needs.{has_recorded_in}
+use Rattle.tp_book.proofs.Lists.{set_back}
+use Rattle.tp_book.specs.Needs.{has_recorded_in}
 use Rattle.tp_book.specs.Book.{BookValue, agreed, world_of}
 use Rattle.tp_book.specs.Calls.{front_of, with_ready, after_take, TakeIsAgreed}
 use Rattle.tp_book.specs.Marked.{after_close}

@@ -15,7 +15,7 @@ use Rattle.tp_model.specs.Markers.{is_marker}
 use Rattle.tp_model.specs.Acts.{Act, Journal, Close, happens}
 use Rattle.tp_law_machine.proofs.Partial.{all_append}
 use Rattle.tp_node.specs.NodeContents.{NodeContents}
-use Rattle.tp_snap.specs.Needs.{has_recorded_in}
+use Rattle.tp_book.specs.Needs.{has_recorded_in}
 use Rattle.tp_book.specs.Book.{BookValue, agreed, world_of, next_number}
 use Rattle.tp_book.specs.Calls.{front_of, HostTook}
 use Rattle.tp_book.specs.Marked.{after_close}

@@ -9,9 +9,9 @@ use Rattle.tp_model.specs.declared.link.Token.TheVariants.{Marker}
 use Rattle.tp_model.specs.Network.{back, is_first, on_line}
 use Rattle.tp_model.specs.Acts.{Act, Begin, Record, Journal, Close, Trim}
 use Rattle.tp_model.specs.Runs.{is_trim}
-use Rattle.tp_law_cuts.specs.Reserved.{turn_acts, turn_entries}
+use Rattle.tp_law_network.specs.Reserved.{turn_acts, turn_entries}
 use Rattle.tp_law_machine.proofs.Partial.{all_append}
-use Rattle.tp_snap.specs.Needs.{has_recorded_in, is_asked}
+use Rattle.tp_book.specs.Needs.{has_recorded_in, is_asked}
 use Rattle.tp_book.specs.declared.refusal.Refusal.{Refusal}
 use Rattle.tp_book.specs.Book.{BookValue}
 use Rattle.tp_turn.specs.declared.opened.Opened.{Opened}

@@ -7,7 +7,7 @@ use Rattle.tp_model.specs.Network.{back, is_first, on_line}
 use Rattle.tp_model.specs.Node.{t414}
 use Rattle.tp_model.specs.Acts.{Act, Close, happens}
 use Rattle.tp_node.specs.NodeContents.{NodeContents}
-use Rattle.tp_snap.specs.Needs.{has_recorded_in}
+use Rattle.tp_book.specs.Needs.{has_recorded_in}
 use Rattle.tp_book.specs.Book.{BookValue, world_of}
 use Rattle.tp_book.specs.Marked.{after_close}
 use Rattle.tp_turn.specs.Turns.{Then, InOrder}

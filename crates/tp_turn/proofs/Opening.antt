@@ -11,11 +11,11 @@ use Rattle.tp_model.specs.Network.{◌>>=◌, steps}
 use Rattle.tp_model.specs.Node.{t414}
 use Rattle.tp_model.specs.Turn.{by_link, took_all, turned}
 use Rattle.tp_model.specs.Acts.{Act}
-use Rattle.tp_law_cuts.specs.Reserved.{IsReceived}
+use Rattle.tp_law_network.specs.Reserved.{IsReceived}
 use Rattle.tp_law_machine.specs.NodeOfBytes.{IsNodeOfBytes}
 use Rattle.tp_law_machine.proofs.Nodes.{node_steps}
 use Rattle.tp_node.specs.NodeContents.{NodeContents}
-use Rattle.tp_snap.specs.Needs.{has_recorded_in}
+use Rattle.tp_book.specs.Needs.{has_recorded_in}
 use Rattle.tp_book.specs.declared.refusal.Refusal.{Refusal}
 use Rattle.tp_book.specs.declared.refusal.Refusal.TheVariants.{JournalFull, StoreBroken, Memory}
 use Rattle.tp_book.specs.Book.{BookValue, world_of}

@@ -8,8 +8,8 @@ use Rattle.tp_model.specs.Node.{t414}
 use Rattle.tp_model.specs.Snapshot.{Snapshot, has_recorded, with_count}
 use Rattle.tp_model.specs.Acts.{Record, happens}
 use Rattle.tp_node.specs.NodeContents.{NodeContents}
-use Rattle.tp_port.proofs.Lists.{set_back}
-use Rattle.tp_snap.specs.Needs.{has_recorded_in, is_asked}
+use Rattle.tp_book.proofs.Lists.{set_back}
+use Rattle.tp_book.specs.Needs.{has_recorded_in, is_asked}
 use Rattle.tp_book.specs.Book.{BookValue, agreed, world_of}
 use Rattle.tp_book.specs.Marked.{after_record}
 use Rattle.tp_book.proofs.Stood.{one_act}

@@ -11,7 +11,7 @@ use Rattle.tp_model.specs.declared.wire.WireEnd.TheVariants.{Link}
 use Rattle.tp_model.specs.NodeState.{NodeState}
 use Rattle.tp_model.specs.Network.{Network, back, for_line, line_of, on_line, receiver}
 use Rattle.tp_model.specs.Turn.{by_line, by_link, comes_in, incoming, is_link, line_from, received}
-use Rattle.tp_law_cuts.specs.Reserved.{IsReceived}
+use Rattle.tp_law_network.specs.Reserved.{IsReceived}
 use Rattle.tp_law_network.proofs.Lines.{for_line-append, for_line-here, for_line-other, taken_from}
 
 -- These tokens stand in front of the line that comes in on a link.

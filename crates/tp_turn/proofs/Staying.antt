@@ -6,7 +6,7 @@ use Rattle.tp_model.specs.declared.form.Form.TheVariants.{Plain, Turns}
 use Rattle.tp_model.specs.Network.{back}
 use Rattle.tp_model.specs.Acts.{Act}
 use Rattle.tp_model.specs.Snapshot.{Snapshot}
-use Rattle.tp_snap.specs.Needs.{has_recorded_in, is_asked}
+use Rattle.tp_book.specs.Needs.{has_recorded_in, is_asked}
 use Rattle.tp_book.specs.declared.refusal.Refusal.{Refusal}
 use Rattle.tp_turn.specs.declared.left.Left.{Left}
 use Rattle.tp_turn.specs.declared.opened.Opened.{Opened}

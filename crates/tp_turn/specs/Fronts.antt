@@ -9,7 +9,7 @@ use Rattle.tp_model.specs.NodeWrites.{took_ranges}
 use Rattle.tp_model.specs.SharedPages.{LacksFrames, kept_behind}
 use Rattle.tp_model.specs.Acts.{Act, Journal, Close}
 use Rattle.tp_node.specs.NodeContents.{kept_of}
-use Rattle.tp_snap.specs.Needs.{has_recorded_in}
+use Rattle.tp_book.specs.Needs.{has_recorded_in}
 use Rattle.tp_book.specs.declared.refusal.Refusal.{Refusal}
 use Rattle.tp_book.specs.declared.refusal.Refusal.TheVariants.{JournalFull, StoreBroken, Memory, NothingToTake, SnapshotRunning, PortFull}
 use Rattle.tp_book.specs.Book.{BookValue}

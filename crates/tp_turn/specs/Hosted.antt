@@ -6,7 +6,7 @@ use Rattle.tp_model.specs.Node.{t414}
 use Rattle.tp_model.specs.Network.{back, on_line, is_first}
 use Rattle.tp_model.specs.Entries.{process}
 use Rattle.tp_model.specs.Acts.{Act, acted}
-use Rattle.tp_snap.specs.Needs.{has_recorded_in}
+use Rattle.tp_book.specs.Needs.{has_recorded_in}
 use Rattle.tp_book.specs.declared.refusal.Refusal.{Refusal}
 use Rattle.tp_book.specs.declared.refusal.Refusal.TheVariants.{JournalFull, StoreBroken, Memory, NothingToTake, SnapshotRunning, PortFull}
 use Rattle.tp_book.specs.Book.{BookValue, agreed, world_of}

@@ -8,7 +8,7 @@ use Rattle.tp_model.specs.Entries.{process}
 use Rattle.tp_model.specs.Acts.{Act, Begin, Record, Journal, Close, Trim, acted}
 use Rattle.tp_law_machine.specs.NodeOfBytes.{IsNodeOfBytes}
 use Rattle.tp_node.specs.NodeContents.{NodeContents}
-use Rattle.tp_snap.specs.Needs.{has_recorded_in}
+use Rattle.tp_book.specs.Needs.{has_recorded_in}
 use Rattle.tp_book.specs.Book.{BookValue, agreed, world_of}
 use Rattle.tp_turn.specs.Books.{Grew}
 

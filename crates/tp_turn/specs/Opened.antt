@@ -7,7 +7,7 @@ use Rattle.tp_model.specs.declared.link.Received.{Received}
 use Rattle.tp_model.specs.declared.link.Token.{Token}
 use Rattle.tp_model.specs.Acts.{Act, Journal}
 use Rattle.tp_model.specs.Turn.{by_link}
-use Rattle.tp_law_cuts.specs.Reserved.{turn_entries}
+use Rattle.tp_law_network.specs.Reserved.{turn_entries}
 use Rattle.tp_node.specs.NodeContents.{NodeContents}
 use Rattle.tp_book.specs.declared.refusal.Refusal.{Refusal}
 use Rattle.tp_book.specs.Acts.{run_entries}

@@ -13,7 +13,7 @@ use Rattle.tp_model.specs.Markers.{before}
 use Rattle.tp_model.specs.Sound.{datas, acks}
 use Rattle.tp_model.specs.Turn.{by_link, received, took_all}
 use Rattle.tp_model.specs.Word.{bit}
-use Rattle.tp_law_cuts.specs.Reserved.{IsReceived}
+use Rattle.tp_law_network.specs.Reserved.{IsReceived}
 use Rattle.tp_law_machine.specs.NodeOfBytes.{IsNodeOfBytes}
 use Rattle.tp_node.specs.NodeContents.{NodeContents, kept_of}
 use Rattle.tp_book.specs.declared.refusal.Refusal.{Refusal}

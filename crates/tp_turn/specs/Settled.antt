@@ -2,7 +2,7 @@
 use Rattle.std.specs.Prelude.{◌≡◌, ◌<◌, ℕ, true, if◌then◌else◌, List, [], ◌∷◌, length, replicate, Some, Result, Ok, Err}
 use Rattle.tp_model.specs.Acts.{Act, Record}
 use Rattle.tp_node.specs.NodeContents.{NodeContents}
-use Rattle.tp_snap.specs.Needs.{is_asked}
+use Rattle.tp_book.specs.Needs.{is_asked}
 use Rattle.tp_book.specs.declared.refusal.Refusal.{Refusal}
 use Rattle.tp_book.specs.Book.{BookValue}
 use Rattle.tp_turn.specs.declared.left.Left.{Left}

@@ -12,7 +12,7 @@ use crate::whole::{commit_whole, open_whole};
 use tp_book::{Book, Refusal};
 use tp_model::Form;
 use tp_node::{Node, Ran};
-use tp_port::tokens_of;
+use tp_book::tokens_of;
 
 /// How a node's turn was opened.
 #[derive(Drop)]

@@ -3,7 +3,7 @@
 ghost use Rattle.std.specs.Prelude.{◌≡◌, ◌++◌, ◌≤◌, ◌+◌, Some, None, true, false, length, slice_get};
 ghost use Rattle.tp_model.specs.declared.form.Form.TheVariants.{Turns};
 ghost use Rattle.tp_model.specs.declared.limits.TheConstants.{MAX_STEPS};
-ghost use Rattle.tp_law_cuts.specs.Reserved.{turn_acts};
+ghost use Rattle.tp_law_network.specs.Reserved.{turn_acts};
 ghost use Rattle.tp_book.specs.Calls.{without_run};
 ghost use Rattle.tp_book.specs.Refusals.{reserve_refusal};
 ghost use Rattle.tp_book.specs.declared.refusal.Refusal.TheVariants.{JournalFull};
@@ -18,7 +18,7 @@ use arrayvec::ArrayVec;
 use tp_book::{Book, Refusal};
 use tp_model::{Received, Token};
 use tp_node::{Node, Ran};
-use tp_port::tokens_of;
+use tp_book::tokens_of;
 
 /// Journals a turn for which room was reserved, and in which `node` took `takes`, made `count` steps and sent `tokens` for all of it.
 fn commit(

@@ -2,10 +2,10 @@
 use Rattle.std.specs.Prelude.{◌≡◌, ℕ, List, Option, Some, None, IsSome, Result, Ok, Err}
 use Rattle.std.specs.Io.KnownBytes.{Appends}
 use Rattle.tp_model.specs.NodeState.{NodeState}
-use Rattle.tp_trial.specs.Output.{IsOutput}
-use Rattle.tp_trial.specs.Tried.{fresh_image}
+use Rattle.tp_turn.specs.Output.{IsOutput}
+use Rattle.tp_turn.specs.Tried.{fresh_image}
 use Rattle.tp_views.specs.declared.refusal.Refusal.{Refusal}
-use Rattle.tp_trial.specs.declared.image.TryFault.TheVariants.{BadImage, Memory}
+use Rattle.tp_turn.specs.declared.image.TryFault.TheVariants.{BadImage, Memory}
 use Rattle.tp_views.specs.declared.refusal.Refusal.TheVariants.{Trial, DeviceFailed}
 use Rattle.tp_views.specs.declared.commands.TheConstants.{TRY_QUANTUM}
 

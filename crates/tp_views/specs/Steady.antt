@@ -1,7 +1,7 @@
 -- What a look at a device finds, and what is answered of one that another process may write meanwhile.
 use Rattle.std.specs.Prelude.{◌≡◌, ℕ, Bool, true, false, ◌||◌, ◌&&◌, not, nat_lt, if◌then◌else◌, List, Option, Some, None, Result, Ok, Err}
-use Rattle.tp_layout.specs.Fronts.{area_front}
-use Rattle.tp_layout.specs.declared.front.AreaFront.{AreaFront}
+use Rattle.tp_area.specs.Fronts.{area_front}
+use Rattle.tp_area.specs.declared.front.AreaFront.{AreaFront}
 use Rattle.tp_model.specs.Device.{area_start}
 use Rattle.tp_model.specs.Head.{Head}
 use Rattle.tp_model.specs.Opening.{Opened}

@@ -17,7 +17,7 @@ use std::fmt::Write as Push;
 use std::io::Write;
 use tp_area::{FormatFault, format};
 use tp_disk::MemDisk;
-use tp_layout::{area_for, version_for};
+use tp_area::{area_for, version_for};
 use tp_model::Form;
 use tp_net::Topology;
 

@@ -2,14 +2,14 @@
 
 ghost use Rattle.std.specs.Prelude.{◌≡◌, ◌≤◌, None, OnOk, IfErr};
 ghost use Rattle.std.specs.Io.KnownBytes.{Appends};
-ghost use Rattle.tp_trial.specs.Tried.{fresh_image};
+ghost use Rattle.tp_turn.specs.Tried.{fresh_image};
 ghost use Rattle.tp_views.specs.Attempt.{Shows, Answers};
 ghost use Rattle.tp_views.specs.Front.{AppendsFront};
 
 use crate::refusal::Refusal;
 use std::alloc::Global;
 use std::io::{ErrorKind, Write};
-use tp_trial::try_output;
+use tp_turn::try_output;
 
 /// The most steps of a run, where a node is tried.
 pub const TRY_QUANTUM: u16 = 16;

@@ -3,7 +3,7 @@
 use crate::looking::push_rest;
 use std::alloc::AllocError;
 use std::fmt::Write;
-use tp_layout::JournalRoom;
+use tp_area::JournalRoom;
 use tp_model::limits::MAX_HELD;
 use tp_recover::Opened;
 use tp_words::Run;

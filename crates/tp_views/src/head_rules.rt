@@ -3,7 +3,7 @@
 use crate::image_fields::byte_in;
 use std::alloc::AllocError;
 use std::fmt::Write;
-use tp_layout::head_places::{AREA_PLACE, NODES_PLACE, PAGES_PLACE, PORTS_PLACE, ends_place};
+use tp_area::head_places::{AREA_PLACE, NODES_PLACE, PAGES_PLACE, PORTS_PLACE, ends_place};
 use tp_model::HeadVersion;
 use tp_model::limits::{
     MAX_PORTS, MIN_PAGES, NARROW_HEAD_NODES, NARROW_HEAD_PAGES, NARROW_PORT, WIDE_HEAD_NODES,

@@ -3,7 +3,7 @@
 use crate::image_fields::{byte_in, half_in, word_in};
 use std::alloc::{AllocError, Global};
 use std::fmt::Write;
-use tp_layout::image_length;
+use tp_area::image_length;
 use tp_model::limits::{IMAGE_HEAD_BYTES, IMAGE_VERSION, MAX_PAGES, MIN_PAGES, SLICE};
 use tp_node::image_places::{
     END_BYTES, ERROR_PLACE, HALT_PLACE, OUTPUTS_PLACE, PAGES_PLACE, SLICE_PLACE, STATE_PLACE,

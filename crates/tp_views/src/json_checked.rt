@@ -11,7 +11,7 @@ use crate::formats::{form_name, version_number};
 use crate::json::comma;
 use std::alloc::{AllocError, Global};
 use std::fmt::Write;
-use tp_layout::{area_for, version_for};
+use tp_area::{area_for, version_for};
 use tp_model::Form;
 use tp_net::Topology;
 

@@ -9,7 +9,7 @@ ghost use Rattle.tp_views.specs.JsonPort.{outputs_json, pending_json, port_json}
 use crate::json::{comma, push};
 use std::alloc::{AllocError, Global};
 use std::fmt::Write;
-use tp_port::HostPort;
+use tp_book::HostPort;
 use tp_replay::FlatNetwork;
 
 /// Appends a byte that has `before` bytes before it.

@@ -9,7 +9,7 @@ use crate::shown::{Front, area_number};
 use std::alloc::{AllocError, Global};
 use std::fmt::Write;
 use tp_node::{Node, halt_byte};
-use tp_port::HostPort;
+use tp_book::HostPort;
 use tp_replay::FlatNetwork;
 
 /// Appends the item of a node that has `before` nodes before it.

@@ -6,7 +6,7 @@ use crate::topology_text::push_topology;
 use std::alloc::{AllocError, Global};
 use std::fmt::Write;
 use std::fs::Files;
-use tp_layout::area_for;
+use tp_area::area_for;
 use tp_net::{Named, Topology};
 
 /// Says which rule an image breaks, where it breaks one: whether it does.

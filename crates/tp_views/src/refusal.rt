@@ -4,7 +4,7 @@ use thiserror::Error;
 use tp_area::FormatFault;
 use tp_model::NetFault;
 use tp_recover::Unopened;
-use tp_trial::TryFault;
+use tp_turn::TryFault;
 
 /// The program then ends with status 1 and this name on standard error.
 #[derive(Clone, Copy, Debug, Error)]

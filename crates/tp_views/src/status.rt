@@ -7,10 +7,10 @@ ghost use Rattle.tp_node.specs.Standing.{standing};
 use crate::formats::{fault_name, form_name};
 use std::alloc::{AllocError, Global};
 use std::fmt::Write;
-use tp_layout::JournalRoom;
+use tp_area::JournalRoom;
 use tp_model::Form;
 use tp_node::{Node, Standing};
-use tp_port::HostPort;
+use tp_book::HostPort;
 use tp_recover::Opened;
 
 /// What a look sees of a port: how many bytes it has accepted, and how many it has put out.

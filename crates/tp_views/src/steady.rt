@@ -27,7 +27,7 @@
 //! written. Who formats a file anew that is read meanwhile isn't found out where the new device's front is what the old one's was.
 
 ghost use Rattle.std.specs.Prelude.{◌≡◌, ◌+◌, ◌≤◌, ◌<◌, ◌^◌, ◌↔◌, IsTrue, IfErr, IfOk};
-ghost use Rattle.tp_layout.specs.Fronts.{area_front};
+ghost use Rattle.tp_area.specs.Fronts.{area_front};
 ghost use Rattle.tp_model.specs.Device.{areas_end};
 ghost use Rattle.tp_model.specs.Disk.{Sync, done};
 ghost use Rattle.tp_model.specs.DiskHistory.{Counts};
@@ -38,7 +38,7 @@ ghost use Rattle.tp_recover.specs.Reading.{has_read, found, Answers, IsKept, Lea
 
 use std::alloc::Global;
 use tp_disk::Disk;
-use tp_layout::{AREA_FRONT_BYTES, AreaFront, area_front, area_start};
+use tp_area::{AREA_FRONT_BYTES, AreaFront, area_front, area_start};
 use tp_model::TwoAreas;
 use tp_recover::{Opened, Unopened, open, read_head};
 

@@ -9,9 +9,9 @@ use tp_disk::{Counted, Disk, NotedFile, RawFile};
 use tp_model::limits::MAX_NODES;
 use tp_node::{Node, Standing};
 use tp_recover::open;
-use tp_stream_ends::Stopped;
+use tp_stream_files::Stopped;
 use tp_stream_files::say_stopped;
-use tp_trial::try_standing;
+use tp_turn::try_standing;
 use tp_words::Asked;
 
 /// Says of a node that has halted where it did. A failed write is let go.

@@ -5,7 +5,7 @@ use Rattle.tp_model.specs.Node.{t414}
 use Rattle.tp_model.specs.Disk.{AreWithin}
 use Rattle.tp_model.specs.Opening.{held_of, verdict}
 use Rattle.tp_model.specs.DeviceAreas.{device_areas}
-use Rattle.tp_law_runs.proofs.Device.{rests_may}
+use Rattle.tp_law_network.proofs.Device.{rests_may}
 use Rattle.tp_area.proofs.StoreCrashes.{keep}
 use Rattle.tp_area.proofs.laws.resting_devices_open_alike.Goals as goal
 

@@ -2,7 +2,7 @@ use Rattle.std.proofs.Common.{◌≡◌, ◌+◌, drop, ◌∙◌, sym, ap, arit
 use Rattle.std.proofs.lemmas.Option.{slice_get_within}
 use Rattle.tp_model.specs.Word.{wrap}
 use Rattle.tp_model.specs.Memory.{offset}
-use Rattle.tp_isa.specs.Decoding.{reads_on}
+use Rattle.tp_cpu.specs.Decoding.{reads_on}
 use Rattle.tp_cpu.proofs.Ahead.{through_byte, no_bytes_from, next_offset}
 use Rattle.tp_cpu.proofs.fetch.fetch.Goals as goal
 

@@ -1,7 +1,7 @@
 use Rattle.std.proofs.Common.{◌≡◌, drop, ◌-◌}
 use Rattle.tp_model.specs.Memory.{offset}
 use Rattle.tp_model.specs.Coding.{decoded}
-use Rattle.tp_isa.specs.Decoding.{reads_on}
+use Rattle.tp_cpu.specs.Decoding.{reads_on}
 use Rattle.tp_cpu.proofs.fetch.fetch.Given as goal
 
 abbrev pub invariant-loop-byte : goal.invariant-loop-byte

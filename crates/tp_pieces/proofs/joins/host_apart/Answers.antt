@@ -1,5 +1,5 @@
 use Rattle.std.proofs.Common.{◌≡◌, ◌*◌, [], refl, sym, ap, subst, ◌∙◌, length, replicate}
-use Rattle.tp_law_parts.specs.Piece.{Agrees}
+use Rattle.tp_law_network.specs.Piece.{Agrees}
 use Rattle.tp_pieces.specs.declared.apart.Apart.{Apart}
 use Rattle.tp_pieces.specs.Copies.{Copies}
 use Rattle.tp_pieces.specs.Held.{has}

@@ -1,8 +1,8 @@
 use Rattle.std.proofs.Common.{◌≡◌, ◌+◌, ◌++◌, ◌≤◌, Some, sym, ap, subst, ◌∙◌, arith, drop, length, length-drop, vec_len, map}
 use Rattle.std.specs.List.{slice_get}
 use Rattle.std.proofs.lemmas.List.{length-replicate}
-use Rattle.tp_parts.specs.Dealt.{first_of}
-use Rattle.tp_parts.proofs.Dealt.{first_most}
+use Rattle.tp_pieces.specs.Dealt.{first_of}
+use Rattle.tp_pieces.proofs.Dealt.{first_most}
 use Rattle.tp_pieces.specs.Blank.{blank_node}
 use Rattle.tp_pieces.specs.Dealing.{new_part, run_part}
 use Rattle.tp_pieces.specs.Runs.{runs}

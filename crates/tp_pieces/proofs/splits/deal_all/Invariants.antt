@@ -1,6 +1,6 @@
 -- The workers so far have their parts, and the nodes behind these are left.
 use Rattle.std.proofs.Common.{◌≡◌, map, drop}
-use Rattle.tp_parts.specs.Dealt.{first_of}
+use Rattle.tp_pieces.specs.Dealt.{first_of}
 use Rattle.tp_pieces.specs.Dealing.{run_part}
 use Rattle.tp_pieces.specs.Runs.{runs}
 use Rattle.tp_pieces.proofs.splits.deal_all.Given as goal

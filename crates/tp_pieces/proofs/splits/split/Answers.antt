@@ -1,7 +1,7 @@
 use Rattle.std.proofs.Common.{◌≡◌, ◌++◌, ◌∷◌, ◌≤◌, [], refl, sym, ap, subst, ◌∙◌, arith, length, map}
 use Rattle.std.specs.Prelude.{All}
 use Rattle.tp_law_network.proofs.Room.{line_room}
-use Rattle.tp_parts.specs.Whole.{IsWhole}
+use Rattle.tp_pieces.specs.Whole.{IsWhole}
 use Rattle.tp_pieces.specs.declared.host.HostPart.TheInside.{Inside}
 use Rattle.tp_pieces.specs.declared.net_part.NetPart.TheVariants.{Host}
 use Rattle.tp_pieces.specs.Apart.{whole_of}

@@ -1,6 +1,6 @@
 use Rattle.std.proofs.Common.{◌≡◌, ap, subst, sym, List, ℕ, Option, Some, None, Ok, Err, Result}
 use Rattle.std.specs.Prelude.{IfOk, IsSomeAnd}
-use Rattle.tp_copies.specs.Copies.{Answers, HasStayed, IsCopy, kept_of}
+use Rattle.tp_recover.specs.Copies.{Answers, HasStayed, IsCopy, kept_of}
 use Rattle.tp_model.specs.Disk.{Moment}
 use Rattle.tp_model.specs.Opening.{Opened, verdict}
 use Rattle.tp_recover.proofs.Leaving.{then_leaves}

@@ -1,7 +1,7 @@
 use Rattle.std.proofs.Common.{◌≡◌, ◌∙◌, [], ap, sym, subst, Ok, Err, Result}
 use contract.BorrowLft.{◌⊑◌, ⊑_meet, ⊑_static}
 use Rattle.tp_recover.specs.declared.unopened.Unopened.{Unopened}
-use Rattle.tp_stream_ends.specs.declared.ending.Ended.{Ended}
+use Rattle.tp_stream_files.specs.declared.ending.Ended.{Ended}
 use Rattle.tp_stream.specs.declared.fault.StreamFault.{StreamFault}
 use Rattle.tp_stream.specs.declared.fault.StreamFault.TheVariants.{Opening}
 use Rattle.tp_stream.specs.Streamed.{Streamed as StreamLeft}

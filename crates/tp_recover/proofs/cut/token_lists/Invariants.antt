@@ -1,5 +1,5 @@
 use Rattle.std.proofs.Common.{◌≡◌, take, map}
-use Rattle.tp_layout.specs.Lines.{tokens_on}
+use Rattle.tp_area.specs.Lines.{tokens_on}
 use Rattle.tp_recover.proofs.cut.token_lists.Given as goal
 
 abbrev pub invariant-loop-line : goal.invariant-loop-line

@@ -4,7 +4,7 @@ use Rattle.std.proofs.lemmas.Bool.{ne_eqb}
 use Rattle.std.proofs.lemmas.Option.{slice_get-map, slice_get_read}
 use Rattle.tp_model.specs.Node.{t414_ends}
 use Rattle.tp_model.specs.Sound.{is_pending, is_some_byte}
-use Rattle.tp_port.specs.Parts.{port_of}
+use Rattle.tp_book.specs.PortParts.{port_of}
 use Rattle.tp_recover.specs.Parts.{network_in}
 use Rattle.tp_law_network.proofs.InPlace.{end_waits-link, end_waits-port}
 use Rattle.tp_recover.proofs.flights.end_waits.Goals as goal

@@ -5,8 +5,8 @@ use Rattle.tp_model.specs.declared.limits.TheConstants.{NARROW_HEAD_BYTES}
 use Rattle.tp_model.specs.Disk.{Moment}
 use Rattle.tp_recover.specs.Reading.{Answers}
 use Rattle.tp_recover.proofs.Passing.{found_is, told_fault}
-use Rattle.tp_layout.proofs.Heads.{head_of-faulty, head_of-read, head_of-short}
-use Rattle.tp_layout.specs.Heads.{version_in}
+use Rattle.tp_area.proofs.Heads.{head_of-faulty, head_of-read, head_of-short}
+use Rattle.tp_area.specs.Heads.{version_in}
 use Rattle.tp_recover.proofs.Leaving.{none_leaves}
 use Rattle.tp_recover.proofs.head.read_head.Goals as goal
 use Rattle.tp_recover.proofs.head.read_head.Goals.{in-Ok-Narrow, in-Ok-Wide, in-Err}

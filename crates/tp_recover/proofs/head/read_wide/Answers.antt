@@ -1,7 +1,7 @@
 use Rattle.std.proofs.Common.{◌∙◌, refl, sym, subst, arith}
 use Rattle.tp_model.specs.Head.{Head, head_of}
 use Rattle.tp_model.specs.declared.head.HeadVersion.TheVariants.{Wide}
-use Rattle.tp_layout.proofs.Heads.{head_of-cut_off, head_of-read}
+use Rattle.tp_area.proofs.Heads.{head_of-cut_off, head_of-read}
 use Rattle.tp_recover.specs.Reading.{Answers}
 use Rattle.tp_recover.proofs.Leaving.{none_leaves}
 use Rattle.tp_recover.proofs.Passing.{found_is, still_counts, still_kept}

@@ -1,6 +1,6 @@
 use Rattle.std.proofs.Common.{◌≡◌, ◌+◌, ◌∙◌, length, ap, arith, map, rules, Err}
 use Rattle.std.proofs.lemmas.List.{length_push, map_push}
-use Rattle.tp_port.specs.Parts.{port_of}
+use Rattle.tp_book.specs.PortParts.{port_of}
 use Rattle.tp_recover.proofs.Ports.{ports_in-step, ports_in-error, ports_in-end}
 use Rattle.tp_recover.proofs.ReadParts.{reached_more}
 use Rattle.tp_recover.proofs.Leaving.{none_leaves, then_leaves}

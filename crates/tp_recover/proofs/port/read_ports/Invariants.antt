@@ -1,6 +1,6 @@
 -- The ports that were read, and those that stand behind them, are all.
 use Rattle.std.proofs.Common.{◌≡◌, ◌+◌, ◌*◌, ◌-◌, drop, length, map, true}
-use Rattle.tp_port.specs.Parts.{port_of}
+use Rattle.tp_book.specs.PortParts.{port_of}
 use Rattle.tp_model.specs.declared.limits.TheConstants.{PORT_BYTES}
 use Rattle.tp_model.specs.CutImage.{ports_in}
 use Rattle.tp_model.specs.DiskHistory.{State, Counts}

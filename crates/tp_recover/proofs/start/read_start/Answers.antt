@@ -2,7 +2,7 @@ use Rattle.std.proofs.Common.{rules, ◌≡◌, ◌∙◌, ap, sym, subst, Err}
 use Rattle.tp_model.specs.Network.{Network}
 use Rattle.tp_model.specs.Node.{t414_ends}
 use Rattle.tp_model.specs.NodeState.{NodeState}
-use Rattle.tp_port.specs.Counted.{AreCounted}
+use Rattle.tp_book.specs.Counted.{AreCounted}
 use Rattle.tp_replay.specs.Flat.{IsFlat}
 use Rattle.tp_recover.specs.Cuts.{cut_network}
 use Rattle.tp_recover.proofs.CutsAreFlat.{cut_flat, cut_counted, cut_held}

@@ -1,6 +1,6 @@
 -- The ports so far are copied.
 use Rattle.std.proofs.Common.{◌≡◌, map, take}
-use Rattle.tp_port.specs.Parts.{port_of}
+use Rattle.tp_book.specs.PortParts.{port_of}
 use Rattle.tp_shared.proofs.copies.copy_ports.Given as goal
 
 abbrev pub invariant-loop-port : goal.invariant-loop-port

@@ -1,7 +1,7 @@
 -- The nodes so far have been looked at.
 use Rattle.std.proofs.Common.{◌≡◌, ◌<◌, ℕ, false, length, get_or}
 use Rattle.tp_model.specs.declared.limits.TheConstants.{MAX_NODES}
-use Rattle.tp_snap.specs.Needs.{has_recorded_in}
+use Rattle.tp_book.specs.Needs.{has_recorded_in}
 use Rattle.tp_shared.proofs.look.recorded_in.Given as goal
 
 abbrev pub invariant-loop-node : goal.invariant-loop-node

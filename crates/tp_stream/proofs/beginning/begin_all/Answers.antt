@@ -1,6 +1,6 @@
 use Rattle.std.proofs.Common.{map, subst}
 use Rattle.std.specs.Prelude.{OnOk}
-use Rattle.tp_stream_ends.specs.Inputs.{given_input}
+use Rattle.tp_stream_files.specs.Inputs.{given_input}
 use Rattle.tp_stream.specs.Standing.{AllHaveAccepted, accepted}
 use Rattle.tp_stream.proofs.beginning.begin_all.Goals as goal
 

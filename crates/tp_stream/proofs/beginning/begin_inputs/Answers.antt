@@ -1,7 +1,7 @@
 use Rattle.std.proofs.Common.{◌≤◌, ◌<◌, inl, inr, length, map, ap, subst, ◌∙◌, arith}
 use Rattle.std.proofs.lemmas.List.{length-map}
 use Rattle.tp_stream.specs.declared.fault.StreamFault.TheVariants.{Port as Absent}
-use Rattle.tp_stream_ends.specs.Inputs.{HasAtLeast, given_input}
+use Rattle.tp_stream_files.specs.Inputs.{HasAtLeast, given_input}
 use Rattle.tp_stream.specs.Standing.{accepted}
 use Rattle.tp_stream.proofs.Standings.{all_have_accepted, have_accepted_more, input_at}
 use Rattle.tp_stream.proofs.beginning.begin_inputs.Goals as goal

@@ -1,6 +1,6 @@
 -- The inputs so far have all that their ports have accepted.
 use Rattle.std.proofs.Common.{map}
-use Rattle.tp_stream_ends.specs.Inputs.{given_input}
+use Rattle.tp_stream_files.specs.Inputs.{given_input}
 use Rattle.tp_stream.specs.Standing.{HaveAcceptedBelow, accepted}
 use Rattle.tp_stream.proofs.beginning.begin_inputs.Given as goal
 

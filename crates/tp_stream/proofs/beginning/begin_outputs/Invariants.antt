@@ -1,6 +1,6 @@
 -- The outputs so far may begin, and are set out; all are given as they were, and the others are as they were.
 use Rattle.std.proofs.Common.{◌≡◌, map}
-use Rattle.tp_stream_ends.specs.Outputs.{given_of}
+use Rattle.tp_stream_files.specs.Outputs.{given_of}
 use Rattle.tp_stream.specs.Standing.{MayBeginBelow, standing}
 use Rattle.tp_stream.specs.Steps.{IsSetOut}
 use Rattle.tp_stream.proofs.Puts.{EachTo}

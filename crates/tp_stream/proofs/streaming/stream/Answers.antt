@@ -4,8 +4,8 @@ use Rattle.tp_flush.specs.Known.{Began}
 use Rattle.tp_stream.specs.declared.fault.StreamFault.TheVariants.{Opening}
 use Rattle.tp_stream.specs.Put.{ServedInto, StreamedInto}
 use Rattle.tp_stream.specs.Streamed.{Streamed}
-use Rattle.tp_stream_ends.specs.Inputs.{given_input}
-use Rattle.tp_stream_ends.specs.Outputs.{given_of}
+use Rattle.tp_stream_files.specs.Inputs.{given_input}
+use Rattle.tp_stream_files.specs.Outputs.{given_of}
 use Rattle.tp_stream.specs.Standing.{AllHaveAccepted, AllMayBegin, IsFirstRefused, IsFirstShort, OfInput, OfOutput, accepted_opened, stands_opened}
 use Rattle.tp_stream.proofs.Runs.{begun_written, into, unput, unwritten}
 use Rattle.tp_stream.proofs.Standings.{begun_refused, begun_short, no_input, no_output, on_ok, same_opened, says_first, says_short}

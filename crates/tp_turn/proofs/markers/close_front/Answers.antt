@@ -4,7 +4,7 @@ use Rattle.std.proofs.lemmas.Option.{slice_get_within}
 use Rattle.tp_model.specs.declared.link.Token.TheVariants.{Marker}
 use Rattle.tp_model.specs.declared.wire.WireEnd.TheVariants.{Link}
 use Rattle.tp_model.specs.Network.{is_first, line_of, on_line, process_at, receiver}
-use Rattle.tp_snap.specs.Needs.{has_recorded_in}
+use Rattle.tp_book.specs.Needs.{has_recorded_in}
 use Rattle.tp_book.specs.Book.{agreed}
 use Rattle.tp_book.proofs.Commit.{length-agreed}
 use Rattle.tp_turn.proofs.Fronted.{closed_is}

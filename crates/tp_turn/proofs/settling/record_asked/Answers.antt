@@ -1,6 +1,6 @@
 use Rattle.std.proofs.Common.{◌≡◌, true, false, sym, subst, arith, rules}
 use Rattle.std.proofs.lemmas.Option.{slice_get_within}
-use Rattle.tp_snap.specs.Needs.{is_asked}
+use Rattle.tp_book.specs.Needs.{is_asked}
 use Rattle.tp_book.specs.Book.{agreed}
 use Rattle.tp_book.proofs.Commit.{length-agreed}
 use Rattle.tp_turn.specs.Moments.{moment, IsNodeOf, Done}

@@ -1,6 +1,6 @@
 use Rattle.std.proofs.Common.{◌≡◌, true, false, sym, subst, rules}
-use Rattle.tp_law_cuts.specs.Reserved.{turn_acts}
-use Rattle.tp_snap.specs.Needs.{has_recorded_in}
+use Rattle.tp_law_network.specs.Reserved.{turn_acts}
+use Rattle.tp_book.specs.Needs.{has_recorded_in}
 use Rattle.tp_book.specs.Calls.{without_run}
 use Rattle.tp_book.specs.declared.refusal.Refusal.TheVariants.{JournalFull}
 use Rattle.tp_book.specs.Turning.{takes_refusal}

@@ -3,11 +3,11 @@ use Rattle.std.specs.Prelude.{Vec, Result, Ok, Err, OnOk, IfErr, is_some}
 use Rattle.std.specs.declared.alloc.Global.{Global}
 use Rattle.std.specs.Io.KnownBytes.{Appends}
 use Rattle.tp_model.specs.NodeState.{NodeState}
-use Rattle.tp_trial.specs.Output.{OutputAs}
-use Rattle.tp_trial.specs.Tried.{fresh_image}
+use Rattle.tp_turn.specs.Output.{OutputAs}
+use Rattle.tp_turn.specs.Tried.{fresh_image}
 use Rattle.tp_views.specs.declared.refusal.Refusal.{Refusal}
-use Rattle.tp_trial.specs.declared.image.TryFault.{TryFault}
-use Rattle.tp_trial.specs.declared.image.TryFault.TheVariants.{BadImage, Memory}
+use Rattle.tp_turn.specs.declared.image.TryFault.{TryFault}
+use Rattle.tp_turn.specs.declared.image.TryFault.TheVariants.{BadImage, Memory}
 use Rattle.tp_views.specs.declared.refusal.Refusal.TheVariants.{DeviceFailed, Trial}
 use Rattle.tp_views.specs.declared.commands.TheConstants.{TRY_QUANTUM}
 use Rattle.tp_views.specs.Attempt.{Answers}

@@ -1,5 +1,5 @@
 use Rattle.std.proofs.Common.{◌∙◌, Some, ap, sym, arith, option_map, slice_get}
-use Rattle.tp_port.specs.Ports.{PortValue}
+use Rattle.tp_book.specs.Ports.{PortValue}
 use Rattle.tp_views.specs.JsonPort.{pending_json}
 use Rattle.tp_views.proofs.Found.{told_at, told_past}
 use Rattle.tp_views.proofs.json_port.pending_json_in.Goals as goal

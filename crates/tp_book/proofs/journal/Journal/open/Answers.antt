@@ -1,8 +1,8 @@
 use Rattle.std.proofs.Common.{◌<◌, ◌≤◌, false, sym, refl, ap, subst, ◌∙◌, None, length, map, replicate}
 use Rattle.std.specs.Prelude.{vec_len}
 use Rattle.std.specs.Prelude.{slice_index_or}
-use Rattle.tp_port.specs.Parts.{port_of}
-use Rattle.tp_port.specs.Ports.{opened_port}
+use Rattle.tp_book.specs.PortParts.{port_of}
+use Rattle.tp_book.specs.Ports.{opened_port}
 use Rattle.tp_book.specs.declared.journal.Journal.TheInside.{Inside}
 use Rattle.tp_book.proofs.Opened.{vec_few, opened_fields, opened_value}
 use Rattle.tp_book.proofs.journal.Journal.open.Goals as goal

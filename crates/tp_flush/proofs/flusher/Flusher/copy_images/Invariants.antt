@@ -1,5 +1,5 @@
 use Rattle.std.proofs.Common.{◌≡◌, ◌<◌, ℕ, true, false, get_or}
-use Rattle.tp_layout.specs.Pieces.{piece_place}
+use Rattle.tp_area.specs.Pieces.{piece_place}
 use Rattle.tp_flush.specs.Progress.{is_out}
 use Rattle.tp_flush.specs.Flushing.{Goes}
 use Rattle.tp_flush.specs.Ends.{Went}

@@ -2,7 +2,7 @@ use Rattle.std.proofs.Common.{rules, arith, suc, ◌+◌, ◌≤◌, length, sub
 use Rattle.tp_flush.proofs.Goings.{goes_then, tried_then, went_then}
 use Rattle.tp_model.specs.declared.limits.TheConstants.{PAGE_BYTES}
 use Rattle.tp_model.specs.Disk.{written}
-use Rattle.tp_layout.specs.Pieces.{piece_length, piece_place}
+use Rattle.tp_area.specs.Pieces.{piece_length, piece_place}
 use Rattle.tp_area.specs.Tails.{content_beside}
 use Rattle.tp_flush.specs.Copying.{IsPartOut}
 use Rattle.tp_flush.proofs.Puts.{length_suc}

@@ -1,5 +1,5 @@
 use Rattle.std.proofs.Common.{◌≡◌, true, refl, sym, subst, ap, ◌∙◌, ◌≤◌, arith}
-use Rattle.tp_mark.specs.Seen.{RaiserValue}
+use Rattle.tp_ready.specs.Seen.{RaiserValue}
 use Rattle.tp_shared.specs.Told.{IsFirst}
 use Rattle.tp_model.specs.Journal.{is_roomy}
 use Rattle.tp_flush.specs.declared.progress.Progress.{Progress}

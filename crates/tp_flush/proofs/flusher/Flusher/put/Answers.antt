@@ -11,7 +11,7 @@ use Rattle.tp_model.specs.Walks.{Walks}
 use Rattle.tp_model.specs.StoreCalls.{Broke, Called, put_calls}
 use Rattle.tp_model.specs.WriteOrder.{Resting}
 use Rattle.tp_area.specs.Other.{OtherIsClosed, PutBehind, other_gate}
-use Rattle.tp_layout.specs.Pieces.{piece_length, piece_place}
+use Rattle.tp_area.specs.Pieces.{piece_length, piece_place}
 use Rattle.tp_shared.specs.Told.{IsFirst}
 use Rattle.tp_area.specs.Tails.{content_beside}
 use Rattle.tp_flush.specs.Copying.{IsPartOut}

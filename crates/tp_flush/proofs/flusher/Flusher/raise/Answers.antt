@@ -1,6 +1,6 @@
 use Rattle.std.proofs.Common.{refl, sym, subst, ap, ◌∙◌, arith, ◌≤◌}
 use Rattle.std.specs.Prelude.{max}
-use Rattle.tp_mark.specs.Seen.{RaiserValue}
+use Rattle.tp_ready.specs.Seen.{RaiserValue}
 use Rattle.tp_model.specs.DiskHistory.{State}
 use Rattle.tp_model.specs.Node.{t414}
 use Rattle.tp_model.specs.DeviceAreas.{device_areas}

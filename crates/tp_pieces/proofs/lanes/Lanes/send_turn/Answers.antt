@@ -3,7 +3,7 @@ use Rattle.std.specs.Prelude.{MatchBool}
 use Rattle.std.proofs.lemmas.List.{map-append}
 use Rattle.tp_model.specs.declared.link.Token.{Token}
 use Rattle.tp_model.specs.Network.{has_wire, sent}
-use Rattle.tp_port.specs.Room.{from_line}
+use Rattle.tp_book.specs.Room.{from_line}
 use Rattle.tp_pieces.specs.Lanes.{Overfills}
 use Rattle.tp_pieces.proofs.Room.{overfilled_first, sent_both}
 use Rattle.tp_pieces.proofs.lanes.Lanes.send_turn.Goals as goal

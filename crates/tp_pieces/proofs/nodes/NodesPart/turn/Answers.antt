@@ -7,7 +7,7 @@ use Rattle.tp_model.specs.Network.{OfNode}
 use Rattle.tp_model.specs.Node.{t414}
 use Rattle.tp_model.specs.Turn.{by_link, comes_in, turned}
 use Rattle.tp_model.specs.Entries.{process, does, of_node}
-use Rattle.tp_law_parts.proofs.ByItself.{node_there}
+use Rattle.tp_law_network.proofs.ByItself.{node_there}
 use Rattle.tp_pieces.specs.Whose.{whose}
 use Rattle.tp_pieces.specs.Held.{has}
 use Rattle.tp_pieces.specs.Inside.{nodes_held}

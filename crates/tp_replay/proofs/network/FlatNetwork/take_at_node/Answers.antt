@@ -9,7 +9,7 @@ use Rattle.tp_replay.specs.Inside.{state_of}
 use Rattle.tp_replay.proofs.Applied.{node_count, node_at, room, node_inside, node_next}
 use Rattle.tp_replay.proofs.Fronts.{front_taken}
 use Rattle.tp_node.proofs.Answered.{takes_ok, takes_err, lacking_frozen}
-use Rattle.tp_port.proofs.Sending.{answer_on}
+use Rattle.tp_book.proofs.Sending.{answer_on}
 use Rattle.tp_replay.proofs.Steps.{without_front, node_takes}
 use Rattle.tp_replay.proofs.network.FlatNetwork.take_at_node.Goals as goal
 

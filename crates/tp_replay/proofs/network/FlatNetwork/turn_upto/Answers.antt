@@ -8,7 +8,7 @@ use Rattle.tp_law_network.specs.Turns.{IsFront}
 use Rattle.tp_law_network.proofs.Lines.{length_taken, length_sent}
 use Rattle.tp_law_machine.specs.NodeOfBytes.{CarryBytes}
 use Rattle.tp_node.proofs.Answered.{why_most, why_fewer, lacking_frozen}
-use Rattle.tp_port.specs.Room.{from_line}
+use Rattle.tp_book.specs.Room.{from_line}
 use Rattle.tp_replay.proofs.Turned.{node_there, off_lines, out_is, node_can, answers_known, tokens_known, answers_room, tokens_room, turned_inside, turned_upto}
 use Rattle.tp_replay.proofs.network.FlatNetwork.turn_upto.Goals as goal
 

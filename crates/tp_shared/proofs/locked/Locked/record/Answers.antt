@@ -2,7 +2,7 @@ use Rattle.std.proofs.Common.{◌<◌, ◌≡◌, ◌∙◌, List, [], length, a
 use Rattle.std.specs.Prelude.{is_some}
 use Rattle.std.proofs.lemmas.List.{length-set}
 use Rattle.tp_model.specs.declared.entry.Entry.{Entry}
-use Rattle.tp_snap.specs.Needs.{is_asked}
+use Rattle.tp_book.specs.Needs.{is_asked}
 use Rattle.tp_turn.specs.Moments.{Done, IsNodeOf, moment}
 use Rattle.tp_turn.specs.Settled.{Records}
 use Rattle.tp_shared.specs.Agreement.{Agreement, at_rest}

@@ -1,0 +1,26 @@
+-- The record of a port, without any claim of it, and the port that it says.
+use Rattle.std.specs.Prelude.{ℕ, ◌+◌, ◌-◌, Bool, ◌&&◌, ◌==◌, nat_le, List, take, drop, bytes_eq}
+use Rattle.std.specs.List.{list_all}
+use Rattle.tp_model.specs.declared.limits.TheConstants.{MAX_HELD, PORT_BYTES}
+use Rattle.tp_model.specs.Bytes.{u64_at}
+use Rattle.tp_model.specs.Network.{Port}
+use Rattle.tp_model.specs.CutImage.{is_port_of, port_at, port_bytes}
+use Rattle.tp_area.specs.declared.port.PortRecord.{PortRecord}
+
+-- the port that a record says
+abbrev pub port_of : PortRecord → Port
+port_of r = record { pending = r.pending.now; in_base = r.in_base; outputs = r.outputs.now; out_base = r.out_base }
+
+-- the bytes begin with the record of a port of a cut of `base` entries
+abbrev pub is_port_at : ℕ → List ℕ → Bool
+is_port_at base bytes = bytes_eq (take PORT_BYTES bytes) (port_bytes (port_at bytes)) && is_port_of base (port_at bytes)
+
+abbrev pub is_zero : ℕ → Bool
+is_zero byte = byte == 0
+
+-- the same where the record's numbers of bytes are the given ones: what fills it up is 00, and the positions are reached
+abbrev pub keeps_rules : ℕ → ℕ → ℕ → List ℕ → Bool
+keeps_rules base held shown bytes =
+    list_all is_zero (take (MAX_HELD - held) (drop (20 + held) bytes))
+    && (list_all is_zero (drop (20 + MAX_HELD + shown) bytes)
+    && (nat_le (u64_at bytes 0) base && nat_le (u64_at bytes 8 + shown) base))

@@ -1,0 +1,98 @@
+//! The ends of wires as numbers.
+
+ghost use Rattle.std.specs.Prelude.{◌≡◌, ◌+◌, ◌*◌, ◌<◌, ◌≤◌, ℕ, true, map, length, get_or, None};
+ghost use Rattle.std.specs.List.{list_all};
+ghost use Rattle.tp_model.specs.declared.limits.TheConstants.{MAX_NODES, MAX_PORTS};
+ghost use Rattle.tp_model.specs.Head.{end_number, end_of_number, first_port};
+ghost use Rattle.tp_area.specs.Ends.{is_number};
+
+use arrayvec::ArrayVec;
+use tp_model::limits::{MAX_NODES, MAX_PORTS, NARROW_PORT, WIDE_PORT};
+use tp_model::{HeadVersion, WireEnd};
+use tp_net::{MAX_LINES, link_line};
+
+/// The number that stands for port 0.
+fn first_port(version: HeadVersion) -> u16
+    ensures { result ≡ first_port version }
+{
+    match version {
+        HeadVersion::Narrow => NARROW_PORT as u16,
+        HeadVersion::Wide => WIDE_PORT as u16,
+    }
+}
+
+/// The number that stands for the other end of a wire.
+fn end_number(version: HeadVersion, end: Option<WireEnd>) -> u16
+    requires { end_number version end < first_port version + MAX_PORTS }
+    ensures { result ≡ end_number version end }
+{
+    match end {
+        None => 0,
+        Some(WireEnd::Link(node, link)) => 1 + 4 * u16::from(node) + u16::from(link),
+        Some(WireEnd::Port(port)) => first_port(version) + u16::from(port),
+    }
+}
+
+/// The numbers that stand for the other ends of wires.
+pub(crate) fn end_numbers(
+    version: HeadVersion,
+    ends: &[Option<WireEnd>],
+) -> ArrayVec<u16, MAX_LINES>
+    requires few { length ends.now ≤ MAX_LINES }
+    requires low { (i : ℕ) → i < length ends.now → end_number version (get_or ends.now i None) < first_port version + MAX_PORTS }
+    ensures { result.items ≡ map (end_number version) ends.now }
+{
+    let mut numbers = ArrayVec::new();
+    for end in ends {
+        numbers.push(end_number(version, *end));
+    }
+    numbers
+}
+
+/// Whether `number` stands for an end that a network may have, or for none.
+fn is_number(version: HeadVersion, number: u16) -> bool
+    ensures { result ≡ is_number version number }
+{
+    let first = first_port(version);
+    if number < first {
+        usize::from(number) <= link_line(MAX_NODES, 0)
+    } else {
+        usize::from(number - first) < MAX_PORTS
+    }
+}
+
+/// Whether all of the numbers do.
+pub(crate) fn are_numbers(version: HeadVersion, numbers: &[u16]) -> bool
+    ensures { result ≡ list_all (is_number version) numbers.now }
+{
+    numbers.iter().all(|number| is_number(version, *number))
+}
+
+/// The end of a wire that `number` stands for.
+fn end_of_number(version: HeadVersion, number: u16) -> Option<WireEnd>
+    requires { is_number version number ≡ true }
+    ensures { result ≡ end_of_number version number }
+{
+    let first = first_port(version);
+    if number == 0 {
+        None
+    } else if number < first {
+        let line = number - 1;
+        Some(WireEnd::Link((line / 4) as u8, (line % 4) as u8))
+    } else {
+        Some(WireEnd::Port((number - first) as u8))
+    }
+}
+
+/// The ends of wires that numbers stand for.
+pub(crate) fn ends_of(version: HeadVersion, numbers: &[u16]) -> ArrayVec<Option<WireEnd>, MAX_LINES>
+    requires few { length numbers.now ≤ MAX_LINES }
+    requires ends { list_all (is_number version) numbers.now ≡ true }
+    ensures { result.items ≡ map (end_of_number version) numbers.now }
+{
+    let mut ends = ArrayVec::new();
+    for number in numbers {
+        ends.push(end_of_number(version, *number));
+    }
+    ends
+}

@@ -1,0 +1,122 @@
+//! Records of ports.
+
+ghost use Rattle.std.specs.Prelude.{◌≡◌, ◌+◌, ◌≤◌, ◌&&◌, length, take, drop, nat_le};
+ghost use Rattle.std.specs.List.{list_all};
+ghost use Rattle.std.specs.Option.{option_map};
+ghost use Rattle.arrayvec.specs.ArrayVec.{array_vec_len};
+ghost use Rattle.tp_model.specs.Bytes.{u64_at};
+ghost use Rattle.tp_model.specs.CutImage.{port_bytes, port_with};
+ghost use Rattle.tp_area.specs.Ports.{is_port_at, is_zero, keeps_rules, port_of};
+
+use crate::number::{u16_at, u64_at};
+use crate::written::{pad, put};
+use arrayvec::ArrayVec;
+use tp_model::limits::{MAX_HELD, PORT_BYTES};
+
+/// Where the numbers of a port's record stand, its pending bytes and its outputs.
+const OUT_BASE_PLACE: usize = 8;
+
+const PENDING_COUNT_PLACE: usize = 16;
+
+const OUTPUT_COUNT_PLACE: usize = 18;
+
+const PENDING_PLACE: usize = 20;
+
+const OUTPUTS_PLACE: usize = PENDING_PLACE + MAX_HELD;
+
+/// What a port's record says: the pending bytes behind `in_base` bytes that were taken off, and the outputs behind `out_base`
+/// bytes that were confirmed.
+#[derive(Clone, Copy, Debug, PartialEq, Eq)]
+pub struct PortRecord<'a> {
+    pub pending: &'a [u8],
+    pub in_base: u64,
+    pub outputs: &'a [u8],
+    pub out_base: u64,
+}
+
+/// Whether all bytes are 00.
+fn are_zeros(bytes: &[u8]) -> bool
+    ensures { result ≡ list_all is_zero bytes.now }
+{
+    bytes.iter().all(|byte| *byte == 0)
+}
+
+/// Whether the positions of a port with `shown` outputs are no more than the entries that led to them.
+fn are_reached(base: u64, in_base: u64, out_base: u64, shown: usize) -> bool
+    requires { shown ≤ MAX_HELD }
+    ensures { result ≡ (nat_le in_base base && nat_le (out_base + shown) base) }
+{
+    in_base <= base && out_base <= base && shown as u64 <= base - out_base
+}
+
+/// Whether the record of a port that holds `held` bytes, and has `shown` outputs, keeps the rules of records.
+fn keeps_rules(base: u64, held: usize, shown: usize, bytes: &[u8]) -> bool
+    requires whole { length bytes.now ≡ PORT_BYTES }
+    requires few { held ≤ MAX_HELD }
+    requires few_outputs { shown ≤ MAX_HELD }
+    ensures { result ≡ keeps_rules base held shown bytes.now }
+{
+    are_zeros(&bytes[PENDING_PLACE + held..OUTPUTS_PLACE])
+        && are_zeros(&bytes[OUTPUTS_PLACE + shown..])
+        && are_reached(base, u64_at(bytes, 0), u64_at(bytes, OUT_BASE_PLACE), shown)
+}
+
+/// Whether `bytes` are the record of a port, in a cut of `base` entries.
+fn is_port_at(base: u64, bytes: &[u8]) -> bool
+    requires { length bytes.now ≡ PORT_BYTES }
+    ensures { result ≡ is_port_at base bytes.now }
+{
+    let held = usize::from(u16_at(bytes, PENDING_COUNT_PLACE));
+    let shown = usize::from(u16_at(bytes, OUTPUT_COUNT_PLACE));
+    if held > MAX_HELD || shown > MAX_HELD {
+        return false;
+    }
+    keeps_rules(base, held, shown, bytes)
+}
+
+/// What the record of a port says that holds `held` bytes, and has `shown` outputs.
+fn record_in(held: usize, shown: usize, bytes: &[u8]) -> PortRecord<'_>
+    requires whole { length bytes.now ≡ PORT_BYTES }
+    requires few { held ≤ MAX_HELD }
+    requires few_outputs { shown ≤ MAX_HELD }
+    ensures { port_of result ≡ record { pending = take held (drop 20 bytes.now); in_base = u64_at bytes.now 0; outputs = take shown (drop (20 + MAX_HELD) bytes.now); out_base = u64_at bytes.now 8 } }
+{
+    PortRecord {
+        pending: &bytes[PENDING_PLACE..PENDING_PLACE + held],
+        in_base: u64_at(bytes, 0),
+        outputs: &bytes[OUTPUTS_PLACE..OUTPUTS_PLACE + shown],
+        out_base: u64_at(bytes, OUT_BASE_PLACE),
+    }
+}
+
+/// The port of a cut of `base` entries, whose record `bytes` are, if they are one.
+pub fn port_in(base: u64, bytes: &[u8]) -> Option<PortRecord<'_>>
+    requires { length bytes.now ≡ PORT_BYTES }
+    ensures { option_map port_of result ≡ port_with base bytes.now }
+{
+    if !is_port_at(base, bytes) {
+        return None;
+    }
+    let held = usize::from(u16_at(bytes, PENDING_COUNT_PLACE));
+    let shown = usize::from(u16_at(bytes, OUTPUT_COUNT_PLACE));
+    Some(record_in(held, shown, bytes))
+}
+
+/// The record of a port.
+pub fn port_bytes(port: PortRecord<'_>) -> ArrayVec<u8, PORT_BYTES>
+    requires few { length port.pending.now ≤ MAX_HELD }
+    requires few_outputs { length port.outputs.now ≤ MAX_HELD }
+    ensures bytes { result.items ≡ port_bytes (port_of port.entry) }
+    ensures len { array_vec_len result ≡ PORT_BYTES }
+{
+    let mut out = ArrayVec::new();
+    put(&port.in_base.to_le_bytes(), &mut out);
+    put(&port.out_base.to_le_bytes(), &mut out);
+    put(&(port.pending.len() as u16).to_le_bytes(), &mut out);
+    put(&(port.outputs.len() as u16).to_le_bytes(), &mut out);
+    put(port.pending, &mut out);
+    pad(OUTPUTS_PLACE, &mut out);
+    put(port.outputs, &mut out);
+    pad(PORT_BYTES, &mut out);
+    out
+}

@@ -1,0 +1,91 @@
+-- What a node receives: links in order, taken off the fronts of their lines, up to each line's first Marker.
+use Rattle.std.proofs.Common.{◌≡◌, ℕ, zero, suc, ◌+◌, ◌*◌, ◌<◌, ◌≤◌, true, cond, List, [], ◌∷◌, ◌++◌, length, map, drop, set, get_or, refl, sym, ap, ◌∙◌, arith, add-one, drop-cons, Option, Some, None, IsSome, slice_get}
+use Rattle.std.specs.Prelude.{is_some}
+use Rattle.std.specs.List.{AllByRecursion}
+use Rattle.std.proofs.lemmas.Bool.{true≢false}
+use Rattle.std.proofs.lemmas.List.{length-append, length-map, drop_all}
+use Rattle.tp_model.specs.declared.link.Token.{Token}
+use Rattle.tp_model.specs.declared.link.Token.TheVariants.{Data, Ack, Marker}
+use Rattle.tp_model.specs.declared.link.Received.{Received}
+use Rattle.tp_model.specs.declared.link.Received.TheVariants.{Nothing, JustData, JustAck, DataThenAck, AckThenData}
+use Rattle.tp_model.specs.declared.wire.WireEnd.{WireEnd}
+use Rattle.tp_model.specs.Markers.{before}
+use Rattle.tp_model.specs.Network.{on_line, taken}
+use Rattle.tp_model.specs.Sound.{acks, datas}
+use Rattle.tp_model.specs.Turn.{by_line, by_link, incoming, received}
+use Rattle.tp_book.specs.FirstTwo.{by_two}
+use Rattle.tp_law_network.proofs.Lines.{line_there, taken_cons}
+
+-- ## The tokens of all links
+
+pub links_from : (links : List Received) (k : ℕ) → k < length links → by_link k (drop k links) ≡ map (λ t. (k, t)) (received (get_or links k Nothing)) ++ by_link (k + 1) (drop (k + 1) links)
+links_from links k below = ap (by_link k) (drop-cons links k Nothing below ∙ ap (λ n. get_or links k Nothing ∷ drop n links) (sym (add-one k)))
+
+-- on one link at most two
+received_length : (one : Received) → length (received one) ≤ 2
+received_length Nothing = omega arith
+received_length (JustData byte) = omega arith
+received_length JustAck = omega arith
+received_length (DataThenAck byte) = omega arith
+received_length (AckThenData byte) = omega arith
+
+pub received_few : (tokens : List (ℕ × Token)) (k : ℕ) (one : Received) (now : List (ℕ × Token)) → now ≡ tokens ++ map (λ t. (k, t)) (received one) → length tokens ≤ 2 * k → length now ≤ 2 * (k + 1)
+received_few tokens k one now is few =
+    omega (arith, few, received_length one, ap length is, length-append tokens (map (λ t. (k, t)) (received one)), length-map {B = ℕ × Token} (received one) (λ t. (k, t)))
+
+-- the tokens are on lines with low numbers
+pub low_at : (wires : List (Option WireEnd)) (N i most : ℕ) (tokens : List (ℕ × Token)) (k : ℕ) (d : ℕ × Token) → AllByRecursion (λ m. m.0 < most) (by_line wires N i tokens) → k < length tokens
+    → incoming wires N i (get_or tokens k d).0 < most
+low_at wires N i most [] k d all below = absurd (omega (arith, below))
+low_at wires N i most (m ∷ ms) zero d all below = all.0
+low_at wires N i most (m ∷ ms) (suc k) d all below = low_at wires N i most ms k d all.1 (omega (arith, below))
+
+-- ## Taken off
+
+there_is : {A : Type 0} (o : Option A) → is_some o ≡ true → (x : A) × (o ≡ Some x)
+there_is None is = absurd (true≢false (sym is))
+there_is (Some x) is = (x, refl)
+
+-- a line without its front
+abbrev pub without_front : List (List Token) → ℕ → List (List Token)
+without_front lines line = set lines line (drop 1 (on_line lines line))
+
+-- The tokens from a place on: the one there stands in front of its line, and the others can be taken behind it.
+pub record NextOff (lines : List (List Token)) (m : ℕ × Token) (ms rest : List (ℕ × Token)) : Type 0 where
+  pub there : m.0 < length lines
+  pub some : IsSome (taken (without_front lines m.0) rest)
+  pub is : taken lines ms ≡ taken (without_front lines m.0) rest
+
+pub next_off : (lines : List (List Token)) (tokens : List (ℕ × Token)) (k : ℕ) (d : ℕ × Token) → k < length tokens → IsSome (taken lines (drop k tokens))
+    → NextOff lines (get_or tokens k d) (drop k tokens) (drop (k + 1) tokens)
+next_off lines tokens k d below some =
+    let m = get_or tokens k d in
+    let rest = drop (k + 1) tokens in
+    let from : drop k tokens ≡ m ∷ rest = drop-cons tokens k d below ∙ ap (λ j. m ∷ drop j tokens) (sym (add-one k)) in
+    let all = there_is (taken lines (drop k tokens)) some in
+    let T = taken_cons lines m rest all.0 (ap (taken lines) (sym from) ∙ all.1) in
+    record { there = line_there lines m.0 m.1 T.0; some = ap is_some T.1; is = all.1 ∙ sym T.1 }
+
+pub off_done : (lines : List (List Token)) (tokens : List (ℕ × Token)) (k : ℕ) → length tokens ≤ k → taken lines (drop k tokens) ≡ Some lines
+unfolding taken
+off_done lines tokens k past = ap (taken lines) (drop_all k tokens past)
+
+-- ## In front of the first Marker
+
+none_before : (ts : List Token) → datas ts ≡ 0 → acks ts ≡ 0 → before ts ≡ []
+none_before [] d a = refl
+none_before (Data b ∷ ts) d a = absurd (omega (arith, d))
+none_before (Ack ∷ ts) d a = absurd (omega (arith, a))
+none_before (Marker ∷ ts) d a = refl
+
+pub by_two-before : (ts : List Token) → datas ts ≤ 1 → acks ts ≤ 1 → received (by_two (slice_get ts 0) (slice_get ts 1)) ≡ before ts
+by_two-before [] d a = refl
+by_two-before (Data b ∷ []) d a = refl
+by_two-before (Data b ∷ Data c ∷ ts) d a = absurd (omega (arith, d))
+by_two-before (Data b ∷ Ack ∷ ts) d a = ap (λ us. Data b ∷ Ack ∷ us) (sym (none_before ts (omega (arith, d)) (omega (arith, a))))
+by_two-before (Data b ∷ Marker ∷ ts) d a = refl
+by_two-before (Ack ∷ []) d a = refl
+by_two-before (Ack ∷ Data b ∷ ts) d a = ap (λ us. Ack ∷ Data b ∷ us) (sym (none_before ts (omega (arith, d)) (omega (arith, a))))
+by_two-before (Ack ∷ Ack ∷ ts) d a = absurd (omega (arith, a))
+by_two-before (Ack ∷ Marker ∷ ts) d a = refl
+by_two-before (Marker ∷ ts) d a = refl

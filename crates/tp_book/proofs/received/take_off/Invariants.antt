@@ -1,0 +1,10 @@
+-- The tokens that are left can be taken, and lead where all of them lead.
+use Rattle.std.proofs.Common.{◌≡◌, IsSome, drop}
+use Rattle.tp_model.specs.Network.{taken}
+use Rattle.tp_book.proofs.received.take_off.Given as goal
+
+abbrev pub invariant-loop-m : goal.invariant-loop-m
+invariant-loop-m l = record {
+  some : IsSome (taken l.lines (drop l.m-index l.tokens));
+  is : taken l.lines (drop l.m-index l.tokens) ≡ taken l.initial.lines l.tokens;
+}

@@ -1,0 +1,8 @@
+-- The lines so far are closed where they have a wire.
+use Rattle.std.proofs.Common.{◌≡◌, true, get_or}
+use Rattle.tp_model.specs.Network.{has_wire}
+use Rattle.tp_model.specs.WholeCut.{all_closed}
+use Rattle.tp_book.proofs.running.all_closed.Given as goal
+
+abbrev pub invariant-loop-line : goal.invariant-loop-line
+invariant-loop-line l = all_closed (has_wire l.wires) (λ line. get_or l.closed line true) l.line ≡ true

@@ -1,0 +1,40 @@
+//! A port as its parts.
+
+ghost use Rattle.std.specs.Prelude.{◌≡◌, IfOk, map};
+ghost use Rattle.tp_book.specs.PortParts.{port_of};
+
+use crate::port::HostPort;
+use std::alloc::{AllocError, Global};
+
+/// A host port: the bytes that no Ack has taken off and how many were taken off, the outputs that aren't confirmed and
+/// how many were.
+#[derive(Drop)]
+pub struct PortParts {
+    pub pending: Vec<u8>,
+    pub in_base: u64,
+    pub outputs: Vec<u8>,
+    pub out_base: u64,
+}
+
+/// A port as its parts.
+pub fn parts_of(alloc: Global, port: &HostPort) -> Result<PortParts, AllocError>
+    ensures { IfOk result (λ parts. port_of parts ≡ port.now.port) }
+{
+    Ok(PortParts {
+        pending: Vec::from_slice(alloc, port.pending())?,
+        in_base: port.in_base(),
+        outputs: Vec::from_slice(alloc, port.outputs())?,
+        out_base: port.out_base(),
+    })
+}
+
+/// Each port as its parts.
+pub fn all_parts(alloc: Global, ports: &[HostPort]) -> Result<Vec<PortParts>, AllocError>
+    ensures { IfOk result (λ parts. map port_of parts.items ≡ map (λ port. port.port) ports.now) }
+{
+    let mut parts = Vec::new(alloc);
+    for i in 0..ports.len() {
+        parts.push(parts_of(alloc, &ports[i])?)?;
+    }
+    Ok(parts)
+}

@@ -1,0 +1,101 @@
+//! Values that contracts alone see.
+
+ghost use Rattle.std.specs.Prelude.{◌≡◌, ◌++◌, ◌∷◌, [], ℕ, Option, None, map, set, replicate};
+ghost use Rattle.std.specs.Borrow.{ftrue};
+ghost use Rattle.tp_model.specs.declared.entry.Entry.TheVariants.{HostIn};
+ghost use Rattle.tp_model.specs.NodeState.{NodeState};
+ghost use Rattle.tp_book.specs.Seen.{Seen};
+
+use std::marker::Model;
+use tp_model::Entry;
+
+/// What contracts alone see of a book's snapshots: each node's frozen image where it recorded, all entries since the
+/// book was opened, and how many there were then. It has no bytes, and no call reads it.
+#[derive(Drop)]
+pub struct Trace {
+    pub ghost seen: { Seen },
+}
+
+impl Model for Trace {
+    ghost also_owns = { λ _. ftrue };
+}
+
+// It has no bytes and owns nothing.
+unsafe impl Send for Trace {}
+
+unsafe impl Sync for Trace {}
+
+/// The image that a node records, which contracts alone see.
+#[derive(Drop)]
+pub struct Image {
+    pub ghost image: { Option NodeState },
+}
+
+impl Model for Image {
+    ghost also_owns = { λ _. ftrue };
+}
+
+impl Image {
+    /// The image that contracts name of a value. It does nothing.
+    pub fn of<T>(_value: &T) -> Image
+        ghost image: { Option NodeState }
+        ensures { result.image ≡ image }
+    {
+        Image {}
+    }
+}
+
+impl Trace {
+    /// What contracts name of a value. It does nothing.
+    pub fn of<T>(_value: &T) -> Trace
+        ghost seen: { Seen }
+        ensures { result.seen ≡ seen }
+    {
+        Trace {}
+    }
+
+    /// Nothing yet.
+    pub(crate) fn nothing(floor: usize) -> Trace
+        ensures { result.seen ≡ record { frozen = []; history = []; floor = floor } }
+    {
+        Trace::of(&floor)
+    }
+
+    /// An entry more.
+    pub(crate) fn with_entry(&self, entry: Entry) -> Trace
+        ensures { result.seen ≡ record self.now.seen { history = self.now.seen.history ++ entry ∷ [] } }
+    {
+        let both = (self, entry);
+        Trace::of(&both)
+    }
+    /// An entry more for each byte that was handed to a port.
+    pub(crate) fn with_inputs(&self, port: u8, bytes: &[u8]) -> Trace
+        ensures { result.seen ≡ record self.now.seen { history = self.now.seen.history ++ map (HostIn port) bytes.now } }
+    {
+        let all = (self, port, bytes);
+        Trace::of(&all)
+    }
+
+    /// No image is frozen yet, of `nodes` nodes.
+    pub(crate) fn unfrozen(&self, nodes: usize) -> Trace
+        ensures { result.seen ≡ record self.now.seen { frozen = replicate nodes None } }
+    {
+        let both = (self, nodes);
+        Trace::of(&both)
+    }
+
+    /// The image of a node is frozen.
+    pub(crate) fn with_image(&self, node: u8, image: &Image) -> Trace
+        ensures { result.seen ≡ record self.now.seen { frozen = set self.now.seen.frozen node image.now.image } }
+    {
+        let all = (self, node, image);
+        Trace::of(&all)
+    }
+
+    /// There is no frozen image, and no entry from before the book was opened.
+    pub(crate) fn ended(&self) -> Trace
+        ensures { result.seen ≡ record self.now.seen { frozen = []; floor = 0 } }
+    {
+        Trace::of(self)
+    }
+}

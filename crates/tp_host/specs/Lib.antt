@@ -1,4 +1,0 @@
-pub mod Answers
-pub mod Offers
-pub mod Outputs
-pub mod Receipts

@@ -1,7 +1,0 @@
-use Rattle.tp_law_machine.proofs.LinkLaws.{has_four_links, never_marks}
-use Rattle.tp_model.specs.Node.{t414}
-use Rattle.tp_law_cuts.proofs.Until.{stays_until}
-use Rattle.tp_law_cuts.proofs.whole_cuts_stay.Goals as goal
-
-pub returns : goal.returns
-returns c = λ w v u opened acts run cut nodes. stays_until t414 has_four_links never_marks cut nodes w v u opened acts run

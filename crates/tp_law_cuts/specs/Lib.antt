@@ -1,2 +1,0 @@
-pub mod Invariant
-pub mod Reserved

@@ -1,0 +1,95 @@
+-- The device of the computed checkpoint, as it is formatted and with a group of two entries.
+use Rattle.std.proofs.Common.{◌≡◌, ℕ, ◌+◌, ◌-◌, true, false, List, [], ◌∷◌, length, refl, arith, Some, Ok}
+use Rattle.std.specs.Prelude.{nat_lt}
+use Rattle.std.specs.List.{list_all}
+use Rattle.std.proofs.lemmas.Bool.{and_parts, ltb-true}
+use Rattle.tp_model.specs.declared.form.Form.TheVariants.{Turns}
+use Rattle.tp_model.specs.declared.head.HeadVersion.TheVariants.{Narrow}
+use Rattle.tp_model.specs.declared.limits.TheConstants.{AREA_HEAD_BYTES}
+use Rattle.tp_model.specs.Step.{step_of}
+use Rattle.tp_model.specs.Node.{node_step, took, t414, t414_ends}
+use Rattle.tp_model.specs.Network.{steps, own, put, taken, pushed, sent}
+use Rattle.tp_model.specs.Entries.{process, takes, of_port, receives, does, next, acts}
+use Rattle.tp_model.specs.EntryBytes.{entry_at}
+use Rattle.tp_model.specs.Group.{rows_of, group_length, group_body, rows_at, rows_behind}
+use Rattle.tp_model.specs.Image.{image_head, image, node_at, is_node, node_of}
+use Rattle.tp_model.specs.EndBytes.{ends_at}
+use Rattle.tp_model.specs.CutImage.{cut_bytes, nodes_in, lines_in, ports_in}
+use Rattle.tp_model.specs.Topology.{is_topology, all_lead_back}
+use Rattle.tp_model.specs.Journal.{cut_length}
+use Rattle.tp_model.specs.Device.{area_start}
+use Rattle.tp_model.specs.Head.{head_bytes, u16s_at, head_at, head_of}
+use Rattle.tp_model.specs.Spelling.{front_bytes}
+use Rattle.tp_model.specs.Flight.{flights_in}
+use Rattle.tp_model.specs.Format.{fresh_nodes}
+use Rattle.tp_model.specs.Replay.{listing, after_rows}
+use Rattle.tp_model.specs.Areas.{gate_open}
+use Rattle.tp_model.specs.Disk.{written}
+use Rattle.tp_model.specs.Bytes.{zeros}
+use Rattle.tp_model.specs.Opening.{Opened, chosen_area, cut_in, area_in, opening}
+use Rattle.tp_model.specs.DeviceAreas.{numbered, group_of}
+use Rattle.tp_law_machine.specs.OneNode.{one_node, one_before}
+use Rattle.tp_law_machine.specs.Transfers.{sends}
+use Rattle.tp_law_machine.proofs.Numbers.{AreBytes}
+use Rattle.tp_law_device.specs.FormattedWorld.{WasFormatted}
+use Rattle.tp_law_device.specs.OneCheckpoint.{one_areas, first_content, one_device, inside, cut_network}
+
+pub one_formatted : WasFormatted one_node one_areas Turns (image sends ∷ []) one_before one_device
+unfolding image_head image node_at is_node node_of ends_at cut_bytes is_topology all_lead_back head_bytes front_bytes fresh_nodes
+one_formatted = record {
+  topology = refl;
+  room = refl;
+  area_fits = omega arith;
+  network = refl;
+  format = record { first = refl; head = refl; open_gate = refl; closed_gate = refl; rest = zeros (one_areas.length - 2 - length first_content); content = refl };
+}
+
+-- ## Its bytes
+
+bytes_from : (bytes : List ℕ) → list_all (λ byte. nat_lt byte 256) bytes ≡ true → AreBytes bytes
+bytes_from [] h = tt
+bytes_from (byte ∷ bytes) h =
+    let both = and_parts (nat_lt byte 256) (list_all (λ byte. nat_lt byte 256) bytes) h in
+    (ltb-true byte 256 both.0, bytes_from bytes both.1)
+
+pub one_bytes : AreBytes one_device
+unfolding image_head image cut_bytes head_bytes front_bytes
+one_bytes = bytes_from one_device refl
+
+-- ## With the group
+
+-- where its gate is, what goes behind that, and the device with it
+abbrev pub one_gate : ℕ
+one_gate = area_start one_areas false + AREA_HEAD_BYTES + cut_length one_node
+
+abbrev pub one_body : List ℕ
+one_body = group_body (rows_of (numbered 0 inside))
+
+abbrev pub grouped_device : List ℕ
+grouped_device = written (written one_device (one_gate + 1) one_body) one_gate gate_open
+
+pub one_group : group_of (opening t414 t414_ends one_device) inside ≡ Some (one_gate, one_body)
+unfolding step_of node_step took steps own put taken pushed sent process takes of_port receives does next acts entry_at rows_at rows_behind image_head image node_at is_node node_of ends_at cut_bytes nodes_in lines_in ports_in is_topology all_lead_back head_bytes u16s_at head_at head_of front_bytes flights_in listing after_rows chosen_area cut_in area_in opening group_of
+one_group = refl
+
+pub grouped_bytes : AreBytes grouped_device
+unfolding image_head image cut_bytes head_bytes front_bytes group_body
+grouped_bytes = bytes_from grouped_device refl
+
+-- what it opens as
+abbrev pub grouped : Opened
+grouped = record {
+  head = record { version = Narrow; topology = one_node; areas = one_areas };
+  second = false;
+  generation = 1;
+  form = Turns;
+  base = 0;
+  cut = one_before;
+  kept = numbered 0 inside;
+  now = cut_network;
+  end = one_gate + group_length (length inside);
+}
+
+pub grouped_opens : opening t414 t414_ends grouped_device ≡ Ok grouped
+unfolding step_of node_step took steps own put taken pushed sent process takes of_port receives does next acts entry_at rows_at rows_behind image_head image node_at is_node node_of ends_at cut_bytes nodes_in lines_in ports_in is_topology all_lead_back head_bytes u16s_at head_at head_of front_bytes flights_in listing after_rows chosen_area cut_in area_in opening group_body
+grouped_opens = refl

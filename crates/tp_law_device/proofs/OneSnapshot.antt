@@ -1,0 +1,69 @@
+-- The acts of the computed checkpoint.
+use Rattle.std.proofs.Common.{◌≡◌, true, false, [], ◌∷◌, ◌++◌, refl, Some, None}
+use Rattle.tp_model.specs.declared.link.Token.TheVariants.{Ack}
+use Rattle.tp_model.specs.NodeState.{NodeState}
+use Rattle.tp_model.specs.Step.{step_of}
+use Rattle.tp_model.specs.Node.{node_step, took, t414}
+use Rattle.tp_model.specs.Network.{steps, own, put, taken, pushed, sent}
+use Rattle.tp_model.specs.Entries.{process, takes, of_port, receives, does, next, acts}
+use Rattle.tp_model.specs.Order.{after, chosen, made}
+use Rattle.tp_model.specs.Format.{fresh_port}
+use Rattle.tp_model.specs.Snapshot.{MarkedNetwork}
+use Rattle.tp_model.specs.WholeCut.{WholeCut, trimmed, whole}
+use Rattle.tp_model.specs.Acts.{happens, acted}
+use Rattle.tp_model.specs.Runs.{HasCut, copy_of, fresh}
+use Rattle.tp_law_machine.specs.OneNode.{one_before, one_after}
+use Rattle.tp_law_machine.specs.Transfers.{awaits}
+use Rattle.tp_law_device.specs.OneCheckpoint.{inside, outside, before_snapshot, snapshot, cut_network}
+
+-- the book before the snapshot, and when its cut is whole
+abbrev pub early : MarkedNetwork NodeState
+early = record { start = one_before; entries = inside; live = cut_network; snapshot = None; frozen = [] }
+
+abbrev pub late : MarkedNetwork NodeState
+late = record {
+  start = one_before;
+  entries = inside ++ outside;
+  live = one_after;
+  snapshot = Some (record {
+    counts = Some 1 ∷ Some 1 ∷ [];
+    ports = record fresh_port { outputs = 0x41 ∷ [] } ∷ [];
+    lines = [] ∷ [] ∷ [] ∷ [] ∷ (Ack ∷ []) ∷ [];
+    closed = true ∷ false ∷ false ∷ false ∷ true ∷ [];
+    size = 2;
+  });
+  frozen = Some awaits ∷ [];
+}
+
+abbrev pub one_cut : WholeCut
+one_cut = record {
+  counts = 1 ∷ 1 ∷ [];
+  ports = record fresh_port { outputs = 0x41 ∷ [] } ∷ [];
+  lines = [] ∷ [] ∷ [] ∷ [] ∷ (Ack ∷ []) ∷ [];
+  size = 2;
+}
+
+pub early_acted : acted t414 (fresh one_before) before_snapshot ≡ Some early
+unfolding step_of node_step took steps own put taken pushed sent process takes of_port receives does next acts chosen made whole happens acted
+early_acted = refl
+
+pub late_acted : acted t414 early snapshot ≡ Some late
+unfolding step_of node_step took steps own put taken pushed sent process takes of_port receives does next acts chosen made whole happens acted
+late_acted = refl
+
+pub late_cut : HasCut late one_cut (awaits ∷ [])
+unfolding whole
+late_cut = record { is = refl; images = refl }
+
+-- what the flusher copies, and the book that is trimmed
+pub one_copy : copy_of late 0 one_cut (awaits ∷ []) ≡ record { network = cut_network; entries = outside; base = 2 }
+unfolding process chosen
+one_copy = refl
+
+pub one_trimmed : trimmed late one_cut (awaits ∷ []) ≡ record { start = cut_network; entries = outside; live = one_after; snapshot = None; frozen = [] }
+unfolding process chosen
+one_trimmed = refl
+
+pub outside_leads : after t414 cut_network outside ≡ Some one_after
+unfolding step_of node_step took steps own put taken pushed sent process takes of_port receives does next acts after
+outside_leads = refl

@@ -1,0 +1,159 @@
+//! The copy of a whole cut with its tail can be put into a device's other area, and opens to exactly that copy. The functions
+//! do nothing; their contracts are the laws.
+
+ghost use Rattle.std.specs.List.{AllByRecursion};
+ghost use Rattle.std.specs.Prelude.{◌≡◌, ◌≤◌, ◌<◌, ◌+◌, ◌-◌, ◌*◌, ◌++◌, ◌⊎◌, ℕ, Bool, false, true, List, Ok, Some, length, map, take, drop, slice_get};
+ghost use Rattle.tp_law_device.specs.Checkpoints.{Switches};
+ghost use Rattle.tp_law_device.specs.CanPut.{CanPut};
+ghost use Rattle.tp_law_device.specs.CutSpelt.{CutSpelt};
+ghost use Rattle.tp_law_device.specs.OneCheckpoint.{OneCheckpoint};
+ghost use Rattle.tp_law_device.specs.OneTurn.{OneTurn};
+ghost use Rattle.tp_model.specs.Acts.{Act, CutHolds, happens};
+ghost use Rattle.tp_model.specs.Areas.{Held, gate_open};
+ghost use Rattle.tp_model.specs.CopySpelt.{CopySpelt};
+ghost use Rattle.tp_model.specs.CutTail.{tail_of};
+ghost use Rattle.tp_model.specs.Device.{area_start, content_of};
+ghost use Rattle.tp_model.specs.Disk.{written};
+ghost use Rattle.tp_model.specs.DeviceAreas.{device_areas, has_room, other_content, other_is_open, other_start};
+ghost use Rattle.tp_model.specs.Entries.{process};
+ghost use Rattle.tp_model.specs.FrozenAs.{IsFrozenAs};
+ghost use Rattle.tp_model.specs.Image.{IsNode, image, image_head, page_count};
+ghost use Rattle.tp_model.specs.Journal.{entry_room, is_roomy, room};
+ghost use Rattle.tp_model.specs.KeptRun.{HasByte, KeptRun};
+ghost use Rattle.tp_model.specs.Network.{Network};
+ghost use Rattle.tp_model.specs.Node.{t414, t414_ends};
+ghost use Rattle.tp_model.specs.NodeState.{NodeState};
+ghost use Rattle.tp_model.specs.Numbers.{AreNumbered};
+ghost use Rattle.tp_model.specs.OpenedCopy.{opened_copy};
+ghost use Rattle.tp_model.specs.Opening.{Opened, groups_place, verdict};
+ghost use Rattle.tp_model.specs.Order.{post};
+ghost use Rattle.tp_model.specs.PiecesStand.{IsSized, IsThere, PiecesStand};
+ghost use Rattle.tp_model.specs.Runs.{Event, HasCut, IsFormatted, World, copy_of, is_trim};
+ghost use Rattle.tp_model.specs.Snapshot.{MarkedNetwork};
+ghost use Rattle.tp_model.specs.Spelling.{entries_in, groups_bytes};
+ghost use Rattle.tp_model.specs.Topology.{Topology, is_topology};
+ghost use Rattle.tp_model.specs.WholeCut.{WholeCut, all_some, count_in, network_in};
+ghost use Rattle.tp_model.specs.WriteOrder.{Resting};
+ghost use Rattle.tp_model.specs.declared.areas.TwoAreas.{TwoAreas};
+ghost use Rattle.tp_model.specs.declared.entry.Entry.{Entry};
+ghost use Rattle.tp_model.specs.declared.form.Form.TheVariants.{Turns};
+ghost use Rattle.tp_model.specs.declared.limits.TheConstants.{IMAGE_HEAD_BYTES, NUMBER_LIMIT, PAGE_BYTES};
+
+/// However the other area came to hold the pieces of a copy, each at its place and the tail in any groups of 1 to 64: that
+/// copy is what the area holds behind its closed gate. Once the gate is open, opening answers the copy: its base, its
+/// network, the entries of the tail with their numbers, and the other area as the one that is taken.
+pub fn copies_open()
+    ensures { (bytes : List ℕ) (o : Opened) (copy : Held NodeState) (tail : List (Entry × ℕ)) (groups : List (List (Entry × ℕ)))
+        → verdict bytes ≡ Ok o → other_is_open o bytes ≡ false → o.generation + 1 < NUMBER_LIMIT
+        → (C : CopySpelt o.head.topology copy tail) → entries_in groups ≡ tail → AllByRecursion IsSized groups
+        → PiecesStand o.head.topology (other_content o bytes) (o.generation + 1) copy groups
+        → (device_areas.other bytes ≡ Some (other_start o, copy)) × (verdict (written bytes (other_start o) gate_open) ≡ Ok (opened_copy o copy groups C.now)) }
+{}
+
+/// A whole cut of a book whose kept cut has an image, with bytes in its nodes, has one too, with its own entries added to the
+/// base. In a run over a device that was formatted, the kept cut has one whenever the flusher rests, and it is of the
+/// device's topology.
+pub fn cuts_are_spelt()
+    ensures cut { (t : Topology) (base : ℕ) (w : MarkedNetwork NodeState) (cut : WholeCut) (nodes : List NodeState) → is_topology t ≡ true → CutSpelt t base w.start
+        → AllByRecursion HasByte w.entries → CutHolds t414 w cut → all_some w.frozen ≡ Some nodes → base + length w.entries < NUMBER_LIMIT
+        → CutSpelt t (base + cut.size) (network_in w.start cut nodes) }
+    ensures kept { (most : ℕ) (start : Network NodeState) (events : List (Event NodeState)) (first w : World NodeState) → IsFormatted t414 device_areas start first
+        → AllByRecursion (λ byte. byte < 256) first.disk.bytes → KeptRun most first events w
+        → (o : Opened) → w.at ≡ Resting → AllByRecursion (λ byte. byte < 256) w.disk.bytes → verdict w.disk.bytes ≡ Ok o → CutSpelt o.head.topology w.base w.net.start }
+{}
+
+/// In a run over a device that was formatted, whenever the flusher rests: the copy that it makes of a whole cut, with the entries outside that and their numbers, has a spelling. It is of the device's topology.
+pub fn copies_are_spelt()
+    ensures { (most : ℕ) (start : Network NodeState) (events : List (Event NodeState)) (first w : World NodeState) → IsFormatted t414 device_areas start first
+        → AllByRecursion (λ byte. byte < 256) first.disk.bytes → KeptRun most first events w
+        → (o : Opened) (cut : WholeCut) (nodes : List NodeState) (kept : List (Entry × ℕ)) → w.at ≡ Resting
+        → AllByRecursion (λ byte. byte < 256) w.disk.bytes → HasCut w.net cut nodes → verdict w.disk.bytes ≡ Ok o
+        → map (λ e. e.0) kept ≡ w.net.entries → AreNumbered 0 w.base (map (λ e. e.1) kept)
+        → CopySpelt o.head.topology (copy_of w.net w.base cut nodes) (tail_of w.net.start cut kept) }
+{}
+
+/// At such a moment, where each entry of the tail finds room in a group of its own: there is a content of the other area that
+/// spells the copy; with it the device stands for what it did, and with that area's gate open for the copy.
+pub fn copies_can_be_put()
+    ensures { (most : ℕ) (start : Network NodeState) (events : List (Event NodeState)) (first w : World NodeState) → IsFormatted t414 device_areas start first
+        → AllByRecursion (λ byte. byte < 256) first.disk.bytes → KeptRun most first events w
+        → (o : Opened) (cut : WholeCut) (nodes : List NodeState) (kept : List (Entry × ℕ)) → w.at ≡ Resting
+        → AllByRecursion (λ byte. byte < 256) w.disk.bytes → HasCut w.net cut nodes → verdict w.disk.bytes ≡ Ok o → other_is_open o w.disk.bytes ≡ false
+        → map (λ e. e.0) kept ≡ w.net.entries → AreNumbered 0 w.base (map (λ e. e.1) kept)
+        → o.generation + 1 < NUMBER_LIMIT → entry_room * length (post (process w.net.start.wires (length w.net.start.nodes)) (count_in cut) w.net.entries) ≤ room o.head.topology o.head.areas.length
+        → CanPut w.disk.bytes o (copy_of w.net w.base cut nodes) }
+{}
+
+/// However the entries of a spelt copy's tail are divided into groups of 1 to 64, they end inside the content of an area, with
+/// the closed gate behind them, where each entry finds room in a group of its own.
+pub fn groups_stay_inside()
+    ensures { (t : Topology) (area : ℕ) (copy : Held NodeState) (tail : List (Entry × ℕ)) (groups : List (List (Entry × ℕ))) → is_roomy t area ≡ true → CopySpelt t copy tail
+        → entries_in groups ≡ tail → AllByRecursion IsSized groups → entry_room * length tail ≤ room t area
+        → groups_place t + length (groups_bytes groups) + 1 ≤ area - 1 }
+{}
+
+/// In a run over a device that was formatted, where each entry was made with room for it: the entries outside a whole cut find
+/// room, each in a group of its own, and whenever the flusher rests a group of the first entries of what it copied has room
+/// behind the groups that are there.
+pub fn entries_find_room()
+    ensures tails { (most : ℕ) (start : Network NodeState) (events : List (Event NodeState)) (first w : World NodeState) → IsFormatted t414 device_areas start first
+        → AllByRecursion (λ byte. byte < 256) first.disk.bytes → KeptRun most first events w
+        → (cut : WholeCut) (nodes : List NodeState) → HasCut w.net cut nodes → entry_room * length (post (process w.net.start.wires (length w.net.start.nodes)) (count_in cut) w.net.entries) ≤ most }
+    ensures groups { (most : ℕ) (start : Network NodeState) (events : List (Event NodeState)) (first w : World NodeState) → IsFormatted t414 device_areas start first
+        → AllByRecursion (λ byte. byte < 256) first.disk.bytes → KeptRun most first events w
+        → (o : Opened) (es more : List Entry) → w.at ≡ Resting → AllByRecursion (λ byte. byte < 256) w.disk.bytes → verdict w.disk.bytes ≡ Ok o
+        → w.backlog ≡ es ++ more → 1 ≤ length es → most ≤ room o.head.topology o.head.areas.length → has_room o (length es) ≡ true }
+{}
+
+/// While a snapshot runs, the image of a node that has recorded stays as it was frozen, whatever act follows but the trim; in
+/// the cut, once that is whole, it is the node. So its pieces may be put into the other area before the cut is whole.
+pub fn frozen_images_stay()
+    ensures stays { (w v : MarkedNetwork NodeState) (act : Act) (i : ℕ) (node : NodeState) → is_trim act ≡ false → happens t414 w act ≡ Some v → IsFrozenAs w i node → IsFrozenAs v i node }
+    ensures cut { (w : MarkedNetwork NodeState) (cut : WholeCut) (nodes : List NodeState) (i : ℕ) (node : NodeState) → HasCut w cut nodes → IsFrozenAs w i node → slice_get nodes i ≡ Some node }
+{}
+
+/// Bytes that are written stand there, and stay there when others are written apart from them. What is written inside an area's
+/// content is written at its place in that, and what is written elsewhere leaves the content as it was. The image
+/// of a node stands there once its head and each of its pages does.
+pub fn pieces_stay()
+    ensures written { (content : List ℕ) (at : ℕ) (bytes : List ℕ) → at + length bytes ≤ length content → IsThere (written content at bytes) at bytes }
+    ensures apart { (content : List ℕ) (at : ℕ) (bytes : List ℕ) (place : ℕ) (more : List ℕ) → place + length more ≤ length content
+        → (at + length bytes ≤ place) ⊎ (place + length more ≤ at) → IsThere content at bytes → IsThere (written content place more) at bytes }
+    ensures inside { (areas : TwoAreas) (second : Bool) (bytes : List ℕ) (at : ℕ) (piece : List ℕ) → area_start areas second + areas.length ≤ length bytes → at + length piece < areas.length
+        → content_of areas second (written bytes (area_start areas second + 1 + at) piece) ≡ written (content_of areas second bytes) at piece }
+    ensures elsewhere { (areas : TwoAreas) (second : Bool) (bytes : List ℕ) (at : ℕ) (more : List ℕ) → 1 ≤ areas.length → at + length more ≤ length bytes
+        → (at + length more ≤ area_start areas second + 1) ⊎ (area_start areas second + areas.length ≤ at) → content_of areas second (written bytes at more) ≡ content_of areas second bytes }
+    ensures image { (content : List ℕ) (at : ℕ) (node : NodeState) → IsNode node → IsThere content at (image_head node)
+        → ((page : ℕ) → page < page_count node.memory → IsThere content (at + IMAGE_HEAD_BYTES + PAGE_BYTES * page) (take PAGE_BYTES (drop (PAGE_BYTES * page) node.memory)))
+        → IsThere content at (image node) }
+{}
+
+/// Each whole cut of a run can be switched to, whatever checkpoints, crashes and openings came before, and whether the other area
+/// is closed or still open. Where entries are made with room for them, and a generation is left: whenever the flusher rests, a
+/// run closes the other area if it is open, copies cut and tail, writes them there, syncs, opens the gate, syncs and trims the
+/// book. Its last world's device opens as the other area, of the next generation and with turns, and holds the cut and each entry
+/// outside it.
+pub fn cuts_can_be_switched_to()
+    ensures { (most : ℕ) (start : Network NodeState) (events : List (Event NodeState)) (first w : World NodeState) → IsFormatted t414 device_areas start first
+        → AllByRecursion (λ byte. byte < 256) first.disk.bytes → KeptRun most first events w
+        → (o : Opened) (cut : WholeCut) (nodes : List NodeState) → w.at ≡ Resting → AllByRecursion (λ byte. byte < 256) w.disk.bytes → HasCut w.net cut nodes
+        → verdict w.disk.bytes ≡ Ok o → o.generation + 1 < NUMBER_LIMIT → most ≤ room o.head.topology o.head.areas.length
+        → Switches w o cut nodes (o.generation + 1) Turns }
+{}
+
+/// A run that does a checkpoint, computed from a formatted device on. A node sends a byte and the host takes it; both entries are
+/// appended as a group, the mark is raised, and read. A snapshot begins, the node records, and then takes the Ack and goes on,
+/// which are two entries outside the cut; in the cut the Ack is on its line. Both Markers are taken, so the cut is whole. Then
+/// it is copied with its tail, written into the other area and synced, the gate is opened and synced, and the book is trimmed:
+/// the device opens as the second area, which has turns, with the cut of two entries, the two behind it, and the network as it is.
+pub fn a_run_checkpoints()
+    ensures { OneCheckpoint }
+{}
+
+/// A device whose journal has a turn, computed. Behind the cut of a node that is about to send a byte, in an area with turns, there is a
+/// group of three entries: the node sends, the host takes the byte, and in one entry the node takes the Ack and goes on. The device
+/// opens to them, and to the network to which the four entries lead that say it apart. With those bytes in a plain area it
+/// is damaged where the turn stands.
+pub fn a_device_has_a_turn()
+    ensures { OneTurn }
+{}

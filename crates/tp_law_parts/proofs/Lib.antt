@@ -1,9 +1,0 @@
-pub mod ByItself
-pub mod CanFollow
-pub mod Counted
-pub mod Fronts
-pub mod Reach
-pub mod Rows
-pub mod Steps
-pub mod Stops
-pub mod Together

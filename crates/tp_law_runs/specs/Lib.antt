@@ -1,4 +1,0 @@
-pub mod Planned
-pub mod Small
-pub mod SmallRun
-pub mod Standing

@@ -1,6 +1,0 @@
-use Rattle.std.proofs.Common.{rules, arith}
-use Rattle.tp_mark.proofs.Steps.{loads}
-use Rattle.tp_mark.proofs.mark.Mark.load.Goals as goal
-
-pub load-shown-requires : goal.load-shown-requires
-load-shown-requires c = (search rules, omega (arith, c.self.invariant), loads _ _ _)

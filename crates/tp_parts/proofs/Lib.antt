@@ -1,4 +1,0 @@
-pub mod Bare
-pub mod Dealt
-pub mod First
-pub mod GoesUpTo

@@ -1,0 +1,41 @@
+//! Which nodes each of several workers gets.
+
+ghost use Rattle.std.specs.Prelude.{◌≡◌, ◌+◌, ◌<◌, ◌≤◌, ℕ};
+ghost use Rattle.tp_law_network.specs.Piece.{Covers};
+ghost use Rattle.tp_pieces.specs.Dealt.{dealt, first_of};
+
+/// A run of neighbours among the nodes: the first one, and how many they are.
+#[derive(Clone, Copy, Debug, PartialEq, Eq)]
+pub struct Neighbours {
+    pub first: u8,
+    pub count: u8,
+}
+
+/// The node at which a worker's run begins; for the number of workers, where the last run ends.
+#[tactic(auto, using(crate::proofs::Dealt::first_most))]
+fn first_of(nodes: u8, workers: u8, worker: u8) -> u8
+    requires { (worker ≤ workers) × (0 < workers) }
+    ensures { result ≡ first_of nodes workers worker }
+{
+    (u16::from(worker) * u16::from(nodes) / u16::from(workers)) as u8
+}
+
+/// The nodes that a worker gets. They may be none, where there are fewer nodes than workers.
+#[tactic(auto, using(crate::proofs::Dealt::first_up))]
+pub fn neighbours_of(nodes: u8, workers: u8, worker: u8) -> Neighbours
+    requires { worker < workers }
+    ensures first { result.first ≡ first_of nodes workers worker }
+    ensures end { result.first + result.count ≡ first_of nodes workers (worker + 1) }
+{
+    let first = first_of(nodes, workers, worker);
+    let end = first_of(nodes, workers, worker + 1);
+    Neighbours {
+        first,
+        count: end - first,
+    }
+}
+
+/// The pieces of all workers and the host's, which is the last, have every number among them.
+pub fn dealt_pieces_cover()
+    ensures { (nodes workers : ℕ) → 0 < workers → Covers (workers + 1) (dealt nodes workers) }
+{}

@@ -1,0 +1,36 @@
+//! A part of a network.
+
+ghost use Rattle.std.specs.Prelude.{◌≡◌, ◌<◌, ◌≤◌, ◌+◌, ℕ, IsTrue, MatchBool, MatchOption, Some, length};
+ghost use Rattle.tp_model.specs.NodeState.{NodeState};
+ghost use Rattle.tp_model.specs.Network.{Network};
+ghost use Rattle.tp_model.specs.Node.{t414};
+ghost use Rattle.tp_law_network.specs.Piece.{Piece};
+ghost use Rattle.tp_law_network.specs.InPiece.{next_in};
+ghost use Rattle.tp_pieces.specs.Blocked.{IsBlocked};
+ghost use Rattle.tp_pieces.specs.FirstNode.{HasNoNode, IsFirstNode};
+
+use tp_model::Entry;
+
+/// A part of a network: a piece, which is some of its processes and the lines that these send, with its state.
+pub trait Part {
+    /// Which processes it has.
+    ghost has: { Self → Piece };
+
+    /// The network with the part's processes and lines as they are now. What else stands there is never looked at.
+    ghost network: { Self → Network NodeState };
+
+    /// With how many entries it can go on yet, for its counters.
+    ghost room: { Self → ℕ };
+
+    /// Its first node; none where it has no node.
+    fn first_node(&self) -> Option<u8>
+        ensures { MatchOption result (HasNoNode (has self.now) (length (network self.now).nodes)) (λ node. IsFirstNode (has self.now) (length (network self.now).nodes) node) };
+
+    /// Goes on with an entry, whichever process's it is; answers whether it could. After a false answer nothing is known of it.
+    fn apply(&mut self, entry: &Entry) -> bool
+        requires { 0 < room self.old }
+        ensures has { has self.new ≡ has self.old }
+        ensures goes { MatchBool result (next_in t414 (has self.old) (network self.old) entry.now ≡ Some (network self.new))
+            (IsBlocked (has self.old) (network self.old) entry.now) }
+        ensures room { IsTrue result → room self.old ≤ room self.new + 1 };
+}

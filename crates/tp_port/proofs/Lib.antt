@@ -1,6 +1,0 @@
-pub mod Lists
-pub mod Owns
-pub mod Sending
-pub mod InFront
-pub mod OpenedPorts
-pub mod Counted

@@ -1,7 +1,0 @@
-use Rattle.std.proofs.Common.{◌≡◌, map, take}
-use Rattle.tp_port.specs.Parts.{port_of}
-use Rattle.tp_port.specs.Ports.{opened_port}
-use Rattle.tp_port.proofs.fill.ports_with.Given as goal
-
-abbrev pub invariant-loop-port : goal.invariant-loop-port
-invariant-loop-port l = l.ports.items ≡ map (λ port. opened_port (port_of port)) (take l.port l.parts)

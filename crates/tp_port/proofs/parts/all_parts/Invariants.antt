@@ -1,6 +1,0 @@
-use Rattle.std.proofs.Common.{◌≡◌, map, take}
-use Rattle.tp_port.specs.Parts.{port_of}
-use Rattle.tp_port.proofs.parts.all_parts.Given as goal
-
-abbrev pub invariant-loop-i : goal.invariant-loop-i
-invariant-loop-i l = map port_of l.parts.items ≡ map (λ port. port.port) (take l.i l.ports)

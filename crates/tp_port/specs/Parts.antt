@@ -1,7 +1,0 @@
--- A port as its parts.
-use Rattle.tp_model.specs.Network.{Port}
-use Rattle.tp_port.specs.declared.parts.PortParts.{PortParts}
-
--- the port that the parts are
-abbrev pub port_of : PortParts → Port
-port_of p = record { pending = p.pending.items; in_base = p.in_base; outputs = p.outputs.items; out_base = p.out_base }

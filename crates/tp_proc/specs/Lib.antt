@@ -1,4 +1,0 @@
-pub mod After
-pub mod AfterWrites
-pub mod Ends
-pub mod Room

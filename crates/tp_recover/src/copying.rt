@@ -1,0 +1,151 @@
+//! Copying a device that was opened, and that another process may be running.
+//!
+//! Such a process writes only the area that doesn't count, and groups behind the last one of the area that does (`docs/DISK.md` says in
+//! which order). Opening has said which area counts, its generation, and where the closed gate behind its groups stands. What lies between
+//! the two gates stays as it is until a checkpoint writes into this area, which closes its gate first, and opens it with a generation that is
+//! higher by 2. **It is copied, and then the area's gate and generation are read once more**: where they are what opening found, nothing
+//! was written there meanwhile, and the bytes are those of the moment at which the device was opened. Else there is no copy.
+//!
+//! **Of the copy the area's gate is opened last**, behind the head and a closed gate behind the groups; the other area's gate is closed. Then
+//! the copy is opened, and has to say what opening the device said.
+//!
+//! **Nothing is missing that was durable before the device was opened.** Let X be the area that counted then; all durable entries are in it.
+//! Opening reads the gates and generations of both areas after that, and takes the higher one that is open. If it took X, X's groups
+//! were read later, with all that they had. If it took the other one with a higher generation than X had, that one was opened since, with all
+//! of X's entries. It can't have taken the other one with a lower generation: then X's gate was found closed, so a checkpoint was written into
+//! the other one since, whose gate and generation aren't found in the end as opening read them.
+
+ghost use Rattle.std.specs.Prelude.{◌≡◌, ◌+◌, ◌^◌, ◌≤◌, ◌<◌, ◌↔◌, IfOk, IsTrue, OnOk};
+ghost use Rattle.tp_recover.specs.Copies.{Answers, HasStayed, IsFinished, OpensAs, closed_copy, kept_of};
+ghost use Rattle.tp_area.specs.Fronts.{area_front};
+ghost use Rattle.tp_area.specs.declared.front.TheConstants.{AREA_FRONT_BYTES};
+ghost use Rattle.tp_model.specs.Device.{area_start, areas_end};
+ghost use Rattle.tp_model.specs.declared.limits.TheConstants.{AREA_HEAD_BYTES};
+ghost use Rattle.tp_recover.specs.Reading.{LeavesNothingNew};
+
+use crate::fault::CopyFault;
+use crate::kept::{Kept, is_kept, kept_of, lie_in};
+use crate::pieces::{copy_range, put_bytes};
+use std::alloc::Global;
+use tp_disk::Disk;
+use tp_area::{AREA_FRONT_BYTES, AreaFront, area_front, area_start};
+use tp_model::limits::{GATE_CLOSED, GATE_OPEN};
+use crate::{Opened, Unopened, open};
+
+/// Writes all of a copy but its area's open gate.
+fn make_closed<D: Disk, K: Disk>(source: &mut D, copy: &mut K, kept: Kept) -> Result<(), CopyFault>
+    requires from { areas_end kept.areas ≤ D.size_of source.old }
+    requires into { areas_end kept.areas ≤ K.size_of copy.old }
+    requires counted { D.size_of source.old < 2 ^ 64 }
+    requires behind { area_start kept.areas kept.second + AREA_HEAD_BYTES ≤ kept.end }
+    requires inside { kept.end < area_start kept.areas kept.second + kept.areas.length }
+    ensures source_size { D.size_of source.new ≡ D.size_of source.old }
+    ensures copy_size { K.size_of copy.new ≡ K.size_of copy.old }
+    ensures kept { D.keeps → OnOk result ((D.state source.new).now ≡ (D.state source.old).now) }
+    ensures leaves { D.keeps → LeavesNothingNew (D.state source.old) (D.state source.new) }
+    ensures bytes { D.keeps → K.keeps → OnOk result ((K.state copy.new).now.bytes ≡ closed_copy kept (D.state source.old).now.bytes (K.state copy.old).now.bytes) }
+{
+    let start = area_start(kept.areas, kept.second);
+    put_bytes(copy, start, &[GATE_CLOSED])?;
+    put_bytes(copy, area_start(kept.areas, !kept.second), &[GATE_CLOSED])?;
+    copy_range(source, copy, start + 1, kept.end - (start + 1))?;
+    put_bytes(copy, kept.end, &[GATE_CLOSED])?;
+    copy_range(source, copy, 0, kept.areas.first)
+}
+
+/// Reads the gate and the generation of the area that is copied.
+fn read_front<D: Disk>(source: &mut D, start: u64) -> Result<AreaFront, CopyFault>
+    requires { start + AREA_FRONT_BYTES ≤ D.size_of source.old }
+    ensures source_size { D.size_of source.new ≡ D.size_of source.old }
+    ensures kept { D.keeps → IfOk result (λ front. (D.state source.new).now ≡ (D.state source.old).now) }
+    ensures leaves { D.keeps → LeavesNothingNew (D.state source.old) (D.state source.new) }
+    ensures is { D.keeps → IfOk result (λ front. front ≡ area_front start (D.state source.old).now.bytes) }
+{
+    let mut bytes = [0; AREA_FRONT_BYTES];
+    match source.read(start, &mut bytes) {
+        Ok(()) => Ok(area_front(&bytes)),
+        Err(_) => Err(CopyFault::ReadFailed),
+    }
+}
+
+/// Whether the area that is copied has its gate open and its generation still.
+fn has_stayed<D: Disk>(source: &mut D, kept: Kept) -> Result<bool, CopyFault>
+    requires from { areas_end kept.areas ≤ D.size_of source.old }
+    requires counted { D.size_of source.old < 2 ^ 64 }
+    requires some { AREA_HEAD_BYTES ≤ kept.areas.length }
+    ensures kept { D.keeps → IfOk result (λ stayed. (D.state source.new).now ≡ (D.state source.old).now) }
+    ensures leaves { D.keeps → LeavesNothingNew (D.state source.old) (D.state source.new) }
+    ensures is { D.keeps → IfOk result (λ stayed. IsTrue stayed ↔ HasStayed kept (D.state source.old).now.bytes) }
+{
+    let front = read_front(source, area_start(kept.areas, kept.second))?;
+    Ok(front.is_open && front.generation == kept.generation)
+}
+
+/// Opens a copy, which has to say what opening the device said.
+fn opens_as<K: Disk>(alloc: Global, copy: &mut K, kept: Kept) -> Result<(), CopyFault>
+    ensures { K.keeps → OnOk result (OpensAs kept (K.state copy.old).now (K.state copy.new).now) }
+{
+    match open(alloc, copy) {
+        Ok(opened) if is_kept(kept_of(&opened), kept) => Ok(()),
+        Err(Unopened::Memory) => Err(CopyFault::Memory),
+        _ => Err(CopyFault::DeviceFailed),
+    }
+}
+
+/// Opens the area's gate of a copy, which then has to say what opening the device said.
+fn finish<K: Disk>(alloc: Global, copy: &mut K, kept: Kept) -> Result<(), CopyFault>
+    requires into { areas_end kept.areas ≤ K.size_of copy.old }
+    requires counted { areas_end kept.areas < 2 ^ 64 }
+    requires some { AREA_HEAD_BYTES ≤ kept.areas.length }
+    ensures { K.keeps → OnOk result (IsFinished kept (K.state copy.old).now (K.state copy.new).now) }
+{
+    put_bytes(copy, area_start(kept.areas, kept.second), &[GATE_OPEN])?;
+    opens_as(alloc, copy, kept)
+}
+
+/// Copies what of a device is copied. Answers whether that stayed as it was.
+fn copy_kept<D: Disk, K: Disk>(
+    alloc: Global,
+    source: &mut D,
+    copy: &mut K,
+    kept: Kept,
+) -> Result<Option<u64>, CopyFault>
+    requires behind { area_start kept.areas kept.second + AREA_HEAD_BYTES ≤ kept.end }
+    requires inside { kept.end < area_start kept.areas kept.second + kept.areas.length }
+    ensures kept { D.keeps → IfOk result (λ found. (D.state source.new).now ≡ (D.state source.old).now) }
+    ensures leaves { D.keeps → LeavesNothingNew (D.state source.old) (D.state source.new) }
+    ensures is { D.keeps → K.keeps → IfOk result (Answers kept (D.state source.old).now.bytes (K.state copy.old).now (K.state copy.new).now) }
+{
+    if !lie_in(kept.areas, source.size()) {
+        return Err(CopyFault::ReadFailed);
+    }
+    if !lie_in(kept.areas, copy.size()) {
+        return Err(CopyFault::DeviceFailed);
+    }
+    make_closed(source, copy, kept)?;
+    if !has_stayed(source, kept)? {
+        return Ok(None);
+    }
+    finish(alloc, copy, kept)?;
+    Ok(Some(kept.next))
+}
+
+/// Copies a device that was `opened`, and that another process may be running, over what is in `copy`, which has to have as many bytes at
+/// least. Answers the number of the next entry: all of the copy is synced then, and it opens to the area, the generation, the form, the end of
+/// the groups and the number to which the device was opened. Answers none where the area that is copied has another gate or generation behind the
+/// copying: then the copy's gates are closed, and it has to be made anew, of the device as it then opens. Nothing is written to the device, and
+/// a crash finds nothing there that the call made.
+pub fn copy_opened<D: Disk, K: Disk>(
+    alloc: Global,
+    source: &mut D,
+    copy: &mut K,
+    opened: Opened,
+) -> Result<Option<u64>, CopyFault>
+    ensures kept { D.keeps → IfOk result (λ found. (D.state source.new).now ≡ (D.state source.old).now) }
+    ensures leaves { D.keeps → LeavesNothingNew (D.state source.old) (D.state source.new) }
+    ensures is { D.keeps → K.keeps → IfOk result (Answers (kept_of opened) (D.state source.old).now.bytes (K.state copy.old).now (K.state copy.new).now) }
+{
+    let kept = kept_of(&opened);
+    drop(opened);
+    copy_kept(alloc, source, copy, kept)
+}

@@ -1,0 +1,72 @@
+//! Bytes that go from one device to the same places of another one.
+
+ghost use Rattle.std.specs.Prelude.{◌≡◌, ◌+◌, ◌^◌, ◌≤◌, ◌<◌, length, OnOk};
+ghost use Rattle.tp_recover.specs.Copies.{with_range};
+ghost use Rattle.tp_model.specs.Disk.{written};
+ghost use Rattle.tp_recover.specs.Reading.{LeavesNothingNew};
+
+use crate::fault::CopyFault;
+use tp_disk::Disk;
+use tp_model::limits::PAGE_BYTES;
+
+/// How many bytes are copied at once.
+const PIECE_BYTES: usize = 4 * PAGE_BYTES;
+
+/// Writes over what stands in a copy.
+pub(crate) fn put_bytes<K: Disk>(copy: &mut K, at: u64, bytes: &[u8]) -> Result<(), CopyFault>
+    requires { at + length bytes.now ≤ K.size_of copy.old }
+    ensures size { K.size_of copy.new ≡ K.size_of copy.old }
+    ensures bytes { K.keeps → OnOk result ((K.state copy.new).now.bytes ≡ written (K.state copy.old).now.bytes at bytes.now) }
+{
+    match copy.write_at(at, bytes) {
+        Ok(()) => Ok(()),
+        Err(_) => Err(CopyFault::DeviceFailed),
+    }
+}
+
+/// Copies as many bytes as `piece` has.
+fn copy_piece<D: Disk, K: Disk>(
+    source: &mut D,
+    copy: &mut K,
+    at: u64,
+    piece: &mut [u8],
+) -> Result<(), CopyFault>
+    requires from { at + length piece.old ≤ D.size_of source.old }
+    requires into { at + length piece.old ≤ K.size_of copy.old }
+    ensures source_size { D.size_of source.new ≡ D.size_of source.old }
+    ensures copy_size { K.size_of copy.new ≡ K.size_of copy.old }
+    ensures kept { D.keeps → OnOk result ((D.state source.new).now ≡ (D.state source.old).now) }
+    ensures leaves { D.keeps → LeavesNothingNew (D.state source.old) (D.state source.new) }
+    ensures bytes { D.keeps → K.keeps → OnOk result ((K.state copy.new).now.bytes ≡ with_range at (length piece.old) (D.state source.old).now.bytes (K.state copy.old).now.bytes) }
+{
+    match source.read(at, piece) {
+        Ok(()) => put_bytes(copy, at, piece),
+        Err(_) => Err(CopyFault::ReadFailed),
+    }
+}
+
+/// Copies `count` bytes from `at` on, in pieces.
+pub(crate) fn copy_range<D: Disk, K: Disk>(
+    source: &mut D,
+    copy: &mut K,
+    at: u64,
+    count: u64,
+) -> Result<(), CopyFault>
+    requires from { at + count ≤ D.size_of source.old }
+    requires into { at + count ≤ K.size_of copy.old }
+    requires counted { at + count < 2 ^ 64 }
+    ensures source_size { D.size_of source.new ≡ D.size_of source.old }
+    ensures copy_size { K.size_of copy.new ≡ K.size_of copy.old }
+    ensures kept { D.keeps → OnOk result ((D.state source.new).now ≡ (D.state source.old).now) }
+    ensures leaves { D.keeps → LeavesNothingNew (D.state source.old) (D.state source.new) }
+    ensures bytes { D.keeps → K.keeps → OnOk result ((K.state copy.new).now.bytes ≡ with_range at count (D.state source.old).now.bytes (K.state copy.old).now.bytes) }
+{
+    let mut piece = [0; PIECE_BYTES];
+    let mut done = 0;
+    while done < count {
+        let length = (count - done).min(PIECE_BYTES as u64) as usize;
+        copy_piece(source, copy, at + done, &mut piece[..length])?;
+        done += length as u64;
+    }
+    Ok(())
+}

@@ -1,4 +1,0 @@
-pub mod Counts
-pub mod Collected
-pub mod Sent
-pub mod Before

@@ -1,5 +1,0 @@
-use Rattle.std.proofs.Common.{[]}
-use Rattle.tp_snap.proofs.trace.Trace.nothing.Given as goal
-
-abbrev pub ghost-of : goal.ghost-of
-ghost-of a = record { frozen = []; history = []; floor = a._value.now }

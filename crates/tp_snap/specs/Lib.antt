@@ -1,4 +1,0 @@
-pub mod Seen
-pub mod Counted
-pub mod Running
-pub mod Needs

@@ -1,5 +1,0 @@
-use Rattle.std.specs.Prelude.{[], ◌∷◌, ◌++◌}
-use Rattle.tp_stream_ends.proofs.stop.Noted.answered.Given as goal
-
-abbrev pub ghost-of : goal.ghost-of
-ghost-of a = a._value.now.0.now.told ++ a._value.now.1 ∷ []

@@ -1,0 +1,112 @@
+//! A sink in memory. One of its calls may fail.
+
+ghost use Rattle.std.specs.Prelude.{◌≡◌, ◌≤◌, ◌++◌, length, take, Some, OnOk, OnErr};
+ghost use Rattle.tp_stream_files.specs.Held.{HasLength, HasPut, HasReach, IsSafe, KeepsBytes, KeepsFront, Reaches};
+
+use crate::sink::{Sink, SinkFault};
+use std::alloc::Global;
+
+/// Bytes in memory. What is put lets those behind go.
+#[derive(Drop)]
+pub struct MemSink {
+    bytes: Vec<u8>,
+    safe: u64,
+    /// How many calls are made before one fails; none: no call fails.
+    calls: Option<u32>,
+}
+
+impl MemSink {
+    /// A sink that has `bytes`, all of them safe.
+    pub fn new(bytes: Vec<u8>) -> MemSink {
+        let safe = bytes.len() as u64;
+        MemSink {
+            bytes,
+            safe,
+            calls: None,
+        }
+    }
+
+    /// No bytes.
+    pub fn empty(alloc: Global) -> MemSink {
+        MemSink::new(Vec::new(alloc))
+    }
+
+    /// The same, where one call fails once `calls` were made.
+    pub fn failing(self, calls: u32) -> MemSink {
+        MemSink {
+            calls: Some(calls),
+            ..self
+        }
+    }
+
+    /// Its bytes.
+    pub fn bytes(&self) -> &[u8] {
+        &self.bytes
+    }
+
+    /// Its bytes.
+    pub fn into_bytes(self) -> Vec<u8> {
+        self.bytes
+    }
+
+    // Whether a call is done.
+    fn goes(&mut self) -> bool
+        ensures { (self.new.bytes ≡ self.old.bytes) × (self.new.safe ≡ self.old.safe) }
+    {
+        match self.calls {
+            Some(0) => {
+                self.calls = None;
+                false
+            }
+            Some(left) => {
+                self.calls = Some(left - 1);
+                true
+            }
+            None => true,
+        }
+    }
+
+    // Puts bytes behind the first `at`. Those behind go.
+    fn put_behind(&mut self, at: u64, bytes: &[u8]) -> Result<(), SinkFault>
+        requires safe { at ≤ self.old.safe }
+        requires there { at ≤ length self.old.bytes.items }
+        ensures put { OnOk result (self.new.bytes.items ≡ take at self.old.bytes.items ++ bytes.now) }
+        ensures failed { OnErr result (self.new.bytes.items ≡ take at self.old.bytes.items) }
+        ensures safe { self.new.safe ≡ at }
+    {
+        self.safe = at;
+        self.bytes.truncate(at as usize);
+        match self.bytes.extend_from_slice(bytes) {
+            Ok(()) => Ok(()),
+            Err(_) => Err(SinkFault::Failed),
+        }
+    }
+}
+
+impl Sink for MemSink {
+    ghost held = { λ s. Some (record { bytes = s.bytes.items; safe = s.safe }) };
+
+    fn reach(&self) -> u64 {
+        self.safe.min(self.bytes.len() as u64)
+    }
+
+    fn length(&self) -> Option<u64> {
+        Some(self.bytes.len() as u64)
+    }
+
+    fn put(&mut self, at: u64, bytes: &[u8]) -> Result<(), SinkFault> {
+        if self.goes() {
+            return self.put_behind(at, bytes);
+        }
+        let _part = self.put_behind(at, &bytes[..bytes.len() / 2]);
+        Err(SinkFault::Failed)
+    }
+
+    fn settle(&mut self) -> Result<(), SinkFault> {
+        if !self.goes() {
+            return Err(SinkFault::Failed);
+        }
+        self.safe = self.safe.max(self.bytes.len() as u64);
+        Ok(())
+    }
+}

@@ -1,0 +1,39 @@
+//! What takes a port's output.
+
+ghost use Rattle.std.specs.Prelude.{Option, None, OnOk};
+ghost use Rattle.tp_stream_files.specs.Held.{Held, HasLength, HasPut, HasReach, IsSafe, KeepsBytes, KeepsFront, Reaches};
+
+/// Why bytes couldn't be put, or not be made safe.
+#[derive(Clone, Copy, Debug, PartialEq, Eq)]
+pub enum SinkFault {
+    /// It failed.
+    Failed,
+    /// Whoever takes the bytes has gone, as a pipe's reader.
+    Gone,
+}
+
+/// What takes a port's output: byte number q of the port at position q.
+pub trait Sink {
+    /// What it holds, where that is known.
+    ghost held: { Self → Option Held } = { λ _. None };
+
+    /// Up to which position it can be put at: its bytes up to there are there, and safe.
+    fn reach(&self) -> u64
+        ensures there { Reaches result (held self.now) }
+        ensures exactly { HasReach result (held self.now) };
+
+    /// How many bytes it has; none where it has no positions, so that nothing is put over what stands there.
+    fn length(&self) -> Option<u64>
+        ensures { HasLength result (held self.now) };
+
+    /// Puts bytes at a position, over what stands there. Whatever is answered, those before them are as they were.
+    fn put(&mut self, at: u64, bytes: &[u8]) -> Result<(), SinkFault>
+        requires { Reaches at (held self.old) }
+        ensures put { OnOk result (HasPut at bytes.now (held self.old) (held self.new)) }
+        ensures front { KeepsFront at (held self.old) (held self.new) };
+
+    /// Makes all that was put safe: a crash leaves it.
+    fn settle(&mut self) -> Result<(), SinkFault>
+        ensures safe { OnOk result (IsSafe (held self.new)) }
+        ensures bytes { KeepsBytes (held self.old) (held self.new) };
+}

@@ -1,4 +1,0 @@
-pub mod Agreeing
-pub mod Pair
-pub mod Acting
-pub mod Netting

@@ -1,2 +1,0 @@
-pub mod Agrees
-pub mod Nets

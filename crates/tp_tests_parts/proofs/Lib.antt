@@ -1,5 +1,0 @@
-pub mod Members
-pub mod Numbers
-pub mod Pair
-pub mod PairTurns
-pub mod PairWhole

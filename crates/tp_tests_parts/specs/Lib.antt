@@ -1,2 +1,0 @@
-pub mod Member
-pub mod Pair

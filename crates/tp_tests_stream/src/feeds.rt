@@ -1,0 +1,178 @@
+//! Feeds that come in pieces, and feeds that fail.
+
+use crate::files::Lent;
+use std::io;
+use std::io::{ErrorKind, Read};
+use std::test::Fail;
+use tp_stream_files::Source;
+use tp_stream_files::{AnySource, Feed, Pipe, Plain, Threaded};
+
+/// How many bytes come.
+const TOTAL: u32 = 10_000;
+
+/// A reader of `TOTAL` numbered bytes, which come in pieces of at most `piece`.
+#[derive(Clone, Copy)]
+struct Numbered {
+    at: u32,
+    piece: usize,
+    /// Whether a read fails behind the bytes, in place of the end.
+    fails: bool,
+    /// Whether the next read is interrupted, once before each other.
+    is_interrupted: bool,
+}
+
+/// The byte of that number.
+fn byte_of(number: u64) -> u8 {
+    (number % 251) as u8
+}
+
+impl Numbered {
+    fn new(piece: usize, fails: bool) -> Numbered {
+        Numbered {
+            at: 0,
+            piece,
+            fails,
+            is_interrupted: false,
+        }
+    }
+}
+
+impl Read for Numbered {
+    fn read(&mut self, out: &mut [u8]) -> io::Result<usize> {
+        self.is_interrupted = !self.is_interrupted;
+        if self.is_interrupted {
+            return Err(io::Error::from(ErrorKind::Interrupted));
+        }
+        if self.fails && self.at >= TOTAL {
+            return Err(io::Error::from(ErrorKind::InvalidData));
+        }
+        let left = TOTAL.saturating_sub(self.at) as usize;
+        let count = left.min(self.piece).min(out.len());
+        for place in out[..count].iter_mut() {
+            *place = byte_of(self.at as u64);
+            self.at = self.at.saturating_add(1);
+        }
+        Ok(count)
+    }
+}
+
+/// What a source gave from its front on: how many bytes, whether each is that of its number, and whether they came to their end.
+#[derive(Clone, Copy, PartialEq, Eq)]
+struct Drained {
+    count: u64,
+    are_right: bool,
+    has_ended: bool,
+}
+
+/// Whether these are the bytes from a number on.
+fn are_from(at: u64, bytes: &[u8]) -> bool {
+    for (number, byte) in bytes.iter().enumerate() {
+        if *byte != byte_of(at.saturating_add(number as u64)) {
+            return false;
+        }
+    }
+    true
+}
+
+/// Reads all of a source, a hundred bytes at a time.
+fn drain<S: Source>(source: &mut S) -> Drained {
+    let mut drained = Drained {
+        count: 0,
+        are_right: true,
+        has_ended: false,
+    };
+    for _ in 0..2 * TOTAL {
+        let mut out = [0u8; 100];
+        match source.read(drained.count, &mut out) {
+            Ok(0) => {
+                drained.has_ended = true;
+                return drained;
+            }
+            Ok(count) => {
+                drained.are_right = drained.are_right && are_from(drained.count, &out[..count]);
+                drained.count = drained.count.saturating_add(count as u64);
+            }
+            Err(_) => return drained,
+        }
+    }
+    drained
+}
+
+/// A pipe over a feed, as a source.
+fn piped<'a, I: Feed>(feed: &'a mut I) -> AnySource<'a, Lent<'a>, I> {
+    AnySource::In(Pipe::new(feed))
+}
+
+/// Pieces, whether a read fails behind the bytes, and what comes; a piece of no bytes is the end.
+const CASES: &[(usize, bool, Drained)] = &[
+    (0, false, NOTHING),
+    (1, false, ENDED),
+    (7, false, ENDED),
+    (4_096, false, ENDED),
+    (1, true, FAILED),
+    (7, true, FAILED),
+    (4_096, true, FAILED),
+];
+
+const NOTHING: Drained = Drained {
+    count: 0,
+    are_right: true,
+    has_ended: true,
+};
+
+const ENDED: Drained = Drained {
+    count: TOTAL as u64,
+    are_right: true,
+    has_ended: true,
+};
+
+/// All bytes came, and no end is told.
+const FAILED: Drained = Drained {
+    count: TOTAL as u64,
+    are_right: true,
+    has_ended: false,
+};
+
+/// A feed's bytes are the same in whatever pieces they come, and a read that fails is no end.
+#[test]
+fn pieces_are_put_together(rt: HostRuntime) -> Result<(), Fail> {
+    for (piece, fails, wanted) in CASES {
+        let mut feed = Plain::new(Numbered::new(*piece, *fails));
+        assert!(rt; drain(&mut piped(&mut feed)) == *wanted);
+    }
+    Ok(())
+}
+
+/// So are those that a thread of its own reads.
+#[test]
+fn pieces_of_a_thread_are_put_together(rt: HostRuntime) -> Result<(), Fail> {
+    for (piece, fails, wanted) in CASES {
+        let mut feed = Threaded::new(rt, Some(Numbered::new(*piece, *fails)));
+        assert!(rt; drain(&mut piped(&mut feed)) == *wanted);
+    }
+    Ok(())
+}
+
+/// With no reader a read fails.
+#[test]
+fn no_reader_is_no_end(rt: HostRuntime) -> Result<(), Fail> {
+    let none: Option<Numbered> = None;
+    let mut feed = Threaded::new(rt, none);
+    let drained = drain(&mut piped(&mut feed));
+    assert!(rt; drained.count == 0 && !drained.has_ended);
+    Ok(())
+}
+
+/// Bytes that were passed over are gone: a read from their position fails, and gives no others.
+#[test]
+fn bytes_that_are_gone_are_not_given(rt: HostRuntime) -> Result<(), Fail> {
+    let mut feed = Plain::new(Numbered::new(7, false));
+    let mut source = piped(&mut feed);
+    let mut out = [0u8; 3];
+    assert!(rt; !source.would_wait(7_994));
+    assert!(rt; matches!(source.read(7_994, &mut out), Ok(3)) && are_from(7_994, &out));
+    assert!(rt; source.read(7_000, &mut out).is_err());
+    assert!(rt; matches!(source.read(7_995, &mut out), Ok(3)) && are_from(7_995, &out));
+    assert!(rt; matches!(source.read(TOTAL as u64, &mut out), Ok(0)));
+    Ok(())
+}

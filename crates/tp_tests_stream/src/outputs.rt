@@ -1,0 +1,204 @@
+//! Outputs whose file fails, or has more than what is put.
+
+use crate::files::{FakeFile, FakeFiles, Left};
+use std::alloc::Global;
+use std::test::Fail;
+use tp_stream_files::SinkFault;
+use tp_stream_files::{EndFile, FileSink};
+
+/// What came of an output: how many bytes the sink counts, or `None` where the file wasn't opened; how the last call went; and how many
+/// times a folder was synced.
+#[derive(Clone, Copy, PartialEq, Eq)]
+struct Came {
+    size: Option<u64>,
+    last: Result<(), SinkFault>,
+    folders: u32,
+}
+
+/// Puts bytes one by one behind `at`, and makes each safe.
+fn put_each<F: EndFile + Drop>(
+    sink: &mut FileSink<F>,
+    at: u64,
+    bytes: &[u8],
+) -> Result<(), SinkFault> {
+    for (number, byte) in bytes.iter().enumerate() {
+        sink.put(at.saturating_add(number as u64), &[*byte])?;
+        sink.settle()?;
+    }
+    Ok(())
+}
+
+/// Opens a file as an output's, and puts bytes one by one behind `at`.
+fn come_of(file: &mut FakeFile, folder: Left, at: u64, bytes: &[u8]) -> Came {
+    let mut files = FakeFiles::new(file, folder);
+    match FileSink::open_in(&mut files, "folder/out") {
+        Ok(mut sink) => {
+            let last = put_each(&mut sink, at, bytes);
+            Came {
+                size: Some(sink.size()),
+                last,
+                folders: files.folders,
+            }
+        }
+        Err(_) => Came {
+            size: None,
+            last: Err(SinkFault::Failed),
+            folders: files.folders,
+        },
+    }
+}
+
+/// A file, how its calls fail, how folders' syncs fail, and where three bytes are put; and what comes of it.
+struct Case {
+    bytes: &'static [u8],
+    writes: Left,
+    syncs: Left,
+    folder: Left,
+    at: u64,
+    came: Came,
+    /// What the file has then, and how many bytes of it when it was last synced.
+    then: &'static [u8],
+    synced: usize,
+}
+
+/// No call fails.
+const NONE: Left = Left(None);
+
+/// Three bytes are put, and each is safe.
+const ALL: Came = Came {
+    size: Some(3),
+    last: Ok(()),
+    folders: 1,
+};
+
+/// An empty file takes three bytes.
+const EMPTY: Case = Case {
+    bytes: b"",
+    writes: NONE,
+    syncs: NONE,
+    folder: NONE,
+    at: 0,
+    came: ALL,
+    then: b"abc",
+    synced: 3,
+};
+
+/// A file that has bytes: those that aren't put over stay, and no folder is synced.
+const LONG: Case = Case {
+    bytes: b"0123456789",
+    at: 3,
+    came: Came {
+        size: Some(10),
+        last: Ok(()),
+        folders: 0,
+    },
+    then: b"012abc6789",
+    synced: 10,
+    ..EMPTY
+};
+
+/// The second write fails: one byte counts.
+const WRITE_FAILS: Case = Case {
+    writes: Left(Some(1)),
+    came: Came {
+        size: Some(1),
+        last: Err(SinkFault::Failed),
+        folders: 1,
+    },
+    then: b"a",
+    synced: 1,
+    ..EMPTY
+};
+
+/// The third sync fails, which is that of the second byte.
+const SYNC_FAILS: Case = Case {
+    syncs: Left(Some(2)),
+    came: Came {
+        size: Some(2),
+        last: Err(SinkFault::Failed),
+        folders: 1,
+    },
+    then: b"ab",
+    synced: 1,
+    ..EMPTY
+};
+
+/// The first sync fails: the file isn't opened.
+const OPENING_FAILS: Case = Case {
+    syncs: Left(Some(0)),
+    came: Came {
+        size: None,
+        last: Err(SinkFault::Failed),
+        folders: 0,
+    },
+    then: b"",
+    synced: 0,
+    ..EMPTY
+};
+
+/// The sync of the folder fails: the file isn't opened.
+const FOLDER_FAILS: Case = Case {
+    folder: Left(Some(0)),
+    came: Came {
+        size: None,
+        last: Err(SinkFault::Failed),
+        folders: 1,
+    },
+    then: b"",
+    synced: 0,
+    ..EMPTY
+};
+
+/// The sync of a folder would fail, and isn't asked for where the file has bytes.
+const NO_FOLDER: Case = Case {
+    folder: Left(Some(0)),
+    ..LONG
+};
+
+const CASES: &[Case] = &[
+    EMPTY,
+    LONG,
+    WRITE_FAILS,
+    SYNC_FAILS,
+    OPENING_FAILS,
+    FOLDER_FAILS,
+    NO_FOLDER,
+];
+
+/// Whether a case comes out as it says.
+fn comes_out(alloc: Global, case: &Case) -> Result<bool, Fail> {
+    let mut bytes = Vec::new(alloc);
+    bytes.extend_from_slice(case.bytes)?;
+    let mut file = FakeFile {
+        writes: case.writes,
+        syncs: case.syncs,
+        ..FakeFile::new(bytes)
+    };
+    let came = come_of(&mut file, case.folder, case.at, b"abc");
+    Ok(came == case.came && file.bytes.as_slice() == case.then && file.synced == case.synced)
+}
+
+/// A failed call is told and never counted, and no byte goes that isn't put over.
+#[test]
+fn a_file_that_fails_is_told(rt: HostRuntime) -> Result<(), Fail> {
+    for (number, case) in CASES.iter().enumerate() {
+        if !comes_out(rt.alloc(), case)? {
+            return Err(Fail::new(format!(in rt.alloc(); "case {number}")?.as_str()));
+        }
+    }
+    Ok(())
+}
+
+/// As many writes of one byte as a port may hold.
+#[test]
+fn a_file_takes_each_byte_by_itself(rt: HostRuntime) -> Result<(), Fail> {
+    let mut wanted = Vec::new(rt.alloc());
+    for number in 0..4_096u32 {
+        wanted.push((number % 251) as u8)?;
+    }
+    let mut file = FakeFile::new(Vec::new(rt.alloc()));
+    let came = come_of(&mut file, NONE, 0, wanted.as_slice());
+    assert!(rt; came.size == Some(4_096) && came.last == Ok(()) && file.synced == 4_096);
+    assert!(rt; file.bytes.as_slice() == wanted.as_slice());
+    Ok(())
+}

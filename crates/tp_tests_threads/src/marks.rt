@@ -1,0 +1,103 @@
+//! One thread raises the mark, another watches it.
+ghost use Rattle.std.specs.Prelude.{◌≡◌, ◌≤◌, max};
+
+use std::sync::Wait;
+use std::test::Fail;
+use std::thread::{Threads, join, yield_now};
+use tp_ready::{Mark, Pass, Raiser};
+
+const FIRST: u64 = 7;
+
+const NUMBER: u64 = 500;
+
+const LAST: u64 = 1000;
+
+// Raises the mark to each number below `last` and then to `last`.
+fn raise_all(mark: &Mark, mut raiser: Raiser, last: u64) -> Raiser
+    requires { raiser.mark ≡ mark.now }
+    ensures { (result.mark ≡ mark.now) × (last ≤ result.at) }
+{
+    for number in 0..last {
+        mark.raise(&mut raiser, number);
+        yield_now();
+    }
+    mark.raise(&mut raiser, last);
+    raiser
+}
+
+// Loads until `last` is shown. Answers whether `number` stayed stored once it was, and how often a load showed less than the
+// one before.
+fn watch<R: Wait>(rt: &R, mark: &Mark, mut pass: Pass, number: u64, last: u64) -> (Pass, bool)
+    requires { pass.mark ≡ mark.now }
+    ensures pass { (result.0.mark ≡ mark.now) × (last ≤ result.0.at) }
+{
+    let mut was_stored = false;
+    let mut stays = true;
+    for _ in rt.forever() {
+        let before = pass.seen();
+        let shown = mark.load(&mut pass);
+        let is_stored = number <= shown;
+        stays = stays && before <= shown && (is_stored || !was_stored);
+        was_stored = is_stored;
+        if last <= shown {
+            break;
+        }
+        yield_now();
+    }
+    (pass, stays)
+}
+
+// Whether the mark stays at its number, and whoever is told of it shows it.
+fn is_settled(mark: &Mark, raiser: &mut Raiser, first: &mut Pass, second: &mut Pass) -> bool
+    requires { (raiser.old.mark ≡ mark.now) × (first.old.mark ≡ mark.now) × (second.old.mark ≡ mark.now) }
+    ensures { first.old.at ≤ raiser.old.at }
+{
+    let number = raiser.raised();
+    mark.settle(raiser, first);
+    mark.inform(raiser, second);
+    let told = mark.load(second);
+    mark.raise(raiser, number / 2);
+    let mut third = mark.pass(raiser);
+    let found = third.seen();
+    let loaded = mark.load(&mut third);
+    raiser.raised() == number && told == number && found == number && loaded == number
+}
+
+// What a thread that raises and a thread that watches leave, and whether what was stored stayed so.
+fn race<R: Threads + Wait + Sync>(
+    rt: &R,
+    mark: &Mark,
+    raiser: Raiser,
+    pass: Pass,
+) -> (Raiser, Pass, bool)
+    requires { (raiser.mark ≡ mark.now) × (pass.mark ≡ mark.now) }
+    ensures raiser { result.0.mark ≡ mark.now }
+    ensures pass { (result.1.mark ≡ mark.now) × (LAST ≤ result.1.at) }
+{
+    let (raiser, (pass, stays)) = join(
+        rt,
+        move || -> Raiser
+            requires { raiser.mark ≡ mark.now }
+            ensures { result.mark ≡ mark.entry.now }
+        { raise_all(mark, raiser, LAST) },
+        move || -> (Pass, bool)
+            requires { pass.mark ≡ mark.now }
+            ensures { (result.0.mark ≡ mark.entry.now) × (LAST ≤ result.0.at) }
+        { watch(rt, mark, pass, NUMBER, LAST) },
+    );
+    (raiser, pass, stays)
+}
+
+#[test]
+fn stored_stays_stored_while_another_thread_raises(rt: HostRuntime) -> Result<(), Fail> {
+    let (mark, raiser, mut passes) = Mark::start(rt.alloc(), FIRST, 2)?;
+    let mut second = passes.pop().ok_or("a pass")?;
+    let first = passes.pop().ok_or("a pass")?;
+    assert!(rt; passes.pop().is_none());
+    assert!(rt; (raiser.raised(), first.seen(), second.seen()) == (FIRST, FIRST, FIRST));
+    let (mut raiser, mut first, stays) = race(&rt, &mark, raiser, first);
+    assert!(rt; stays);
+    assert!(rt; (raiser.raised(), first.seen(), second.seen()) == (LAST, LAST, FIRST));
+    assert!(rt; is_settled(&mark, &mut raiser, &mut first, &mut second));
+    Ok(())
+}

@@ -1,4 +1,0 @@
-pub mod Tried
-pub mod Turns
-pub mod Lone
-pub mod Output

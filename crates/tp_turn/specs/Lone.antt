@@ -1,0 +1,73 @@
+-- A node with the book of its network, and what turns do to them.
+use Rattle.std.specs.Prelude.{◌≡◌, ◌≤◌, ℕ, ◌+◌, false, List, [], ◌∷◌, length, Some, None, slice_get}
+use Rattle.tp_model.specs.declared.entry.Entry.{Entry}
+use Rattle.tp_model.specs.declared.form.Form.TheVariants.{Turns}
+use Rattle.tp_model.specs.NodeState.{NodeState}
+use Rattle.tp_model.specs.Network.{Network, Port}
+use Rattle.tp_node.specs.Standing.{standing}
+use Rattle.tp_node.specs.declared.standing.Standing.{Standing}
+use Rattle.tp_book.specs.Book.{BookValue, agreed, next_number}
+use Rattle.tp_book.specs.Dropped.{network_now}
+use Rattle.tp_turn.specs.Moments.{IsNodeOf}
+use Rattle.tp_turn.specs.Tried.{lone_network}
+use Rattle.tp_turn.specs.declared.lone.Lone.{Lone}
+
+-- the network that a book stands for, and the number that its next entry gets
+pub record LoneValue : Type 0 where
+  pub network : Network NodeState
+  pub entries : ℕ
+
+abbrev pub value_of : BookValue → LoneValue
+value_of b = record { network = network_now b; entries = next_number b }
+
+abbrev pub lone_of : Lone → LoneValue
+lone_of t = value_of t.book
+
+-- A book of one node and one port: it has no device, so it may hold every entry; no snapshot runs, nothing is reserved or made ready, and
+-- its store isn't broken.
+pub record IsLoneBook (b : BookValue) : Type 0 where
+  pub alone : b.room ≡ None
+  pub idle : b.state.snapshot ≡ None
+  pub ready : b.ready ≡ None
+  pub runs : b.runs ≡ false ∷ []
+  pub whole : b.broken ≡ false
+  pub nodes : length b.state.start.nodes ≡ 1
+  pub many : length (agreed b.state) ≡ 1
+  pub ports : length b.state.ports ≡ 1
+  pub form : b.form ≡ Turns
+
+-- The node is the one that the book's entries make of it, and it isn't frozen.
+pub record IsLone (t : Lone) : Type 0 where
+  pub book : IsLoneBook t.book
+  pub node : IsNodeOf t.book 0 t.node
+  pub thawed : t.node.frozen ≡ None
+
+-- before the first entry
+pub record Begins (node : NodeState) (t : Lone) : Type 0 where
+  pub lone : IsLone t
+  pub network : network_now t.book ≡ lone_network node
+  pub first : next_number t.book ≡ 0
+
+-- An act of at most `most` entries was done, and they were numbered.
+pub record Made (act : Network NodeState → List Entry → Network NodeState → Type 0) (most : ℕ) (old new : LoneValue) : Type 0 where
+  pub entries : List Entry
+  pub few : length entries ≤ most
+  pub counted : new.entries ≡ old.entries + length entries
+  pub did : act old.network entries new.network
+
+-- Such an act was done, and a node with its book has gone on by it.
+pub record Went (act : Network NodeState → List Entry → Network NodeState → Type 0) (most : ℕ) (old new : Lone) : Type 0 where
+  pub made : Made act most (lone_of old) (lone_of new)
+  pub lone : IsLone new
+
+-- the outputs of port 0
+pub record IsOutputOf (s : Network NodeState) (output : List ℕ) : Type 0 where
+  pub port : Port
+  pub there : slice_get s.ports 0 ≡ Some port
+  pub is : output ≡ port.outputs
+
+-- how node 0 stands
+pub record StandsAs (s : Network NodeState) (how : Standing) : Type 0 where
+  pub node : NodeState
+  pub there : slice_get s.nodes 0 ≡ Some node
+  pub is : how ≡ standing node

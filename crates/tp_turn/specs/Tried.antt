@@ -1,0 +1,31 @@
+-- What is tried without a device: one node, its link 0 wired to port 0.
+use Rattle.std.specs.Prelude.{◌≡◌, ℕ, List, [], ◌∷◌, replicate, Option, Some, None, IsSome, Result, Ok, Err}
+use Rattle.tp_model.specs.declared.wire.WireEnd.{WireEnd}
+use Rattle.tp_model.specs.declared.wire.WireEnd.TheVariants.{Link, Port as AtPort}
+use Rattle.tp_model.specs.NodeState.{NodeState}
+use Rattle.tp_model.specs.Image.{node_of, has_idle_links}
+use Rattle.tp_model.specs.CutImage.{only_if}
+use Rattle.tp_model.specs.Network.{Network}
+use Rattle.tp_model.specs.Format.{fresh_port}
+use Rattle.tp_node.specs.NodeContents.{NodeContents}
+use Rattle.tp_turn.specs.declared.image.TryFault.{TryFault}
+use Rattle.tp_turn.specs.declared.image.TryFault.TheVariants.{BadImage, Memory}
+
+-- The node of an image whose links are idle, as of one that a device may be formatted with.
+abbrev pub fresh_image : List ℕ → Option NodeState
+fresh_image image = only_if has_idle_links (node_of image)
+
+-- What reading an image answers whose links have to be idle: the node, not frozen, or a fault. Memory is wanting only where
+-- the image is one.
+abbrev pub ReadsFresh : List ℕ → Result NodeContents TryFault → Type 0
+ReadsFresh image (Ok node) = (fresh_image image ≡ Some node.live) × (node.frozen ≡ None)
+ReadsFresh image (Err BadImage) = fresh_image image ≡ None
+ReadsFresh image (Err Memory) = IsSome (fresh_image image)
+
+-- line 0 leads to the port, line 4 to the link, and links 1 to 3 have no wire
+abbrev pub one_wire : List (Option WireEnd)
+one_wire = Some (AtPort 0) ∷ None ∷ None ∷ None ∷ Some (Link 0 0) ∷ []
+
+-- the network of the node and the port, before its first entry
+abbrev pub lone_network : NodeState → Network NodeState
+lone_network node = record { wires = one_wire; nodes = node ∷ []; ports = fresh_port ∷ []; lines = replicate 5 [] }

@@ -1,0 +1,56 @@
+//! The trial of an image.
+
+ghost use Rattle.std.specs.Prelude.{◌≤◌};
+ghost use Rattle.tp_turn.specs.Output.{OutputAs, TrialAs};
+ghost use Rattle.tp_turn.specs.Tried.{fresh_image};
+
+use crate::image::{TryFault, lone_node};
+use crate::lone::Lone;
+use std::alloc::Global;
+use tp_model::limits::MAX_STEPS;
+use tp_node::Standing;
+
+/// What a trial leaves: what port 0 put out, and how the node stands at the end.
+#[derive(Drop)]
+pub struct Trial {
+    pub output: Vec<u8>,
+    pub standing: Standing,
+}
+
+/// What port 0 holds after `turns` turns of the node of `image` and the host, and how the node stands then: node, host, node,
+/// host .. They are the turns that workers make. A run has at most `quantum` steps. It takes no more memory for more turns. The
+/// images that are refused are those with which no device may be formatted.
+pub fn try_standing(
+    alloc: Global,
+    image: &[u8],
+    turns: u32,
+    quantum: u16,
+) -> Result<Trial, TryFault>
+    requires { quantum ≤ MAX_STEPS }
+    ensures { TrialAs (fresh_image image.now) turns quantum result }
+{
+    let node = lone_node(alloc, image)?;
+    let Ok(mut lone) = Lone::start(alloc, image, node) else {
+        return Err(TryFault::Memory);
+    };
+    lone.turns(turns, quantum)?;
+    let standing = lone.standing();
+    match lone.output(alloc) {
+        Ok(output) => Ok(Trial { output, standing }),
+        Err(_) => Err(TryFault::Memory),
+    }
+}
+
+/// What port 0 holds after the turns of such a trial.
+pub fn try_output(
+    alloc: Global,
+    image: &[u8],
+    turns: u32,
+    quantum: u16,
+) -> Result<Vec<u8>, TryFault>
+    requires { quantum ≤ MAX_STEPS }
+    ensures { OutputAs (fresh_image image.now) turns quantum result }
+{
+    let Trial { output, .. } = try_standing(alloc, image, turns, quantum)?;
+    Ok(output)
+}

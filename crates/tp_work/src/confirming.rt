@@ -1,0 +1,40 @@
+//! Outputs that a host confirms.
+
+ghost use Rattle.std.specs.Prelude.{◌≡◌, ◌<◌, ◌≤◌, [], length, IsOk, IfOk, OnErr};
+ghost use Rattle.tp_book.specs.Book.{next_number};
+ghost use Rattle.tp_book.specs.Host.{after_confirm, port_in};
+ghost use Rattle.tp_book.specs.Acts.{confirm_entries};
+ghost use Rattle.tp_shared.specs.Gains.{Noted};
+ghost use Rattle.tp_work.specs.Answers.{Answers};
+ghost use Rattle.tp_work.specs.Outputs.{confirm_fault};
+ghost use Rattle.tp_work.specs.Receipts.{IsFor};
+
+use crate::host_fault::ConfirmFault;
+use tp_shared::{Locked, Naming, Receipt};
+
+/// Journals, under the book's lock, that the host has a port's outputs up to the position `upto`, which go: a mark has to show them.
+/// Up to a position that was confirmed before nothing is done.
+pub fn confirm<J: Naming>(
+    held: &mut Locked<J>,
+    port: u8,
+    mark: u64,
+    upto: u64,
+) -> Result<Receipt<J>, ConfirmFault>
+    requires there { port < length held.old.book.state.ports }
+    ensures answer { Answers ConfirmFault.Memory (confirm_fault held.old.book port mark upto) result }
+    ensures nothing { upto ≤ (port_in held.old.book port).out_base → IsOk result }
+    ensures book { IfOk result (λ receipt. held.new.book ≡ after_confirm held.old.book port upto) }
+    ensures number { IfOk result (λ receipt. receipt.number ≡ next_number held.new.book) }
+    ensures noted { IfOk result (λ receipt. Noted (λ entries. entries ≡ confirm_entries held.old.book port upto) J.first held.old held.new [] receipt.seat) }
+    ensures receipt { IfOk result (IsFor (confirm_entries held.old.book port upto)) }
+    ensures err { OnErr result (held.new ≡ held.old) }
+{
+    held.known();
+    if held.book().shown_upto(port, mark) < upto {
+        return Err(ConfirmFault::NotShown);
+    }
+    match held.confirm(port, upto) {
+        Ok(receipt) => Ok(receipt),
+        Err(refusal) => Err(ConfirmFault::of(refusal)),
+    }
+}
